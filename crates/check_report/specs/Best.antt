@@ -85,13 +85,15 @@ IsChosen told how (One o) limit (Some t) order = ⊥
 IsChosen told how Best limit None order = ⊥
 IsChosen told how Best limit (Some t) order = (order ≡ order_of t.order) × IsBudget limit t.budget × AreWithin told how order t.budget
 IsChosen told how Auto limit None order = ⊥
-IsChosen told how Auto limit (Some t) order = (order ≡ orders.Declared) × IsBudget (whole_limit limit) t.budget × AreWithin told how (order_of t.order) t.budget
+IsChosen told how Auto limit (Some t) order = (order ≡ orders.Declared) × IsBudget (whole_limit limit) t.budget
+    × AreWithin told how (order_of t.order) t.budget
 IsChosen told how Cones limit tried order = ⊥
 
 -- The attempts before this one were given up: those of all candidates within smaller budgets, and within the first budget those before
 -- it. Within a later one the candidates are tried by how far the budget before took them, which is told to nobody.
 pub record AreGivenUp (told : Told) (how : Match) (limit : ℕ) (bound : Option ℕ) (t : Attempt) : Type 0 where
-  pub smaller : (budget : ℕ) → IsBudget limit budget → budget < t.budget → (c : Candidate) → IsGivenUpWithin told how budget bound (order_of c)
+  pub smaller : (budget : ℕ) → IsBudget limit budget → budget < t.budget → (c : Candidate)
+      → IsGivenUpWithin told how budget bound (order_of c)
   pub first : t.budget ≡ first_budget limit → AllBefore t.order (λ c. IsGivenUpWithin told how t.budget bound (order_of c))
 
 -- The last budget of the attempts that a choice makes of the whole.

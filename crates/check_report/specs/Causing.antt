@@ -1,5 +1,6 @@
 -- What pairs that differ have in common: the first inner signal that differs.
-use Rattle.std.specs.Prelude.{◌≡◌, ℕ, ◌==◌, Bool, true, false, List, [], ◌∷◌, ◌++◌, map, filter, find, if◌then◌else◌, Option, Some, None, IsSomeAnd, option_map, option_to_list, slice_get, slice_index_or}
+use Rattle.std.specs.Prelude.{◌≡◌, ℕ, ◌==◌, Bool, true, false, List, [], ◌∷◌, ◌++◌, map, filter, find, if◌then◌else◌, Option, Some, None}
+use Rattle.std.specs.Prelude.{IsSomeAnd, option_map, option_to_list, slice_get, slice_index_or}
 use Rattle.std.specs.List.{list_any}
 use Rattle.std.specs.declared.alloc.Global.{Global}
 use Rattle.std.specs.declared.vec.Vec.{Vec}
@@ -31,7 +32,8 @@ led_by t inner = record { pair = t; inner = inner }
 -- a pair with the first of its inner signals that differ at the assignment, where it is one of those that are compared and one does
 abbrev pub IsLedPair : Net → Net → Paired → Target → List Bool → Option Subject → Option Led → Type 0
 IsLedPair a b p t at None led = led ≡ None
-IsLedPair a b p t at (Some s) led = (e : Explained) × IsExplanation a b p (s.first, s.second) at e × (led ≡ option_map (led_by t) (slice_get e.inner 0))
+IsLedPair a b p t at (Some s) led = (e : Explained) × IsExplanation a b p (s.first, s.second) at e
+    × (led ≡ option_map (led_by t) (slice_get e.inner 0))
 
 -- the same of the pair that a verdict is on, where it differs
 abbrev pub IsLed : Net → Net → Paired → List Subject → Verdict → Option Led → Type 0
@@ -44,7 +46,8 @@ IsLed a b p pairs (Undecided role name) led = led ≡ None
 -- these are all of them, in the order of the verdicts
 abbrev pub AreLed : Net → Net → Paired → List Subject → List Verdict → List Led → Type 0
 AreLed a b p pairs [] led = led ≡ []
-AreLed a b p pairs (v ∷ vs) led = (one : Option Led) × (rest : List Led) × IsLed a b p pairs v one × AreLed a b p pairs vs rest × (led ≡ option_to_list one ++ rest)
+AreLed a b p pairs (v ∷ vs) led = (one : Option Led) × (rest : List Led) × IsLed a b p pairs v one × AreLed a b p pairs vs rest
+    × (led ≡ option_to_list one ++ rest)
 
 -- ---- causes
 
@@ -59,7 +62,13 @@ name_of t = record { role = t.role; name = t.name }
 -- the cause that an inner signal is: of the pairs that have it as their first
 abbrev pub cause_of : List (List ℕ) → List Led → Inner → Caused
 cause_of names led i =
-    record { signal = slice_index_or names i.first []; first_line = i.first_line; second_line = i.second_line; pairs = map (λ one. name_of one.pair) (filter (is_led_by i.first) led) }
+    record {
+      signal = slice_index_or names i.first [];
+      first_line = i.first_line;
+      second_line = i.second_line;
+      pairs = map
+          (λ one. name_of one.pair) (filter (is_led_by i.first) led);
+    }
 
 -- an inner signal, where none of the pairs before has it
 abbrev pub first_time : (before : List Led) → Inner → List Inner

@@ -12,7 +12,8 @@ use Rattle.check_report.specs.Devices.{Told}
 use Rattle.check_report.specs.declared.choice.Choice.{Choice}
 use Rattle.check_report.specs.declared.choice.Choice.TheVariants.{One, Best, Auto, Cones}
 use Rattle.check_report.specs.declared.fault.CheckFault.{CheckFault}
-use Rattle.check_report.specs.declared.fault.CheckFault.TheVariants.{First, Second, Given, GivenOutputs, Order as OrderRefused, Only, Explain, Wave, GivenUp, Write, OutOfMemory}
+use Rattle.check_report.specs.declared.fault.CheckFault.TheVariants.{First, Second, Given, GivenOutputs, Order as OrderRefused, Only}
+use Rattle.check_report.specs.declared.fault.CheckFault.TheVariants.{Explain, Wave, GivenUp, Write, OutOfMemory}
 use Rattle.check_report.specs.Conditions.{HasOneOutput}
 use Rattle.report_text.specs.Lines.{Found}
 use Rattle.check_report.specs.declared.telling.Asked.{Asked}
@@ -86,7 +87,8 @@ AreFewFor Cones how a b c = ⊤
 
 -- the devices gave netlists that have a naming, and a pairing unless the choice lets pairs be judged by their cones
 abbrev pub AreAccepted : Told → Choice → Match → Order → Type 0
-AreAccepted told choice how order = (a b : Circuit) × (c : Option Circuit) × (p : Paired) × HaveNaming told how order a b c p × AreFewFor choice how a b c
+AreAccepted told choice how order = (a b : Circuit) × (c : Option Circuit) × (p : Paired) × HaveNaming told how order a b c p
+    × AreFewFor choice how a b c
 
 -- a fault before the pairing: one of the reading
 abbrev pub IsEarly : CheckFault → Type 0
@@ -116,13 +118,14 @@ IsLate GivenUp = ⊥
 IsLate Write = ⊥
 IsLate OutOfMemory = Unit {0}
 
--- Why there is no report by this choice, where this says that the first device has failed, that the second has, and that the condition's has.
--- What comes before was accepted: the first text, the second, the condition's, its outputs, the pairing, or the naming where pairs may be
--- judged by their cones. What is to be explained is looked for
+-- Why there is no report by this choice, where this says that the first device has failed, that the second has, and that the condition's
+-- has. What comes before was accepted: the first text, the second, the condition's, its outputs, the pairing, or the naming where pairs may
+-- be judged by their cones. What is to be explained is looked for
 -- apart, before anything is compared.
 abbrev pub IsCheckFault : Told → (first_failed second_failed given_failed : Type 0) → Choice → Match → Order → CheckFault → Type 0
 IsCheckFault told first_failed second_failed given_failed choice how order (First fault) = IsUnread told.first first_failed fault
-IsCheckFault told first_failed second_failed given_failed choice how order (Second fault) = (a : Circuit) × Gives told.first a × IsUnread told.second second_failed fault
+IsCheckFault told first_failed second_failed given_failed choice how order (Second fault) = (a : Circuit) × Gives told.first a
+    × IsUnread told.second second_failed fault
 IsCheckFault told first_failed second_failed given_failed choice how order (Given fault) =
     (a b : Circuit) × Gives told.first a × Gives told.second b × IsConditionFault told.given given_failed (Given fault)
 IsCheckFault told first_failed second_failed given_failed choice how order GivenOutputs =

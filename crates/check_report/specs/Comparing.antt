@@ -46,7 +46,8 @@ subject_at of i = slice_index_or of i (record { role = Output; named = 0; first 
 
 -- the references of what is compared: the first netlist's of each, then the second's
 abbrev pub references : References → List Subject → List Ref
-references refs of = map (λ subject. reference_of refs.first subject.first) of ++ map (λ subject. reference_of refs.second subject.second) of
+references refs of = map (λ subject. reference_of refs.first subject.first) of
+    ++ map (λ subject. reference_of refs.second subject.second) of
 
 -- what a diagram denotes, told as it is: over the variables by level
 abbrev pub as_built : (List Bool → Bool) → List Bool → Bool
@@ -69,32 +70,38 @@ asked_of (Arranged order support) = record { sizes = false; support = support }
 
 -- r denotes the function of a signal where the condition holds, as it is told
 abbrev pub DenotesWhere : (told : (List Bool → Bool) → List Bool → Bool) → (List Bool → Bool) → Circuit → (ℕ → ℕ) → Nodes → ℕ → Ref → Type 0
-DenotesWhere told holds c level S s r = Has S r × ((whole : List Bool → Bool) × IsFunctionOf c level S.levels s whole × Agree S.levels (told (den S r)) (restricted holds whole))
+DenotesWhere told holds c level S s r = Has S r × ((whole : List Bool → Bool) × IsFunctionOf c level S.levels s whole
+    × Agree S.levels (told (den S r)) (restricted holds whole))
 
 -- the references of what is compared denote its functions where the condition holds, as they are told over the variables of the pairing
-pub record AreShown (told : (List Bool → Bool) → List Bool → Bool) (a b : Circuit) (given : Option Circuit) (p : Paired) (S : Nodes) (of : List Subject) (refs : List Ref) : Type 0 where
+pub record AreShown (told : (List Bool → Bool) → List Bool → Bool) (a b : Circuit) (given : Option Circuit) (p : Paired) (S : Nodes)
+    (of : List Subject) (refs : List Ref) : Type 0 where
   pub holds : List Bool → Bool
   pub condition : HoldsWhere given p holds
   pub each : length refs ≡ length of + length of
   pub first : (i : ℕ) → i < length of → DenotesWhere told holds a (first_level p) S (subject_at of i).first (reference_of refs i)
-  pub second : (i : ℕ) → i < length of → DenotesWhere told holds b (second_level p) S (subject_at of i).second (reference_of refs (length of + i))
+  pub second : (i : ℕ) → i < length of → DenotesWhere told holds b (second_level p) S (subject_at of i).second
+      (reference_of refs (length of + i))
 
 -- this is compared, and these are the references of a store for it
-pub record AreCompared (told : (List Bool → Bool) → List Bool → Bool) (a b : Circuit) (given : Option Circuit) (p : Paired) (S : Nodes) (of : List Subject) (refs : List Ref) : Type 0 where
+pub record AreCompared (told : (List Bool → Bool) → List Bool → Bool) (a b : Circuit) (given : Option Circuit) (p : Paired) (S : Nodes)
+    (of : List Subject) (refs : List Ref) : Type 0 where
   pub levels : S.levels ≡ length p.names
   pub signals : AreSignals a b p
   pub all : of ≡ subjects a b p
   pub shown : AreShown told a b given p S of refs
 
 -- these are the verdicts of what is compared
-pub record HaveVerdicts (asked : Asked) (holds : List Bool → Bool) (a b : Circuit) (p : Paired) (of : List Subject) (verdicts : List Verdict) : Type 0 where
+pub record HaveVerdicts (asked : Asked) (holds : List Bool → Bool) (a b : Circuit) (p : Paired) (of : List Subject)
+    (verdicts : List Verdict) : Type 0 where
   pub compared : List Compared
   pub functions : AllZip (AreFunctions a b p) of compared
   pub are_verdicts : AllZip (IsVerdictOf (length p.names) asked holds) compared verdicts
 
 -- the verdicts of all that is compared, for the condition
 abbrev pub HaveAllVerdicts : Asked → Circuit → Circuit → Option Circuit → Paired → List Verdict → Type 0
-HaveAllVerdicts asked a b given p verdicts = (holds : List Bool → Bool) × HoldsWhere given p holds × HaveVerdicts asked holds a b p (subjects a b p) verdicts
+HaveAllVerdicts asked a b given p verdicts = (holds : List Bool → Bool) × HoldsWhere given p holds
+    × HaveVerdicts asked holds a b p (subjects a b p) verdicts
 
 -- two functions of this role and name, whose diagrams these are, as they are told
 abbrev pub compared_of : (told : (List Bool → Bool) → List Bool → Bool) → Nodes → PairKind → List ℕ → Ref → Ref → Compared

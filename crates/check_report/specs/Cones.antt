@@ -1,5 +1,6 @@
 -- Pairs that are judged alone, each by its cones.
-use Rattle.std.specs.Prelude.{◌≡◌, ◌<◌, ◌/◌, ◌⊎◌, ◌↔◌, ℕ, min, max, ◌*◌, ◌++◌, Bool, List, [], Option, Some, None, length, slice_index, All, ⊤}
+use Rattle.std.specs.Prelude.{◌≡◌, ◌<◌, ◌/◌, ◌⊎◌, ◌↔◌, ℕ, min, max, ◌*◌, ◌++◌, Bool, List, [], Option, Some, None, length, slice_index}
+use Rattle.std.specs.Prelude.{All, ⊤}
 use Rattle.std.specs.List.{AllZip, slice_index_or}
 use Rattle.expand_work.specs.Bounds.{most_of}
 use Rattle.net_bench.specs.Circuit.{Circuit, Net, circuit, variables_of}
@@ -61,7 +62,8 @@ abbrev pub AreGivenUpIn : (budget : ℕ) → (bound : Option ℕ) → (first sec
 AreGivenUpIn budget bound first second condition = (c : Candidate) → (q : Paired) × IsPairing Name first second condition (order_of c) q
     × (Exceeds budget first second condition q ⊎ IsTooWide (min (budget * 8) (most_of bound)) first second condition q)
 
--- Within so many nodes a pair is not decided by its cones: they have more variables together than a pairing has, or each attempt was given up.
+-- Within so many nodes a pair is not decided by its cones: they have more variables together than a pairing has, or each attempt was given
+-- up.
 pub record IsLeftWithin (budget : ℕ) (bound : Option ℕ) (a b : Circuit) (given : Option Circuit) (p : Paired) (s : Subject) : Type 0 where
   pub first : Circuit
   pub second : Circuit
@@ -89,11 +91,13 @@ pub record FitByCones (limit : ℕ) (a b : Circuit) (given : Option Circuit) (p 
 -- The verdict of a pair over the variables of the naming: that of its functions where the condition holds, where this says that its cones
 -- are within their limit, or Undecided where that says that no attempt decides it.
 pub data IsToldOf (n : ℕ) (asked : Asked) (within left : Type 0) (holds : List Bool → Bool) (c : Compared) : Verdict → Type 0 where
-  decided : {v : Verdict} → within → IsVerdictOf n asked holds c v → (CallsEqual v ↔ AgreeWhere n holds c.first c.second) → IsToldOf n asked within left holds c v
+  decided : {v : Verdict} → within → IsVerdictOf n asked holds c v → (CallsEqual v ↔ AgreeWhere n holds c.first c.second)
+      → IsToldOf n asked within left holds c v
   undecided : left → IsToldOf n asked within left holds c (Undecided c.role c.name)
 
 -- The same of the pair that is meant.
-pub record IsTold (asked : Asked) (within left : Subject → Type 0) (a b : Circuit) (given : Option Circuit) (p : Paired) (s : Subject) (v : Verdict) : Type 0 where
+pub record IsTold (asked : Asked) (within left : Subject → Type 0) (a b : Circuit) (given : Option Circuit) (p : Paired) (s : Subject)
+    (v : Verdict) : Type 0 where
   pub holds : List Bool → Bool
   pub condition : HoldsWhere given p holds
   pub compared : Compared
@@ -102,7 +106,8 @@ pub record IsTold (asked : Asked) (within left : Subject → Type 0) (a b : Circ
 
 -- What a comparison by cones finds: a verdict for each pair that is picked, then these lines of what has no partner. The variables stand by
 -- level.
-pub record AreTold (asked : Asked) (within left : Subject → Type 0) (a b : Circuit) (given : Option Circuit) (p : Paired) (pairs : List Subject) (lone : List Verdict) (found : Found) : Type 0 where
+pub record AreTold (asked : Asked) (within left : Subject → Type 0) (a b : Circuit) (given : Option Circuit) (p : Paired)
+    (pairs : List Subject) (lone : List Verdict) (found : Found) : Type 0 where
   pub variables : found.variables ≡ p.names
   pub of_pairs : List Verdict
   pub told : AllZip (IsTold asked within left a b given p) pairs of_pairs

@@ -1,5 +1,6 @@
 -- How pairs are judged by their cones, step by step.
-use Rattle.std.specs.Prelude.{◌≡◌, ◌⊎◌, ◌<◌, ℕ, false, List, [], ◌∷◌, map, length, slice_index_or, Option, Some, None, Result, Ok, Err, IfSome, option_map}
+use Rattle.std.specs.Prelude.{◌≡◌, ◌⊎◌, ◌<◌, ℕ, false, List, [], ◌∷◌, map, length, slice_index_or, Option, Some, None, Result, Ok, Err}
+use Rattle.std.specs.Prelude.{IfSome, option_map}
 use Rattle.std.specs.Borrow.{Bor}
 use Rattle.std.specs.List.{AllZip}
 use Rattle.std.specs.declared.alloc.Global.{Global}
@@ -74,7 +75,8 @@ IsOf whole s = IsInside (circuit whole.task.now.first.now) (circuit whole.task.n
 
 -- the cones of a pair, and of the condition
 abbrev pub AreConesOf : {H : Type 0} → Whole H → Subject → Cones → Type 0
-AreConesOf whole s cones = AreCones (circuit whole.task.now.first.now) (circuit whole.task.now.second.now) (condition whole.task.now.given) whole.naming.now s
+AreConesOf whole s cones = AreCones (circuit whole.task.now.first.now) (circuit whole.task.now.second.now)
+    (condition whole.task.now.given) whole.naming.now s
     (circuit cones.first.net) (circuit cones.second.net) (circuit_of whole.given)
 
 -- the comparison of a pair's cones
@@ -88,15 +90,18 @@ pub record IsConeTask {H : Type 0} (whole : Whole H) (cones : Cones) (task : Tas
 
 -- the cones of the pair need so many nodes at most
 abbrev pub FitIn : {H : Type 0} → Whole H → (budget : ℕ) → Subject → Type 0
-FitIn whole budget s = FitByCones budget (circuit whole.task.now.first.now) (circuit whole.task.now.second.now) (condition whole.task.now.given) whole.naming.now s
+FitIn whole budget s = FitByCones budget (circuit whole.task.now.first.now) (circuit whole.task.now.second.now)
+    (condition whole.task.now.given) whole.naming.now s
 
 -- the pair is decided within so many nodes, and this is its verdict
 abbrev pub IsToldIn : {H : Type 0} → Whole H → (budget : ℕ) → Subject → Verdict → Type 0
-IsToldIn whole budget s v = IsTold (unsized whole.task.now.settings.now.assignment) (FitIn whole budget) (λ t. ⊥) (circuit whole.task.now.first.now) (circuit whole.task.now.second.now) (condition whole.task.now.given) whole.naming.now s v
+IsToldIn whole budget s v = IsTold (unsized whole.task.now.settings.now.assignment) (FitIn whole budget) (λ t. ⊥)
+    (circuit whole.task.now.first.now) (circuit whole.task.now.second.now) (condition whole.task.now.given) whole.naming.now s v
 
 -- the pair is left within so many nodes
 abbrev pub IsLeftIn : {H : Type 0} → Whole H → (budget : ℕ) → (bound : Option ℕ) → Subject → Type 0
-IsLeftIn whole budget bound s = IsLeftWithin budget bound (circuit whole.task.now.first.now) (circuit whole.task.now.second.now) (condition whole.task.now.given) whole.naming.now s
+IsLeftIn whole budget bound s = IsLeftWithin budget bound (circuit whole.task.now.first.now) (circuit whole.task.now.second.now)
+    (condition whole.task.now.given) whole.naming.now s
 
 -- the pair has this verdict, or none where it is left
 abbrev pub IsKnown : (told : Subject → Verdict → Type 0) (left : Subject → Type 0) → Subject → Option Verdict → Type 0
@@ -106,7 +111,8 @@ IsKnown told left s (Some v) = told s v
 -- a verdict over the variables at these levels, where there is one, told over all variables
 abbrev pub IsWidened : {H : Type 0} → Whole H → Subject → (places : List ℕ) → (found told : Option Verdict) → Type 0
 IsWidened whole s places found told =
-    told ≡ option_map (widened_verdict s.role (name_of (circuit whole.task.now.first.now) s.named) (length whole.naming.now.names) places) found
+    told ≡ option_map (widened_verdict s.role (name_of (circuit whole.task.now.first.now) s.named)
+    (length whole.naming.now.names) places) found
 
 -- what the attempts within so many nodes came to for a pair
 abbrev pub IsJudgedIn : {H : Type 0} → Whole H → (budget : ℕ) → (bound : Option ℕ) → Subject → Option Verdict → Type 0
@@ -148,12 +154,15 @@ IsEndedIn whole budget bound s (Ok o) = IsJudgedIn whole budget bound s o
 IsEndedIn whole budget bound s (Err fault) = EndsPairs fault
 
 -- each of these pairs had its turn
-pub record AreEnded {H : Type 0} (whole : Whole H) (budget : ℕ) (bound : Option ℕ) (subjects : List Subject) (turns : List Turn) : Type 0 where
+pub record AreEnded {H : Type 0} (whole : Whole H) (budget : ℕ) (bound : Option ℕ) (subjects : List Subject)
+    (turns : List Turn) : Type 0 where
   pub each : map (λ (t : Turn). t.subject) turns ≡ subjects
-  pub ended : (i : ℕ) (t : Turn) → i < length turns → IsEndedIn whole budget bound (slice_index_or turns i t).subject (slice_index_or turns i t).ended
+  pub ended : (i : ℕ) (t : Turn) → i < length turns → IsEndedIn whole budget bound (slice_index_or turns i t).subject
+      (slice_index_or turns i t).ended
 
 -- what a round leaves of what was known
-pub record IsRoundOf {H : Type 0} (whole : Whole H) (budget : ℕ) (bound : Option ℕ) (subjects : List Subject) (known new : List (Option Verdict)) : Type 0 where
+pub record IsRoundOf {H : Type 0} (whole : Whole H) (budget : ℕ) (bound : Option ℕ) (subjects : List Subject)
+    (known new : List (Option Verdict)) : Type 0 where
   pub found : List (Option Verdict)
   pub judged : AllZip (IsJudgedIn whole budget bound) (left_of subjects known) found
   pub all : new ≡ filled known found
@@ -163,12 +172,15 @@ pub record IsRoundOf {H : Type 0} (whole : Whole H) (budget : ℕ) (bound : Opti
 -- a pair that no budget up to the cones' limit decides
 abbrev pub IsLeftOut : {H : Type 0} → Whole H → (bound : Option ℕ) → Subject → Type 0
 IsLeftOut whole bound s =
-    IsLeft whole.task.now.settings.now.limit bound (circuit whole.task.now.first.now) (circuit whole.task.now.second.now) (condition whole.task.now.given) whole.naming.now s
+    IsLeft whole.task.now.settings.now.limit bound (circuit whole.task.now.first.now) (circuit whole.task.now.second.now)
+    (condition whole.task.now.given) whole.naming.now s
 
 -- the same, and its verdict
 abbrev pub IsToldOut : {H : Type 0} → Whole H → (bound : Option ℕ) → Subject → Verdict → Type 0
 IsToldOut whole bound s v =
-    IsTold (unsized whole.task.now.settings.now.assignment) (FitIn whole (cone_limit whole.task.now.settings.now.limit)) (IsLeftOut whole bound) (circuit whole.task.now.first.now) (circuit whole.task.now.second.now) (condition whole.task.now.given) whole.naming.now s v
+    IsTold (unsized whole.task.now.settings.now.assignment) (FitIn whole (cone_limit whole.task.now.settings.now.limit))
+    (IsLeftOut whole bound) (circuit whole.task.now.first.now) (circuit whole.task.now.second.now)
+    (condition whole.task.now.given) whole.naming.now s v
 
 -- the verdict of a pair: Undecided, where there is none
 abbrev pub told_of : Circuit → Subject → Option Verdict → Verdict
@@ -186,7 +198,8 @@ pub record IsToldByCones {H : Type 0} (task : Task H) (bound : Option ℕ) (p : 
   pub pairs : List Subject
   pub lone : List Verdict
   pub picked : ArePicked (circuit task.first.now) (circuit task.second.now) p task.settings.now.picked pairs lone
-  pub verdicts : AreTold (unsized task.settings.now.assignment) (FitByCones (cone_limit task.settings.now.limit) (circuit task.first.now) (circuit task.second.now) (condition task.given) p)
+  pub verdicts : AreTold (unsized task.settings.now.assignment)
+      (FitByCones (cone_limit task.settings.now.limit) (circuit task.first.now) (circuit task.second.now) (condition task.given) p)
       (IsLeft task.settings.now.limit bound (circuit task.first.now) (circuit task.second.now) (condition task.given) p)
       (circuit task.first.now) (circuit task.second.now) (condition task.given) p pairs lone found
 

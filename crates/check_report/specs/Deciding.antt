@@ -35,23 +35,26 @@ pub record IsJudgedByCones (told : Told) (s : Settings) (bound : Option ℕ) (fo
   pub pairs : List Subject
   pub lone : List Verdict
   pub picked : ArePicked a b p s.picked pairs lone
-  pub verdicts : AreTold (unsized s.assignment) (FitByCones (cone_limit s.limit) a b c p) (IsLeft s.limit bound a b c p) a b c p pairs lone found
+  pub verdicts : AreTold (unsized s.assignment) (FitByCones (cone_limit s.limit) a b c p)
+      (IsLeft s.limit bound a b c p) a b c p pairs lone found
 
 -- Cones may be taken: they are asked for, or each attempt of the whole was given up, or it has more variables than a pairing has.
 abbrev pub HasCause : Told → Settings → (bound : Option ℕ) → Choice → Type 0
 HasCause told s bound (One o) = ⊥
 HasCause told s bound Best = ⊥
 HasCause told s bound Auto =
-    ((budget : ℕ) → IsBudget (whole_limit s.limit) budget → (c : Candidate) → IsGivenUpWithin told s.matching budget bound (order_of c)) ⊎ HaveMany told s.matching
+    ((budget : ℕ) → IsBudget (whole_limit s.limit) budget → (c : Candidate) → IsGivenUpWithin told s.matching budget bound (order_of c))
+    ⊎ HaveMany told s.matching
 HasCause told s bound Cones = ⊤
 
 -- What a comparison finds by its settings, and the attempt that it is told with.
 pub data IsFoundBy (told : Told) (s : Settings) (bound : Option ℕ) (found : Found) : Option Attempt → Type 0 where
-  in_order : {tried : Option Attempt} (order : Order) → IsJudged told s.matching order (asked_in s) found → IsChosen told s.matching s.order s.limit tried order → IsFoundBy told s bound found tried
+  in_order : {tried : Option Attempt} (order : Order) → IsJudged told s.matching order (asked_in s) found
+      → IsChosen told s.matching s.order s.limit tried order → IsFoundBy told s bound found tried
   by_cones : HasCause told s bound s.order → IsJudgedByCones told s bound found → IsFoundBy told s bound found None
 
--- The bytes are the report of what the devices gave, by these settings, with these counts and the causes that they ask for, and behind it the
--- explanations that they ask for; this attempt is told with it.
+-- The bytes are the report of what the devices gave, by these settings, with these counts and the causes that they ask for, and behind it
+-- the explanations that they ask for; this attempt is told with it.
 pub record IsReportBy (told : Told) (s : Settings) (bound : Option ℕ) (tried : Option Attempt) (o : Outcome) (bytes : List ℕ) : Type 0 where
   pub found : Found
   pub by : IsFoundBy told s bound found tried
@@ -60,7 +63,8 @@ pub record IsReportBy (told : Told) (s : Settings) (bound : Option ℕ) (tried :
   pub caused : AreCauses s.causes told s tried found causes
   pub explanations : List ℕ
   pub explained : IsBehind s.explain.items told s tried found explanations
-  pub text : bytes ≡ form_text s.json s.assignment s.matching (told_kind s.order tried) (is_some told.given) (share_of s.picked) causes found ++ explanations
+  pub text : bytes ≡ form_text s.json s.assignment s.matching (told_kind s.order tried) (is_some told.given)
+      (share_of s.picked) causes found ++ explanations
 
 -- One of the names that are picked is no output and no register of the first netlist that the devices gave.
 abbrev pub IsUnknown : Told → Picked → Type 0

@@ -72,6 +72,7 @@ IsDump false told s tried found vcd = vcd ≡ None
 IsDump true told s tried found vcd = IsDumpAt (first_at found.verdicts) told s tried found vcd
 
 -- The bytes are the report of what the devices gave, and this is the VCD of the first pair that differs in it.
-pub record IsReportWithVcd (told : Told) (s : Settings) (bound : Option ℕ) (tried : Option Attempt) (o : Outcome) (bytes : List ℕ) (vcd : Option (List ℕ)) : Type 0 where
+pub record IsReportWithVcd (told : Told) (s : Settings) (bound : Option ℕ) (tried : Option Attempt) (o : Outcome) (bytes : List ℕ)
+    (vcd : Option (List ℕ)) : Type 0 where
   pub report : IsReportBy told s bound tried o bytes
   pub dump : IsDump s.vcd told s tried report.found vcd

@@ -1,5 +1,6 @@
 -- What stands behind a report: an explanation of each pair that is asked for.
-use Rattle.std.specs.Prelude.{◌≡◌, ◌⊎◌, ℕ, Bool, true, false, ◌&&◌, List, [], ◌∷◌, ◌++◌, map, find, Option, Some, None, Contains, IsTrue, bytes_eq, codes}
+use Rattle.std.specs.Prelude.{◌≡◌, ◌⊎◌, ℕ, Bool, true, false, ◌&&◌, List, [], ◌∷◌, ◌++◌, map, find, Option, Some, None, Contains, IsTrue}
+use Rattle.std.specs.Prelude.{bytes_eq, codes}
 use Rattle.net_bench.specs.Circuit.{Circuit, IsNet, Net, circuit}
 use Rattle.net_explain.specs.Explaining.{Explained, IsExplanation}
 use Rattle.net_explain.specs.Text.{explanation_text}
@@ -92,12 +93,14 @@ ExplainsTarget a b p t (Some s) v text = ExplainsPair a b p t s v text
 
 -- the text is the explanation of what is asked for, by the pair and the verdict of its name
 abbrev pub IsExplained : Net → Net → Paired → List Verdict → Target → List ℕ → Type 0
-IsExplained a b p verdicts t text = ExplainsTarget a b p t (find (is_subject_of (circuit a) t) (subjects (circuit a) (circuit b) p)) (find (is_verdict_on t) verdicts) text
+IsExplained a b p verdicts t text = ExplainsTarget a b p t (find (is_subject_of (circuit a) t) (subjects (circuit a) (circuit b) p))
+    (find (is_verdict_on t) verdicts) text
 
 -- the bytes are the explanations of all that is asked for, one behind the other
 abbrev pub AreExplained : Net → Net → Paired → List Verdict → List Target → List ℕ → Type 0
 AreExplained a b p verdicts [] bytes = bytes ≡ []
-AreExplained a b p verdicts (t ∷ ts) bytes = (one rest : List ℕ) × IsExplained a b p verdicts t one × AreExplained a b p verdicts ts rest × (bytes ≡ one ++ rest)
+AreExplained a b p verdicts (t ∷ ts) bytes = (one rest : List ℕ) × IsExplained a b p verdicts t one × AreExplained a b p verdicts ts rest
+    × (bytes ≡ one ++ rest)
 
 -- ---- behind a report
 
@@ -143,4 +146,5 @@ pub record IsUnexplained (told : Told) (targets : List Target) (fault : CheckFau
 -- why there is no report: what is asked for is refused, or there is another cause, where this says that the devices have failed
 abbrev pub IsReportFault : Told → (first_failed second_failed given_failed : Type 0) → Settings → CheckFault → Type 0
 IsReportFault told first_failed second_failed given_failed s fault =
-    IsUnexplained told s.explain.items fault ⊎ ((order : Order) × IsAllowed s.order order × IsCheckFault told first_failed second_failed given_failed s.order s.matching order fault)
+    IsUnexplained told s.explain.items fault ⊎ ((order : Order) × IsAllowed s.order order
+    × IsCheckFault told first_failed second_failed given_failed s.order s.matching order fault)

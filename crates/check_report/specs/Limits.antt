@@ -18,7 +18,8 @@ use Rattle.check_report.specs.Report.{subjects}
 
 -- f is the function of one of the two signals that are compared
 abbrev pub IsFunctionIn : Circuit → Circuit → Paired → Subject → (List Bool → Bool) → Type 0
-IsFunctionIn a b p subject f = IsFunctionOf a (slice_index p.first) (length p.names) subject.first f ⊎ IsFunctionOf b (slice_index p.second) (length p.names) subject.second f
+IsFunctionIn a b p subject f = IsFunctionOf a (slice_index p.first) (length p.names) subject.first f
+    ⊎ IsFunctionOf b (slice_index p.second) (length p.names) subject.second f
 
 -- f is the function of a signal that is compared, where the condition holds
 pub record IsComparedValue (a b : Circuit) (given : Option Circuit) (p : Paired) (f : List Bool → Bool) : Type 0 where
@@ -73,8 +74,10 @@ pub record Exceeds (limit : ℕ) (a b : Circuit) (given : Option Circuit) (p : P
 
 -- the devices gave netlists that have a pairing, and the nodes that these need are within the limit
 abbrev pub AreWithin : Told → Match → Order → (limit : ℕ) → Type 0
-AreWithin told how order limit = (a b : Circuit) × (c : Option Circuit) × (p : Paired) × ArePaired told how order a b c p × FitsWithin limit a b c p
+AreWithin told how order limit = (a b : Circuit) × (c : Option Circuit) × (p : Paired) × ArePaired told how order a b c p
+    × FitsWithin limit a b c p
 
 -- the same, and the nodes that these need are not within the limit
 abbrev pub AreBeyond : Told → Match → Order → (limit : ℕ) → Type 0
-AreBeyond told how order limit = (a b : Circuit) × (c : Option Circuit) × (p : Paired) × ArePaired told how order a b c p × Exceeds limit a b c p
+AreBeyond told how order limit = (a b : Circuit) × (c : Option Circuit) × (p : Paired) × ArePaired told how order a b c p
+    × Exceeds limit a b c p

@@ -1,5 +1,6 @@
 -- Which pairs are picked: all, those of some names, or those of one share.
-use Rattle.std.specs.Prelude.{◌≡◌, ◌+◌, ◌-◌, ◌/◌, ◌%◌, ◌<◌, ◌==◌, ◌⊎◌, ℕ, suc, Bool, false, List, [], map, filter, length, zip, Option, Some, None, IsTrue, Contains, if◌then◌else◌, slice_index, bytes_eq, Vec}
+use Rattle.std.specs.Prelude.{◌≡◌, ◌+◌, ◌-◌, ◌/◌, ◌%◌, ◌<◌, ◌==◌, ◌⊎◌, ℕ, suc, Bool, false, List, [], map, filter, length, zip, Option}
+use Rattle.std.specs.Prelude.{Some, None, IsTrue, Contains, if◌then◌else◌, slice_index, bytes_eq, Vec}
 use Rattle.std.specs.declared.alloc.Global.{Global}
 use Rattle.std.specs.List.{AllZip, list_any}
 use Rattle.std.specs.List.Sorted.{IsPermutation}
@@ -84,9 +85,11 @@ of_share k dealt_out = map (λ s. s.0) (filter (λ s. s.1 == k) dealt_out)
 pub data ArePicked (a b : Circuit) (p : Paired) : Picked → List Subject → List Verdict → Type 0 where
   all : ArePicked a b p All (subjects a b p) (lone_verdicts a b p)
   named : {names : Vec (List ℕ) Global} → ((n : List ℕ) → Contains names.items n → IsNamedIn a n) →
-      ArePicked a b p (Only names) (filter (is_pair_of a names.items) (subjects a b p)) (filter (is_lone_of names.items) (lone_side First a p.outputs.only_first p.registers.only_first))
+      ArePicked a b p (Only names) (filter (is_pair_of a names.items) (subjects a b p))
+      (filter (is_lone_of names.items) (lone_side First a p.outputs.only_first p.registers.only_first))
   shared : {share : Share} {shares : List ℕ} → AreShares a b (subjects a b p) share.of shares →
-      ArePicked a b p (InShare share) (of_share share.number (zip (subjects a b p) shares)) (if share.number == 1 then lone_verdicts a b p else [])
+      ArePicked a b p (InShare share) (of_share share.number (zip (subjects a b p) shares))
+      (if share.number == 1 then lone_verdicts a b p else [])
 
 -- the share that a report is of, where it is of one
 abbrev pub share_of : Picked → Option Share

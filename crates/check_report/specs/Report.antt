@@ -1,4 +1,5 @@
--- The report of two netlists, with a condition or without. It knows functions and their sizes alone: no diagrams, no references and no numbers of nodes.
+-- The report of two netlists, with a condition or without. It knows functions and their sizes alone: no diagrams, no references and no
+-- numbers of nodes.
 use Rattle.std.specs.Prelude.{◌≡◌, ℕ, Bool, true, false, List, ◌++◌, ◌==◌, map, find, length, Option, Some, None, slice_index, ◌↔◌}
 use Rattle.std.specs.List.{AllZip}
 use Rattle.net_bench.specs.Circuit.{Circuit}
@@ -63,10 +64,13 @@ pub record AreExtrasShown (asked : Asked) (n : ℕ) (f g : List Bool → Bool) (
   pub support : IsSupportShown asked.support n f g shown.support
 
 -- The verdict of what is compared: Equal where their functions of n bits agree wherever the condition holds, else Differs with the least
--- difference there and the two values. Sizes, and the variables that are marked, are those of the functions where the condition holds. There is no verdict of another kind.
+-- difference there and the two values. Sizes, and the variables that are marked, are those of the functions where the condition holds.
+-- There is no verdict of another kind.
 pub data IsVerdictOf (n : ℕ) (asked : Asked) (holds : List Bool → Bool) (c : Compared) : Verdict → Type 0 where
-  where_equal : {shown : Option ℕ} → AgreeWhere n holds c.first c.second → IsSizeShown asked.sizes n (restricted holds c.first) shown → IsVerdictOf n asked holds c (Equal c.role c.name shown)
-  where_different : {x : List Bool} {shown : Extras} → IsLeastWhere n holds c.first c.second x → AreExtrasShown asked n (restricted holds c.first) (restricted holds c.second) shown →
+  where_equal : {shown : Option ℕ} → AgreeWhere n holds c.first c.second → IsSizeShown asked.sizes n (restricted holds c.first) shown
+      → IsVerdictOf n asked holds c (Equal c.role c.name shown)
+  where_different : {x : List Bool} {shown : Extras} → IsLeastWhere n holds c.first c.second x
+      → AreExtrasShown asked n (restricted holds c.first) (restricted holds c.second) shown →
       IsVerdictOf n asked holds c (Differs c.role c.name x (c.first x) (c.second x) shown)
 
 -- the function of each of the two signals, over the variables of the pairing
@@ -82,7 +86,8 @@ lone_side side c outputs registers = map (Lone side Output) (names_of c outputs)
 
 -- the verdicts of what has no partner
 abbrev pub lone_verdicts : Circuit → Circuit → Paired → List Verdict
-lone_verdicts a b p = lone_side First a p.outputs.only_first p.registers.only_first ++ lone_side Second b p.outputs.only_second p.registers.only_second
+lone_verdicts a b p = lone_side First a p.outputs.only_first p.registers.only_first
+    ++ lone_side Second b p.outputs.only_second p.registers.only_second
 
 -- a verdict calls its two functions equal
 abbrev pub CallsEqual : Verdict → Type 0
@@ -106,7 +111,8 @@ pub record AreVerdicts (asked : Asked) (a b : Circuit) (given : Option Circuit) 
   pub all : found.verdicts ≡ of_pairs ++ lone_verdicts a b p
 
 -- The report of two netlists that are paired, in some form: the text of what a comparison finds, and its counts.
-pub record IsReport (form : Found → List ℕ) (asked : Asked) (a b : Circuit) (given : Option Circuit) (p : Paired) (o : Outcome) (bytes : List ℕ) : Type 0 where
+pub record IsReport (form : Found → List ℕ) (asked : Asked) (a b : Circuit) (given : Option Circuit) (p : Paired) (o : Outcome)
+    (bytes : List ℕ) : Type 0 where
   pub found : Found
   pub verdicts : AreVerdicts asked a b given p found
   pub counts : o ≡ counted found.verdicts

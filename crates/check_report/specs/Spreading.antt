@@ -1,5 +1,6 @@
 -- What is found of a pair by its cones, told over all variables of its naming.
-use Rattle.std.specs.Prelude.{◌≡◌, ◌<◌, ℕ, Bool, false, List, fold, map, length, replicate, zip, Option, Some, None, IfSome, slice_index, slice_set, All}
+use Rattle.std.specs.Prelude.{◌≡◌, ◌<◌, ℕ, Bool, false, List, fold, map, length, replicate, zip, Option, Some, None, IfSome, slice_index}
+use Rattle.std.specs.Prelude.{slice_set, All}
 use Rattle.net_bench.specs.Circuit.{Circuit, Net, IsNet, circuit}
 use Rattle.net_cone.specs.Cones.{variable_name}
 use Rattle.net_order.specs.declared.order.Match.TheVariants.{Name}
@@ -37,7 +38,8 @@ spread_marks n places (Some marks) = Some (spread n places marks)
 -- A verdict over the variables at the places as the verdict of this role and name over all n of them. Sizes are not told.
 abbrev pub widened_verdict : PairKind → (name : List ℕ) → (n : ℕ) → (places : List ℕ) → Verdict → Verdict
 widened_verdict role name n places (Equal own_role own_name size) = Equal role name None
-widened_verdict role name n places (Differs own_role own_name x first second extras) = Differs role name (spread n places x) first second (record { support = spread_marks n places extras.support; sizes = None })
+widened_verdict role name n places (Differs own_role own_name x first second extras) = Differs role name (spread n places x) first second
+    (record { support = spread_marks n places extras.support; sizes = None })
 widened_verdict role name n places (Lone side own_role own_name) = Lone side role name
 widened_verdict role name n places (Undecided own_role own_name) = Undecided role name
 
@@ -55,7 +57,8 @@ IsNamed a b given p = (how : Match) × (order : Order) × IsNaming how a b given
 
 -- Two netlists have a naming, and the cones of a pair of their signals are paired by name: their variables are those at these places of the
 -- naming, in its order, by its names behind a 'v'.
-pub record IsConePairing (a b : Circuit) (given : Option Circuit) (p : Paired) (s : Subject) (k m : Circuit) (w : Option Circuit) (places : List ℕ) (q : Paired) : Type 0 where
+pub record IsConePairing (a b : Circuit) (given : Option Circuit) (p : Paired) (s : Subject) (k m : Circuit) (w : Option Circuit)
+    (places : List ℕ) (q : Paired) : Type 0 where
   pub first : IsOfNet a
   pub second : IsOfNet b
   pub condition : IfSome given IsOfNet

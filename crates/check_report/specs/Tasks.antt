@@ -9,4 +9,5 @@ use Rattle.check_report.specs.Devices.{Told}
 -- This holds of the task's settings and of whatever the devices told, where that is the texts of its netlists, and of its condition where
 -- there is one.
 abbrev pub OfTask : {H : Type 0} → Task H → (Told → Settings → Type 0) → Type 0
-OfTask task P = (told : Told) → AreGiven told (circuit task.first.now) (circuit task.second.now) (condition task.given) → P told task.settings.now
+OfTask task P = (told : Told) → AreGiven told (circuit task.first.now) (circuit task.second.now) (condition task.given)
+    → P told task.settings.now

@@ -4,7 +4,8 @@ use Rattle.net_bench.specs.FaultText.{fault_text}
 use Rattle.net_order.specs.Fault.{order_fault_text}
 use Rattle.expand_work.specs.Fault.{wave_fault_text}
 use Rattle.check_report.specs.declared.fault.CheckFault.{CheckFault}
-use Rattle.check_report.specs.declared.fault.CheckFault.TheVariants.{First, Second, Given, GivenOutputs, Order, Only, Explain, Wave, GivenUp, Write, OutOfMemory}
+use Rattle.check_report.specs.declared.fault.CheckFault.TheVariants.{First, Second, Given, GivenOutputs, Order, Only, Explain, Wave}
+use Rattle.check_report.specs.declared.fault.CheckFault.TheVariants.{GivenUp, Write, OutOfMemory}
 
 abbrev pub check_fault_text : CheckFault → List ℕ
 check_fault_text (First fault) = codes "first: " ++ fault_text fault

@@ -1,5 +1,6 @@
 -- What a search among the candidates has found out: which attempts were given up, and the one that decides.
-use Rattle.std.specs.Prelude.{◌≡◌, ◌≢◌, ◌⊎◌, ℕ, min, ◌*◌, ◌<◌, ◌≤◌, Bool, true, false, ◌&&◌, List, Option, Some, None, All, Contains, length, ⊤}
+use Rattle.std.specs.Prelude.{◌≡◌, ◌≢◌, ◌⊎◌, ℕ, min, ◌*◌, ◌<◌, ◌≤◌, Bool, true, false, ◌&&◌, List, Option, Some, None, All, Contains}
+use Rattle.std.specs.Prelude.{length, ⊤}
 use Rattle.std.specs.Borrow.{Bor}
 use Rattle.expand_work.specs.Bounds.{most_of}
 use Rattle.expand_work.specs.declared.fault.WaveFault.TheVariants.{Full, TooManyRequests, NoWorker}
@@ -28,23 +29,28 @@ use Rattle.check_report.specs.Widths.{IsTooWide}
 
 -- the pairing in this order
 abbrev pub IsPairingIn : {H : Type 0} → Task H → Order → Paired → Type 0
-IsPairingIn task order p = IsPairing task.settings.now.matching (circuit task.first.now) (circuit task.second.now) (condition task.given) order p
+IsPairingIn task order p = IsPairing task.settings.now.matching (circuit task.first.now) (circuit task.second.now)
+    (condition task.given) order p
 
 -- the naming in this order
 abbrev pub IsNamingIn : {H : Type 0} → Task H → Order → Paired → Type 0
-IsNamingIn task order p = IsNaming task.settings.now.matching (circuit task.first.now) (circuit task.second.now) (condition task.given) order p
+IsNamingIn task order p = IsNaming task.settings.now.matching (circuit task.first.now) (circuit task.second.now)
+    (condition task.given) order p
 
 -- a task's netlists have no more variables than a pairing may have
 abbrev pub HasFew : {H : Type 0} → Task H → Type 0
-HasFew task = length (variables_in task.settings.now.matching (circuit task.first.now) (circuit task.second.now) (condition task.given)) ≤ max_variables
+HasFew task = length (variables_in task.settings.now.matching (circuit task.first.now) (circuit task.second.now)
+    (condition task.given)) ≤ max_variables
 
 -- a task's netlists have more
 abbrev pub HasMany : {H : Type 0} → Task H → Type 0
-HasMany task = max_variables < length (variables_in task.settings.now.matching (circuit task.first.now) (circuit task.second.now) (condition task.given))
+HasMany task = max_variables < length (variables_in task.settings.now.matching (circuit task.first.now) (circuit task.second.now)
+    (condition task.given))
 
 -- the names of the variables in this order
 abbrev pub ordered_names : {H : Type 0} → Task H → Order → List (List ℕ)
-ordered_names task order = names_by task.settings.now.matching (circuit task.first.now) (circuit task.second.now) (condition task.given) order
+ordered_names task order = names_by task.settings.now.matching (circuit task.first.now) (circuit task.second.now)
+    (condition task.given) order
 
 -- a trial has the pairing in its candidate's order
 abbrev pub IsTrial : {H : Type 0} → Task H → Trial → Type 0
@@ -74,10 +80,12 @@ told_in (Some d) p = d.now
 -- ---- attempts
 
 -- An attempt within so many nodes has ended: these are its verdicts.
-pub record IsDecided {H : Type 0} (task : Task H) (declared : Option (Bor Paired)) (budget : ℕ) (t : Trial) (verdicts : List Verdict) : Type 0 where
+pub record IsDecided {H : Type 0} (task : Task H) (declared : Option (Bor Paired)) (budget : ℕ) (t : Trial)
+    (verdicts : List Verdict) : Type 0 where
   pub paired : IsTrial task t
   pub within : FitsWithin budget (circuit task.first.now) (circuit task.second.now) (condition task.given) t.pairing
-  pub verdicts_of : AreVerdicts (asked_in task.settings.now) (circuit task.first.now) (circuit task.second.now) (condition task.given) (told_in declared t.pairing)
+  pub verdicts_of : AreVerdicts (asked_in task.settings.now) (circuit task.first.now) (circuit task.second.now) (condition task.given)
+      (told_in declared t.pairing)
       (record { variables = (told_in declared t.pairing).names; verdicts = verdicts })
 
 -- In a candidate's order no more nodes are needed than so many.
@@ -93,7 +101,8 @@ NeedsMore task budget p = Exceeds budget (circuit task.first.now) (circuit task.
 
 -- one wave of it reaches more requests than eight for each node of the budget, or than the monitor's bound where that is less
 abbrev pub AsksMore : {H : Type 0} → Task H → (budget : ℕ) → (bound : Option ℕ) → Paired → Type 0
-AsksMore task budget bound p = IsTooWide (min (budget * 8) (most_of bound)) (circuit task.first.now) (circuit task.second.now) (condition task.given) p
+AsksMore task budget bound p = IsTooWide (min (budget * 8) (most_of bound)) (circuit task.first.now) (circuit task.second.now)
+    (condition task.given) p
 
 -- An attempt was given up, and this says that it was for its nodes.
 pub record WasGivenUp {H : Type 0} (task : Task H) (budget : ℕ) (bound : Option ℕ) (full : Bool) (p : Paired) : Type 0 where
@@ -143,7 +152,8 @@ IsRound task declared budget bound trials (rounds.Decided d) = Decides task decl
 IsRound task declared budget bound trials (rounds.GivenUp full) = ArePassed task budget bound full trials
 
 -- what the turn of one candidate came to in the first round: what holds of the trials before holds with it, and it is tried
-abbrev pub IsTurn : {H : Type 0} → Task H → Option (Bor Paired) → (budget : ℕ) → (bound : Option ℕ) → Candidate → (old new : List Trial) → Round → Type 0
+abbrev pub IsTurn : {H : Type 0} → Task H → Option (Bor Paired) → (budget : ℕ) → (bound : Option ℕ) → Candidate → (old new : List Trial)
+    → Round → Type 0
 IsTurn task declared budget bound c old new (rounds.Decided d) = Decides task declared budget d × (d.trial.candidate ≡ c)
 IsTurn task declared budget bound c old new (rounds.GivenUp full) =
     ((all : Bool) → AreGivenUpTrials task budget bound all old → AreGivenUpTrials task budget bound (all && full) new)

@@ -11,7 +11,9 @@ ghost use Rattle.check_report.specs.Check.{IsCheckFault, IsLate};
 ghost use Rattle.check_report.specs.Limits.{FitsWithin, Exceeds};
 ghost use Rattle.check_report.specs.Report.{AreVerdicts};
 ghost use Rattle.check_report.specs.Tasks.{OfTask};
-ghost use Rattle.check_report.specs.Trials.{AreAllPassed, ArePassedBefore, AreTrials, EndsAtOnce, EndsSearch, IsDecided, IsFirstRound, IsEnded, IsFull, IsGivingUp, IsPairingIn, IsPassed, IsRound, IsTelling, IsTrial, IsTurn, told_in};
+ghost use Rattle.check_report.specs.Trials.{AreAllPassed, ArePassedBefore, AreTrials, EndsAtOnce, EndsSearch, IsDecided, IsFirstRound};
+ghost use Rattle.check_report.specs.Trials.{IsEnded, IsFull, IsGivingUp, IsPairingIn, IsPassed, IsRound, IsTelling, IsTrial, IsTurn};
+ghost use Rattle.check_report.specs.Trials.{told_in};
 ghost use Rattle.check_report.specs.Widths.{IsTooWide};
 
 use crate::bounded::Bounded;
@@ -81,12 +83,17 @@ fn verdicts_by<H: Threads + Wait + Sync, G: Monitor>(
     requires small { limit < 2 ^ 32 }
     requires telling { IsTelling task.now declared }
     requires paired { (order : OrderValue) × IsPairingIn task.now order pairing.now }
-    ensures ok { IfOk result (λ v. AreVerdicts (asked_in task.now.settings.now) (circuit task.now.first.now) (circuit task.now.second.now) (condition task.now.given) (told_in declared.entry pairing.now)
+    ensures ok { IfOk result (λ v. AreVerdicts (asked_in task.now.settings.now) (circuit task.now.first.now) (circuit task.now.second.now)
+        (condition task.now.given) (told_in declared.entry pairing.now)
         (record { variables = (told_in declared.entry pairing.now).names; verdicts = v.items })) }
     ensures err { IfErr result IsLate }
-    ensures within { OnOk result (FitsWithin limit (circuit task.now.first.now) (circuit task.now.second.now) (condition task.now.given) pairing.now) }
-    ensures full { result ≡ Err (CheckFault.Wave WaveFault.Full) → Exceeds limit (circuit task.now.first.now) (circuit task.now.second.now) (condition task.now.given) pairing.now }
-    ensures past { result ≡ Err (CheckFault.Wave WaveFault.TooManyRequests) → IsSomeAnd (G.bound monitor.now) (λ n. IsTooWide n (circuit task.now.first.now) (circuit task.now.second.now) (condition task.now.given) pairing.now) }
+    ensures within { OnOk result (FitsWithin limit (circuit task.now.first.now) (circuit task.now.second.now)
+        (condition task.now.given) pairing.now) }
+    ensures full { result ≡ Err (CheckFault.Wave WaveFault.Full)
+        → Exceeds limit (circuit task.now.first.now) (circuit task.now.second.now) (condition task.now.given) pairing.now }
+    ensures past { result ≡ Err (CheckFault.Wave WaveFault.TooManyRequests)
+        → IsSomeAnd (G.bound monitor.now) (λ n. IsTooWide n (circuit task.now.first.now) (circuit task.now.second.now)
+        (condition task.now.given) pairing.now) }
     ensures alone { most_of (G.bound monitor.now) < 2 ^ 64 - 1 → result ≢ Err (CheckFault.Wave WaveFault.NoWorker) }
 {
     match declared {
@@ -107,7 +114,8 @@ fn attempt<H: Threads + Wait + Sync, G: Monitor>(
     requires telling { IsTelling task.now declared }
     requires trial { IsTrial task.now trial.now }
     ensures ended { IfOk result (IsEnded task.now declared.entry budget (G.bound monitor.now) trial.now) }
-    ensures fault { OfTask task.now (λ told s. IfErr result (λ fault. (c : CandidateValue) × IsCheckFault told ⊥ ⊥ ⊥ s.order s.matching (order_of c) fault)) }
+    ensures fault { OfTask task.now (λ told s. IfErr result (λ fault. (c : CandidateValue)
+        × IsCheckFault told ⊥ ⊥ ⊥ s.order s.matching (order_of c) fault)) }
     ensures ends { IfErr result EndsAtOnce }
 {
     let bounded = Bounded {
@@ -144,7 +152,8 @@ fn try_candidate<H: Threads + Wait + Sync, G: Monitor>(
     requires telling { IsTelling task.now declared }
     requires own { All (IsTrial task.now) trials.old.items }
     ensures turn { IfOk result (IsTurn task.now declared.entry budget (G.bound monitor.now) candidate trials.old.items trials.new.items) }
-    ensures fault { OfTask task.now (λ told s. IfErr result (λ fault. (c : CandidateValue) × IsCheckFault told ⊥ ⊥ ⊥ s.order s.matching (order_of c) fault)) }
+    ensures fault { OfTask task.now (λ told s. IfErr result (λ fault. (c : CandidateValue)
+        × IsCheckFault told ⊥ ⊥ ⊥ s.order s.matching (order_of c) fault)) }
     ensures ends { IfErr result EndsAtOnce }
 {
     let pairing = paired(task, &candidate.order())?;
@@ -185,7 +194,8 @@ pub fn try_first<H: Threads + Wait + Sync, G: Monitor>(
     requires none { trials.old.items ≡ [] }
     ensures round { IfOk result (IsRound task.now declared.entry budget (G.bound monitor.now) trials.new.items) }
     ensures first { IfOk result (IsFirstRound task.now budget (G.bound monitor.now)) }
-    ensures fault { OfTask task.now (λ told s. IfErr result (λ fault. (c : CandidateValue) × IsCheckFault told ⊥ ⊥ ⊥ s.order s.matching (order_of c) fault)) }
+    ensures fault { OfTask task.now (λ told s. IfErr result (λ fault. (c : CandidateValue)
+        × IsCheckFault told ⊥ ⊥ ⊥ s.order s.matching (order_of c) fault)) }
     ensures ends { IfErr result EndsAtOnce }
 {
     let mut all_full = true;
@@ -210,7 +220,8 @@ fn try_again<H: Threads + Wait + Sync, G: Monitor>(
     requires telling { IsTelling task.now declared }
     requires trials { AreTrials task.now trials.old.items }
     ensures round { IfOk result (IsRound task.now declared.entry budget (G.bound monitor.now) trials.new.items) }
-    ensures fault { OfTask task.now (λ told s. IfErr result (λ fault. (c : CandidateValue) × IsCheckFault told ⊥ ⊥ ⊥ s.order s.matching (order_of c) fault)) }
+    ensures fault { OfTask task.now (λ told s. IfErr result (λ fault. (c : CandidateValue)
+        × IsCheckFault told ⊥ ⊥ ⊥ s.order s.matching (order_of c) fault)) }
     ensures ends { IfErr result EndsAtOnce }
 {
     put_furthest_first(trials);
@@ -246,10 +257,12 @@ fn find_later<H: Threads + Wait + Sync, G: Monitor>(
     requires first { (c : CandidateValue) → IsPassed task.now FIRST_BUDGET (G.bound monitor.now) c }
     ensures decided { IfOk result (λ d. IsDecided task.now declared.entry d.budget d.trial d.verdicts.items) }
     ensures budget { IfOk result (λ d. IsBudget limit d.budget) }
-    ensures passed { IfOk result (λ d. ArePassedBefore task.now limit (G.bound monitor.now) (record { order = d.trial.candidate; budget = d.budget })) }
+    ensures passed { IfOk result (λ d. ArePassedBefore task.now limit (G.bound monitor.now)
+        (record { order = d.trial.candidate; budget = d.budget })) }
     ensures full { result ≡ Err (CheckFault.Wave WaveFault.Full) → (c : CandidateValue) → IsFull task.now limit c }
     ensures given_up { IfErr result (λ fault. IsGivingUp fault → AreAllPassed task.now limit (G.bound monitor.now)) }
-    ensures fault { OfTask task.now (λ told s. IfErr result (λ fault. (c : CandidateValue) × IsCheckFault told ⊥ ⊥ ⊥ s.order s.matching (order_of c) fault)) }
+    ensures fault { OfTask task.now (λ told s. IfErr result (λ fault. (c : CandidateValue)
+        × IsCheckFault told ⊥ ⊥ ⊥ s.order s.matching (order_of c) fault)) }
     ensures ends { IfErr result EndsSearch }
 {
     let mut budget = FIRST_BUDGET * GROWTH;
@@ -278,10 +291,12 @@ pub fn find_attempt<H: Threads + Wait + Sync, G: Monitor>(
     requires telling { IsTelling task.now declared }
     ensures decided { IfOk result (λ d. IsDecided task.now declared.entry d.budget d.trial d.verdicts.items) }
     ensures budget { IfOk result (λ d. IsBudget limit d.budget) }
-    ensures passed { IfOk result (λ d. ArePassedBefore task.now limit (G.bound monitor.now) (record { order = d.trial.candidate; budget = d.budget })) }
+    ensures passed { IfOk result (λ d. ArePassedBefore task.now limit (G.bound monitor.now)
+        (record { order = d.trial.candidate; budget = d.budget })) }
     ensures full { result ≡ Err (CheckFault.Wave WaveFault.Full) → (c : CandidateValue) → IsFull task.now limit c }
     ensures given_up { IfErr result (λ fault. IsGivingUp fault → AreAllPassed task.now limit (G.bound monitor.now)) }
-    ensures fault { OfTask task.now (λ told s. IfErr result (λ fault. (c : CandidateValue) × IsCheckFault told ⊥ ⊥ ⊥ s.order s.matching (order_of c) fault)) }
+    ensures fault { OfTask task.now (λ told s. IfErr result (λ fault. (c : CandidateValue)
+        × IsCheckFault told ⊥ ⊥ ⊥ s.order s.matching (order_of c) fault)) }
     ensures ends { IfErr result EndsSearch }
 {
     let mut trials = Vec::new(task.alloc);

@@ -1,5 +1,6 @@
 //! The causes of the pairs that differ: their first inner signals, each with the pairs that have it.
-ghost use Rattle.std.specs.Prelude.{◌≡◌, ◌≢◌, ◌<◌, ◌≤◌, ◌++◌, ◌∷◌, [], List, length, map, filter, take, option_map, All, Err, IfOk, IfErr, OnOk};
+ghost use Rattle.std.specs.Prelude.{◌≡◌, ◌≢◌, ◌<◌, ◌≤◌, ◌++◌, ◌∷◌, [], List, length, map, filter, take, option_map, All, Err, IfOk, IfErr};
+ghost use Rattle.std.specs.Prelude.{OnOk};
 ghost use Rattle.std.specs.List.{list_any};
 ghost use Rattle.net_bench.specs.Circuit.{circuit};
 ghost use Rattle.net_order.specs.declared.order.Order.{Order as OrderValue};
@@ -145,7 +146,8 @@ fn all_causes<H>(
     verdicts: &[Verdict],
 ) -> Result<Vec<Cause>, AllocError>
     requires { All (IsInside (circuit task.now.first.now) (circuit task.now.second.now)) pairs.now }
-    ensures { IfOk result (λ causes. (led : List LedValue) × AreLed task.now.first.now task.now.second.now naming.now pairs.now verdicts.now led × (causes.items ≡ causes_of task.now.first.now.names led)) }
+    ensures { IfOk result (λ causes. (led : List LedValue) × AreLed task.now.first.now task.now.second.now naming.now pairs.now
+        verdicts.now led × (causes.items ≡ causes_of task.now.first.now.names led)) }
 {
     let led = all_led(task, naming, pairs, verdicts)?;
     causes_of(task.alloc, task.first, led.as_slice())
@@ -169,7 +171,8 @@ pub(crate) fn causes<H>(
 ) -> Result<Option<Vec<Cause>>, CheckFault>
     requires names { verdicts.now.variables ≡ ordered_names task.now (told_order task.now.settings.now.order tried) }
     ensures causes { OfTask task.now (λ told s. IfOk result (λ causes. AreCauses s.causes told s tried verdicts.now (causes_in causes))) }
-    ensures fault { OfTask task.now (λ told s. IfErr result (λ fault. (order : OrderValue) × IsAllowed s.order order × IsCheckFault told ⊥ ⊥ ⊥ s.order s.matching order fault)) }
+    ensures fault { OfTask task.now (λ told s. IfErr result (λ fault. (order : OrderValue) × IsAllowed s.order order
+        × IsCheckFault told ⊥ ⊥ ⊥ s.order s.matching order fault)) }
     ensures ends { IfErr result EndsAtOnce }
     ensures whole { MayGoByCones task.now.settings.now.order → result ≢ Err (CheckFault.Order OrderFault.TooManyInputs) }
 {

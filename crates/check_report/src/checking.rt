@@ -35,11 +35,16 @@ fn built_within<H: Threads + Wait + Sync, G: Monitor>(
 ) -> Result<(Store, Shown), CheckFault>
     requires paired { IsPaired (circuit task.now.first.now) (circuit task.now.second.now) (condition task.now.given) pairing.now }
     requires small { limit < 2 ^ 32 }
-    ensures compared { IfOk result (λ r. AreCompared as_built (circuit task.now.first.now) (circuit task.now.second.now) (condition task.now.given) pairing.now r.0 r.1.subjects.items r.1.references.items) }
+    ensures compared { IfOk result (λ r. AreCompared as_built (circuit task.now.first.now) (circuit task.now.second.now)
+        (condition task.now.given) pairing.now r.0 r.1.subjects.items r.1.references.items) }
     ensures err { IfErr result IsLate }
-    ensures within { OnOk result (FitsWithin limit (circuit task.now.first.now) (circuit task.now.second.now) (condition task.now.given) pairing.now) }
-    ensures full { result ≡ Err (CheckFault.Wave WaveFault.Full) → Exceeds limit (circuit task.now.first.now) (circuit task.now.second.now) (condition task.now.given) pairing.now }
-    ensures past { result ≡ Err (CheckFault.Wave WaveFault.TooManyRequests) → IsSomeAnd (G.bound monitor.now) (λ n. IsTooWide n (circuit task.now.first.now) (circuit task.now.second.now) (condition task.now.given) pairing.now) }
+    ensures within { OnOk result (FitsWithin limit (circuit task.now.first.now) (circuit task.now.second.now)
+        (condition task.now.given) pairing.now) }
+    ensures full { result ≡ Err (CheckFault.Wave WaveFault.Full)
+        → Exceeds limit (circuit task.now.first.now) (circuit task.now.second.now) (condition task.now.given) pairing.now }
+    ensures past { result ≡ Err (CheckFault.Wave WaveFault.TooManyRequests)
+        → IsSomeAnd (G.bound monitor.now) (λ n. IsTooWide n (circuit task.now.first.now) (circuit task.now.second.now)
+        (condition task.now.given) pairing.now) }
     ensures alone { most_of (G.bound monitor.now) < 2 ^ 64 - 1 → result ≢ Err (CheckFault.Wave WaveFault.NoWorker) }
 {
     let _ = task.first.inputs();
@@ -78,9 +83,11 @@ fn verdicts_in<H>(
     store: &Store,
     shown: &Shown,
 ) -> Result<Vec<Verdict>, CheckFault>
-    requires compared { AreCompared (as_told telling) (circuit task.now.first.now) (circuit task.now.second.now) (condition task.now.given) pairing.now store.now shown.now.subjects.items shown.now.references.items }
+    requires compared { AreCompared (as_told telling) (circuit task.now.first.now) (circuit task.now.second.now)
+        (condition task.now.given) pairing.now store.now shown.now.subjects.items shown.now.references.items }
     requires order { IsTelling store.now.levels telling }
-    ensures ok { IfOk result (λ v. AreVerdicts (asked_of telling.entry) (circuit task.now.first.now) (circuit task.now.second.now) (condition task.now.given) pairing.now (record { variables = pairing.now.names; verdicts = v.items })) }
+    ensures ok { IfOk result (λ v. AreVerdicts (asked_of telling.entry) (circuit task.now.first.now) (circuit task.now.second.now)
+        (condition task.now.given) pairing.now (record { variables = pairing.now.names; verdicts = v.items })) }
     ensures err { IfErr result IsLate }
     ensures unbuilt { result ≢ Err (CheckFault.Wave WaveFault.Full) }
     ensures unbounded { result ≢ Err (CheckFault.Wave WaveFault.TooManyRequests) }
@@ -111,11 +118,16 @@ pub fn compare<H: Threads + Wait + Sync, G: Monitor>(
 ) -> Result<Vec<Verdict>, CheckFault>
     requires paired { IsPaired (circuit task.now.first.now) (circuit task.now.second.now) (condition task.now.given) pairing.now }
     requires small { limit < 2 ^ 32 }
-    ensures ok { IfOk result (λ v. AreVerdicts (asked_in task.now.settings.now) (circuit task.now.first.now) (circuit task.now.second.now) (condition task.now.given) pairing.now (record { variables = pairing.now.names; verdicts = v.items })) }
+    ensures ok { IfOk result (λ v. AreVerdicts (asked_in task.now.settings.now) (circuit task.now.first.now) (circuit task.now.second.now)
+        (condition task.now.given) pairing.now (record { variables = pairing.now.names; verdicts = v.items })) }
     ensures err { IfErr result IsLate }
-    ensures within { OnOk result (FitsWithin limit (circuit task.now.first.now) (circuit task.now.second.now) (condition task.now.given) pairing.now) }
-    ensures full { result ≡ Err (CheckFault.Wave WaveFault.Full) → Exceeds limit (circuit task.now.first.now) (circuit task.now.second.now) (condition task.now.given) pairing.now }
-    ensures past { result ≡ Err (CheckFault.Wave WaveFault.TooManyRequests) → IsSomeAnd (G.bound monitor.now) (λ n. IsTooWide n (circuit task.now.first.now) (circuit task.now.second.now) (condition task.now.given) pairing.now) }
+    ensures within { OnOk result (FitsWithin limit (circuit task.now.first.now) (circuit task.now.second.now)
+        (condition task.now.given) pairing.now) }
+    ensures full { result ≡ Err (CheckFault.Wave WaveFault.Full)
+        → Exceeds limit (circuit task.now.first.now) (circuit task.now.second.now) (condition task.now.given) pairing.now }
+    ensures past { result ≡ Err (CheckFault.Wave WaveFault.TooManyRequests)
+        → IsSomeAnd (G.bound monitor.now) (λ n. IsTooWide n (circuit task.now.first.now) (circuit task.now.second.now)
+        (condition task.now.given) pairing.now) }
     ensures alone { most_of (G.bound monitor.now) < 2 ^ 64 - 1 → result ≢ Err (CheckFault.Wave WaveFault.NoWorker) }
 {
     let (store, shown) = built_within(task, pairing, limit, monitor)?;
@@ -132,14 +144,20 @@ pub fn compare_as_declared<H: Threads + Wait + Sync, G: Monitor>(
     limit: u64,
     monitor: &G,
 ) -> Result<Vec<Verdict>, CheckFault>
-    requires paired { ArePairings task.now.settings.now.matching (circuit task.now.first.now) (circuit task.now.second.now) (condition task.now.given) pairing.now declared.now }
+    requires paired { ArePairings task.now.settings.now.matching (circuit task.now.first.now) (circuit task.now.second.now)
+        (condition task.now.given) pairing.now declared.now }
     requires no_sizes { task.now.settings.now.sizes ≡ false }
     requires small { limit < 2 ^ 32 }
-    ensures ok { IfOk result (λ v. AreVerdicts (asked_in task.now.settings.now) (circuit task.now.first.now) (circuit task.now.second.now) (condition task.now.given) declared.now (record { variables = declared.now.names; verdicts = v.items })) }
+    ensures ok { IfOk result (λ v. AreVerdicts (asked_in task.now.settings.now) (circuit task.now.first.now) (circuit task.now.second.now)
+        (condition task.now.given) declared.now (record { variables = declared.now.names; verdicts = v.items })) }
     ensures err { IfErr result IsLate }
-    ensures within { OnOk result (FitsWithin limit (circuit task.now.first.now) (circuit task.now.second.now) (condition task.now.given) pairing.now) }
-    ensures full { result ≡ Err (CheckFault.Wave WaveFault.Full) → Exceeds limit (circuit task.now.first.now) (circuit task.now.second.now) (condition task.now.given) pairing.now }
-    ensures past { result ≡ Err (CheckFault.Wave WaveFault.TooManyRequests) → IsSomeAnd (G.bound monitor.now) (λ n. IsTooWide n (circuit task.now.first.now) (circuit task.now.second.now) (condition task.now.given) pairing.now) }
+    ensures within { OnOk result (FitsWithin limit (circuit task.now.first.now) (circuit task.now.second.now)
+        (condition task.now.given) pairing.now) }
+    ensures full { result ≡ Err (CheckFault.Wave WaveFault.Full)
+        → Exceeds limit (circuit task.now.first.now) (circuit task.now.second.now) (condition task.now.given) pairing.now }
+    ensures past { result ≡ Err (CheckFault.Wave WaveFault.TooManyRequests)
+        → IsSomeAnd (G.bound monitor.now) (λ n. IsTooWide n (circuit task.now.first.now) (circuit task.now.second.now)
+        (condition task.now.given) pairing.now) }
     ensures alone { most_of (G.bound monitor.now) < 2 ^ 64 - 1 → result ≢ Err (CheckFault.Wave WaveFault.NoWorker) }
 {
     let (store, shown) = built_within(task, pairing, limit, monitor)?;

@@ -59,8 +59,8 @@ pub enum Choice {
     One(Order),
     /// The first of the candidates whose diagrams stay within a budget that grows from attempt to attempt.
     Best,
-    /// The first of the candidates within small budgets, and where each was given up, each pair by its cones. The report is that of declared
-    /// order, whatever decides.
+    /// The first of the candidates within small budgets, and where each was given up, each pair by its cones. The report is that of
+    /// declared order, whatever decides.
     Auto,
     /// Each pair by its cones, in orders of their own. The report is that of declared order.
     Cones,

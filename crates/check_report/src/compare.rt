@@ -7,7 +7,8 @@ ghost use Rattle.dd_store.specs.View.{Has};
 ghost use Rattle.gate_plan.specs.Building.{reference_of};
 ghost use Rattle.check_report.specs.Conditions.{everywhere};
 ghost use Rattle.check_report.specs.Report.{IsVerdictOf, AreVerdicts};
-ghost use Rattle.check_report.specs.Comparing.{AreCompared, AreSignals, HaveAllVerdicts, IsTelling, as_built, as_told, compared_of, subject_at, asked_of};
+ghost use Rattle.check_report.specs.Comparing.{AreCompared, AreSignals, HaveAllVerdicts, IsTelling, as_built, as_told, compared_of};
+ghost use Rattle.check_report.specs.Comparing.{subject_at, asked_of};
 
 use crate::extras::{Diagrams, arranged_extras, extras_of, size_of};
 use crate::lone::{add_first_lone, add_second_lone};
@@ -43,7 +44,8 @@ fn verdict_of(
 ) -> Result<Verdict, AllocError>
     requires first_known { Has store.now of.now.first }
     requires second_known { Has store.now of.now.second }
-    ensures { IfOk result (λ v. IsVerdictOf store.now.levels asked everywhere (compared_of as_built store.now of.now.role of.now.name.now of.now.first of.now.second) v) }
+    ensures { IfOk result (λ v. IsVerdictOf store.now.levels asked everywhere
+        (compared_of as_built store.now of.now.role of.now.name.now of.now.first of.now.second) v) }
 {
     let role = of.role;
     let name = Name::copied(alloc, of.name)?;
@@ -81,7 +83,8 @@ fn arranged_verdict(
     requires first_known { Has store.now of.now.first }
     requires second_known { Has store.now of.now.second }
     requires order { IsOrder store.now.levels order.now }
-    ensures { IfOk result (λ v. IsVerdictOf store.now.levels (record { sizes = false; support = support }) everywhere (compared_of (by_declared order.now) store.now of.now.role of.now.name.now of.now.first of.now.second) v) }
+    ensures { IfOk result (λ v. IsVerdictOf store.now.levels (record { sizes = false; support = support }) everywhere
+        (compared_of (by_declared order.now) store.now of.now.role of.now.name.now of.now.first of.now.second) v) }
 {
     let role = of.role;
     let name = Name::copied(alloc, of.name)?;
@@ -120,7 +123,8 @@ fn told_verdict(
     requires first_known { Has store.now of.now.first }
     requires second_known { Has store.now of.now.second }
     requires order { IsTelling store.now.levels telling.now }
-    ensures { IfOk result (λ v. IsVerdictOf store.now.levels (asked_of telling.now) everywhere (compared_of (as_told telling.now) store.now of.now.role of.now.name.now of.now.first of.now.second) v) }
+    ensures { IfOk result (λ v. IsVerdictOf store.now.levels (asked_of telling.now) everywhere
+        (compared_of (as_told telling.now) store.now of.now.role of.now.name.now of.now.first of.now.second) v) }
 {
     match telling {
         Telling::ByLevel { asked } => verdict_of(alloc, store, of, *asked),
@@ -151,9 +155,11 @@ fn diagrams_of<'a>(of: &Comparison<'a>, place: usize) -> Diagrams<'a>
 
 /// The verdicts of all that is compared.
 fn verdicts_of_pairs(alloc: Global, of: &Comparison<'_>) -> Result<Vec<Verdict>, AllocError>
-    requires compared { AreCompared (as_told of.now.telling) (circuit of.now.first.now) (circuit of.now.second.now) (condition of.now.given) of.now.pairing.now of.now.store.now of.now.subjects.now of.now.references.now }
+    requires compared { AreCompared (as_told of.now.telling) (circuit of.now.first.now) (circuit of.now.second.now)
+        (condition of.now.given) of.now.pairing.now of.now.store.now of.now.subjects.now of.now.references.now }
     requires order { IsTelling of.now.store.now.levels of.now.telling }
-    ensures { IfOk result (λ v. HaveAllVerdicts (asked_of of.now.telling) (circuit of.now.first.now) (circuit of.now.second.now) (condition of.now.given) of.now.pairing.now v.items) }
+    ensures { IfOk result (λ v. HaveAllVerdicts (asked_of of.now.telling) (circuit of.now.first.now) (circuit of.now.second.now)
+        (condition of.now.given) of.now.pairing.now v.items) }
 {
     let mut verdicts = Vec::new(alloc);
     for i in 0..of.subjects.len() {
@@ -166,9 +172,11 @@ fn verdicts_of_pairs(alloc: Global, of: &Comparison<'_>) -> Result<Vec<Verdict>,
 
 /// What a comparison finds, in the order of the report.
 pub fn verdicts_of(alloc: Global, of: &Comparison<'_>) -> Result<Vec<Verdict>, AllocError>
-    requires compared { AreCompared (as_told of.now.telling) (circuit of.now.first.now) (circuit of.now.second.now) (condition of.now.given) of.now.pairing.now of.now.store.now of.now.subjects.now of.now.references.now }
+    requires compared { AreCompared (as_told of.now.telling) (circuit of.now.first.now) (circuit of.now.second.now)
+        (condition of.now.given) of.now.pairing.now of.now.store.now of.now.subjects.now of.now.references.now }
     requires order { IsTelling of.now.store.now.levels of.now.telling }
-    ensures { IfOk result (λ v. AreVerdicts (asked_of of.now.telling) (circuit of.now.first.now) (circuit of.now.second.now) (condition of.now.given) of.now.pairing.now (record { variables = of.now.pairing.now.names; verdicts = v.items })) }
+    ensures { IfOk result (λ v. AreVerdicts (asked_of of.now.telling) (circuit of.now.first.now) (circuit of.now.second.now)
+        (condition of.now.given) of.now.pairing.now (record { variables = of.now.pairing.now.names; verdicts = v.items })) }
 {
     let mut verdicts = verdicts_of_pairs(alloc, of)?;
     let naming = of.pairing.naming();

@@ -72,7 +72,8 @@ fn add_next_states(
     naming: &Naming,
     subjects: &mut Vec<Subject>,
 ) -> Result<(), AllocError>
-    ensures { OnOk result (subjects.new.items ≡ subjects.old.items ++ map (next_subject (circuit one.now) (circuit two.now)) naming.now.registers.pairs) }
+    ensures { OnOk result (subjects.new.items ≡ subjects.old.items
+        ++ map (next_subject (circuit one.now) (circuit two.now)) naming.now.registers.pairs) }
 {
     let pairs = naming.next_pairs();
     for i in 0..pairs.len() {
@@ -109,7 +110,8 @@ fn add_first(
     references: &mut Vec<Ref>,
 ) -> Result<(), AllocError>
     requires { All (λ subject. subject.first < length built.now.first) subjects.now }
-    ensures { OnOk result (references.new.items ≡ references.old.items ++ map (λ subject. reference_of built.now.first subject.first) subjects.now) }
+    ensures { OnOk result (references.new.items ≡ references.old.items
+        ++ map (λ subject. reference_of built.now.first subject.first) subjects.now) }
 {
     for i in 0..subjects.len() {
         references.push(built.first(subjects[i].first))?;
@@ -124,7 +126,8 @@ fn add_second(
     references: &mut Vec<Ref>,
 ) -> Result<(), AllocError>
     requires { All (λ subject. subject.second < length built.now.second) subjects.now }
-    ensures { OnOk result (references.new.items ≡ references.old.items ++ map (λ subject. reference_of built.now.second subject.second) subjects.now) }
+    ensures { OnOk result (references.new.items ≡ references.old.items
+        ++ map (λ subject. reference_of built.now.second subject.second) subjects.now) }
 {
     for i in 0..subjects.len() {
         references.push(built.second(subjects[i].second))?;
@@ -153,15 +156,20 @@ pub fn shown_of<H: Threads + Wait + Sync, G: Monitor>(
     pairing: &Pairing,
     crew: &Crew<'_, H, G>,
 ) -> Result<Shown, CheckFault>
-    requires built { AreBuilt (circuit task.now.first.now) (circuit task.now.second.now) (condition task.now.given) pairing.now store.old built.now }
+    requires built { AreBuilt (circuit task.now.first.now) (circuit task.now.second.now)
+        (condition task.now.given) pairing.now store.old built.now }
     ensures sound { IsSound store.new }
     ensures keeps { Keeps store.old store.new }
-    ensures compared { IfOk result (λ shown. AreCompared as_built (circuit task.now.first.now) (circuit task.now.second.now) (condition task.now.given) pairing.now store.new shown.subjects.items shown.references.items) }
+    ensures compared { IfOk result (λ shown. AreCompared as_built (circuit task.now.first.now) (circuit task.now.second.now)
+        (condition task.now.given) pairing.now store.new shown.subjects.items shown.references.items) }
     ensures need { HasNeed (circuit task.now.first.now) (circuit task.now.second.now) (condition task.now.given) pairing.now store.old →
         OnOk result (HasAll (circuit task.now.first.now) (circuit task.now.second.now) (condition task.now.given) pairing.now store.new) }
     ensures full { HasNeed (circuit task.now.first.now) (circuit task.now.second.now) (condition task.now.given) pairing.now store.old →
-        result ≡ Err (CheckFault.Wave WaveFault.Full) → IsOver (circuit task.now.first.now) (circuit task.now.second.now) (condition task.now.given) pairing.now store.new }
-    ensures past { result ≡ Err (CheckFault.Wave WaveFault.TooManyRequests) → IsSomeAnd (G.bound crew.now.monitor.now) (λ n. IsSomeAnd (condition task.now.given) (λ c. IsWideWhere n (circuit task.now.first.now) (circuit task.now.second.now) c pairing.now)) }
+        result ≡ Err (CheckFault.Wave WaveFault.Full) → IsOver (circuit task.now.first.now) (circuit task.now.second.now)
+        (condition task.now.given) pairing.now store.new }
+    ensures past { result ≡ Err (CheckFault.Wave WaveFault.TooManyRequests)
+        → IsSomeAnd (G.bound crew.now.monitor.now) (λ n. IsSomeAnd
+        (condition task.now.given) (λ c. IsWideWhere n (circuit task.now.first.now) (circuit task.now.second.now) c pairing.now)) }
     ensures alone { most_of (G.bound crew.now.monitor.now) < 2 ^ 64 - 1 → result ≢ Err (CheckFault.Wave WaveFault.NoWorker) }
     ensures err { IfErr result IsLate }
 {

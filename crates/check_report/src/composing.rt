@@ -3,7 +3,8 @@ ghost use Rattle.std.specs.Prelude.{◌≡◌, ◌≢◌, ◌++◌, ◌<◌, ◌
 ghost use Rattle.expand_work.specs.Bounds.{most_of};
 ghost use Rattle.net_bench.specs.Circuit.{circuit};
 ghost use Rattle.net_order.specs.declared.order.Order.{Order as OrderValue};
-ghost use Rattle.check_report.specs.Best.{AreGivenUp, AreTried, IsAllowed, IsGivenUpWithin, MayGoByCones, NamesOrder, last_budget, told_kind};
+ghost use Rattle.check_report.specs.Best.{AreGivenUp, AreTried, IsAllowed, IsGivenUpWithin, MayGoByCones, NamesOrder, last_budget};
+ghost use Rattle.check_report.specs.Best.{told_kind};
 ghost use Rattle.check_report.specs.Causing.{AreCauses};
 ghost use Rattle.check_report.specs.Check.{AreAccepted, IsCheckFault};
 ghost use Rattle.check_report.specs.Deciding.{IsUnknown};
@@ -47,11 +48,15 @@ fn whole_text<H>(
 ) -> Result<Vec<u8>, CheckFault>
     requires names { verdicts.now.variables ≡ ordered_names task.now (told_order task.now.settings.now.order tried) }
     requires known { AreTargetsIn (circuit task.now.first.now) task.now.settings.now.explain.items }
-    requires accepted { OfTask task.now (λ told s. (order : OrderValue) × IsAllowed s.order order × AreAccepted told s.order s.matching order) }
-    ensures text { OfTask task.now (λ told s. IfOk result (λ text. (causes : Option (List Caused)) × AreCauses s.causes told s tried verdicts.now causes
+    requires accepted { OfTask task.now (λ told s. (order : OrderValue) × IsAllowed s.order order
+        × AreAccepted told s.order s.matching order) }
+    ensures text { OfTask task.now (λ told s. IfOk result (λ text. (causes : Option (List Caused))
+        × AreCauses s.causes told s tried verdicts.now causes
         × (explanations : List ℕ) × IsBehind s.explain.items told s tried verdicts.now explanations
-        × (text.items ≡ form_text s.json s.assignment s.matching (told_kind s.order tried) (is_some told.given) (share_of s.picked) causes verdicts.now ++ explanations))) }
-    ensures fault { OfTask task.now (λ told s. IfErr result (λ fault. (order : OrderValue) × IsAllowed s.order order × IsCheckFault told ⊥ ⊥ ⊥ s.order s.matching order fault)) }
+        × (text.items ≡ form_text s.json s.assignment s.matching (told_kind s.order tried) (is_some told.given)
+        (share_of s.picked) causes verdicts.now ++ explanations))) }
+    ensures fault { OfTask task.now (λ told s. IfErr result (λ fault. (order : OrderValue) × IsAllowed s.order order
+        × IsCheckFault told ⊥ ⊥ ⊥ s.order s.matching order fault)) }
     ensures ends { IfErr result EndsAtOnce }
     ensures whole { MayGoByCones task.now.settings.now.order → result ≢ Err (CheckFault.Order OrderFault.TooManyInputs) }
 {
@@ -80,18 +85,23 @@ pub(crate) fn task_report<H: Threads + Wait + Sync, G: Monitor>(
     task: &Task<'_, H>,
     monitor: &G,
 ) -> Result<(Texts, Outcome, Option<Attempt>), CheckFault>
-    ensures report { OfTask task.now (λ told s. IfOk result (λ r. IsReportWithVcd told s (G.bound monitor.now) r.2 r.1 r.0.report.items (bytes_in r.0.vcd))) }
+    ensures report { OfTask task.now (λ told s. IfOk result
+        (λ r. IsReportWithVcd told s (G.bound monitor.now) r.2 r.1 r.0.report.items (bytes_in r.0.vcd))) }
     ensures full { OfTask task.now (λ told s.
-        result ≡ Err (CheckFault.Wave WaveFault.Full) → (order : OrderValue) → IsAllowed s.order order → AreBeyond told s.matching order s.limit) }
+        result ≡ Err (CheckFault.Wave WaveFault.Full) → (order : OrderValue) → IsAllowed s.order order
+        → AreBeyond told s.matching order s.limit) }
     ensures given_up { OfTask task.now (λ told s.
-        result ≡ Err CheckFault.GivenUp → AreTried s.order × ((order : OrderValue) → IsAllowed s.order order → IsGivenUpWithin told s.matching s.limit (G.bound monitor.now) order)) }
-    ensures by_cones { MayGoByCones task.now.settings.now.order → (result ≢ Err (CheckFault.Wave WaveFault.Full)) × (result ≢ Err CheckFault.GivenUp) }
+        result ≡ Err CheckFault.GivenUp → AreTried s.order × ((order : OrderValue) → IsAllowed s.order order
+        → IsGivenUpWithin told s.matching s.limit (G.bound monitor.now) order)) }
+    ensures by_cones { MayGoByCones task.now.settings.now.order
+        → (result ≢ Err (CheckFault.Wave WaveFault.Full)) × (result ≢ Err CheckFault.GivenUp) }
     ensures whole { MayGoByCones task.now.settings.now.order → result ≢ Err (CheckFault.Order OrderFault.TooManyInputs) }
     ensures only { OfTask task.now (λ told s. result ≡ Err CheckFault.Only → IsUnknown told s.picked) }
     ensures fault { OfTask task.now (λ told s. IfErr result (IsReportFault told ⊥ ⊥ ⊥ s)) }
     ensures unwritten { result ≢ Err CheckFault.Write }
     ensures past { OfTask task.now (λ told s.
-        result ≡ Err (CheckFault.Wave WaveFault.TooManyRequests) → (o : OrderValue) × IsAllowed s.order o × IsSomeAnd (G.bound monitor.now) (AreTooWide told s.matching o)) }
+        result ≡ Err (CheckFault.Wave WaveFault.TooManyRequests)
+        → (o : OrderValue) × IsAllowed s.order o × IsSomeAnd (G.bound monitor.now) (AreTooWide told s.matching o)) }
     ensures passed { OfTask task.now (λ told s.
         IfOk result (λ r. IfSome r.2 (AreGivenUp told s.matching (last_budget s.order s.limit) (G.bound monitor.now)))) }
     ensures alone { most_of (G.bound monitor.now) < 2 ^ 64 - 1 → result ≢ Err (CheckFault.Wave WaveFault.NoWorker) }

@@ -150,7 +150,10 @@ fn judge_picks<H: Threads + Wait + Sync, G: Monitor>(
 ) -> Result<Vec<Verdict>, CheckFault>
     requires naming { IsNamingIn task.now Declared naming.now }
     requires inside { All (IsInside (circuit task.now.first.now) (circuit task.now.second.now)) subjects.now }
-    ensures told { IfOk result (λ v. AllZip (IsTold (unsized task.now.settings.now.assignment) (FitByCones (cone_limit task.now.settings.now.limit) (circuit task.now.first.now) (circuit task.now.second.now) (condition task.now.given) naming.now) (IsLeft task.now.settings.now.limit (G.bound monitor.now) (circuit task.now.first.now) (circuit task.now.second.now) (condition task.now.given) naming.now)
+    ensures told { IfOk result (λ v. AllZip (IsTold (unsized task.now.settings.now.assignment)
+        (FitByCones (cone_limit task.now.settings.now.limit) (circuit task.now.first.now) (circuit task.now.second.now)
+        (condition task.now.given) naming.now) (IsLeft task.now.settings.now.limit (G.bound monitor.now) (circuit task.now.first.now)
+        (circuit task.now.second.now) (condition task.now.given) naming.now)
         (circuit task.now.first.now) (circuit task.now.second.now) (condition task.now.given) naming.now) subjects.now v.items) }
     ensures ends { IfErr result EndsPairs }
 {

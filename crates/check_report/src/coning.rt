@@ -175,7 +175,8 @@ pub fn cone_pairing<H>(
 ) -> Result<Option<Pairing>, CheckFault>
     requires low { All (λ place. place < length names.now) places.now }
     requires few { length places.now ≤ MAX_NAMES }
-    ensures paired { IfOk result (λ o. IfSome o (λ q. (order : OrderValue) × IsPairingIn task.now order q × (q.names ≡ map (variable_name names.now) places.now))) }
+    ensures paired { IfOk result (λ o. IfSome o (λ q. (order : OrderValue) × IsPairingIn task.now order q
+        × (q.names ≡ map (variable_name names.now) places.now))) }
     ensures many { result ≡ Ok None → HasMany task.now }
     ensures ends { IfErr result EndsPairs }
 {

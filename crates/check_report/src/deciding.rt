@@ -1,12 +1,14 @@
 //! A comparison in the order that is asked for, or in one that is found.
-ghost use Rattle.std.specs.Prelude.{◌≡◌, ◌≢◌, ◌<◌, ◌-◌, ◌^◌, ◌⊎◌, false, None, Option, Some, IfOk, IfErr, IfSome, IsSomeAnd, IsTrue, Err, ◌↔◌};
+ghost use Rattle.std.specs.Prelude.{◌≡◌, ◌≢◌, ◌<◌, ◌-◌, ◌^◌, ◌⊎◌, false, None, Option, Some, IfOk, IfErr, IfSome, IsSomeAnd, IsTrue, Err};
+ghost use Rattle.std.specs.Prelude.{◌↔◌};
 ghost use Rattle.expand_work.specs.Bounds.{most_of};
 ghost use Rattle.net_order.specs.declared.order.Order.{Order as OrderValue};
 ghost use Rattle.net_order.specs.declared.order.Order.TheVariants as orders;
 ghost use Rattle.check_report.specs.declared.choice.Candidate.{Candidate as CandidateValue};
 ghost use Rattle.check_report.specs.declared.choice.Choice.{Choice as ChoiceValue};
 ghost use Rattle.check_report.specs.Asking.{asked_in};
-ghost use Rattle.check_report.specs.Best.{AreGivenUp, AreTried, IsAllowed, IsChosen, IsGivenUpWithin, MayGoByCones, NamesOrder, last_budget, order_of, whole_limit};
+ghost use Rattle.check_report.specs.Best.{AreGivenUp, AreTried, IsAllowed, IsChosen, IsGivenUpWithin, MayGoByCones, NamesOrder};
+ghost use Rattle.check_report.specs.Best.{last_budget, order_of, whole_limit};
 ghost use Rattle.check_report.specs.Check.{IsJudged, IsCheckFault};
 ghost use Rattle.check_report.specs.Coning.{EndsAuto};
 ghost use Rattle.check_report.specs.Deciding.{HasCause, IsFoundBy, IsUnknown};
@@ -45,14 +47,17 @@ fn by_order<H: Threads + Wait + Sync, G: Monitor>(
         IfOk result (λ r. (o : OrderValue) × IsJudged told s.matching o (asked_in s) r.0
         × IsChosen told s.matching (Choice.One order.now) s.limit r.1 o)) }
     ensures full { OfTask task.now (λ told s.
-        result ≡ Err (CheckFault.Wave WaveFault.Full) → (o : OrderValue) → IsAllowed (Choice.One order.now) o → AreBeyond told s.matching o s.limit) }
+        result ≡ Err (CheckFault.Wave WaveFault.Full) → (o : OrderValue) → IsAllowed (Choice.One order.now) o
+        → AreBeyond told s.matching o s.limit) }
     ensures kept { result ≢ Err CheckFault.GivenUp }
     ensures fault { OfTask task.now (λ told s.
-        IfErr result (λ fault. (o : OrderValue) × IsAllowed (Choice.One order.now) o × IsCheckFault told ⊥ ⊥ ⊥ s.order s.matching o fault)) }
+        IfErr result (λ fault. (o : OrderValue) × IsAllowed (Choice.One order.now) o
+        × IsCheckFault told ⊥ ⊥ ⊥ s.order s.matching o fault)) }
     ensures unwritten { result ≢ Err CheckFault.Write }
     ensures others { result ≢ Err CheckFault.Only }
     ensures past { OfTask task.now (λ told s.
-        result ≡ Err (CheckFault.Wave WaveFault.TooManyRequests) → (o : OrderValue) × IsAllowed (Choice.One order.now) o × IsSomeAnd (G.bound monitor.now) (AreTooWide told s.matching o)) }
+        result ≡ Err (CheckFault.Wave WaveFault.TooManyRequests)
+        → (o : OrderValue) × IsAllowed (Choice.One order.now) o × IsSomeAnd (G.bound monitor.now) (AreTooWide told s.matching o)) }
     ensures untried { IfOk result (λ r. r.1 ≡ None) }
     ensures alone { most_of (G.bound monitor.now) < 2 ^ 64 - 1 → result ≢ Err (CheckFault.Wave WaveFault.NoWorker) }
     ensures names { IfOk result (λ r. r.0.variables ≡ ordered_names task.now order.now) }
@@ -75,7 +80,8 @@ pub fn find_best<H: Threads + Wait + Sync, G: Monitor>(
     ensures full { OfTask task.now (λ told s.
         result ≡ Err (CheckFault.Wave WaveFault.Full) → (c : CandidateValue) → AreBeyond told s.matching (order_of c) s.limit) }
     ensures given_up { OfTask task.now (λ told s.
-        result ≡ Err CheckFault.GivenUp → (c : CandidateValue) → IsGivenUpWithin told s.matching s.limit (G.bound monitor.now) (order_of c)) }
+        result ≡ Err CheckFault.GivenUp → (c : CandidateValue)
+        → IsGivenUpWithin told s.matching s.limit (G.bound monitor.now) (order_of c)) }
     ensures fault { OfTask task.now (λ told s.
         IfErr result (λ fault. (c : CandidateValue) × IsCheckFault told ⊥ ⊥ ⊥ s.order s.matching (order_of c) fault)) }
     ensures unwritten { result ≢ Err CheckFault.Write }
@@ -112,7 +118,8 @@ fn by_cones_in<H: Threads + Wait + Sync, G: Monitor>(
 ) -> Result<(Verdicts, Option<Attempt>), CheckFault>
     requires naming { IsNamingIn task.now orders.Declared declared }
     requires may { MayGoByCones task.now.settings.now.order }
-    ensures found { OfTask task.now (λ told s. HasCause told s (G.bound monitor.now) s.order → IfOk result (λ r. IsFoundBy told s (G.bound monitor.now) r.0 r.1)) }
+    ensures found { OfTask task.now (λ told s. HasCause told s (G.bound monitor.now) s.order
+        → IfOk result (λ r. IsFoundBy told s (G.bound monitor.now) r.0 r.1)) }
     ensures fault { OfTask task.now (λ told s. IfErr result (IsCheckFault told ⊥ ⊥ ⊥ s.order s.matching orders.Declared)) }
     ensures only { OfTask task.now (λ told s. result ≡ Err CheckFault.Only → IsUnknown told s.picked) }
     ensures ends { IfErr result EndsAuto }
@@ -149,7 +156,8 @@ fn by_auto<H: Threads + Wait + Sync, G: Monitor>(
     ensures only { OfTask task.now (λ told s. result ≡ Err CheckFault.Only → IsUnknown told s.picked) }
     ensures ends { IfErr result EndsAuto }
     ensures whole { result ≢ Err (CheckFault.Order OrderFault.TooManyInputs) }
-    ensures passed { OfTask task.now (λ told s. IfOk result (λ r. IfSome r.1 (AreGivenUp told s.matching (whole_limit s.limit) (G.bound monitor.now)))) }
+    ensures passed { OfTask task.now (λ told s. IfOk result
+        (λ r. IfSome r.1 (AreGivenUp told s.matching (whole_limit s.limit) (G.bound monitor.now)))) }
     ensures names { IfOk result (λ r. r.0.variables ≡ ordered_names task.now orders.Declared) }
 {
     let declared = named(task)?;
@@ -209,7 +217,8 @@ fn by_best<H: Threads + Wait + Sync, G: Monitor>(
     ensures full { OfTask task.now (λ told s.
         result ≡ Err (CheckFault.Wave WaveFault.Full) → (o : OrderValue) → IsAllowed Choice.Best o → AreBeyond told s.matching o s.limit) }
     ensures given_up { OfTask task.now (λ told s.
-        result ≡ Err CheckFault.GivenUp → (o : OrderValue) → IsAllowed Choice.Best o → IsGivenUpWithin told s.matching s.limit (G.bound monitor.now) o) }
+        result ≡ Err CheckFault.GivenUp → (o : OrderValue) → IsAllowed Choice.Best o
+        → IsGivenUpWithin told s.matching s.limit (G.bound monitor.now) o) }
     ensures fault { OfTask task.now (λ told s.
         IfErr result (λ fault. (o : OrderValue) × IsAllowed Choice.Best o × IsCheckFault told ⊥ ⊥ ⊥ s.order s.matching o fault)) }
     ensures unwritten { result ≢ Err CheckFault.Write }
@@ -232,17 +241,21 @@ pub fn decide<H: Threads + Wait + Sync, G: Monitor>(
 ) -> Result<(Verdicts, Option<Attempt>), CheckFault>
     ensures found { OfTask task.now (λ told s. IfOk result (λ r. IsFoundBy told s (G.bound monitor.now) r.0 r.1)) }
     ensures full { OfTask task.now (λ told s.
-        result ≡ Err (CheckFault.Wave WaveFault.Full) → (order : OrderValue) → IsAllowed s.order order → AreBeyond told s.matching order s.limit) }
+        result ≡ Err (CheckFault.Wave WaveFault.Full) → (order : OrderValue) → IsAllowed s.order order
+        → AreBeyond told s.matching order s.limit) }
     ensures given_up { OfTask task.now (λ told s.
-        result ≡ Err CheckFault.GivenUp → AreTried s.order × ((order : OrderValue) → IsAllowed s.order order → IsGivenUpWithin told s.matching s.limit (G.bound monitor.now) order)) }
-    ensures by_cones { MayGoByCones task.now.settings.now.order → (result ≢ Err (CheckFault.Wave WaveFault.Full)) × (result ≢ Err CheckFault.GivenUp) }
+        result ≡ Err CheckFault.GivenUp → AreTried s.order × ((order : OrderValue) → IsAllowed s.order order
+        → IsGivenUpWithin told s.matching s.limit (G.bound monitor.now) order)) }
+    ensures by_cones { MayGoByCones task.now.settings.now.order
+        → (result ≢ Err (CheckFault.Wave WaveFault.Full)) × (result ≢ Err CheckFault.GivenUp) }
     ensures whole { MayGoByCones task.now.settings.now.order → result ≢ Err (CheckFault.Order OrderFault.TooManyInputs) }
     ensures only { OfTask task.now (λ told s. result ≡ Err CheckFault.Only → IsUnknown told s.picked) }
     ensures fault { OfTask task.now (λ told s.
         IfErr result (λ fault. (order : OrderValue) × IsAllowed s.order order × IsCheckFault told ⊥ ⊥ ⊥ s.order s.matching order fault)) }
     ensures unwritten { result ≢ Err CheckFault.Write }
     ensures past { OfTask task.now (λ told s.
-        result ≡ Err (CheckFault.Wave WaveFault.TooManyRequests) → (o : OrderValue) × IsAllowed s.order o × IsSomeAnd (G.bound monitor.now) (AreTooWide told s.matching o)) }
+        result ≡ Err (CheckFault.Wave WaveFault.TooManyRequests)
+        → (o : OrderValue) × IsAllowed s.order o × IsSomeAnd (G.bound monitor.now) (AreTooWide told s.matching o)) }
     ensures passed { OfTask task.now (λ told s.
         IfOk result (λ r. IfSome r.1 (AreGivenUp told s.matching (last_budget s.order s.limit) (G.bound monitor.now)))) }
     ensures alone { most_of (G.bound monitor.now) < 2 ^ 64 - 1 → result ≢ Err (CheckFault.Wave WaveFault.NoWorker) }

@@ -58,7 +58,8 @@ pub(crate) fn dump<H>(
 ) -> Result<Option<Vec<u8>>, CheckFault>
     requires names { verdicts.now.variables ≡ ordered_names task.now (told_order task.now.settings.now.order tried) }
     ensures dump { OfTask task.now (λ told s. IfOk result (λ vcd. IsDump s.vcd told s tried verdicts.now (bytes_in vcd))) }
-    ensures fault { OfTask task.now (λ told s. IfErr result (λ fault. (order : OrderValue) × IsAllowed s.order order × IsCheckFault told ⊥ ⊥ ⊥ s.order s.matching order fault)) }
+    ensures fault { OfTask task.now (λ told s. IfErr result (λ fault. (order : OrderValue) × IsAllowed s.order order
+        × IsCheckFault told ⊥ ⊥ ⊥ s.order s.matching order fault)) }
     ensures ends { IfErr result EndsAtOnce }
     ensures whole { MayGoByCones task.now.settings.now.order → result ≢ Err (CheckFault.Order OrderFault.TooManyInputs) }
 {

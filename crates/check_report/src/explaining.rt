@@ -1,5 +1,6 @@
 //! What stands behind a report: an explanation of each pair that is asked for.
-ghost use Rattle.std.specs.Prelude.{◌≡◌, ◌≢◌, ◌++◌, ◌∷◌, ◌↔◌, ◌<◌, true, false, length, find, All, Contains, Err, IfOk, IfErr, IsTrue, OnOk};
+ghost use Rattle.std.specs.Prelude.{◌≡◌, ◌≢◌, ◌++◌, ◌∷◌, ◌↔◌, ◌<◌, true, false, length, find, All, Contains, Err, IfOk, IfErr, IsTrue};
+ghost use Rattle.std.specs.Prelude.{OnOk};
 ghost use Rattle.net_bench.specs.Circuit.{circuit};
 ghost use Rattle.net_explain.specs.Explaining.{Explained, IsExplanation};
 ghost use Rattle.net_explain.specs.Text.{explanation_text};
@@ -11,7 +12,9 @@ ghost use Rattle.check_report.specs.declared.choice.Choice.{Choice as ChoiceValu
 ghost use Rattle.check_report.specs.Best.{IsAllowed, MayGoByCones};
 ghost use Rattle.check_report.specs.Check.{AreFewFor, IsCheckFault};
 ghost use Rattle.check_report.specs.Comparing.{IsInside};
-ghost use Rattle.check_report.specs.Explaining.{AreExplained, AreTargetsIn, ExplainsPair, ExplainsTarget, ExplainsVerdict, HasUnknownTarget, IsBehind, IsTargetIn, is_same_role, is_subject_of, is_target, is_verdict_on, said_text, told_order};
+ghost use Rattle.check_report.specs.Explaining.{AreExplained, AreTargetsIn, ExplainsPair, ExplainsTarget, ExplainsVerdict};
+ghost use Rattle.check_report.specs.Explaining.{HasUnknownTarget, IsBehind, IsTargetIn, is_same_role, is_subject_of, is_target};
+ghost use Rattle.check_report.specs.Explaining.{is_verdict_on, said_text, told_order};
 ghost use Rattle.check_report.specs.Report.{subjects};
 ghost use Rattle.check_report.specs.Tasks.{OfTask};
 ghost use Rattle.check_report.specs.Trials.{EndsAtOnce, IsNamingIn, ordered_names};
@@ -108,7 +111,8 @@ fn difference<H>(
     at: &[bool],
 ) -> Result<Vec<u8>, AllocError>
     requires { IsInside (circuit task.now.first.now) (circuit task.now.second.now) subject }
-    ensures { IfOk result (λ text. (e : Explained) × IsExplanation task.now.first.now task.now.second.now naming.now (subject.first, subject.second) at.now e
+    ensures { IfOk result (λ text. (e : Explained) × IsExplanation task.now.first.now task.now.second.now naming.now
+        (subject.first, subject.second) at.now e
         × (text.items ≡ explanation_text (subject_text target.now.role target.now.name) task.now.first.now.names e)) }
 {
     let mut name = Vec::new(task.alloc);
@@ -127,7 +131,8 @@ fn explained<H>(
     verdict: &Verdict,
 ) -> Result<Vec<u8>, AllocError>
     requires { IsInside (circuit task.now.first.now) (circuit task.now.second.now) subject }
-    ensures { IfOk result (λ text. ExplainsVerdict task.now.first.now task.now.second.now naming.now target.now subject verdict.now text.items) }
+    ensures { IfOk result (λ text. ExplainsVerdict task.now.first.now task.now.second.now naming.now target.now subject verdict.now
+        text.items) }
 {
     match verdict {
         Verdict::Equal { .. } => said(task.alloc, target, b"equal"),
@@ -158,7 +163,8 @@ fn explained_pair<H>(
     verdicts: &[Verdict],
 ) -> Result<Vec<u8>, AllocError>
     requires { IsInside (circuit task.now.first.now) (circuit task.now.second.now) subject }
-    ensures { IfOk result (λ text. ExplainsPair task.now.first.now task.now.second.now naming.now target.now subject (find (is_verdict_on target.now) verdicts.now) text.items) }
+    ensures { IfOk result (λ text. ExplainsPair task.now.first.now task.now.second.now naming.now target.now subject
+        (find (is_verdict_on target.now) verdicts.now) text.items) }
 {
     for place in 0..verdicts.len() {
         let verdict = &verdicts[place];
@@ -193,7 +199,8 @@ fn explanation<H>(
 ) -> Result<Vec<u8>, AllocError>
     requires { All (IsInside (circuit task.now.first.now) (circuit task.now.second.now)) subjects.now }
     ensures { IfOk result (λ text. ExplainsTarget task.now.first.now task.now.second.now naming.now target.now
-        (find (is_subject_of (circuit task.now.first.now) target.now) subjects.now) (find (is_verdict_on target.now) verdicts.now) text.items) }
+        (find (is_subject_of (circuit task.now.first.now) target.now) subjects.now)
+        (find (is_verdict_on target.now) verdicts.now) text.items) }
 {
     match subject_of(task.first, target, subjects) {
         Some(subject) => explained_pair(task, naming, target, subject, verdicts),
@@ -210,7 +217,8 @@ fn explanations<H>(
 ) -> Result<Vec<u8>, AllocError>
     requires all { pairs.now ≡ subjects (circuit task.now.first.now) (circuit task.now.second.now) naming.now }
     requires inside { All (IsInside (circuit task.now.first.now) (circuit task.now.second.now)) pairs.now }
-    ensures { IfOk result (λ text. AreExplained task.now.first.now task.now.second.now naming.now verdicts.now task.now.settings.now.explain.items text.items) }
+    ensures { IfOk result (λ text. AreExplained task.now.first.now task.now.second.now naming.now verdicts.now
+        task.now.settings.now.explain.items text.items) }
 {
     let targets = task.settings.explain.as_slice();
     let mut text = Vec::new(task.alloc);
@@ -237,7 +245,8 @@ pub(crate) fn told_naming<H>(
     tried: Option<Attempt>,
 ) -> Result<Naming, CheckFault>
     ensures named { IfOk result (IsNamingIn task.now (told_order task.now.settings.now.order tried)) }
-    ensures few { IfOk result (λ _. AreFewFor task.now.settings.now.order task.now.settings.now.matching (circuit task.now.first.now) (circuit task.now.second.now) (condition task.now.given)) }
+    ensures few { IfOk result (λ _. AreFewFor task.now.settings.now.order task.now.settings.now.matching (circuit task.now.first.now)
+        (circuit task.now.second.now) (condition task.now.given)) }
     ensures fault { OfTask task.now (λ told s. IfErr result (IsCheckFault told ⊥ ⊥ ⊥ s.order s.matching (told_order s.order tried))) }
     ensures refused { IfErr result (λ fault. (f : OrderFaultValue) × (fault ≡ CheckFault.Order f)) }
     ensures whole { MayGoByCones task.now.settings.now.order → result ≢ Err (CheckFault.Order OrderFault.TooManyInputs) }
@@ -259,7 +268,8 @@ pub(crate) fn behind<H>(
     requires names { verdicts.now.variables ≡ ordered_names task.now (told_order task.now.settings.now.order tried) }
     requires known { AreTargetsIn (circuit task.now.first.now) task.now.settings.now.explain.items }
     ensures behind { OfTask task.now (λ told s. IfOk result (λ text. IsBehind s.explain.items told s tried verdicts.now text.items)) }
-    ensures fault { OfTask task.now (λ told s. IfErr result (λ fault. (order : OrderValue) × IsAllowed s.order order × IsCheckFault told ⊥ ⊥ ⊥ s.order s.matching order fault)) }
+    ensures fault { OfTask task.now (λ told s. IfErr result (λ fault. (order : OrderValue) × IsAllowed s.order order
+        × IsCheckFault told ⊥ ⊥ ⊥ s.order s.matching order fault)) }
     ensures ends { IfErr result EndsAtOnce }
     ensures whole { MayGoByCones task.now.settings.now.order → result ≢ Err (CheckFault.Order OrderFault.TooManyInputs) }
 {

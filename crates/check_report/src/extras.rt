@@ -113,7 +113,8 @@ fn arranged_support(
     requires first_known { Has store.now of.now.first }
     requires second_known { Has store.now of.now.second }
     requires order { IsOrder store.now.levels order.now }
-    ensures { IfOk result (AreLevelsOf store.now.levels (by_declared order.now (den store.now of.now.first)) (by_declared order.now (den store.now of.now.second))) }
+    ensures { IfOk result (AreLevelsOf store.now.levels (by_declared order.now (den store.now of.now.first))
+        (by_declared order.now (den store.now of.now.second))) }
 {
     let levels = support_of(alloc, store, of.first, of.second)?;
     let places = as_places(alloc, order)?;
@@ -132,7 +133,8 @@ fn arranged_support_in(
     requires first_known { Has store.now of.now.first }
     requires second_known { Has store.now of.now.second }
     requires order { IsOrder store.now.levels order.now }
-    ensures { IfOk result (λ shown. IsSupportShown asked store.now.levels (by_declared order.now (den store.now of.now.first)) (by_declared order.now (den store.now of.now.second)) shown) }
+    ensures { IfOk result (λ shown. IsSupportShown asked store.now.levels (by_declared order.now (den store.now of.now.first))
+        (by_declared order.now (den store.now of.now.second)) shown) }
 {
     if asked {
         let support = arranged_support(alloc, store, of, order)?;
@@ -153,7 +155,8 @@ pub fn arranged_extras(
     requires first_known { Has store.now of.now.first }
     requires second_known { Has store.now of.now.second }
     requires order { IsOrder store.now.levels order.now }
-    ensures { IfOk result (AreExtrasShown (record { sizes = false; support = asked }) store.now.levels (by_declared order.now (den store.now of.now.first)) (by_declared order.now (den store.now of.now.second))) }
+    ensures { IfOk result (AreExtrasShown (record { sizes = false; support = asked }) store.now.levels
+        (by_declared order.now (den store.now of.now.first)) (by_declared order.now (den store.now of.now.second))) }
 {
     let support = arranged_support_in(alloc, store, of, order, asked)?;
     Ok(Extras {

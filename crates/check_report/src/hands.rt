@@ -62,7 +62,8 @@ pub fn deal<H>(
     requires low { All (λ number. number < hands) numbers.now }
     requires inside { All (IsOf whole.now) subjects.now }
     ensures count { IfOk result (λ v. length v.items ≡ hands) }
-    ensures back { IfOk result (λ v. map (λ (t : TurnValue). t.subject) (gathered numbers.now (length numbers.now) (turns_in v.items)) ≡ subjects.now) }
+    ensures back { IfOk result (λ v. map (λ (t : TurnValue). t.subject)
+        (gathered numbers.now (length numbers.now) (turns_in v.items)) ≡ subjects.now) }
     ensures inside { IfOk result (λ v. All (All (λ (t : TurnValue). IsOf whole.now t.subject)) (turns_in v.items)) }
 {
     let mut dealt = empty_hands(whole.task.alloc, hands)?;

@@ -1,5 +1,6 @@
 //! From readers to a report.
-ghost use Rattle.std.specs.Prelude.{None, ◌≡◌, ◌≢◌, ◌<◌, ◌-◌, ◌^◌, ℕ, List, Option, IfOk, IfErr, IfSome, IsSomeAnd, OnOk, OnErr, IsTrue, Err};
+ghost use Rattle.std.specs.Prelude.{None, ◌≡◌, ◌≢◌, ◌<◌, ◌-◌, ◌^◌, ℕ, List, Option, IfOk, IfErr, IfSome, IsSomeAnd, OnOk, OnErr, IsTrue};
+ghost use Rattle.std.specs.Prelude.{Err};
 ghost use Rattle.std.specs.Io.KnownBytes.{Appends};
 ghost use Rattle.expand_work.specs.Bounds.{most_of};
 ghost use Rattle.net_order.specs.declared.order.Order.{Order as OrderValue};
@@ -51,30 +52,38 @@ pub fn judge<H: Threads + Wait + Sync, R1: Source, R2: Source, R3: Source, G: Mo
     // Full comes only where they are not within the limit, in each order that the settings allow.
     ensures full { let told = told_of (R1.remaining first.old) (R2.remaining second.old) (told_by R3.remaining given.old) in
         let s = context.now.settings.now in
-        result ≡ Err (CheckFault.Wave WaveFault.Full) → (order : OrderValue) → IsAllowed s.order order → AreBeyond told s.matching order s.limit }
+        result ≡ Err (CheckFault.Wave WaveFault.Full) → (order : OrderValue) → IsAllowed s.order order
+        → AreBeyond told s.matching order s.limit }
     // GivenUp comes only where orders are tried, and no cones, and each attempt within the limit was given up.
     ensures given_up { let told = told_of (R1.remaining first.old) (R2.remaining second.old) (told_by R3.remaining given.old) in
         let s = context.now.settings.now in
-        result ≡ Err CheckFault.GivenUp → AreTried s.order × ((order : OrderValue) → IsAllowed s.order order → IsGivenUpWithin told s.matching s.limit (G.bound context.now.monitor.now) order) }
+        result ≡ Err CheckFault.GivenUp → AreTried s.order × ((order : OrderValue) → IsAllowed s.order order
+        → IsGivenUpWithin told s.matching s.limit (G.bound context.now.monitor.now) order) }
     // Where pairs may be judged by their cones, no nodes and no requests are wanted.
-    ensures by_cones { MayGoByCones context.now.settings.now.order → (result ≢ Err (CheckFault.Wave WaveFault.Full)) × (result ≢ Err CheckFault.GivenUp) }
+    ensures by_cones { MayGoByCones context.now.settings.now.order
+        → (result ≢ Err (CheckFault.Wave WaveFault.Full)) × (result ≢ Err CheckFault.GivenUp) }
     // There the whole may have any number of variables.
     ensures whole { MayGoByCones context.now.settings.now.order → result ≢ Err (CheckFault.Order OrderFault.TooManyInputs) }
     // A name that is picked is refused only where the first netlist has no such output or register.
-    ensures only { result ≡ Err CheckFault.Only → IsUnknown (told_of (R1.remaining first.old) (R2.remaining second.old) (told_by R3.remaining given.old)) context.now.settings.now.picked }
+    ensures only { result ≡ Err CheckFault.Only → IsUnknown
+        (told_of (R1.remaining first.old) (R2.remaining second.old) (told_by R3.remaining given.old)) context.now.settings.now.picked }
     // TooManyRequests comes only where one wave reaches more than the monitor allows, in an order that the settings allow.
     ensures past { let told = told_of (R1.remaining first.old) (R2.remaining second.old) (told_by R3.remaining given.old) in
         let s = context.now.settings.now in
-        result ≡ Err (CheckFault.Wave WaveFault.TooManyRequests) → (order : OrderValue) × IsAllowed s.order order × IsSomeAnd (G.bound context.now.monitor.now) (AreTooWide told s.matching order) }
+        result ≡ Err (CheckFault.Wave WaveFault.TooManyRequests)
+        → (order : OrderValue) × IsAllowed s.order order × IsSomeAnd (G.bound context.now.monitor.now) (AreTooWide told s.matching order) }
     // No worker is wanted where the monitor sets a bound, nor where an order is sought or cones may be taken, whatever the monitor.
     ensures alone { most_of (G.bound context.now.monitor.now) < 2 ^ 64 - 1 → result ≢ Err (CheckFault.Wave WaveFault.NoWorker) }
     ensures hired { result ≡ Err (CheckFault.Wave WaveFault.NoWorker) → NamesOrder context.now.settings.now.order }
     // A fault has its cause, and what comes before it was accepted.
     ensures fault { let told = told_of (R1.remaining first.old) (R2.remaining second.old) (told_by R3.remaining given.old) in
         let s = context.now.settings.now in
-        IfErr result (λ fault. (order : OrderValue) × IsAllowed s.order order × IsCheckFault told (IsTrue (R1.has_failed first.new)) (IsTrue (R2.has_failed second.new)) (HasFailedIn R3.has_failed given.new) s.order s.matching order fault) }
+        IfErr result (λ fault. (order : OrderValue) × IsAllowed s.order order
+        × IsCheckFault told (IsTrue (R1.has_failed first.new)) (IsTrue (R2.has_failed second.new))
+        (HasFailedIn R3.has_failed given.new) s.order s.matching order fault) }
     ensures unwritten { result ≢ Err CheckFault.Write }
-    ensures origins { (R1.origin first.new ≡ R1.origin first.old) × (R2.origin second.new ≡ R2.origin second.old) × (told_by R3.origin given.new ≡ told_by R3.origin given.old) }
+    ensures origins { (R1.origin first.new ≡ R1.origin first.old) × (R2.origin second.new ≡ R2.origin second.old)
+        × (told_by R3.origin given.new ≡ told_by R3.origin given.old) }
 {
     let nets = read_netlists(context.alloc, first, second, given)?;
     let Netlists {
@@ -109,26 +118,33 @@ fn reported<H: Threads + Wait + Sync, R1: Source, R2: Source, R3: Source, G: Mon
         IfOk result (λ r. IfSome r.2 (AreGivenUp told s.matching (last_budget s.order s.limit) (G.bound context.now.monitor.now))) }
     ensures full { let told = told_of (R1.remaining first.old) (R2.remaining second.old) (told_by R3.remaining given.old) in
         let s = context.now.settings.now in
-        result ≡ Err (CheckFault.Wave WaveFault.Full) → (order : OrderValue) → IsAllowed s.order order → AreBeyond told s.matching order s.limit }
+        result ≡ Err (CheckFault.Wave WaveFault.Full) → (order : OrderValue) → IsAllowed s.order order
+        → AreBeyond told s.matching order s.limit }
     ensures given_up { let told = told_of (R1.remaining first.old) (R2.remaining second.old) (told_by R3.remaining given.old) in
         let s = context.now.settings.now in
-        result ≡ Err CheckFault.GivenUp → AreTried s.order × ((order : OrderValue) → IsAllowed s.order order → IsGivenUpWithin told s.matching s.limit (G.bound context.now.monitor.now) order) }
+        result ≡ Err CheckFault.GivenUp → AreTried s.order × ((order : OrderValue) → IsAllowed s.order order
+        → IsGivenUpWithin told s.matching s.limit (G.bound context.now.monitor.now) order) }
     // Where pairs may be judged by their cones, no nodes and no requests are wanted.
-    ensures by_cones { MayGoByCones context.now.settings.now.order → (result ≢ Err (CheckFault.Wave WaveFault.Full)) × (result ≢ Err CheckFault.GivenUp) }
+    ensures by_cones { MayGoByCones context.now.settings.now.order
+        → (result ≢ Err (CheckFault.Wave WaveFault.Full)) × (result ≢ Err CheckFault.GivenUp) }
     // There the whole may have any number of variables.
     ensures whole { MayGoByCones context.now.settings.now.order → result ≢ Err (CheckFault.Order OrderFault.TooManyInputs) }
     // A name that is picked is refused only where the first netlist has no such output or register.
-    ensures only { result ≡ Err CheckFault.Only → IsUnknown (told_of (R1.remaining first.old) (R2.remaining second.old) (told_by R3.remaining given.old)) context.now.settings.now.picked }
+    ensures only { result ≡ Err CheckFault.Only → IsUnknown
+        (told_of (R1.remaining first.old) (R2.remaining second.old) (told_by R3.remaining given.old)) context.now.settings.now.picked }
     ensures past { let told = told_of (R1.remaining first.old) (R2.remaining second.old) (told_by R3.remaining given.old) in
         let s = context.now.settings.now in
-        result ≡ Err (CheckFault.Wave WaveFault.TooManyRequests) → (order : OrderValue) × IsAllowed s.order order × IsSomeAnd (G.bound context.now.monitor.now) (AreTooWide told s.matching order) }
+        result ≡ Err (CheckFault.Wave WaveFault.TooManyRequests)
+        → (order : OrderValue) × IsAllowed s.order order × IsSomeAnd (G.bound context.now.monitor.now) (AreTooWide told s.matching order) }
     ensures alone { most_of (G.bound context.now.monitor.now) < 2 ^ 64 - 1 → result ≢ Err (CheckFault.Wave WaveFault.NoWorker) }
     ensures hired { result ≡ Err (CheckFault.Wave WaveFault.NoWorker) → NamesOrder context.now.settings.now.order }
     ensures fault { let told = told_of (R1.remaining first.old) (R2.remaining second.old) (told_by R3.remaining given.old) in
         let s = context.now.settings.now in
-        IfErr result (IsReportFault told (IsTrue (R1.has_failed first.new)) (IsTrue (R2.has_failed second.new)) (HasFailedIn R3.has_failed given.new) s) }
+        IfErr result (IsReportFault told (IsTrue (R1.has_failed first.new)) (IsTrue (R2.has_failed second.new))
+        (HasFailedIn R3.has_failed given.new) s) }
     ensures unwritten { result ≢ Err CheckFault.Write }
-    ensures origins { (R1.origin first.new ≡ R1.origin first.old) × (R2.origin second.new ≡ R2.origin second.old) × (told_by R3.origin given.new ≡ told_by R3.origin given.old) }
+    ensures origins { (R1.origin first.new ≡ R1.origin first.old) × (R2.origin second.new ≡ R2.origin second.old)
+        × (told_by R3.origin given.new ≡ told_by R3.origin given.old) }
 {
     let nets = read_netlists(context.alloc, first, second, given)?;
     let Netlists {
@@ -164,12 +180,14 @@ pub fn check<H: Threads + Wait + Sync, R1: Source, R2: Source, R3: Source, G: Mo
     // undecided only where its cones have more variables than a pairing has, or each attempt of them was given up.
     ensures report { let told = told_of (R1.remaining first.old) (R2.remaining second.old) (told_by R3.remaining given.old) in
         let s = context.now.settings.now in
-        IfOk result (λ r. (bytes : List ℕ) × IsReportBy told s (G.bound context.now.monitor.now) r.1 r.0 bytes × Appends (W.contents out.old) (W.contents out.new) bytes) }
+        IfOk result (λ r. (bytes : List ℕ) × IsReportBy told s (G.bound context.now.monitor.now) r.1 r.0 bytes
+        × Appends (W.contents out.old) (W.contents out.new) bytes) }
     // The VCD is that of the first pair that differs in this very report, at its assignment; there is none where none is asked for, or none
     // differs.
     ensures vcd { let told = told_of (R1.remaining first.old) (R2.remaining second.old) (told_by R3.remaining given.old) in
         let s = context.now.settings.now in
-        IfOk result (λ r. (bytes : List ℕ) × IsReportWithVcd told s (G.bound context.now.monitor.now) r.1 r.0 bytes (bytes_in r.2) × Appends (W.contents out.old) (W.contents out.new) bytes) }
+        IfOk result (λ r. (bytes : List ℕ) × IsReportWithVcd told s (G.bound context.now.monitor.now) r.1 r.0 bytes (bytes_in r.2)
+        × Appends (W.contents out.old) (W.contents out.new) bytes) }
     // Each attempt within a smaller budget than that of the one that is told was given up, and within the first budget each before it.
     ensures passed { let told = told_of (R1.remaining first.old) (R2.remaining second.old) (told_by R3.remaining given.old) in
         let s = context.now.settings.now in
@@ -177,21 +195,26 @@ pub fn check<H: Threads + Wait + Sync, R1: Source, R2: Source, R3: Source, G: Mo
     // Full comes only where they are not within the limit, in each order that the settings allow.
     ensures full { let told = told_of (R1.remaining first.old) (R2.remaining second.old) (told_by R3.remaining given.old) in
         let s = context.now.settings.now in
-        result ≡ Err (CheckFault.Wave WaveFault.Full) → (order : OrderValue) → IsAllowed s.order order → AreBeyond told s.matching order s.limit }
+        result ≡ Err (CheckFault.Wave WaveFault.Full) → (order : OrderValue) → IsAllowed s.order order
+        → AreBeyond told s.matching order s.limit }
     // GivenUp comes only where orders are tried, and no cones, and each attempt within the limit was given up.
     ensures given_up { let told = told_of (R1.remaining first.old) (R2.remaining second.old) (told_by R3.remaining given.old) in
         let s = context.now.settings.now in
-        result ≡ Err CheckFault.GivenUp → AreTried s.order × ((order : OrderValue) → IsAllowed s.order order → IsGivenUpWithin told s.matching s.limit (G.bound context.now.monitor.now) order) }
+        result ≡ Err CheckFault.GivenUp → AreTried s.order × ((order : OrderValue) → IsAllowed s.order order
+        → IsGivenUpWithin told s.matching s.limit (G.bound context.now.monitor.now) order) }
     // Where pairs may be judged by their cones, no nodes and no requests are wanted.
-    ensures by_cones { MayGoByCones context.now.settings.now.order → (result ≢ Err (CheckFault.Wave WaveFault.Full)) × (result ≢ Err CheckFault.GivenUp) }
+    ensures by_cones { MayGoByCones context.now.settings.now.order
+        → (result ≢ Err (CheckFault.Wave WaveFault.Full)) × (result ≢ Err CheckFault.GivenUp) }
     // There the whole may have any number of variables.
     ensures whole { MayGoByCones context.now.settings.now.order → result ≢ Err (CheckFault.Order OrderFault.TooManyInputs) }
     // A name that is picked is refused only where the first netlist has no such output or register.
-    ensures only { result ≡ Err CheckFault.Only → IsUnknown (told_of (R1.remaining first.old) (R2.remaining second.old) (told_by R3.remaining given.old)) context.now.settings.now.picked }
+    ensures only { result ≡ Err CheckFault.Only → IsUnknown
+        (told_of (R1.remaining first.old) (R2.remaining second.old) (told_by R3.remaining given.old)) context.now.settings.now.picked }
     // TooManyRequests comes only where one wave reaches more than the monitor allows, in an order that the settings allow.
     ensures past { let told = told_of (R1.remaining first.old) (R2.remaining second.old) (told_by R3.remaining given.old) in
         let s = context.now.settings.now in
-        result ≡ Err (CheckFault.Wave WaveFault.TooManyRequests) → (order : OrderValue) × IsAllowed s.order order × IsSomeAnd (G.bound context.now.monitor.now) (AreTooWide told s.matching order) }
+        result ≡ Err (CheckFault.Wave WaveFault.TooManyRequests)
+        → (order : OrderValue) × IsAllowed s.order order × IsSomeAnd (G.bound context.now.monitor.now) (AreTooWide told s.matching order) }
     // No worker is wanted where the monitor sets a bound, nor where an order is sought or cones may be taken, whatever the monitor.
     ensures alone { most_of (G.bound context.now.monitor.now) < 2 ^ 64 - 1 → result ≢ Err (CheckFault.Wave WaveFault.NoWorker) }
     ensures hired { result ≡ Err (CheckFault.Wave WaveFault.NoWorker) → NamesOrder context.now.settings.now.order }
@@ -199,7 +222,8 @@ pub fn check<H: Threads + Wait + Sync, R1: Source, R2: Source, R3: Source, G: Mo
     // such output or register.
     ensures fault { let told = told_of (R1.remaining first.old) (R2.remaining second.old) (told_by R3.remaining given.old) in
         let s = context.now.settings.now in
-        IfErr result (IsReportFault told (IsTrue (R1.has_failed first.new)) (IsTrue (R2.has_failed second.new)) (HasFailedIn R3.has_failed given.new) s) }
+        IfErr result (IsReportFault told (IsTrue (R1.has_failed first.new)) (IsTrue (R2.has_failed second.new))
+        (HasFailedIn R3.has_failed given.new) s) }
     // Where the writing failed, a front part of the report was written, and the device has failed or taken nothing of the rest.
     ensures unwritten { let told = told_of (R1.remaining first.old) (R2.remaining second.old) (told_by R3.remaining given.old) in
         let s = context.now.settings.now in
@@ -210,7 +234,8 @@ pub fn check<H: Threads + Wait + Sync, R1: Source, R2: Source, R3: Source, G: Mo
     ensures untouched { OnErr result (result ≢ Err CheckFault.Write → out.new ≡ out.old) }
     // A writer that took the report has not failed, and took some bytes at each write.
     ensures written { OnOk result ((W.has_failed out.new ≡ W.has_failed out.old) × (W.has_stopped out.new ≡ W.has_stopped out.old)) }
-    ensures origins { (R1.origin first.new ≡ R1.origin first.old) × (R2.origin second.new ≡ R2.origin second.old) × (told_by R3.origin given.new ≡ told_by R3.origin given.old) }
+    ensures origins { (R1.origin first.new ≡ R1.origin first.old) × (R2.origin second.new ≡ R2.origin second.old)
+        × (told_by R3.origin given.new ≡ told_by R3.origin given.old) }
 {
     let (texts, outcome, tried) = reported(context, first, second, given)?;
     let Texts { report, vcd } = texts;

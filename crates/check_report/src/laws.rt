@@ -16,22 +16,28 @@ ghost use Rattle.check_report.specs.Report.{IsReport};
 
 /// What two netlists need, with a condition or without, is never both within a limit and beyond it.
 pub fn limits()
-    ensures { (limit : ℕ) (a b : Circuit) (given : Option Circuit) (p : Paired) → FitsWithin limit a b given p → Exceeds limit a b given p → ⊥ }
+    ensures { (limit : ℕ) (a b : Circuit) (given : Option Circuit) (p : Paired) → FitsWithin limit a b given p → Exceeds limit a b given p
+        → ⊥ }
 {}
 
-/// Two netlists, with a condition or without, have one report for a form, a matching, an order and a wish for sizes and for the variables that count: its counts and its
-/// bytes are determined.
+/// Two netlists, with a condition or without, have one report for a form, a matching, an order and a wish for sizes and for the variables
+/// that count: its counts and its bytes are determined.
 pub fn one_report()
-    ensures { (one two : Net) (given : Option Net) → IsNet one → IsNet two → IfSome given (λ net. IsNet net × HasOneOutput (circuit net)) → (how : Match) (order : Order) (p q : Paired) →
-        IsPairing how (circuit one) (circuit two) (option_map circuit given) order p → IsPairing how (circuit one) (circuit two) (option_map circuit given) order q →
-        (form : Found → List ℕ) (asked : Asked) (o more : Outcome) (bytes text : List ℕ) → IsReport form asked (circuit one) (circuit two) (option_map circuit given) p o bytes →
+    ensures { (one two : Net) (given : Option Net) → IsNet one → IsNet two → IfSome given (λ net. IsNet net × HasOneOutput (circuit net))
+        → (how : Match) (order : Order) (p q : Paired) →
+        IsPairing how (circuit one) (circuit two) (option_map circuit given) order p
+        → IsPairing how (circuit one) (circuit two) (option_map circuit given) order q →
+        (form : Found → List ℕ) (asked : Asked) (o more : Outcome) (bytes text : List ℕ)
+        → IsReport form asked (circuit one) (circuit two) (option_map circuit given) p o bytes →
         IsReport form asked (circuit one) (circuit two) (option_map circuit given) q more text → (o ≡ more) × (bytes ≡ text) }
 {}
 
 /// Without a condition the report speaks of all assignments.
 pub fn without_condition()
-    ensures equal { (p : Paired) (holds : List Bool → Bool) → HoldsWhere None p holds → (n : ℕ) (f g : List Bool → Bool) → AgreeWhere n holds f g ↔ Agree n f g }
-    ensures least { (p : Paired) (holds : List Bool → Bool) → HoldsWhere None p holds → (n : ℕ) (f g : List Bool → Bool) (x : List Bool) → IsLeastWhere n holds f g x ↔ IsLeastDifference n f g x }
+    ensures equal { (p : Paired) (holds : List Bool → Bool) → HoldsWhere None p holds → (n : ℕ) (f g : List Bool → Bool)
+        → AgreeWhere n holds f g ↔ Agree n f g }
+    ensures least { (p : Paired) (holds : List Bool → Bool) → HoldsWhere None p holds → (n : ℕ) (f g : List Bool → Bool) (x : List Bool)
+        → IsLeastWhere n holds f g x ↔ IsLeastDifference n f g x }
     ensures whole { (p : Paired) (holds : List Bool → Bool) → HoldsWhere None p holds → (f : List Bool → Bool) → restricted holds f ≡ f }
 {}
 
@@ -39,12 +45,15 @@ pub fn without_condition()
 /// least difference there is that of these two.
 pub fn conjunctions()
     ensures equal { (n : ℕ) (holds f g : List Bool → Bool) → AgreeWhere n holds f g ↔ Agree n (restricted holds f) (restricted holds g) }
-    ensures least { (n : ℕ) (holds f g : List Bool → Bool) (x : List Bool) → IsLeastWhere n holds f g x ↔ IsLeastDifference n (restricted holds f) (restricted holds g) x }
+    ensures least { (n : ℕ) (holds f g : List Bool → Bool) (x : List Bool)
+        → IsLeastWhere n holds f g x ↔ IsLeastDifference n (restricted holds f) (restricted holds g) x }
 {}
 
 /// Each pair is dealt to one of the shares that there are, and whoever deals comes to the same: n shares of one comparison, each from a
 /// run of its own, have each pair exactly once.
 pub fn shares()
-    ensures each { (a b : Circuit) (pairs : List Subject) (n : ℕ) (shares : List ℕ) → 1 ≤ n → AreShares a b pairs n shares → (length shares ≡ length pairs) × All (λ k. (1 ≤ k) × (k ≤ n)) shares }
-    ensures same { (a b : Circuit) (pairs : List Subject) (n : ℕ) (shares others : List ℕ) → AreShares a b pairs n shares → AreShares a b pairs n others → shares ≡ others }
+    ensures each { (a b : Circuit) (pairs : List Subject) (n : ℕ) (shares : List ℕ) → 1 ≤ n → AreShares a b pairs n shares
+        → (length shares ≡ length pairs) × All (λ k. (1 ≤ k) × (k ≤ n)) shares }
+    ensures same { (a b : Circuit) (pairs : List Subject) (n : ℕ) (shares others : List ℕ) → AreShares a b pairs n shares
+        → AreShares a b pairs n others → shares ≡ others }
 {}

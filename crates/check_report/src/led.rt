@@ -37,7 +37,8 @@ fn first_inner<H>(
     at: &[bool],
 ) -> Result<Option<Inner>, AllocError>
     requires { IsInside (circuit task.now.first.now) (circuit task.now.second.now) subject }
-    ensures first { IfOk result (λ first. (e : Explained) × IsExplanation task.now.first.now task.now.second.now naming.now (subject.first, subject.second) at.now e × (first ≡ slice_get e.inner 0)) }
+    ensures first { IfOk result (λ first. (e : Explained) × IsExplanation task.now.first.now task.now.second.now naming.now
+        (subject.first, subject.second) at.now e × (first ≡ slice_get e.inner 0)) }
     ensures known { IfOk result (λ first. IfSome first (λ inner. inner.first < length task.now.first.now.names)) }
 {
     let pair = (subject.first, subject.second);
@@ -80,7 +81,8 @@ fn led_pair<H>(
     at: &[bool],
 ) -> Result<Option<Led>, AllocError>
     requires { All (IsInside (circuit task.now.first.now) (circuit task.now.second.now)) pairs.now }
-    ensures led { IfOk result (IsLedPair task.now.first.now task.now.second.now naming.now pair at.now (find (is_subject_of (circuit task.now.first.now) pair) pairs.now)) }
+    ensures led { IfOk result (IsLedPair task.now.first.now task.now.second.now naming.now pair at.now
+        (find (is_subject_of (circuit task.now.first.now) pair) pairs.now)) }
     ensures known { IfOk result (λ led. IfSome led (λ one. one.inner.first < length task.now.first.now.names)) }
 {
     match subject_of(task.first, &pair, pairs) {

@@ -75,7 +75,8 @@ fn given_text<H>(
         × IsFound told s.matching (Choice.One order.now) s.limit r.1 o)) }
     ensures untried { IfOk result (λ r. r.1 ≡ None) }
     ensures fault { OfTask task.now (λ told s.
-        IfErr result (λ fault. (o : OrderValue) × IsAllowed (Choice.One order.now) o × IsCheckFault told ⊥ ⊥ ⊥ s.order s.matching o fault)) }
+        IfErr result (λ fault. (o : OrderValue) × IsAllowed (Choice.One order.now) o
+        × IsCheckFault told ⊥ ⊥ ⊥ s.order s.matching o fault)) }
     ensures unbuilt { result ≢ Err (CheckFault.Wave Full) }
     ensures kept { result ≢ Err CheckFault.GivenUp }
     ensures unbounded { result ≢ Err (CheckFault.Wave TooManyRequests) }
@@ -137,7 +138,8 @@ fn best_text<H: Threads + Wait + Sync, G: Monitor>(
     ensures full { OfTask task.now (λ told s.
         result ≡ Err (CheckFault.Wave Full) → (o : OrderValue) → IsAllowed Choice.Best o → AreBeyond told s.matching o s.limit) }
     ensures given_up { OfTask task.now (λ told s.
-        result ≡ Err CheckFault.GivenUp → (o : OrderValue) → IsAllowed Choice.Best o → IsGivenUpWithin told s.matching s.limit (G.bound monitor.now) o) }
+        result ≡ Err CheckFault.GivenUp → (o : OrderValue) → IsAllowed Choice.Best o
+        → IsGivenUpWithin told s.matching s.limit (G.bound monitor.now) o) }
     ensures fault { OfTask task.now (λ told s.
         IfErr result (λ fault. (o : OrderValue) × IsAllowed Choice.Best o × IsCheckFault told ⊥ ⊥ ⊥ s.order s.matching o fault)) }
     ensures unwritten { result ≢ Err CheckFault.Write }
@@ -166,8 +168,10 @@ fn text_for<H: Threads + Wait + Sync, G: Monitor>(
     ensures full { OfTask task.now (λ told s.
         result ≡ Err (CheckFault.Wave Full) → (order : OrderValue) → IsAllowed s.order order → AreBeyond told s.matching order s.limit) }
     ensures given_up { OfTask task.now (λ told s.
-        result ≡ Err CheckFault.GivenUp → AreTried s.order × ((order : OrderValue) → IsAllowed s.order order → IsGivenUpWithin told s.matching s.limit (G.bound monitor.now) order)) }
-    ensures by_cones { MayGoByCones task.now.settings.now.order → (result ≢ Err (CheckFault.Wave Full)) × (result ≢ Err CheckFault.GivenUp) }
+        result ≡ Err CheckFault.GivenUp → AreTried s.order × ((order : OrderValue) → IsAllowed s.order order
+        → IsGivenUpWithin told s.matching s.limit (G.bound monitor.now) order)) }
+    ensures by_cones { MayGoByCones task.now.settings.now.order
+        → (result ≢ Err (CheckFault.Wave Full)) × (result ≢ Err CheckFault.GivenUp) }
     ensures fault { OfTask task.now (λ told s.
         IfErr result (λ fault. (order : OrderValue) × IsAllowed s.order order × IsCheckFault told ⊥ ⊥ ⊥ s.order s.matching order fault)) }
     ensures unwritten { result ≢ Err CheckFault.Write }
@@ -194,7 +198,8 @@ fn listed<H: Threads + Wait + Sync, R1: Source, R2: Source, R3: Source, G: Monit
 ) -> Result<(Vec<u8>, Option<Attempt>), CheckFault>
     ensures text { let told = told_of (R1.remaining first.old) (R2.remaining second.old) (told_by R3.remaining given.old) in
         let s = context.now.settings.now in
-        IfOk result (λ r. (order : OrderValue) × IsOrderPrinted told s.matching order r.0.items × IsFound told s.matching s.order s.limit r.1 order) }
+        IfOk result (λ r. (order : OrderValue) × IsOrderPrinted told s.matching order r.0.items
+        × IsFound told s.matching s.order s.limit r.1 order) }
     ensures passed { let told = told_of (R1.remaining first.old) (R2.remaining second.old) (told_by R3.remaining given.old) in
         let s = context.now.settings.now in
         IfOk result (λ r. IfSome r.1 (AreGivenUp told s.matching (last_budget s.order s.limit) (G.bound context.now.monitor.now))) }
@@ -203,16 +208,21 @@ fn listed<H: Threads + Wait + Sync, R1: Source, R2: Source, R3: Source, G: Monit
         result ≡ Err (CheckFault.Wave Full) → (order : OrderValue) → IsAllowed s.order order → AreBeyond told s.matching order s.limit }
     ensures given_up { let told = told_of (R1.remaining first.old) (R2.remaining second.old) (told_by R3.remaining given.old) in
         let s = context.now.settings.now in
-        result ≡ Err CheckFault.GivenUp → AreTried s.order × ((order : OrderValue) → IsAllowed s.order order → IsGivenUpWithin told s.matching s.limit (G.bound context.now.monitor.now) order) }
-    ensures by_cones { MayGoByCones context.now.settings.now.order → (result ≢ Err (CheckFault.Wave Full)) × (result ≢ Err CheckFault.GivenUp) }
+        result ≡ Err CheckFault.GivenUp → AreTried s.order × ((order : OrderValue) → IsAllowed s.order order
+        → IsGivenUpWithin told s.matching s.limit (G.bound context.now.monitor.now) order) }
+    ensures by_cones { MayGoByCones context.now.settings.now.order
+        → (result ≢ Err (CheckFault.Wave Full)) × (result ≢ Err CheckFault.GivenUp) }
     ensures unbounded { result ≢ Err (CheckFault.Wave TooManyRequests) }
     ensures alone { result ≢ Err (CheckFault.Wave NoWorker) }
     ensures others { result ≢ Err CheckFault.Only }
     ensures fault { let told = told_of (R1.remaining first.old) (R2.remaining second.old) (told_by R3.remaining given.old) in
         let s = context.now.settings.now in
-        IfErr result (λ fault. (order : OrderValue) × IsAllowed s.order order × IsCheckFault told (IsTrue (R1.has_failed first.new)) (IsTrue (R2.has_failed second.new)) (HasFailedIn R3.has_failed given.new) s.order s.matching order fault) }
+        IfErr result (λ fault. (order : OrderValue) × IsAllowed s.order order
+        × IsCheckFault told (IsTrue (R1.has_failed first.new)) (IsTrue (R2.has_failed second.new))
+        (HasFailedIn R3.has_failed given.new) s.order s.matching order fault) }
     ensures unwritten { result ≢ Err CheckFault.Write }
-    ensures origins { (R1.origin first.new ≡ R1.origin first.old) × (R2.origin second.new ≡ R2.origin second.old) × (told_by R3.origin given.new ≡ told_by R3.origin given.old) }
+    ensures origins { (R1.origin first.new ≡ R1.origin first.old) × (R2.origin second.new ≡ R2.origin second.old)
+        × (told_by R3.origin given.new ≡ told_by R3.origin given.old) }
 {
     let nets = match read_netlists(context.alloc, first, second, given) {
         Ok(nets) => nets,
@@ -267,8 +277,10 @@ pub fn print_order<
     // GivenUp comes only where orders are tried and each attempt within the limit was given up, by declared order in place of Full.
     ensures given_up { let told = told_of (R1.remaining first.old) (R2.remaining second.old) (told_by R3.remaining given.old) in
         let s = context.now.settings.now in
-        result ≡ Err CheckFault.GivenUp → AreTried s.order × ((order : OrderValue) → IsAllowed s.order order → IsGivenUpWithin told s.matching s.limit (G.bound context.now.monitor.now) order) }
-    ensures by_cones { MayGoByCones context.now.settings.now.order → (result ≢ Err (CheckFault.Wave Full)) × (result ≢ Err CheckFault.GivenUp) }
+        result ≡ Err CheckFault.GivenUp → AreTried s.order × ((order : OrderValue) → IsAllowed s.order order
+        → IsGivenUpWithin told s.matching s.limit (G.bound context.now.monitor.now) order) }
+    ensures by_cones { MayGoByCones context.now.settings.now.order
+        → (result ≢ Err (CheckFault.Wave Full)) × (result ≢ Err CheckFault.GivenUp) }
     // Waves are those of attempts alone, and no pairs are picked.
     ensures unbounded { result ≢ Err (CheckFault.Wave TooManyRequests) }
     ensures alone { result ≢ Err (CheckFault.Wave NoWorker) }
@@ -276,7 +288,9 @@ pub fn print_order<
     // A fault has its cause, and what comes before it was accepted.
     ensures fault { let told = told_of (R1.remaining first.old) (R2.remaining second.old) (told_by R3.remaining given.old) in
         let s = context.now.settings.now in
-        IfErr result (λ fault. (order : OrderValue) × IsAllowed s.order order × IsCheckFault told (IsTrue (R1.has_failed first.new)) (IsTrue (R2.has_failed second.new)) (HasFailedIn R3.has_failed given.new) s.order s.matching order fault) }
+        IfErr result (λ fault. (order : OrderValue) × IsAllowed s.order order
+        × IsCheckFault told (IsTrue (R1.has_failed first.new)) (IsTrue (R2.has_failed second.new))
+        (HasFailedIn R3.has_failed given.new) s.order s.matching order fault) }
     // Where the writing failed, a front part of the order was written, and the device has failed or taken nothing of the rest.
     ensures unwritten { let told = told_of (R1.remaining first.old) (R2.remaining second.old) (told_by R3.remaining given.old) in
         let s = context.now.settings.now in
@@ -287,7 +301,8 @@ pub fn print_order<
     ensures untouched { OnErr result (result ≢ Err CheckFault.Write → out.new ≡ out.old) }
     // A writer that took the order has not failed, and took some bytes at each write.
     ensures written { OnOk result ((W.has_failed out.new ≡ W.has_failed out.old) × (W.has_stopped out.new ≡ W.has_stopped out.old)) }
-    ensures origins { (R1.origin first.new ≡ R1.origin first.old) × (R2.origin second.new ≡ R2.origin second.old) × (told_by R3.origin given.new ≡ told_by R3.origin given.old) }
+    ensures origins { (R1.origin first.new ≡ R1.origin first.old) × (R2.origin second.new ≡ R2.origin second.old)
+        × (told_by R3.origin given.new ≡ told_by R3.origin given.old) }
 {
     let (text, tried) = match listed(context, first, second, given) {
         Ok((text, tried)) => (text, tried),

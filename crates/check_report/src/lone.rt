@@ -20,7 +20,8 @@ pub fn add_lone(
     signals: &[Signal],
 ) -> Result<(), AllocError>
     requires { All (λ s. s < length net.now.names) signals.now }
-    ensures { OnOk result (verdicts.new.items ≡ verdicts.old.items ++ map (Verdict.Lone side role) (names_of (circuit net.now) signals.now)) }
+    ensures { OnOk result (verdicts.new.items ≡ verdicts.old.items
+        ++ map (Verdict.Lone side role) (names_of (circuit net.now) signals.now)) }
 {
     for signal in signals {
         let name = Name::copied(alloc, net.name(*signal))?;
@@ -38,7 +39,8 @@ pub fn add_first_lone(
 ) -> Result<(), AllocError>
     requires outputs { All (λ s. s < length net.now.names) naming.now.outputs.only_first }
     requires registers { All (λ s. s < length net.now.names) naming.now.registers.only_first }
-    ensures { OnOk result (verdicts.new.items ≡ verdicts.old.items ++ lone_side Side.First (circuit net.now) naming.now.outputs.only_first naming.now.registers.only_first) }
+    ensures { OnOk result (verdicts.new.items ≡ verdicts.old.items
+        ++ lone_side Side.First (circuit net.now) naming.now.outputs.only_first naming.now.registers.only_first) }
 {
     let outputs = naming.only_first();
     let registers = naming.only_first_next();
@@ -62,7 +64,8 @@ pub fn add_second_lone(
 ) -> Result<(), AllocError>
     requires outputs { All (λ s. s < length net.now.names) naming.now.outputs.only_second }
     requires registers { All (λ s. s < length net.now.names) naming.now.registers.only_second }
-    ensures { OnOk result (verdicts.new.items ≡ verdicts.old.items ++ lone_side Side.Second (circuit net.now) naming.now.outputs.only_second naming.now.registers.only_second) }
+    ensures { OnOk result (verdicts.new.items ≡ verdicts.old.items
+        ++ lone_side Side.Second (circuit net.now) naming.now.outputs.only_second naming.now.registers.only_second) }
 {
     let outputs = naming.only_second();
     let registers = naming.only_second_next();

@@ -42,8 +42,10 @@ fn try_cones<H: Threads + Wait + Sync, G: Monitor>(
     requires small { budget < 2 ^ 32 }
     requires paired { (order : OrderValue) × IsPairingIn task.now order pairing.now }
     requires no_sizes { task.now.settings.now.sizes ≡ false }
-    requires one { (found : Found) → AreVerdicts (asked_in task.now.settings.now) (circuit task.now.first.now) (circuit task.now.second.now) (condition task.now.given) pairing.now found → length found.verdicts ≡ 1 }
-    ensures decided { IfOk result (λ o. IfSome o (λ v. AreVerdicts (asked_in task.now.settings.now) (circuit task.now.first.now) (circuit task.now.second.now) (condition task.now.given) pairing.now
+    requires one { (found : Found) → AreVerdicts (asked_in task.now.settings.now) (circuit task.now.first.now)
+        (circuit task.now.second.now) (condition task.now.given) pairing.now found → length found.verdicts ≡ 1 }
+    ensures decided { IfOk result (λ o. IfSome o (λ v. AreVerdicts (asked_in task.now.settings.now) (circuit task.now.first.now)
+        (circuit task.now.second.now) (condition task.now.given) pairing.now
         (record { variables = pairing.now.names; verdicts = v ∷ [] }))) }
     ensures within { IfOk result (λ o. IfSome o (λ _. IsDecidedWithin task.now budget)) }
     ensures left { result ≡ Ok None → (c : CandidateValue) → IsPassed task.now budget (G.bound monitor.now) c }

@@ -1,5 +1,6 @@
 //! Which pairs of outputs and of next states are compared, and which lines there are of what has no partner.
-ghost use Rattle.std.specs.Prelude.{◌≡◌, ◌⊎◌, ◌↔◌, ℕ, ◌<◌, List, [], true, false, if◌then◌else◌, ◌==◌, All, Contains, Err, IfErr, IfOk, IsTrue, filter, length, map, zip};
+ghost use Rattle.std.specs.Prelude.{◌≡◌, ◌⊎◌, ◌↔◌, ℕ, ◌<◌, List, [], true, false, if◌then◌else◌, ◌==◌, All, Contains, Err, IfErr, IfOk};
+ghost use Rattle.std.specs.Prelude.{IsTrue, filter, length, map, zip};
 ghost use Rattle.net_bench.specs.Circuit.{circuit};
 ghost use Rattle.net_order.specs.Order.{name_of, registers_of};
 ghost use Rattle.check_report.specs.declared.picked.Picked.TheVariants.{All as AllPairs, Only as OnlyNamed, Share as InShare};
@@ -130,7 +131,8 @@ fn named_lone(
 ) -> Result<Vec<Verdict>, AllocError>
     requires outputs { All (λ s. s < length net.now.names) naming.now.outputs.only_first }
     requires registers { All (λ s. s < length net.now.names) naming.now.registers.only_first }
-    ensures { IfOk result (λ v. v.items ≡ filter (is_lone_of names.now) (lone_side Side.First (circuit net.now) naming.now.outputs.only_first naming.now.registers.only_first)) }
+    ensures { IfOk result (λ v. v.items ≡ filter (is_lone_of names.now)
+        (lone_side Side.First (circuit net.now) naming.now.outputs.only_first naming.now.registers.only_first)) }
 {
     let outputs = named_signals(alloc, net, names, naming.only_first())?;
     let registers = named_signals(alloc, net, names, naming.only_first_next())?;
@@ -217,7 +219,8 @@ fn shared<H>(
 ) -> Result<Selection, AllocError>
     requires signals { AreSignals (circuit task.now.first.now) (circuit task.now.second.now) naming.now }
     requires all { pairs.items ≡ subjects (circuit task.now.first.now) (circuit task.now.second.now) naming.now }
-    ensures { IfOk result (λ r. ArePicked (circuit task.now.first.now) (circuit task.now.second.now) naming.now (InShare share) r.subjects.items r.lone.items) }
+    ensures { IfOk result (λ r. ArePicked (circuit task.now.first.now) (circuit task.now.second.now) naming.now
+        (InShare share) r.subjects.items r.lone.items) }
 {
     let alloc = task.alloc;
     let shares = shares_of(alloc, task.first, task.second, pairs.as_slice(), share.of)?;
@@ -236,7 +239,8 @@ fn named<H>(
     requires signals { AreSignals (circuit task.now.first.now) (circuit task.now.second.now) naming.now }
     requires all { pairs.items ≡ subjects (circuit task.now.first.now) (circuit task.now.second.now) naming.now }
     requires named { (n : List ℕ) → Contains names.now.items n → IsNamedIn (circuit task.now.first.now) n }
-    ensures { IfOk result (λ r. ArePicked (circuit task.now.first.now) (circuit task.now.second.now) naming.now (OnlyNamed names.now) r.subjects.items r.lone.items) }
+    ensures { IfOk result (λ r. ArePicked (circuit task.now.first.now) (circuit task.now.second.now) naming.now
+        (OnlyNamed names.now) r.subjects.items r.lone.items) }
 {
     let subjects = named_subjects(task.alloc, task.first, names.as_slice(), pairs.as_slice())?;
     let lone = named_lone(task.alloc, task.first, names.as_slice(), naming)?;
@@ -251,7 +255,8 @@ fn whole<H>(
 ) -> Result<Selection, AllocError>
     requires signals { AreSignals (circuit task.now.first.now) (circuit task.now.second.now) naming.now }
     requires all { pairs.items ≡ subjects (circuit task.now.first.now) (circuit task.now.second.now) naming.now }
-    ensures { IfOk result (λ r. ArePicked (circuit task.now.first.now) (circuit task.now.second.now) naming.now AllPairs r.subjects.items r.lone.items) }
+    ensures { IfOk result (λ r. ArePicked (circuit task.now.first.now)
+        (circuit task.now.second.now) naming.now AllPairs r.subjects.items r.lone.items) }
 {
     let lone = all_lone(task.alloc, task.first, task.second, naming)?;
     Ok(Selection {
@@ -274,7 +279,8 @@ fn told(picks: Result<Selection, AllocError>) -> Result<Selection, CheckFault>
 /// What is picked of a task's pairs and of what has no partner. A name that the first netlist does not have is a fault.
 pub fn picks_of<H>(task: &Task<'_, H>, naming: &Naming) -> Result<Selection, CheckFault>
     requires { AreSignals (circuit task.now.first.now) (circuit task.now.second.now) naming.now }
-    ensures picked { IfOk result (λ r. ArePicked (circuit task.now.first.now) (circuit task.now.second.now) naming.now task.now.settings.now.picked r.subjects.items r.lone.items) }
+    ensures picked { IfOk result (λ r. ArePicked (circuit task.now.first.now)
+        (circuit task.now.second.now) naming.now task.now.settings.now.picked r.subjects.items r.lone.items) }
     ensures unknown { result ≡ Err CheckFault.Only → HasUnknown (circuit task.now.first.now) task.now.settings.now.picked }
     ensures err { IfErr result (λ fault. (fault ≡ CheckFault.Only) ⊎ (fault ≡ CheckFault.OutOfMemory)) }
 {

@@ -52,9 +52,12 @@ pub fn read_netlists<R1: Source, R2: Source, R3: Source>(
     ensures read { let told = told_of (R1.remaining first.old) (R2.remaining second.old) (told_by R3.remaining given.old) in
         IfOk result (λ nets. AreGiven told (circuit nets.first) (circuit nets.second) (option_map circuit nets.given)) }
     ensures fault { let told = told_of (R1.remaining first.old) (R2.remaining second.old) (told_by R3.remaining given.old) in
-        (choice : Choice) (how : Match) (order : Order) → IfErr result (IsCheckFault told (IsTrue (R1.has_failed first.new)) (IsTrue (R2.has_failed second.new)) (HasFailedIn R3.has_failed given.new) choice how order) }
+        (choice : Choice) (how : Match) (order : Order) → IfErr result
+        (IsCheckFault told (IsTrue (R1.has_failed first.new)) (IsTrue (R2.has_failed second.new))
+        (HasFailedIn R3.has_failed given.new) choice how order) }
     ensures early { IfErr result IsEarly }
-    ensures origins { (R1.origin first.new ≡ R1.origin first.old) × (R2.origin second.new ≡ R2.origin second.old) × (told_by R3.origin given.new ≡ told_by R3.origin given.old) }
+    ensures origins { (R1.origin first.new ≡ R1.origin first.old) × (R2.origin second.new ≡ R2.origin second.old)
+        × (told_by R3.origin given.new ≡ told_by R3.origin given.old) }
 {
     let one = match read_bench(alloc, first) {
         Ok(net) => net,

@@ -18,7 +18,8 @@ pub(crate) fn text_of(
     causes: Option<&[Cause]>,
     verdicts: &Verdicts,
 ) -> Result<Vec<u8>, AllocError>
-    ensures { IfOk result (λ text. text.items ≡ form_text settings.now.json settings.now.assignment settings.now.matching (told_kind settings.now.order tried) given
+    ensures { IfOk result (λ text. text.items ≡ form_text settings.now.json settings.now.assignment settings.now.matching
+        (told_kind settings.now.order tried) given
         (share_of settings.now.picked) (option_map (λ c. c.now) causes.entry) verdicts.now) }
 {
     let share = settings.picked.share();

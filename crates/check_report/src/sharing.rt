@@ -32,7 +32,8 @@ fn second_roots(alloc: Global, subjects: &[Subject]) -> Result<Vec<Signal>, Allo
 fn sums_of(alloc: Global, ones: &[u64], others: &[u64]) -> Result<Vec<u64>, AllocError>
     requires { length others.now ≡ length ones.now }
     ensures each { IfOk result (λ v. length v.items ≡ length ones.now) }
-    ensures sums { IfOk result (λ v. (i : ℕ) → i < length ones.now → slice_index v.items i ≡ slice_index ones.now i + slice_index others.now i) }
+    ensures sums { IfOk result (λ v. (i : ℕ) → i < length ones.now
+        → slice_index v.items i ≡ slice_index ones.now i + slice_index others.now i) }
 {
     let mut sums = Vec::new(alloc);
     for place in 0..ones.len() {
@@ -88,7 +89,8 @@ fn places_of(alloc: Global, weights: &[u64]) -> Result<Vec<usize>, AllocError>
 /// The places by falling weight, those of equal weights as they stand.
 fn order_of(alloc: Global, weights: &[u64]) -> Result<Vec<usize>, AllocError>
     ensures places { IfOk result (λ v. IsPermutation (numbers_below (length weights.now)) v.items) }
-    ensures falls { IfOk result (λ v. (t u : ℕ) → t < u → u < length v.items → ComesBefore weights.now (slice_index v.items t) (slice_index v.items u)) }
+    ensures falls { IfOk result (λ v. (t u : ℕ) → t < u → u < length v.items
+        → ComesBefore weights.now (slice_index v.items t) (slice_index v.items u)) }
 {
     let mut order = places_of(alloc, weights)?;
     order.sort_by_key(|place| Reverse(weight_at(weights, *place)))?;

@@ -32,7 +32,8 @@ pub struct Trial {
 
 /// The pairing of a task's netlists in this order.
 pub fn paired<H>(task: &Task<'_, H>, order: &Order) -> Result<Pairing, CheckFault>
-    ensures paired { IfOk result (IsPairing task.now.settings.now.matching (circuit task.now.first.now) (circuit task.now.second.now) (condition task.now.given) order.now) }
+    ensures paired { IfOk result (IsPairing task.now.settings.now.matching (circuit task.now.first.now) (circuit task.now.second.now)
+        (condition task.now.given) order.now) }
     ensures fault { OfTask task.now (λ told s. IfErr result (IsCheckFault told ⊥ ⊥ ⊥ s.order s.matching order.now)) }
     ensures refused { IfErr result (λ fault. (f : OrderFaultValue) × (fault ≡ CheckFault.Order f)) }
     ensures many { result ≡ Err (CheckFault.Order OrderFault.TooManyInputs) → HasMany task.now }

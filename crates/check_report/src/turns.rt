@@ -126,7 +126,8 @@ fn take_turns<H: Threads + Wait + Sync, G: Monitor>(
 /// What the turns came to. The first fault by place is told.
 fn ended_of(alloc: Global, turns: Vec<Turn>) -> Result<VecDeque<Option<Verdict>>, CheckFault>
     ensures found { IfOk result (λ found. map (λ (t : TurnValue). t.ended) turns.items ≡ map Ok found.items) }
-    ensures fault { IfErr result (λ fault. (fault ≡ CheckFault.OutOfMemory) ⊎ ((i : ℕ) × (i < length turns.items) × ((t : TurnValue) → (slice_index_or turns.items i t).ended ≡ Err fault))) }
+    ensures fault { IfErr result (λ fault. (fault ≡ CheckFault.OutOfMemory)
+        ⊎ ((i : ℕ) × (i < length turns.items) × ((t : TurnValue) → (slice_index_or turns.items i t).ended ≡ Err fault))) }
 {
     let mut found = VecDeque::new(alloc);
     for turn in turns {
@@ -202,7 +203,8 @@ pub fn judge_all<H: Threads + Wait + Sync, G: Monitor>(
 ) -> Result<Vec<Option<Verdict>>, CheckFault>
     requires ready { IsReady whole.now }
     requires inside { All (IsOf whole.now) subjects.now }
-    ensures known { IfOk result (λ known. AllZip (IsKnown (IsToldIn whole.now (cone_limit whole.now.task.now.settings.now.limit)) (IsLeftOut whole.now (G.bound monitor.now))) subjects.now known.items) }
+    ensures known { IfOk result (λ known. AllZip (IsKnown (IsToldIn whole.now (cone_limit whole.now.task.now.settings.now.limit))
+        (IsLeftOut whole.now (G.bound monitor.now))) subjects.now known.items) }
     ensures ends { IfErr result EndsPairs }
 {
     let limit = cone_limit(whole.task.settings.limit);

@@ -1,5 +1,6 @@
 -- How a run ends: what it has written, what it says, and its status.
-use Rattle.std.specs.Prelude.{◌≡◌, ◌≢◌, ◌⊎◌, ◌↔◌, ◌/◌, ◌||◌, ℕ, zero, suc, Bool, true, false, List, [], ◌++◌, Option, Some, None, IsTrue, string_bytes, codes, decimal, if◌then◌else◌, nat_lt, ⊤}
+use Rattle.std.specs.Prelude.{◌≡◌, ◌≢◌, ◌⊎◌, ◌↔◌, ◌/◌, ◌||◌, ℕ, zero, suc, Bool, true, false, List, [], ◌++◌, Option, Some, None, IsTrue}
+use Rattle.std.specs.Prelude.{string_bytes, codes, decimal, if◌then◌else◌, nat_lt, ⊤}
 use Rattle.std.specs.Io.KnownBytes.{Appends, Keeps}
 use Rattle.report_text.specs.declared.outcome.Outcome.{Outcome}
 use Rattle.check_report.specs.declared.choice.Attempt.{Attempt}
@@ -9,7 +10,8 @@ use Rattle.check_report.specs.declared.fault.CheckFault.TheVariants.{Only, Wave,
 use Rattle.report_text.specs.Writing.{AppendsFront}
 use Rattle.command_line.specs.declared.options.Options.{Options}
 use Rattle.command_line.specs.declared.options.OrderChoice.{OrderChoice}
-use Rattle.command_line.specs.declared.options.OrderChoice.TheVariants.{Declared, Depth, Interleave, Index, Force, Best, Auto, Cones, File, Extended}
+use Rattle.command_line.specs.declared.options.OrderChoice.TheVariants.{Declared, Depth, Interleave, Index, Force, Best, Auto, Cones, File}
+use Rattle.command_line.specs.declared.options.OrderChoice.TheVariants.{Extended}
 use Rattle.command_line.specs.declared.reading.Refused.{Refused}
 use Rattle.command_line.specs.declared.reading.Refused.TheVariants.{Help, Mistake, OutOfMemory as NoWordMemory}
 use Rattle.command_line.specs.Words.{AskFor, IsRefusal}
@@ -23,7 +25,8 @@ use Rattle.check_tool.specs.declared.process.NoWords.TheVariants.{OutOfMemory as
 use Rattle.check_tool.specs.Faults.{fault_line, fault_status}
 use Rattle.check_tool.specs.Helping.{IsHelp, refused_paths}
 use Rattle.check_tool.specs.Opening.{Try, Save, Extends, AreTried, opened}
-use Rattle.check_tool.specs.Running.{paths_of, HasReported, HasReportedFront, IsBeyond, IsGivenUp, ArePassed, AreUnknown, MayGoByCones, NamesOrder, IsToolFault, StandOnInput, limit_of, node_bytes}
+use Rattle.check_tool.specs.Running.{paths_of, HasReported, HasReportedFront, IsBeyond, IsGivenUp, ArePassed, AreUnknown, MayGoByCones}
+use Rattle.check_tool.specs.Running.{NamesOrder, IsToolFault, StandOnInput, limit_of, node_bytes}
 use Rattle.check_tool.specs.Saving.{IsSaveFault, saves_of}
 
 -- what a device held and holds now, and whether it has failed by now, and whether a write has taken nothing of some bytes
@@ -86,7 +89,8 @@ IsBehindProgress t w P = (b : Between) × HasProgress t (until w b) × P (from w
 -- what is said of a fault of a run: its line, and behind it, where more is told, what helps
 abbrev pub IsSaidOf : (more : Bool) → (told : List ℕ → Option (List ℕ)) → Options → Written → ToolFault → (status : ℕ) → Type 0
 IsSaidOf false told o w fault status = IsSaid w fault status
-IsSaidOf true told o w fault status = (b : Between) × IsSaid (until w b) fault status × (line : List ℕ) × IsHelp told o fault line × MaySay (from w b) line
+IsSaidOf true told o w fault status = (b : Between) × IsSaid (until w b) fault status × (line : List ℕ) × IsHelp told o fault line
+    × MaySay (from w b) line
 
 -- the file that may be opened once more, for what was refused in it: none, unless more is told
 abbrev pub asked_again : (more : Bool) → Options → ToolFault → List (List ℕ)
@@ -127,7 +131,8 @@ larger_word o = if nat_lt o.limit (o.memory / node_bytes) then codes "--limit" e
 -- the line that says how many pairs are undecided, within how many nodes each was given up, and which option helps
 abbrev pub undecided_words : (undecided nodes : ℕ) → (larger : List ℕ) → List ℕ
 undecided_words n nodes larger =
-    codes "bddcheck: " ++ (decimal n ++ (codes " undecided, each of more than 4096 variables, or given up in each of five orders within " ++ (decimal nodes ++ (codes " nodes or eight requests for each of them; a larger "
+    codes "bddcheck: " ++ (decimal n ++ (codes " undecided, each of more than 4096 variables, or given up in each of five orders within "
+    ++ (decimal nodes ++ (codes " nodes or eight requests for each of them; a larger "
     ++ (larger ++ codes " may help\n")))))
 
 abbrev pub undecided_line : Options → (undecided : ℕ) → List ℕ
@@ -141,7 +146,8 @@ IsUndecidedSaid o (suc n) w = Says w (undecided_line o (suc n))
 -- what is said of a run that has done this, where more is asked for: what has decided, and how many pairs are undecided
 abbrev pub IsDoneSaid : (verbose : Bool) → Options → Done → Written → Type 0
 IsDoneSaid false o done w = Keeps w.held w.holds
-IsDoneSaid true o (Compared outcome tried vcd) w = (b : Between) × IsWaySaid o.order tried (until w b) × IsUndecidedSaid o outcome.undecided (from w b)
+IsDoneSaid true o (Compared outcome tried vcd) w = (b : Between) × IsWaySaid o.order tried (until w b)
+    × IsUndecidedSaid o outcome.undecided (from w b)
 IsDoneSaid true o (OrderPrinted tried) w = IsAttemptSaid tried w
 
 -- the words ask for more on standard error than faults
@@ -178,7 +184,9 @@ pub record Scene : Type 0 where
   pub errors : Written
 
 -- the same, of a folder and an input before and now
-abbrev pub scene_of : {F R : Type 0} → (seen : Bool) → (told : F → List ℕ → Option (List ℕ)) → (tries : F → Option (List Try)) → (saves : F → Option (List Save)) → (folder folder' : F) → (remaining : R → Option (List ℕ)) → (has_failed : R → Bool) → (input input' : R) → (output errors : Written) → Scene
+abbrev pub scene_of : {F R : Type 0} → (seen : Bool) → (told : F → List ℕ → Option (List ℕ)) → (tries : F → Option (List Try))
+    → (saves : F → Option (List Save)) → (folder folder' : F) → (remaining : R → Option (List ℕ)) → (has_failed : R → Bool)
+    → (input input' : R) → (output errors : Written) → Scene
 scene_of seen told tries saves folder folder' remaining has_failed input input' output errors = record {
   seen = seen;
   told = told folder;
@@ -212,14 +220,16 @@ pub record IsUnsaved (s : Scene) (o : Options) (done : Done) (fault : ToolFault)
   pub line : IsBehindProgress (tells o s.seen) s.errors (λ w. IsSaidOf (tells o s.seen) s.told o w fault status)
 
 -- Behind a report its VCD was saved, where there is one, and no file opened; without `--verbose` nothing was said.
-pub record Finishes (o : Options) (done : Done) (tried tries : Option (List Try)) (saved saves : Option (List Save)) (w : Written) (status : ℕ) : Type 0 where
+pub record Finishes (o : Options) (done : Done) (tried tries : Option (List Try)) (saved saves : Option (List Save)) (w : Written)
+    (status : ℕ) : Type 0 where
   pub unopened : Extends tried tries []
   pub saved_all : Extends saved saves (saves_of o done true)
   pub said : IsDoneSaid o.verbose o done w
   pub code : IsDoneStatus done status
 
 -- Behind a report its VCD could not be saved, and that was said.
-pub record BreaksOff (more : Bool) (told : List ℕ → Option (List ℕ)) (o : Options) (done : Done) (tried tries : Option (List Try)) (saved saves : Option (List Save)) (w : Written) (fault : ToolFault) (status : ℕ) : Type 0 where
+pub record BreaksOff (more : Bool) (told : List ℕ → Option (List ℕ)) (o : Options) (done : Done) (tried tries : Option (List Try))
+    (saved saves : Option (List Save)) (w : Written) (fault : ToolFault) (status : ℕ) : Type 0 where
   pub unopened : Extends tried tries []
   pub saved_part : Extends saved saves (saves_of o done false)
   pub cause : IsSaveFault o done fault
@@ -247,7 +257,8 @@ pub record Refuses (broken : List ℕ → Type 0) (s : Scene) (o : Options) (fau
 
 -- How a run of some options ends. `broken` says of a path that a file that was opened there has failed.
 abbrev pub IsEnding : (broken : List ℕ → Type 0) → Scene → Options → ℕ → Type 0
-IsEnding broken s o status = ((done : Done) × Reports s o done status) ⊎ (((done : Done) × (fault : ToolFault) × IsUnsaved s o done fault status) ⊎ ((fault : ToolFault) × Refuses broken s o fault status))
+IsEnding broken s o status = ((done : Done) × Reports s o done status)
+    ⊎ (((done : Done) × (fault : ToolFault) × IsUnsaved s o done fault status) ⊎ ((fault : ToolFault) × Refuses broken s o fault status))
 
 -- what is told of words that ask for no options: help on the output, a mistake, or want of memory
 abbrev pub IsWordEnd : (output errors : Written) → Refused → ℕ → Type 0

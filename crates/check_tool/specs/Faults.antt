@@ -1,18 +1,25 @@
 -- What the program's faults are called in print, and its statuses.
 use Rattle.std.specs.Prelude.{ℕ, List, [], ◌++◌, Option, Some, None, codes, decimal}
 use Rattle.net_bench.specs.declared.netlist.BenchFault.{BenchFault}
-use Rattle.net_bench.specs.declared.netlist.BenchFault.TheVariants.{TooLong as LongText, BadByte, BadStatement, UnknownGate, WrongOperands, Redefined, TooMany, Undefined, Cycle, Read as ReadFailed, OutOfMemory as NoTextMemory}
+use Rattle.net_bench.specs.declared.netlist.BenchFault.TheVariants.{TooLong as LongText, BadByte, BadStatement, UnknownGate, WrongOperands}
+use Rattle.net_bench.specs.declared.netlist.BenchFault.TheVariants.{Redefined, TooMany, Undefined, Cycle, Read as ReadFailed}
+use Rattle.net_bench.specs.declared.netlist.BenchFault.TheVariants.{OutOfMemory as NoTextMemory}
 use Rattle.net_order.specs.declared.order.OrderFault.{OrderFault}
-use Rattle.net_order.specs.declared.order.OrderFault.TheVariants.{CountsDiffer, NotAPermutation, TooManyInputs, OutOfMemory as NoOrderMemory, BadName, TooLong as LongOrder, Read as OrderReadFailed}
+use Rattle.net_order.specs.declared.order.OrderFault.TheVariants.{CountsDiffer, NotAPermutation, TooManyInputs}
+use Rattle.net_order.specs.declared.order.OrderFault.TheVariants.{OutOfMemory as NoOrderMemory, BadName, TooLong as LongOrder}
+use Rattle.net_order.specs.declared.order.OrderFault.TheVariants.{Read as OrderReadFailed}
 use Rattle.net_order.specs.Fault.{order_fault_text}
 use Rattle.check_report.specs.declared.fault.CheckFault.{CheckFault}
-use Rattle.check_report.specs.declared.fault.CheckFault.TheVariants.{First, Second, Given, GivenOutputs, Order, Only, Explain, Wave, GivenUp, Write, OutOfMemory as NoCheckMemory}
+use Rattle.check_report.specs.declared.fault.CheckFault.TheVariants.{First, Second, Given, GivenOutputs, Order, Only, Explain, Wave}
+use Rattle.check_report.specs.declared.fault.CheckFault.TheVariants.{GivenUp, Write, OutOfMemory as NoCheckMemory}
 use Rattle.check_report.specs.Texts.{check_fault_text}
 use Rattle.check_tool.specs.declared.fault.Place.{Place}
-use Rattle.check_tool.specs.declared.fault.Place.TheVariants.{First as FirstFile, Second as SecondFile, Given as GivenFile, Order as OrderFile}
+use Rattle.check_tool.specs.declared.fault.Place.TheVariants.{First as FirstFile, Second as SecondFile, Given as GivenFile}
+use Rattle.check_tool.specs.declared.fault.Place.TheVariants.{Order as OrderFile}
 use Rattle.check_tool.specs.declared.fault.Words.{Words}
 use Rattle.check_tool.specs.declared.fault.ToolFault.{ToolFault}
-use Rattle.check_tool.specs.declared.fault.ToolFault.TheVariants.{OneFile, InputTwice, CannotOpen, CannotSave, InputUnread, InputTooLong, InputUndivided, BadOrder, Check, OutOfMemory}
+use Rattle.check_tool.specs.declared.fault.ToolFault.TheVariants.{OneFile, InputTwice, CannotOpen, CannotSave, InputUnread, InputTooLong}
+use Rattle.check_tool.specs.declared.fault.ToolFault.TheVariants.{InputUndivided, BadOrder, Check, OutOfMemory}
 
 -- what a file is
 abbrev pub place_text : Place → List ℕ

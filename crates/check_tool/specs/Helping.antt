@@ -1,22 +1,31 @@
 -- What is said behind a fault's line where more is asked for: where the fault stands, and what helps.
-use Rattle.std.specs.Prelude.{◌≡◌, ◌⊎◌, ◌||◌, ◌==◌, ℕ, Bool, true, false, if◌then◌else◌, List, [], ◌∷◌, ◌++◌, Option, Some, None, codes, decimal}
+use Rattle.std.specs.Prelude.{◌≡◌, ◌⊎◌, ◌||◌, ◌==◌, ℕ, Bool, true, false, if◌then◌else◌, List, [], ◌∷◌, ◌++◌, Option, Some, None, codes}
+use Rattle.std.specs.Prelude.{decimal}
 use Rattle.std.specs.Borrow.{Bor}
 use Rattle.net_bench.specs.declared.netlist.BenchFault.{BenchFault}
-use Rattle.net_bench.specs.declared.netlist.BenchFault.TheVariants.{TooLong as LongText, BadByte, BadStatement, UnknownGate, WrongOperands, Redefined, TooMany, Undefined, Cycle, Read as ReadFailed, OutOfMemory as NoTextMemory}
+use Rattle.net_bench.specs.declared.netlist.BenchFault.TheVariants.{TooLong as LongText, BadByte, BadStatement, UnknownGate, WrongOperands}
+use Rattle.net_bench.specs.declared.netlist.BenchFault.TheVariants.{Redefined, TooMany, Undefined, Cycle, Read as ReadFailed}
+use Rattle.net_bench.specs.declared.netlist.BenchFault.TheVariants.{OutOfMemory as NoTextMemory}
 use Rattle.net_order.specs.declared.order.OrderFault.{OrderFault}
-use Rattle.net_order.specs.declared.order.OrderFault.TheVariants.{CountsDiffer, NotAPermutation, TooManyInputs, OutOfMemory as NoOrderMemory, BadName, TooLong as LongOrder, Read as OrderReadFailed}
+use Rattle.net_order.specs.declared.order.OrderFault.TheVariants.{CountsDiffer, NotAPermutation, TooManyInputs}
+use Rattle.net_order.specs.declared.order.OrderFault.TheVariants.{OutOfMemory as NoOrderMemory, BadName, TooLong as LongOrder}
+use Rattle.net_order.specs.declared.order.OrderFault.TheVariants.{Read as OrderReadFailed}
 use Rattle.expand_work.specs.declared.fault.WaveFault.{WaveFault}
 use Rattle.expand_work.specs.declared.fault.WaveFault.TheVariants.{OutOfMemory as NoWaveMemory, NoWorker, Full, TooManyRequests}
 use Rattle.check_report.specs.declared.fault.CheckFault.{CheckFault}
-use Rattle.check_report.specs.declared.fault.CheckFault.TheVariants.{First, Second, Given, GivenOutputs, Order, Only, Explain, Wave, GivenUp, Write, OutOfMemory as NoCheckMemory}
+use Rattle.check_report.specs.declared.fault.CheckFault.TheVariants.{First, Second, Given, GivenOutputs, Order, Only, Explain, Wave}
+use Rattle.check_report.specs.declared.fault.CheckFault.TheVariants.{GivenUp, Write, OutOfMemory as NoCheckMemory}
 use Rattle.command_line.specs.declared.options.Options.{Options}
 use Rattle.command_line.specs.declared.options.OrderChoice.{OrderChoice}
-use Rattle.command_line.specs.declared.options.OrderChoice.TheVariants.{Declared, Depth, Interleave, Index, Force, Best, Auto, Cones, File, Extended}
+use Rattle.command_line.specs.declared.options.OrderChoice.TheVariants.{Declared, Depth, Interleave, Index, Force, Best, Auto, Cones, File}
+use Rattle.command_line.specs.declared.options.OrderChoice.TheVariants.{Extended}
 use Rattle.command_line.specs.declared.options.Texts.{Texts}
 use Rattle.command_line.specs.declared.options.Texts.TheVariants.{Input, Files, InputAndFile, FileAndInput, InputTwice, One}
-use Rattle.check_tool.specs.declared.fault.Place.TheVariants.{First as FirstFile, Second as SecondFile, Given as GivenFile, Order as OrderFile}
+use Rattle.check_tool.specs.declared.fault.Place.TheVariants.{First as FirstFile, Second as SecondFile, Given as GivenFile}
+use Rattle.check_tool.specs.declared.fault.Place.TheVariants.{Order as OrderFile}
 use Rattle.check_tool.specs.declared.fault.ToolFault.{ToolFault}
-use Rattle.check_tool.specs.declared.fault.ToolFault.TheVariants.{OneFile, InputTwice as DashTwice, CannotOpen, CannotSave, InputUnread, InputTooLong, InputUndivided, BadOrder, Check, OutOfMemory}
+use Rattle.check_tool.specs.declared.fault.ToolFault.TheVariants.{OneFile, InputTwice as DashTwice, CannotOpen, CannotSave, InputUnread}
+use Rattle.check_tool.specs.declared.fault.ToolFault.TheVariants.{InputTooLong, InputUndivided, BadOrder, Check, OutOfMemory}
 use Rattle.check_tool.specs.declared.folder.Obstacle.{Obstacle}
 use Rattle.check_tool.specs.declared.folder.Obstacle.TheVariants.{Missing, Forbidden, NoFolder, Links, Unwritten, Other}
 use Rattle.check_tool.specs.declared.help.Spot.{Spot}
@@ -296,7 +305,8 @@ shown_help choice fault shown = if names_gate fault then word_help (gate_word sh
 abbrev pub help_line : Where → List ℕ → List ℕ
 help_line None help = codes "bddcheck: " ++ help ++ codes "\n"
 help_line (Some (name, None)) help = codes "bddcheck: " ++ (name ++ (codes ": " ++ (help ++ codes "\n")))
-help_line (Some (name, Some line)) help = codes "bddcheck: " ++ (name ++ (codes ":" ++ (decimal line ++ (codes ": " ++ (help ++ codes "\n")))))
+help_line (Some (name, Some line)) help = codes "bddcheck: " ++ (name
+    ++ (codes ":" ++ (decimal line ++ (codes ": " ++ (help ++ codes "\n")))))
 
 -- the line that is said behind a fault's own
 abbrev pub help_text : Options → ToolFault → List ℕ
@@ -304,7 +314,8 @@ help_text o fault = help_line (fault_spot o.texts o.given o.vcd o.order fault) (
 
 -- the same with what is shown of the file
 abbrev pub help_quoting : Options → ToolFault → List ℕ → List ℕ
-help_quoting o fault quoted = help_line (fault_spot o.texts o.given o.vcd o.order fault) (shown_help o.order fault quoted ++ (codes ": " ++ quoted))
+help_quoting o fault quoted = help_line (fault_spot o.texts o.given o.vcd o.order fault)
+    (shown_help o.order fault quoted ++ (codes ": " ++ quoted))
 
 -- a path, where there is one
 abbrev pub path_in : Option (Bor (List ℕ)) → List (List ℕ)
@@ -393,4 +404,5 @@ pub record IsQuoted (told : List ℕ → Option (List ℕ)) (o : Options) (fault
 
 -- the line that may be said behind a fault's own: with what is shown of the file, or without
 abbrev pub IsHelp : (told : List ℕ → Option (List ℕ)) → Options → ToolFault → List ℕ → Type 0
-IsHelp told o fault line = (line ≡ help_text o fault) ⊎ ((quoted : List ℕ) × IsQuoted told o fault quoted × (line ≡ help_quoting o fault quoted))
+IsHelp told o fault line = (line ≡ help_text o fault) ⊎ ((quoted : List ℕ) × IsQuoted told o fault quoted
+    × (line ≡ help_quoting o fault quoted))

@@ -1,5 +1,6 @@
 -- A line of a text, as a reader sees it.
-use Rattle.std.specs.Prelude.{ℕ, zero, suc, ◌+◌, ◌-◌, ◌||◌, true, false, List, [], ◌∷◌, ◌++◌, ◌==◌, map, fold, length, take, nat_lt, if◌then◌else◌, codes, decimal, Option, Some, None}
+use Rattle.std.specs.Prelude.{ℕ, zero, suc, ◌+◌, ◌-◌, ◌||◌, true, false, List, [], ◌∷◌, ◌++◌, ◌==◌, map, fold, length, take, nat_lt}
+use Rattle.std.specs.Prelude.{if◌then◌else◌, codes, decimal, Option, Some, None}
 use Rattle.std.specs.Char.{is_ascii_graphic}
 use Rattle.net_bench.specs.Text.{Open, Close, Comma, Equals, Name, Unknown, End, Tokens}
 use Rattle.net_bench.specs.Pieces.{tokens_at}

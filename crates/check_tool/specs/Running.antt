@@ -1,11 +1,13 @@
 -- What a run compares, what it writes, and why it writes no report.
-use Rattle.std.specs.Prelude.{◌≡◌, ◌≢◌, ◌<◌, ◌≤◌, ◌⊎◌, ◌/◌, ℕ, map, min, Bool, true, false, List, [], ◌∷◌, ◌++◌, length, Option, Some, None, IfSome, ⊤, codes, is_some}
+use Rattle.std.specs.Prelude.{◌≡◌, ◌≢◌, ◌<◌, ◌≤◌, ◌⊎◌, ◌/◌, ℕ, map, min, Bool, true, false, List, [], ◌∷◌, ◌++◌, length, Option, Some}
+use Rattle.std.specs.Prelude.{None, IfSome, ⊤, codes, is_some}
 use Rattle.std.specs.Borrow.{Bor}
 use Rattle.std.specs.List.{AllZip}
 use Rattle.std.specs.Io.KnownBytes.{Appends}
 use Rattle.report_text.specs.Writing.{AppendsFront}
 use Rattle.net_order.specs.declared.order.Order.{Order}
-use Rattle.net_order.specs.declared.order.Order.TheVariants.{Declared as declared, Depth as depth, Interleave as interleave, Index as index, Force as force, Listed, Extended as extended}
+use Rattle.net_order.specs.declared.order.Order.TheVariants.{Declared as declared, Depth as depth, Interleave as interleave}
+use Rattle.net_order.specs.declared.order.Order.TheVariants.{Index as index, Force as force, Listed, Extended as extended}
 use Rattle.net_order.specs.declared.order.OrderFault.{OrderFault}
 use Rattle.net_order.specs.declared.order.OrderFault.TheVariants.{Read as OrderReadFailed, OutOfMemory as NoOrderMemory}
 use Rattle.net_order.specs.OrderText.{IsOrderText, IsBadText}
@@ -31,7 +33,8 @@ use Rattle.command_line.specs.declared.options.Picks.{Picks}
 use Rattle.command_line.specs.declared.options.Picks.TheVariants.{All, Only, Share}
 use Rattle.command_line.specs.declared.options.Options.{Options}
 use Rattle.command_line.specs.declared.options.OrderChoice.{OrderChoice}
-use Rattle.command_line.specs.declared.options.OrderChoice.TheVariants.{Declared, Depth, Interleave, Index, Force, Best, Auto, Cones, File, Extended}
+use Rattle.command_line.specs.declared.options.OrderChoice.TheVariants.{Declared, Depth, Interleave, Index, Force, Best, Auto, Cones, File}
+use Rattle.command_line.specs.declared.options.OrderChoice.TheVariants.{Extended}
 use Rattle.command_line.specs.declared.options.Texts.{Texts}
 use Rattle.command_line.specs.declared.options.Texts.TheVariants.{Input, Files, InputAndFile, FileAndInput, InputTwice, One}
 use Rattle.check_tool.specs.declared.done.Done.{Done}
@@ -39,7 +42,8 @@ use Rattle.check_tool.specs.declared.done.Done.TheVariants.{Compared, OrderPrint
 use Rattle.check_tool.specs.declared.fault.Place.{Place}
 use Rattle.check_tool.specs.declared.fault.Place.TheVariants.{First, Second, Given as GivenFile, Order as OrderFile}
 use Rattle.check_tool.specs.declared.fault.ToolFault.{ToolFault}
-use Rattle.check_tool.specs.declared.fault.ToolFault.TheVariants.{OneFile, InputTwice as DashTwice, CannotOpen, CannotSave, InputUnread, InputTooLong, InputUndivided, BadOrder, Check, OutOfMemory}
+use Rattle.check_tool.specs.declared.fault.ToolFault.TheVariants.{OneFile, InputTwice as DashTwice, CannotOpen, CannotSave, InputUnread}
+use Rattle.check_tool.specs.declared.fault.ToolFault.TheVariants.{InputTooLong, InputUndivided, BadOrder, Check, OutOfMemory}
 use Rattle.check_tool.specs.declared.folder.Obstacle.{Obstacle}
 use Rattle.check_tool.specs.Splitting.{IsSplit}
 use Rattle.check_tool.specs.Opening.{Try, opened, AreTried}
@@ -125,7 +129,8 @@ IsShort text = length text ≤ 134221824
 -- the two texts: of two files, of a file and the whole input, or the parts of the input
 abbrev pub AreTexts : (List ℕ → Option (List ℕ)) → Option (List ℕ) → Texts → Option (List ℕ) → Option (List ℕ) → Type 0
 AreTexts told input (Files first second) one two = IsReadOf (told first.now) one × IsReadOf (told second.now) two
-AreTexts told input Input one two = IfSome input (λ text. IsShort text × (parts : List ℕ × List ℕ) × IsSplit text (Some parts) × (one ≡ Some parts.0) × (two ≡ Some parts.1))
+AreTexts told input Input one two = IfSome input (λ text. IsShort text × (parts : List ℕ × List ℕ) × IsSplit text (Some parts)
+    × (one ≡ Some parts.0) × (two ≡ Some parts.1))
 AreTexts told input (InputAndFile second) one two = (one ≡ input) × IsReadOf (told second.now) two
 AreTexts told input (FileAndInput first) one two = IsReadOf (told first.now) one × (two ≡ input)
 AreTexts told input InputTwice one two = ⊥
@@ -151,8 +156,10 @@ IsOrderOf told Force choice = choice ≡ Ordered force
 IsOrderOf told Best choice = choice ≡ TheBest
 IsOrderOf told Auto choice = choice ≡ Found
 IsOrderOf told Cones choice = choice ≡ ByCones
-IsOrderOf told (File path) choice = (names : List (List ℕ)) × (choice ≡ Ordered (Listed names)) × IfSome (told path.now) (λ text. IsOrderText text names)
-IsOrderOf told (Extended path) choice = (names : List (List ℕ)) × (choice ≡ Ordered (extended names)) × IfSome (told path.now) (λ text. IsOrderText text names)
+IsOrderOf told (File path) choice = (names : List (List ℕ)) × (choice ≡ Ordered (Listed names))
+    × IfSome (told path.now) (λ text. IsOrderText text names)
+IsOrderOf told (Extended path) choice = (names : List (List ℕ)) × (choice ≡ Ordered (extended names))
+    × IfSome (told path.now) (λ text. IsOrderText text names)
 
 -- The bytes of memory that are reckoned for each node of an attempt: what the store takes for it, and what a wave takes for eight requests.
 abbrev pub node_bytes : ℕ
@@ -231,15 +238,17 @@ pub record AreSettings (o : Options) (choice : Choice) (picked : Picked) (s : Se
   pub vcd : s.vcd ≡ is_some o.vcd
   pub causes : s.causes ≡ o.causes
 
--- The bytes are what is asked for of these texts, and the condition's, by these settings: the report in their form, with its counts and the VCD of the first pair that
--- differs, or, to print it, the order itself. The nodes that are needed in the order of a report are within the limit of the settings.
+-- The bytes are what is asked for of these texts, and the condition's, by these settings: the report in their form, with its counts and the
+-- VCD of the first pair that differs, or, to print it, the order itself. The nodes that are needed in the order of a report are within the
+-- limit of the settings.
 abbrev pub IsMade : Told → Settings → (print : Bool) → Done → (bytes : List ℕ) → Type 0
 IsMade told s print (Compared outcome tried vcd) bytes = (print ≡ false) × IsReportWithVcd told s None tried outcome bytes (bytes_in vcd)
 IsMade told s print (OrderPrinted tried) bytes =
     (print ≡ true) × (order : Order) × IsOrderPrinted told s.matching order bytes × IsFound told s.matching s.order s.limit tried order
 
 -- the bytes are what the options ask for of these two texts
-pub record IsCompared (told : List ℕ → Option (List ℕ)) (one two : Option (List ℕ)) (o : Options) (done : Done) (bytes : List ℕ) : Type 0 where
+pub record IsCompared (told : List ℕ → Option (List ℕ)) (one two : Option (List ℕ)) (o : Options) (done : Done)
+    (bytes : List ℕ) : Type 0 where
   pub given : Option (Option (List ℕ))
   pub choice : Choice
   pub picked : Picked
@@ -251,7 +260,8 @@ pub record IsCompared (told : List ℕ → Option (List ℕ)) (one two : Option 
   pub made : IsMade (told_of one two given) settings o.print_order done bytes
 
 -- The bytes are what the options ask for of the texts that they name.
-pub record IsReported (told : List ℕ → Option (List ℕ)) (input : Option (List ℕ)) (o : Options) (done : Done) (bytes : List ℕ) : Type 0 where
+pub record IsReported (told : List ℕ → Option (List ℕ)) (input : Option (List ℕ)) (o : Options) (done : Done)
+    (bytes : List ℕ) : Type 0 where
   pub one : Option (List ℕ)
   pub two : Option (List ℕ)
   pub texts : AreTexts told input o.texts one two
@@ -262,22 +272,27 @@ abbrev pub HasReported : (List ℕ → Option (List ℕ)) → Option (List ℕ) 
 HasReported told input o before now done = (bytes : List ℕ) × IsReported told input o done bytes × Appends before now bytes
 
 -- a device has taken a front part of it, and has failed or taken nothing of the rest
-abbrev pub HasReportedFront : (List ℕ → Option (List ℕ)) → Option (List ℕ) → Options → (before now : Option (List ℕ)) → (has_failed has_stopped : Bool) → Type 0
+abbrev pub HasReportedFront : (List ℕ → Option (List ℕ)) → Option (List ℕ) → Options → (before now : Option (List ℕ))
+    → (has_failed has_stopped : Bool) → Type 0
 HasReportedFront told input o before now has_failed has_stopped =
     (done : Done) × (bytes : List ℕ) × IsReported told input o done bytes × AppendsFront before now has_failed has_stopped bytes
 
 -- this holds of the texts, the condition and the order that the options name
-abbrev pub AreNamed : (List ℕ → Option (List ℕ)) → Option (List ℕ) → Options → (Option (List ℕ) → Option (List ℕ) → Option (Option (List ℕ)) → Choice → Type 0) → Type 0
+abbrev pub AreNamed : (List ℕ → Option (List ℕ)) → Option (List ℕ) → Options
+    → (Option (List ℕ) → Option (List ℕ) → Option (Option (List ℕ)) → Choice → Type 0) → Type 0
 AreNamed told input o P =
-    (one two : Option (List ℕ)) × (given : Option (Option (List ℕ))) × (choice : Choice) × AreTexts told input o.texts one two × IsGivenOf told o.given given × IsOrderOf told o.order choice × P one two given choice
+    (one two : Option (List ℕ)) × (given : Option (Option (List ℕ))) × (choice : Choice) × AreTexts told input o.texts one two
+    × IsGivenOf told o.given given × IsOrderOf told o.order choice × P one two given choice
 
 -- the nodes that the texts need are not within the limit of the options, in any order that is asked for
 abbrev pub IsBeyond : (List ℕ → Option (List ℕ)) → Option (List ℕ) → Options → Type 0
-IsBeyond told input o = AreNamed told input o (λ one two given choice. (order : Order) → IsAllowed choice order → AreBeyond (told_of one two given) o.matching order (limit_of o))
+IsBeyond told input o = AreNamed told input o (λ one two given choice. (order : Order) → IsAllowed choice order
+    → AreBeyond (told_of one two given) o.matching order (limit_of o))
 
 -- orders are tried, and in each of them the attempt within the limit of the options was given up
 abbrev pub IsGivenUp : (List ℕ → Option (List ℕ)) → Option (List ℕ) → Options → Type 0
-IsGivenUp told input o = AreNamed told input o (λ one two given choice. TriesOrders choice × ((order : Order) → IsAllowed choice order → IsGivenUpWithin (told_of one two given) o.matching (limit_of o) None order))
+IsGivenUp told input o = AreNamed told input o (λ one two given choice. TriesOrders choice
+    × ((order : Order) → IsAllowed choice order → IsGivenUpWithin (told_of one two given) o.matching (limit_of o) None order))
 
 -- the attempt that a run tells, where orders were tried and one of them decided
 abbrev pub attempt_of : Done → Option Attempt
@@ -287,12 +302,14 @@ attempt_of (OrderPrinted tried) = tried
 -- the attempts before the one that is told were given up: each within a smaller budget, and within the first budget each before it
 abbrev pub ArePassed : (List ℕ → Option (List ℕ)) → Option (List ℕ) → Options → Done → Type 0
 ArePassed told input o done =
-    IfSome (attempt_of done) (λ t. AreNamed told input o (λ one two given choice. AreGivenUp (told_of one two given) o.matching (last_budget choice (limit_of o)) None t))
+    IfSome (attempt_of done) (λ t. AreNamed told input o (λ one two given choice. AreGivenUp (told_of one two given) o.matching
+    (last_budget choice (limit_of o)) None t))
 
 -- a name that is picked is that of no output and no register of the first of these texts
 abbrev pub ArePicksUnknown : (List ℕ → Option (List ℕ)) → (one two : Option (List ℕ)) → Options → Type 0
 ArePicksUnknown told one two o =
-    (given : Option (Option (List ℕ))) × (picked : Picked) × IsGivenOf told o.given given × IsPickedOf o.picks picked × IsUnknown (told_of one two given) picked
+    (given : Option (Option (List ℕ))) × (picked : Picked) × IsGivenOf told o.given given × IsPickedOf o.picks picked
+    × IsUnknown (told_of one two given) picked
 
 -- the same of the texts that the options name
 abbrev pub AreUnknown : (List ℕ → Option (List ℕ)) → Option (List ℕ) → Options → Type 0
@@ -300,13 +317,16 @@ AreUnknown told input o = (one two : Option (List ℕ)) × AreTexts told input o
 
 -- what is to be explained is refused: one name is that of no output and no register of the first of these texts
 abbrev pub AreTargetsUnknown : (one two : Option (List ℕ)) → (given : Option (Option (List ℕ))) → Options → CheckFault → Type 0
-AreTargetsUnknown one two given o fault = (targets : List Target) × AreTargetsOf o.explain.items targets × IsUnexplained (told_of one two given) targets fault
+AreTargetsUnknown one two given o fault = (targets : List Target) × AreTargetsOf o.explain.items targets
+    × IsUnexplained (told_of one two given) targets fault
 
 -- why the check of two texts failed, in an order of this choice
-abbrev pub IsFailedCheck : (one two : Option (List ℕ)) → (given : Option (Option (List ℕ))) → (first_failed second_failed given_failed : Type 0) → Options → Choice → CheckFault → Type 0
+abbrev pub IsFailedCheck : (one two : Option (List ℕ)) → (given : Option (Option (List ℕ)))
+    → (first_failed second_failed given_failed : Type 0) → Options → Choice → CheckFault → Type 0
 IsFailedCheck one two given first_failed second_failed given_failed o choice fault =
     AreTargetsUnknown one two given o fault
-    ⊎ ((order : Order) × IsAllowed choice order × IsCheckFault (told_of one two given) first_failed second_failed given_failed choice o.matching order fault)
+    ⊎ ((order : Order) × IsAllowed choice order × IsCheckFault
+    (told_of one two given) first_failed second_failed given_failed choice o.matching order fault)
 
 -- both texts are at hand
 abbrev pub HasTexts : Option (List ℕ) → Texts → Type 0
@@ -361,7 +381,8 @@ IsGivenFault given tries (Check fault) = ⊥
 
 -- why the order that is asked for was not had, where the condition's file was opened before
 abbrev pub IsOrderFaultBehind : (List ℕ → Option (List ℕ)) → (broken : List ℕ → Type 0) → Options → List Try → ToolFault → Type 0
-IsOrderFaultBehind told broken o tries fault = (ts : List Try) × (tries ≡ opened (given_paths o.given) ++ ts) × IsOrderFault told broken o.order ts fault
+IsOrderFaultBehind told broken o tries fault = (ts : List Try) × (tries ≡ opened (given_paths o.given) ++ ts)
+    × IsOrderFault told broken o.order ts fault
 
 -- Why the files behind those of the texts were not had.
 abbrev pub IsLaterFault : (List ℕ → Option (List ℕ)) → (broken : List ℕ → Type 0) → Options → List Try → ToolFault → Type 0
@@ -388,11 +409,13 @@ IsInputFault input InputUndivided = ⊥
 -- why a file was not opened, with all that was tried before
 abbrev pub IsUnopened : Option (List ℕ) → Options → List Try → Place → Type 0
 IsUnopened input o tries First = (path : List ℕ) × (first_paths o.texts ≡ path ∷ []) × (tries ≡ (path, false) ∷ [])
-IsUnopened input o tries Second = (path : List ℕ) × (second_paths o.texts ≡ path ∷ []) × (tries ≡ opened (first_paths o.texts) ++ (path, false) ∷ [])
+IsUnopened input o tries Second = (path : List ℕ) × (second_paths o.texts ≡ path ∷ [])
+    × (tries ≡ opened (first_paths o.texts) ++ (path, false) ∷ [])
 IsUnopened input o tries GivenFile =
     (path : Bor (List ℕ)) × (o.given ≡ Some path) × HasTexts input o.texts × (tries ≡ opened (text_paths o.texts) ++ (path.now, false) ∷ [])
 IsUnopened input o tries OrderFile =
-    (path : List ℕ) × (order_paths o.order ≡ path ∷ []) × HasTexts input o.texts × (tries ≡ opened (text_paths o.texts ++ given_paths o.given) ++ (path, false) ∷ [])
+    (path : List ℕ) × (order_paths o.order ≡ path ∷ []) × HasTexts input o.texts
+    × (tries ≡ opened (text_paths o.texts ++ given_paths o.given) ++ (path, false) ∷ [])
 
 -- the device of the first text has failed: its file, or the input where it is the whole text; the parts of a divided input are read
 -- from memory, which cannot fail
@@ -415,17 +438,23 @@ HasSecondFailed broken input_broken One = ⊥
 
 -- Why there is no report, and which files were tried until then. What comes before in the order of the checks was accepted.
 -- `broken` says of a path that a file that was opened there has failed, and `input_broken` that the input has.
-abbrev pub IsToolFault : (List ℕ → Option (List ℕ)) → (broken : List ℕ → Type 0) → (input_broken : Type 0) → Option (List ℕ) → Options → List Try → ToolFault → Type 0
+abbrev pub IsToolFault : (List ℕ → Option (List ℕ)) → (broken : List ℕ → Type 0) → (input_broken : Type 0) → Option (List ℕ) → Options
+    → List Try → ToolFault → Type 0
 IsToolFault told broken input_broken input o tries OneFile = (o.texts ≡ One) × (tries ≡ [])
 IsToolFault told broken input_broken input o tries DashTwice = (o.texts ≡ InputTwice) × (tries ≡ [])
 IsToolFault told broken input_broken input o tries (CannotOpen place obstacle) = IsUnopened input o tries place
 IsToolFault told broken input_broken input o tries (CannotSave obstacle) = ⊥
 IsToolFault told broken input_broken input o tries InputUnread = (o.texts ≡ Input) × (tries ≡ [])
-IsToolFault told broken input_broken input o tries InputTooLong = (o.texts ≡ Input) × (tries ≡ []) × IfSome input (λ text. 134221824 < length text)
-IsToolFault told broken input_broken input o tries InputUndivided = (o.texts ≡ Input) × (tries ≡ []) × IfSome input (λ text. IsShort text × IsSplit text None)
+IsToolFault told broken input_broken input o tries InputTooLong = (o.texts ≡ Input) × (tries ≡ [])
+    × IfSome input (λ text. 134221824 < length text)
+IsToolFault told broken input_broken input o tries InputUndivided = (o.texts ≡ Input) × (tries ≡ [])
+    × IfSome input (λ text. IsShort text × IsSplit text None)
 IsToolFault told broken input_broken input o tries (BadOrder fault) =
-    (path : List ℕ) × (order_paths o.order ≡ path ∷ []) × HasTexts input o.texts × (tries ≡ opened (paths_of o)) × IsOrderRefused (told path) (broken path) fault
+    (path : List ℕ) × (order_paths o.order ≡ path ∷ []) × HasTexts input o.texts × (tries ≡ opened (paths_of o))
+    × IsOrderRefused (told path) (broken path) fault
 IsToolFault told broken input_broken input o tries (Check fault) =
-    (one two : Option (List ℕ)) × (given : Option (Option (List ℕ))) × (choice : Choice) × AreTexts told input o.texts one two × IsGivenOf told o.given given × IsOrderOf told o.order choice
-    × (tries ≡ opened (paths_of o)) × IsFailedCheck one two given (HasFirstFailed broken input_broken o.texts) (HasSecondFailed broken input_broken o.texts) (HasGivenFailed broken o.given) o choice fault
+    (one two : Option (List ℕ)) × (given : Option (Option (List ℕ))) × (choice : Choice) × AreTexts told input o.texts one two
+    × IsGivenOf told o.given given × IsOrderOf told o.order choice
+    × (tries ≡ opened (paths_of o)) × IsFailedCheck one two given (HasFirstFailed broken input_broken o.texts)
+    (HasSecondFailed broken input_broken o.texts) (HasGivenFailed broken o.given) o choice fault
 IsToolFault told broken input_broken input o tries OutOfMemory = AreTwo o.texts × AreTried (paths_of o) tries

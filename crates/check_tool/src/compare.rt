@@ -34,11 +34,13 @@ fn ready<F: Folder>(
     folder: &mut F,
     options: &Options<'_>,
 ) -> Result<(Option<F::File>, Settings), ToolFault>
-    ensures ready { IfOk result (λ r. IsReady (F.told folder.old) options.now (F.tries folder.old) (F.tries folder.new) (told_by F.File.remaining r.0) r.1) }
+    ensures ready { IfOk result (λ r. IsReady (F.told folder.old) options.now (F.tries folder.old) (F.tries folder.new)
+        (told_by F.File.remaining r.0) r.1) }
     ensures named { IfOk result (λ r. IsGivenFrom options.now.given (told_by F.File.origin r.0)) }
     ensures kept { F.told folder.new ≡ F.told folder.old }
     ensures unsaved { F.saves folder.new ≡ F.saves folder.old }
-    ensures fault { IfErr result (IsUnready (F.told folder.old) (HasFailedAt F.File.origin F.File.has_failed) options.now (F.tries folder.old) (F.tries folder.new)) }
+    ensures fault { IfErr result (IsUnready (F.told folder.old) (HasFailedAt F.File.origin F.File.has_failed) options.now
+        (F.tries folder.old) (F.tries folder.new)) }
 {
     let picked = picked_of(alloc, &options.picks)?;
     let explain = targets_of(alloc, options.explain.as_slice())?;
@@ -64,12 +66,16 @@ fn check_or_print<
 ) -> Result<Done, ToolFault>
     requires unbounded { G.bound run.now.monitor.now ≡ None }
     ensures report { let told = told_of (R1.remaining first.old) (R2.remaining second.old) (told_by R3.remaining given.old) in
-        IfOk result (IsChecked told settings.now run.now.options.now.print_order (written W.contents W.has_failed W.has_stopped out.old out.new)) }
+        IfOk result (IsChecked told settings.now run.now.options.now.print_order
+        (written W.contents W.has_failed W.has_stopped out.old out.new)) }
     ensures fault { let told = told_of (R1.remaining first.old) (R2.remaining second.old) (told_by R3.remaining given.old) in
-        IfErr result (IsUnchecked told settings.now run.now.options.now.print_order (IsTrue (R1.has_failed first.new)) (IsTrue (R2.has_failed second.new)) (HasFailedIn R3.has_failed given.new) (written W.contents W.has_failed W.has_stopped out.old out.new)) }
+        IfErr result (IsUnchecked told settings.now run.now.options.now.print_order (IsTrue (R1.has_failed first.new))
+        (IsTrue (R2.has_failed second.new)) (HasFailedIn R3.has_failed given.new)
+        (written W.contents W.has_failed W.has_stopped out.old out.new)) }
     ensures untouched { OnErr result (result ≢ Err (ToolFault.Check Write) → out.new ≡ out.old) }
     ensures written { OnOk result ((W.has_failed out.new ≡ W.has_failed out.old) × (W.has_stopped out.new ≡ W.has_stopped out.old)) }
-    ensures origins { (R1.origin first.new ≡ R1.origin first.old) × (R2.origin second.new ≡ R2.origin second.old) × (told_by R3.origin given.new ≡ told_by R3.origin given.old) }
+    ensures origins { (R1.origin first.new ≡ R1.origin first.old) × (R2.origin second.new ≡ R2.origin second.old)
+        × (told_by R3.origin given.new ≡ told_by R3.origin given.old) }
 {
     let options = run.options;
     let context = Context {
@@ -107,10 +113,13 @@ pub(crate) fn compare<
     out: &mut W,
 ) -> Result<Done, ToolFault>
     requires unbounded { G.bound run.now.monitor.now ≡ None }
-    ensures report { IfOk result (IsComparison (F.told folder.old) (R1.remaining first.old) (R2.remaining second.old) run.now.options.now (F.tries folder.old) (F.tries folder.new) (written W.contents W.has_failed W.has_stopped out.old out.new)) }
+    ensures report { IfOk result (IsComparison (F.told folder.old) (R1.remaining first.old) (R2.remaining second.old) run.now.options.now
+        (F.tries folder.old) (F.tries folder.new) (written W.contents W.has_failed W.has_stopped out.old out.new)) }
     ensures fault { let broken = HasFailedAt F.File.origin F.File.has_failed in
         IfErr result (λ fault. IsUnready (F.told folder.old) broken run.now.options.now (F.tries folder.old) (F.tries folder.new) fault
-        ⊎ IsFailedComparison (F.told folder.old) broken (R1.remaining first.old) (R2.remaining second.old) (IsTrue (R1.has_failed first.new)) (IsTrue (R2.has_failed second.new)) run.now.options.now (F.tries folder.old) (F.tries folder.new) (written W.contents W.has_failed W.has_stopped out.old out.new) fault) }
+        ⊎ IsFailedComparison (F.told folder.old) broken (R1.remaining first.old) (R2.remaining second.old)
+        (IsTrue (R1.has_failed first.new)) (IsTrue (R2.has_failed second.new)) run.now.options.now (F.tries folder.old)
+        (F.tries folder.new) (written W.contents W.has_failed W.has_stopped out.old out.new) fault) }
     ensures kept { F.told folder.new ≡ F.told folder.old }
     ensures unsaved { F.saves folder.new ≡ F.saves folder.old }
     ensures untouched { OnErr result (result ≢ Err (ToolFault.Check Write) → out.new ≡ out.old) }

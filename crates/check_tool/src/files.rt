@@ -5,7 +5,8 @@ ghost use Rattle.command_line.specs.declared.options.OrderChoice.TheVariants.{Au
 ghost use Rattle.check_report.specs.Devices.{told_by};
 ghost use Rattle.net_order.specs.OrderText.{IsOrderText};
 ghost use Rattle.check_tool.specs.Opening.{Extends, HasFailedAt, Try, opened};
-ghost use Rattle.check_tool.specs.Running.{IsOpenFault, order_paths, given_paths, later_paths, IsGivenOf, IsGivenFrom, IsOrderOf, IsListFault, IsOrderFault, IsGivenFault, IsLaterFault};
+ghost use Rattle.check_tool.specs.Running.{IsOpenFault, order_paths, given_paths, later_paths, IsGivenOf, IsGivenFrom, IsOrderOf};
+ghost use Rattle.check_tool.specs.Running.{IsListFault, IsOrderFault, IsGivenFault, IsLaterFault};
 
 use crate::fault::{Place, ToolFault};
 use crate::folder::{Folder, OpenFault};
@@ -42,7 +43,8 @@ fn names_in<F: Folder>(alloc: Global, folder: &mut F, path: &str) -> Result<Name
     ensures opened { OnOk result (Extends (F.tries folder.old) (F.tries folder.new) (opened (path.now ∷ []))) }
     ensures kept { F.told folder.new ≡ F.told folder.old }
     ensures unsaved { F.saves folder.new ≡ F.saves folder.old }
-    ensures fault { IfErr result (λ fault. (tries : List Try) × Extends (F.tries folder.old) (F.tries folder.new) tries × IsListFault (F.told folder.old) (HasFailedAt F.File.origin F.File.has_failed) path.now tries fault) }
+    ensures fault { IfErr result (λ fault. (tries : List Try) × Extends (F.tries folder.old) (F.tries folder.new) tries
+        × IsListFault (F.told folder.old) (HasFailedAt F.File.origin F.File.has_failed) path.now tries fault) }
 {
     let mut file = open(folder, path, Place::Order)?;
     match read_order(alloc, &mut file) {
@@ -63,7 +65,8 @@ fn order_of<F: Folder>(
     ensures opened { OnOk result (Extends (F.tries folder.old) (F.tries folder.new) (opened (order_paths choice.entry))) }
     ensures kept { F.told folder.new ≡ F.told folder.old }
     ensures unsaved { F.saves folder.new ≡ F.saves folder.old }
-    ensures fault { IfErr result (λ fault. (tries : List Try) × Extends (F.tries folder.old) (F.tries folder.new) tries × IsOrderFault (F.told folder.old) (HasFailedAt F.File.origin F.File.has_failed) choice.entry tries fault) }
+    ensures fault { IfErr result (λ fault. (tries : List Try) × Extends (F.tries folder.old) (F.tries folder.new) tries
+        × IsOrderFault (F.told folder.old) (HasFailedAt F.File.origin F.File.has_failed) choice.entry tries fault) }
 {
     match choice {
         OrderChoice::Declared => Ok(Choice::One(Order::Declared)),
@@ -92,7 +95,8 @@ fn open_given<F: Folder>(folder: &mut F, path: Option<&str>) -> Result<Option<F:
     ensures opened { OnOk result (Extends (F.tries folder.old) (F.tries folder.new) (opened (given_paths path.entry))) }
     ensures kept { F.told folder.new ≡ F.told folder.old }
     ensures unsaved { F.saves folder.new ≡ F.saves folder.old }
-    ensures fault { IfErr result (λ fault. (tries : List Try) × Extends (F.tries folder.old) (F.tries folder.new) tries × IsGivenFault path.entry tries fault) }
+    ensures fault { IfErr result (λ fault. (tries : List Try) × Extends (F.tries folder.old) (F.tries folder.new) tries
+        × IsGivenFault path.entry tries fault) }
 {
     match path {
         Some(path) => {
@@ -113,11 +117,13 @@ pub(crate) fn prepare<F: Folder>(
     ensures named { IfOk result (λ r. IsGivenFrom options.now.given (told_by F.File.origin r.0)) }
     ensures order { IfOk result (λ r. IsOrderOf (F.told folder.old) options.now.order r.1) }
     ensures auto { IfOk result (λ r. r.1 ≡ ChoiceValue.Auto → options.now.order ≡ Auto) }
-    ensures cones { IfOk result (λ r. (r.1 ≡ ChoiceValue.Cones → options.now.order ≡ Cones) × (options.now.order ≡ Cones → r.1 ≡ ChoiceValue.Cones)) }
+    ensures cones { IfOk result (λ r. (r.1 ≡ ChoiceValue.Cones → options.now.order ≡ Cones)
+        × (options.now.order ≡ Cones → r.1 ≡ ChoiceValue.Cones)) }
     ensures opened { OnOk result (Extends (F.tries folder.old) (F.tries folder.new) (opened (later_paths options.now))) }
     ensures kept { F.told folder.new ≡ F.told folder.old }
     ensures unsaved { F.saves folder.new ≡ F.saves folder.old }
-    ensures fault { IfErr result (λ fault. (tries : List Try) × Extends (F.tries folder.old) (F.tries folder.new) tries × IsLaterFault (F.told folder.old) (HasFailedAt F.File.origin F.File.has_failed) options.now tries fault) }
+    ensures fault { IfErr result (λ fault. (tries : List Try) × Extends (F.tries folder.old) (F.tries folder.new) tries
+        × IsLaterFault (F.told folder.old) (HasFailedAt F.File.origin F.File.has_failed) options.now tries fault) }
 {
     let given = open_given(folder, options.given)?;
     let order = order_of(alloc, folder, options.order)?;

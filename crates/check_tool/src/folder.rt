@@ -88,7 +88,8 @@ fn fault_of(kind: io::ErrorKind) -> OpenFault {
 /// Writes all bytes to a file that is saved.
 fn fill<W: Sink>(file: &mut W, bytes: &[u8]) -> Result<(), Obstacle>
     ensures whole { OnOk result (Appends (W.contents file.old) (W.contents file.new) bytes.now) }
-    ensures front { OnErr result (AppendsFront (W.contents file.old) (W.contents file.new) (W.has_failed file.new) (W.has_stopped file.new) bytes.now) }
+    ensures front { OnErr result (AppendsFront (W.contents file.old) (W.contents file.new) (W.has_failed file.new)
+        (W.has_stopped file.new) bytes.now) }
 {
     match write_whole(file, bytes) {
         Ok(()) => Ok(()),

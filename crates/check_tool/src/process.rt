@@ -78,15 +78,19 @@ pub fn status_of<
     errors: &mut E,
 ) -> u8
     // The program runs on the words behind its name; where there are none to be had, that is told.
-    ensures ending { let scene = scene_of (E.seen errors.old) F.told F.tries F.saves folder.old folder.new R.remaining R.has_failed input.old input.new
-        (written W.contents W.has_failed W.has_stopped out.old out.new) (written E.contents E.has_failed E.has_stopped errors.old errors.new) in
+    ensures ending { let scene = scene_of (E.seen errors.old) F.told F.tries F.saves folder.old folder.new R.remaining R.has_failed
+        input.old input.new
+        (written W.contents W.has_failed W.has_stopped out.old out.new)
+        (written E.contents E.has_failed E.has_stopped errors.old errors.new) in
         MatchResult arguments
-        (λ all. IsRun (HasFailedAt F.File.origin F.File.has_failed) scene (folder.new ≡ folder.old) (input.new ≡ input.old) (map string_bytes (drop 1 all.items)) result)
+        (λ all. IsRun (HasFailedAt F.File.origin F.File.has_failed) scene (folder.new ≡ folder.old) (input.new ≡ input.old)
+        (map string_bytes (drop 1 all.items)) result)
         (λ why. IsWordless scene.errors why result × (out.new ≡ out.old) × (folder.new ≡ folder.old) × (input.new ≡ input.old)) }
     ensures bound { result ≤ 3 }
     // Status 2 says that nothing was written, statuses 0 and 1 that nothing was said, unless more is asked for, or seen on a terminal.
     ensures untouched { result ≡ 2 → out.new ≡ out.old }
-    ensures silent { IsOkAnd arguments (λ all. AskForMore (map string_bytes (drop 1 all.items))) ⊎ (E.seen errors.old ≡ true) ⊎ (result ≤ 1 → errors.new ≡ errors.old) }
+    ensures silent { IsOkAnd arguments (λ all. AskForMore (map string_bytes (drop 1 all.items))) ⊎ (E.seen errors.old ≡ true)
+        ⊎ (result ≤ 1 → errors.new ≡ errors.old) }
 {
     match arguments {
         Ok(words) => run_tool(

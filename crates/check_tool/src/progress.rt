@@ -174,8 +174,8 @@ impl<E: Sink> Board<'_, E> {
     }
 }
 
-/// A monitor that holds nobody. It tells at which rank a build is, at most once a second: by lines, or by one line in place. What it writes is
-/// written under a lock, since builds of several threads may tell it.
+/// A monitor that holds nobody. It tells at which rank a build is, at most once a second: by lines, or by one line in place. What it writes
+/// is written under a lock, since builds of several threads may tell it.
 #[derive(Drop)]
 pub struct Progress<'a, 'e, H, E> {
     rt: &'a H,

@@ -1,9 +1,11 @@
 //! What is shown of a file that was refused: a line of it, or a name.
-ghost use Rattle.std.specs.Prelude.{◌≡◌, ◌+◌, ◌-◌, ◌^◌, ◌<◌, ◌≤◌, ◌∷◌, [], ℕ, List, Some, IfOk, IfSome, length, codes, decimal, map, take, string_bytes, ◌++◌};
+ghost use Rattle.std.specs.Prelude.{◌≡◌, ◌+◌, ◌-◌, ◌^◌, ◌<◌, ◌≤◌, ◌∷◌, [], ℕ, List, Some, IfOk, IfSome, length, codes, decimal, map, take};
+ghost use Rattle.std.specs.Prelude.{string_bytes, ◌++◌};
 ghost use Rattle.net_bench.specs.Pieces.{tokens_at};
 ghost use Rattle.check_tool.specs.Helping.{refused_paths, IsQuoted};
 ghost use Rattle.check_tool.specs.Opening.{Extends, Try, AreTried};
-ghost use Rattle.check_tool.specs.Quoting.{before_line, behind, broken_remark, excerpt, first_line, line_in, name_remark, open_in, quotation, read_byte, remark, shown, unread};
+ghost use Rattle.check_tool.specs.Quoting.{before_line, behind, broken_remark, excerpt, first_line, line_in, name_remark, open_in};
+ghost use Rattle.check_tool.specs.Quoting.{quotation, read_byte, remark, shown, unread};
 ghost use Rattle.check_tool.specs.Running.{IsReadOf};
 
 use crate::fault::ToolFault;
@@ -234,7 +236,8 @@ fn remark(alloc: Global, text: &[u8], mark: Mark) -> Result<String, AllocError>
 /// or memory is wanting.
 #[tactic(auto, using(crate::proofs::Composing::extends_none, crate::proofs::Quoting::tried_once))]
 fn quote_file<F: Folder>(alloc: Global, folder: &mut F, path: &str, mark: Mark) -> Option<String>
-    ensures quoted { IfSome result (λ s. (text : List ℕ) × IsReadOf (F.told folder.old path.now) (Some text) × (string_bytes s ≡ remark mark text)) }
+    ensures quoted { IfSome result (λ s. (text : List ℕ) × IsReadOf (F.told folder.old path.now) (Some text)
+        × (string_bytes s ≡ remark mark text)) }
     ensures tried { (again : List Try) × Extends (F.tries folder.old) (F.tries folder.new) again × AreTried (path.now ∷ []) again }
     ensures unsaved { F.saves folder.new ≡ F.saves folder.old }
 {
@@ -262,7 +265,8 @@ pub fn quote<F: Folder>(
     fault: ToolFault,
 ) -> Option<String>
     ensures quoted { IfSome result (λ s. IsQuoted (F.told folder.old) options.now fault (string_bytes s)) }
-    ensures tried { (again : List Try) × Extends (F.tries folder.old) (F.tries folder.new) again × AreTried (refused_paths options.now fault) again }
+    ensures tried { (again : List Try) × Extends (F.tries folder.old) (F.tries folder.new) again
+        × AreTried (refused_paths options.now fault) again }
     ensures unsaved { F.saves folder.new ≡ F.saves folder.old }
 {
     match refused_mark(options, fault) {

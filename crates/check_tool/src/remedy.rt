@@ -1,6 +1,7 @@
 //! What helps against a fault.
 ghost use Rattle.std.specs.Prelude.{◌≡◌};
-ghost use Rattle.check_tool.specs.Helping.{text_help, order_help, wave_help, opening_help, fewer_nodes, check_help, fault_help, behind_equals, unindented, front_word, gate_word, word_help, names_gate, shown_help};
+ghost use Rattle.check_tool.specs.Helping.{text_help, order_help, wave_help, opening_help, fewer_nodes, check_help, fault_help};
+ghost use Rattle.check_tool.specs.Helping.{behind_equals, unindented, front_word, gate_word, word_help, names_gate, shown_help};
 
 use crate::fault::ToolFault;
 use crate::folder::Obstacle;

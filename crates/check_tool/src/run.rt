@@ -5,7 +5,8 @@ ghost use Rattle.command_line.specs.declared.options.Texts.TheVariants.{Input, F
 ghost use Rattle.expand_work.specs.declared.fault.WaveFault.TheVariants.{Full, NoWorker, TooManyRequests};
 ghost use Rattle.check_tool.specs.Comparing.{IsRunOf, IsFailedRun};
 ghost use Rattle.check_tool.specs.Opening.{Extends, HasFailedAt, Try, opened};
-ghost use Rattle.check_tool.specs.Running.{paths_of, IsShort, IsInputFault, IsToolFault, HasReported, HasReportedFront, IsBeyond, IsGivenUp, ArePassed, AreUnknown, MayGoByCones, NamesOrder, StandOnInput};
+ghost use Rattle.check_tool.specs.Running.{paths_of, IsShort, IsInputFault, IsToolFault, HasReported, HasReportedFront, IsBeyond};
+ghost use Rattle.check_tool.specs.Running.{IsGivenUp, ArePassed, AreUnknown, MayGoByCones, NamesOrder, StandOnInput};
 ghost use Rattle.check_tool.specs.Ending.{HasProgress, tells, written, written as said_by};
 
 use crate::compare::{Run, compare};
@@ -52,8 +53,13 @@ fn by_files<H: AllocGlobal + Threads + Wait + Sync, F: Folder, W: Sink, G: Monit
 ) -> Result<Done, ToolFault>
     requires unbounded { G.bound run.now.monitor.now ≡ None }
     requires texts { run.now.options.now.texts ≡ Files first second }
-    ensures report { (input : Option (List ℕ)) → IfOk result (IsRunOf (F.told folder.old) input run.now.options.now (F.tries folder.old) (F.tries folder.new) (written W.contents W.has_failed W.has_stopped out.old out.new)) }
-    ensures fault { (input : Option (List ℕ)) (input_failed : Bool) → IfErr result (IsFailedRun (F.told folder.old) (HasFailedAt F.File.origin F.File.has_failed) (IsTrue input_failed) input run.now.options.now (F.tries folder.old) (F.tries folder.new) (written W.contents W.has_failed W.has_stopped out.old out.new)) }
+    ensures report { (input : Option (List ℕ)) → IfOk result
+        (IsRunOf (F.told folder.old) input run.now.options.now (F.tries folder.old) (F.tries folder.new)
+        (written W.contents W.has_failed W.has_stopped out.old out.new)) }
+    ensures fault { (input : Option (List ℕ)) (input_failed : Bool)
+        → IfErr result (IsFailedRun (F.told folder.old) (HasFailedAt F.File.origin F.File.has_failed)
+        (IsTrue input_failed) input run.now.options.now (F.tries folder.old) (F.tries folder.new)
+        (written W.contents W.has_failed W.has_stopped out.old out.new)) }
     ensures kept { F.told folder.new ≡ F.told folder.old }
     ensures unsaved { F.saves folder.new ≡ F.saves folder.old }
     ensures untouched { OnErr result (result ≢ Err (ToolFault.Check Write) → out.new ≡ out.old) }
@@ -80,8 +86,11 @@ fn by_input_and_file<
 ) -> Result<Done, ToolFault>
     requires unbounded { G.bound run.now.monitor.now ≡ None }
     requires texts { run.now.options.now.texts ≡ InputAndFile path }
-    ensures report { IfOk result (IsRunOf (F.told folder.old) (R.remaining input.old) run.now.options.now (F.tries folder.old) (F.tries folder.new) (written W.contents W.has_failed W.has_stopped out.old out.new)) }
-    ensures fault { IfErr result (IsFailedRun (F.told folder.old) (HasFailedAt F.File.origin F.File.has_failed) (IsTrue (R.has_failed input.new)) (R.remaining input.old) run.now.options.now (F.tries folder.old) (F.tries folder.new) (written W.contents W.has_failed W.has_stopped out.old out.new)) }
+    ensures report { IfOk result (IsRunOf (F.told folder.old) (R.remaining input.old) run.now.options.now (F.tries folder.old)
+        (F.tries folder.new) (written W.contents W.has_failed W.has_stopped out.old out.new)) }
+    ensures fault { IfErr result (IsFailedRun (F.told folder.old) (HasFailedAt F.File.origin F.File.has_failed)
+        (IsTrue (R.has_failed input.new)) (R.remaining input.old) run.now.options.now (F.tries folder.old) (F.tries folder.new)
+        (written W.contents W.has_failed W.has_stopped out.old out.new)) }
     ensures kept { F.told folder.new ≡ F.told folder.old }
     ensures unsaved { F.saves folder.new ≡ F.saves folder.old }
     ensures untouched { OnErr result (result ≢ Err (ToolFault.Check Write) → out.new ≡ out.old) }
@@ -107,8 +116,11 @@ fn by_file_and_input<
 ) -> Result<Done, ToolFault>
     requires unbounded { G.bound run.now.monitor.now ≡ None }
     requires texts { run.now.options.now.texts ≡ FileAndInput path }
-    ensures report { IfOk result (IsRunOf (F.told folder.old) (R.remaining input.old) run.now.options.now (F.tries folder.old) (F.tries folder.new) (written W.contents W.has_failed W.has_stopped out.old out.new)) }
-    ensures fault { IfErr result (IsFailedRun (F.told folder.old) (HasFailedAt F.File.origin F.File.has_failed) (IsTrue (R.has_failed input.new)) (R.remaining input.old) run.now.options.now (F.tries folder.old) (F.tries folder.new) (written W.contents W.has_failed W.has_stopped out.old out.new)) }
+    ensures report { IfOk result (IsRunOf (F.told folder.old) (R.remaining input.old) run.now.options.now (F.tries folder.old)
+        (F.tries folder.new) (written W.contents W.has_failed W.has_stopped out.old out.new)) }
+    ensures fault { IfErr result (IsFailedRun (F.told folder.old) (HasFailedAt F.File.origin F.File.has_failed)
+        (IsTrue (R.has_failed input.new)) (R.remaining input.old) run.now.options.now (F.tries folder.old) (F.tries folder.new)
+        (written W.contents W.has_failed W.has_stopped out.old out.new)) }
     ensures kept { F.told folder.new ≡ F.told folder.old }
     ensures unsaved { F.saves folder.new ≡ F.saves folder.old }
     ensures untouched { OnErr result (result ≢ Err (ToolFault.Check Write) → out.new ≡ out.old) }
@@ -127,8 +139,11 @@ fn by_input<H: AllocGlobal + Threads + Wait + Sync, F: Folder, R: Source, W: Sin
 ) -> Result<Done, ToolFault>
     requires unbounded { G.bound run.now.monitor.now ≡ None }
     requires texts { run.now.options.now.texts ≡ Input }
-    ensures report { IfOk result (IsRunOf (F.told folder.old) (R.remaining input.old) run.now.options.now (F.tries folder.old) (F.tries folder.new) (written W.contents W.has_failed W.has_stopped out.old out.new)) }
-    ensures fault { IfErr result (IsFailedRun (F.told folder.old) (HasFailedAt F.File.origin F.File.has_failed) (IsTrue (R.has_failed input.new)) (R.remaining input.old) run.now.options.now (F.tries folder.old) (F.tries folder.new) (written W.contents W.has_failed W.has_stopped out.old out.new)) }
+    ensures report { IfOk result (IsRunOf (F.told folder.old) (R.remaining input.old) run.now.options.now (F.tries folder.old)
+        (F.tries folder.new) (written W.contents W.has_failed W.has_stopped out.old out.new)) }
+    ensures fault { IfErr result (IsFailedRun (F.told folder.old) (HasFailedAt F.File.origin F.File.has_failed)
+        (IsTrue (R.has_failed input.new)) (R.remaining input.old) run.now.options.now (F.tries folder.old) (F.tries folder.new)
+        (written W.contents W.has_failed W.has_stopped out.old out.new)) }
     ensures kept { F.told folder.new ≡ F.told folder.old }
     ensures unsaved { F.saves folder.new ≡ F.saves folder.old }
     ensures untouched { OnErr result (result ≢ Err (ToolFault.Check Write) → out.new ≡ out.old) }
@@ -151,8 +166,11 @@ fn run_by<H: AllocGlobal + Threads + Wait + Sync, F: Folder, R: Source, W: Sink,
     out: &mut W,
 ) -> Result<Done, ToolFault>
     requires unbounded { G.bound run.now.monitor.now ≡ None }
-    ensures report { IfOk result (IsRunOf (F.told folder.old) (R.remaining input.old) run.now.options.now (F.tries folder.old) (F.tries folder.new) (written W.contents W.has_failed W.has_stopped out.old out.new)) }
-    ensures fault { IfErr result (IsFailedRun (F.told folder.old) (HasFailedAt F.File.origin F.File.has_failed) (IsTrue (R.has_failed input.new)) (R.remaining input.old) run.now.options.now (F.tries folder.old) (F.tries folder.new) (written W.contents W.has_failed W.has_stopped out.old out.new)) }
+    ensures report { IfOk result (IsRunOf (F.told folder.old) (R.remaining input.old) run.now.options.now (F.tries folder.old)
+        (F.tries folder.new) (written W.contents W.has_failed W.has_stopped out.old out.new)) }
+    ensures fault { IfErr result (IsFailedRun (F.told folder.old) (HasFailedAt F.File.origin F.File.has_failed)
+        (IsTrue (R.has_failed input.new)) (R.remaining input.old) run.now.options.now (F.tries folder.old) (F.tries folder.new)
+        (written W.contents W.has_failed W.has_stopped out.old out.new)) }
     ensures kept { F.told folder.new ≡ F.told folder.old }
     ensures unsaved { F.saves folder.new ≡ F.saves folder.old }
     ensures untouched { OnErr result (result ≢ Err (ToolFault.Check Write) → out.new ≡ out.old) }
@@ -188,7 +206,8 @@ pub fn run_options<
 ) -> Result<Done, ToolFault>
     // What was written is the report of the two texts where the condition holds, in the order that is asked for, or of each pair that is
     // picked by its cones, or this order, and nothing else.
-    ensures report { IfOk result (HasReported (F.told folder.old) (R.remaining input.old) options.now (W.contents out.old) (W.contents out.new)) }
+    ensures report { IfOk result (HasReported (F.told folder.old) (R.remaining input.old) options.now (W.contents out.old)
+        (W.contents out.new)) }
     // Then each file that the options name was opened in the folder, in the stated order, and no other.
     ensures opened { OnOk result (Extends (F.tries folder.old) (F.tries folder.new) (opened (paths_of options.now))) }
     ensures kept { F.told folder.new ≡ F.told folder.old }
@@ -201,7 +220,8 @@ pub fn run_options<
     // GivenUp comes only where orders are tried, and each attempt within the limit was given up; where one is to be found, neither comes,
     // since pairs are judged by their cones then.
     ensures given_up { result ≡ Err (ToolFault.Check GivenUp) → IsGivenUp (F.told folder.old) (R.remaining input.old) options.now }
-    ensures by_cones { MayGoByCones options.now.order → (result ≢ Err (ToolFault.Check (Wave Full))) × (result ≢ Err (ToolFault.Check GivenUp)) }
+    ensures by_cones { MayGoByCones options.now.order → (result ≢ Err (ToolFault.Check (Wave Full)))
+        × (result ≢ Err (ToolFault.Check GivenUp)) }
     // NoWorker comes only of a comparison in an order that is named.
     ensures hired { result ≡ Err (ToolFault.Check (Wave NoWorker)) → (options.now.print_order ≡ false) × NamesOrder options.now.order }
     // A name that is picked is refused only where the first text has no such output or register.
@@ -209,9 +229,13 @@ pub fn run_options<
     // No wave of a run of the program is given up for its requests but within an attempt.
     ensures unbounded { result ≢ Err (ToolFault.Check (Wave TooManyRequests)) }
     // A fault has its cause, what comes before it was accepted, and no file was tried beyond it.
-    ensures fault { IfErr result (λ fault. (tries : List Try) × Extends (F.tries folder.old) (F.tries folder.new) tries × IsToolFault (F.told folder.old) (HasFailedAt F.File.origin F.File.has_failed) (IsTrue (R.has_failed input.new)) (R.remaining input.old) options.now tries fault) }
+    ensures fault { IfErr result (λ fault. (tries : List Try) × Extends (F.tries folder.old) (F.tries folder.new) tries
+        × IsToolFault (F.told folder.old) (HasFailedAt F.File.origin F.File.has_failed) (IsTrue (R.has_failed input.new))
+        (R.remaining input.old) options.now tries fault) }
     // Where the writing failed, a front part of the report was written, and the device has failed or taken nothing of the rest.
-    ensures unwritten { result ≡ Err (ToolFault.Check Write) → HasReportedFront (F.told folder.old) (R.remaining input.old) options.now (W.contents out.old) (W.contents out.new) (W.has_failed out.new) (W.has_stopped out.new) }
+    ensures unwritten { result ≡ Err (ToolFault.Check Write)
+        → HasReportedFront (F.told folder.old) (R.remaining input.old) options.now (W.contents out.old) (W.contents out.new)
+        (W.has_failed out.new) (W.has_stopped out.new) }
     // At any other fault nothing was written.
     ensures untouched { OnErr result (result ≢ Err (ToolFault.Check Write) → out.new ≡ out.old) }
     // An input that is said to have failed has failed, and an output that took the report has not.
@@ -221,7 +245,8 @@ pub fn run_options<
     ensures unasked { (StandOnInput options.now.texts → ⊥) → input.new ≡ input.old }
     // Nothing is said before the run ends where more is not asked for and the device for it is no terminal; else progress may be.
     ensures silent { tells options.now (E.seen errors.old) ≡ false → errors.new ≡ errors.old }
-    ensures progress { HasProgress (tells options.now (E.seen errors.old)) (said_by E.contents E.has_failed E.has_stopped errors.old errors.new) }
+    ensures progress { HasProgress (tells options.now (E.seen errors.old))
+        (said_by E.contents E.has_failed E.has_stopped errors.old errors.new) }
 {
     match form_on(options.verbose, errors) {
         None => {

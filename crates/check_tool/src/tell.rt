@@ -89,7 +89,8 @@ fn tell_done<E: Sink>(alloc: Global, options: &Options<'_>, done: &Done, errors:
 
 /// Says what a run has done, where more is asked for.
 pub(crate) fn tell<E: Sink>(alloc: Global, options: &Options<'_>, done: &Done, errors: &mut E)
-    ensures said { IsDoneSaid options.now.verbose options.now done.now (written E.contents E.has_failed E.has_stopped errors.old errors.new) }
+    ensures said { IsDoneSaid options.now.verbose options.now done.now
+        (written E.contents E.has_failed E.has_stopped errors.old errors.new) }
     ensures silent { options.now.verbose ≡ false → errors.new ≡ errors.old }
 {
     if options.verbose {

@@ -1,7 +1,8 @@
 //! A run of the program: its words, its folder and its devices to a status.
 ghost use Rattle.std.specs.Prelude.{◌≡◌, ◌≢◌, ◌≤◌, ◌⊎◌, ℕ, List, true, false, IfOk, map, string_bytes};
 ghost use Rattle.check_tool.specs.Faults.{number_text};
-ghost use Rattle.check_tool.specs.Ending.{written, scene_of, IsSaid, MaySay, IsSaidOf, AskForMore, asked_again, tells, IsReportStatus, IsDoneStatus, Finishes, BreaksOff, IsEnding, IsRun, IsWordEnd};
+ghost use Rattle.check_tool.specs.Ending.{written, scene_of, IsSaid, MaySay, IsSaidOf, AskForMore, asked_again, tells, IsReportStatus};
+ghost use Rattle.check_tool.specs.Ending.{IsDoneStatus, Finishes, BreaksOff, IsEnding, IsRun, IsWordEnd};
 ghost use Rattle.check_tool.specs.declared.fault.ToolFault.{ToolFault as FaultValue};
 ghost use Rattle.check_tool.specs.Running.{StandOnInput};
 ghost use Rattle.check_tool.specs.Helping.{IsHelp, refused_paths};
@@ -65,7 +66,8 @@ fn help_line<F: Folder>(
     fault: ToolFault,
 ) -> Result<String, AllocError>
     ensures line { IfOk result (λ line. IsHelp (F.told folder.old) options.now fault (string_bytes line)) }
-    ensures tried { (again : List Try) × Extends (F.tries folder.old) (F.tries folder.new) again × AreTried (refused_paths options.now fault) again }
+    ensures tried { (again : List Try) × Extends (F.tries folder.old) (F.tries folder.new) again
+        × AreTried (refused_paths options.now fault) again }
     ensures unsaved { F.saves folder.new ≡ F.saves folder.old }
 {
     match quote(alloc, folder, options, fault) {
@@ -84,7 +86,8 @@ fn help<F: Folder, E: Sink>(
 )
     ensures said { (line : List ℕ) × IsHelp (F.told folder.old) options.now fault line
         × MaySay (written E.contents E.has_failed E.has_stopped errors.old errors.new) line }
-    ensures tried { (again : List Try) × Extends (F.tries folder.old) (F.tries folder.new) again × AreTried (refused_paths options.now fault) again }
+    ensures tried { (again : List Try) × Extends (F.tries folder.old) (F.tries folder.new) again
+        × AreTried (refused_paths options.now fault) again }
     ensures unsaved { F.saves folder.new ≡ F.saves folder.old }
 {
     if let Ok(line) = help_line(alloc, folder, options, fault) {
@@ -108,8 +111,10 @@ fn refuse_run<F: Folder, E: Sink>(
     fault: ToolFault,
     errors: &mut E,
 ) -> u8
-    ensures said { IsSaidOf more (F.told folder.old) options.now (written E.contents E.has_failed E.has_stopped errors.old errors.new) fault result }
-    ensures tried { (again : List Try) × Extends (F.tries folder.old) (F.tries folder.new) again × AreTried (asked_again more options.now fault) again }
+    ensures said { IsSaidOf more (F.told folder.old) options.now
+        (written E.contents E.has_failed E.has_stopped errors.old errors.new) fault result }
+    ensures tried { (again : List Try) × Extends (F.tries folder.old) (F.tries folder.new) again
+        × AreTried (asked_again more options.now fault) again }
     ensures unsaved { F.saves folder.new ≡ F.saves folder.old }
     ensures bound { result ≤ 3 }
     ensures refused { 2 ≤ result }
@@ -184,7 +189,8 @@ fn finish<F: Folder, E: Sink>(
 ) -> u8
     ensures ending { let w = written E.contents E.has_failed E.has_stopped errors.old errors.new in
         Finishes options.now done.now (F.tries folder.old) (F.tries folder.new) (F.saves folder.old) (F.saves folder.new) w result
-        ⊎ ((fault : FaultValue) × BreaksOff more (F.told folder.old) options.now done.now (F.tries folder.old) (F.tries folder.new) (F.saves folder.old) (F.saves folder.new) w fault result) }
+        ⊎ ((fault : FaultValue) × BreaksOff more (F.told folder.old) options.now done.now (F.tries folder.old) (F.tries folder.new)
+        (F.saves folder.old) (F.saves folder.new) w fault result) }
     ensures bound { result ≤ 3 }
     ensures reported { result ≢ 2 }
     ensures silent { options.now.verbose ≡ false → result ≤ 1 → errors.new ≡ errors.old }
@@ -206,8 +212,10 @@ fn run_asked<
     W: Sink,
     E: Screen + Send,
 >(rt: &H, options: &Options<'_>, folder: &mut F, input: &mut R, out: &mut W, errors: &mut E) -> u8
-    ensures ending { let scene = scene_of (E.seen errors.old) F.told F.tries F.saves folder.old folder.new R.remaining R.has_failed input.old input.new
-        (written W.contents W.has_failed W.has_stopped out.old out.new) (written E.contents E.has_failed E.has_stopped errors.old errors.new) in
+    ensures ending { let scene = scene_of (E.seen errors.old) F.told F.tries F.saves folder.old folder.new R.remaining R.has_failed
+        input.old input.new
+        (written W.contents W.has_failed W.has_stopped out.old out.new)
+        (written E.contents E.has_failed E.has_stopped errors.old errors.new) in
         IsEnding (HasFailedAt F.File.origin F.File.has_failed) scene options.now result }
     ensures unasked { (StandOnInput options.now.texts → ⊥) → input.new ≡ input.old }
     ensures bound { result ≤ 3 }
@@ -234,9 +242,12 @@ pub fn run_tool<
     // of a fault that has its cause, behind which stands what helps where more is asked for or seen on a terminal, and the input is read
     // only where a text stands on it; the VCD of the first pair that differs is saved in the file that they name behind the report, and
     // nothing else is; or they are refused for a cause, no file is opened, nothing is read, and help, a mistake or want of memory is told.
-    ensures ending { let scene = scene_of (E.seen errors.old) F.told F.tries F.saves folder.old folder.new R.remaining R.has_failed input.old input.new
-        (written W.contents W.has_failed W.has_stopped out.old out.new) (written E.contents E.has_failed E.has_stopped errors.old errors.new) in
-        IsRun (HasFailedAt F.File.origin F.File.has_failed) scene (folder.new ≡ folder.old) (input.new ≡ input.old) (map string_bytes words.now) result }
+    ensures ending { let scene = scene_of (E.seen errors.old) F.told F.tries F.saves folder.old folder.new R.remaining R.has_failed
+        input.old input.new
+        (written W.contents W.has_failed W.has_stopped out.old out.new)
+        (written E.contents E.has_failed E.has_stopped errors.old errors.new) in
+        IsRun (HasFailedAt F.File.origin F.File.has_failed) scene (folder.new ≡ folder.old) (input.new ≡ input.old)
+        (map string_bytes words.now) result }
     ensures bound { result ≤ 3 }
     // Status 2 says that nothing was written, statuses 0 and 1 that nothing was said, unless more is asked for, or seen on a terminal.
     ensures untouched { result ≡ 2 → out.new ≡ out.old }

@@ -6,8 +6,8 @@ use Rattle.command_line.specs.declared.options.OrderChoice.TheVariants.{Auto}
 use Rattle.command_line.specs.declared.options.Picks.TheVariants.{All}
 use Rattle.command_line.specs.declared.options.Texts.TheVariants.{Input}
 
--- by name, in an order that is found, all pairs, without a condition, by 4 workers, as many nodes as a store may have and 4 GiB of memory hold, without
--- sizes, compared, silent, both texts on the input, no word of assignments, with nothing to explain, no file for the
+-- by name, in an order that is found, all pairs, without a condition, by 4 workers, as many nodes as a store may have and 4 GiB of memory
+-- hold, without sizes, compared, silent, both texts on the input, no word of assignments, with nothing to explain, no file for the
 -- values of a pair that differs, and no causes
 pub record AreDefaults (o : Options) : Type 0 where
   pub matching : o.matching ≡ Name

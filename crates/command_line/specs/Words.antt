@@ -1,15 +1,19 @@
 -- What the words of the command line ask for, by clap's matches of the command's arguments.
-use Rattle.std.specs.Prelude.{◌≡◌, ◌≢◌, ◌⊎◌, ◌<◌, ◌≤◌, ◌*◌, ◌^◌, ℕ, pos, Bool, true, false, List, [], ◌∷◌, ◌++◌, map, codes, Option, Some, None, IfSome, IsSome, IsSomeAnd, ⊤, find, option_and_then, option_map, string_bytes, unwrap_or, length, get_or}
+use Rattle.std.specs.Prelude.{◌≡◌, ◌≢◌, ◌⊎◌, ◌<◌, ◌≤◌, ◌*◌, ◌^◌, ℕ, pos, Bool, true, false, List, [], ◌∷◌, ◌++◌, map, codes, Option, Some}
+use Rattle.std.specs.Prelude.{None, IfSome, IsSome, IsSomeAnd, ⊤, find, option_and_then, option_map, string_bytes, unwrap_or, length}
+use Rattle.std.specs.Prelude.{get_or}
 use Rattle.std.specs.Borrow.{Bor}
 use Rattle.std.specs.Str.{bytes_eq}
 use Rattle.std.specs.Str.Parse.{IsNumeral, digits_value, without_leading_plus}
-use Rattle.clap.specs.Words.{App, Row, Rule, Text, Kinds, IsAmong, IsUnsignedIn, all_of, fault_of, first_of, one_of, matches_of, new_app, new_rule, with_rule}
+use Rattle.clap.specs.Words.{App, Row, Rule, Text, Kinds, IsAmong, IsUnsignedIn, all_of, fault_of, first_of, one_of, matches_of, new_app}
+use Rattle.clap.specs.Words.{new_rule, with_rule}
 use Rattle.clap.specs.Simple.{on_top}
 use Rattle.clap.specs.declared.builder.action.ArgAction.TheVariants.{Append, SetTrue}
 use Rattle.clap.specs.declared.builder.value_parser.ValueParser.{ValueParser}
 use Rattle.clap.specs.declared.builder.value_parser.ValueParser.TheVariants.{Names, Signed, Unsigned}
 use Rattle.clap.specs.declared.error.kind.ErrorKind.{ErrorKind}
-use Rattle.clap.specs.declared.error.kind.ErrorKind.TheVariants.{ArgumentConflict, ValueValidation, DisplayHelp, DisplayVersion, OutOfMemory as NoMemory}
+use Rattle.clap.specs.declared.error.kind.ErrorKind.TheVariants.{ArgumentConflict, ValueValidation, DisplayHelp, DisplayVersion}
+use Rattle.clap.specs.declared.error.kind.ErrorKind.TheVariants.{OutOfMemory as NoMemory}
 use Rattle.clap.specs.declared.parser.matches.ValueSource.TheVariants.{CommandLine}
 use Rattle.net_order.specs.declared.order.Match.{Match}
 use Rattle.net_order.specs.declared.order.Match.TheVariants.{Name, Position}
@@ -18,7 +22,8 @@ use Rattle.report_text.specs.declared.assignment.Assignment.TheVariants.{All as 
 use Rattle.report_text.specs.declared.outcome.Share.{Share}
 use Rattle.command_line.specs.declared.options.Options.{Options}
 use Rattle.command_line.specs.declared.options.OrderChoice.{OrderChoice}
-use Rattle.command_line.specs.declared.options.OrderChoice.TheVariants.{Declared, Depth, Interleave, Index, Force, Best, Auto, Cones, File, Extended}
+use Rattle.command_line.specs.declared.options.OrderChoice.TheVariants.{Declared, Depth, Interleave, Index, Force, Best, Auto, Cones, File}
+use Rattle.command_line.specs.declared.options.OrderChoice.TheVariants.{Extended}
 use Rattle.command_line.specs.declared.options.Picks.{Picks}
 use Rattle.command_line.specs.declared.options.Picks.TheVariants.{All, Only, Share as InShare}
 use Rattle.command_line.specs.declared.options.Texts.{Texts}
@@ -106,7 +111,8 @@ abbrev pub TakesMatches : Option ValueParser → Type 0
 TakesMatches = TakesOnly (codes "name" ∷ codes "position" ∷ [])
 
 abbrev pub TakesOrders : Option ValueParser → Type 0
-TakesOrders = TakesOnly (codes "auto" ∷ codes "cones" ∷ codes "declared" ∷ codes "depth" ∷ codes "interleave" ∷ codes "index" ∷ codes "force" ∷ codes "best" ∷ [])
+TakesOrders = TakesOnly (codes "auto" ∷ codes "cones" ∷ codes "declared" ∷ codes "depth" ∷ codes "interleave" ∷ codes "index"
+    ∷ codes "force" ∷ codes "best" ∷ [])
 
 abbrev pub TakesFormats : Option ValueParser → Type 0
 TakesFormats = TakesOnly (codes "text" ∷ codes "json" ∷ [])
@@ -117,11 +123,22 @@ TakesAssignments = TakesOnly (codes "all" ∷ codes "support" ∷ codes "ones" �
 -- The command with its arguments. The parsers of four lists of words are named apart.
 abbrev pub tool_app : (matching order format assignment : Option ValueParser) → App
 tool_app matching order format assignment =
-    with_rule (with_rule (with_rule (with_rule (with_rule (with_rule (with_rule (with_rule (with_rule (with_rule (with_rule (with_rule (with_rule (with_rule (with_rule (with_rule (with_rule (with_rule (with_rule (with_rule bare_app (match_rule matching)) (order_rule order)) order_file_rule) extend_rule) given_rule) only_rule) share_rule) explain_rule) vcd_rule) workers_rule) limit_rule) memory_rule) sizes_rule) print_order_rule) (format_rule format)) (assignment_rule assignment)) causes_rule) verbose_rule) (new_rule (codes "FIRST"))) (new_rule (codes "SECOND"))
+    with_rule (with_rule
+    (with_rule (with_rule
+    (with_rule (with_rule
+    (with_rule (with_rule
+    (with_rule (with_rule
+    (with_rule (with_rule
+    (with_rule (with_rule
+    (with_rule (with_rule
+    (with_rule (with_rule (with_rule (with_rule bare_app (match_rule matching)) (order_rule order)) order_file_rule) extend_rule)
+    given_rule) only_rule) share_rule) explain_rule) vcd_rule) workers_rule) limit_rule) memory_rule) sizes_rule) print_order_rule)
+    (format_rule format)) (assignment_rule assignment)) causes_rule) verbose_rule) (new_rule (codes "FIRST"))) (new_rule (codes "SECOND"))
 
 -- the command has these arguments
 abbrev pub IsTool : App → Type 0
-IsTool a = (matching order format assignment : Option ValueParser) × TakesMatches matching × TakesOrders order × TakesFormats format × TakesAssignments assignment × (a ≡ tool_app matching order format assignment)
+IsTool a = (matching order format assignment : Option ValueParser) × TakesMatches matching × TakesOrders order × TakesFormats format
+    × TakesAssignments assignment × (a ≡ tool_app matching order format assignment)
 
 -- by position where that word is given
 abbrev pub IsMatching : Option (List ℕ) → Match → Type 0
@@ -135,16 +152,16 @@ abbrev pub flag_of : Option (List ℕ) → Bool
 flag_of (Some word) = bytes_eq word (codes "true")
 flag_of None = false
 
--- The order where the words name none: auto, but declared where they ask for what auto does not do or for what had declared order before it,
--- a limit, the sizes of diagrams, or an order in print.
+-- The order where the words name none: auto, but declared where they ask for what auto does not do or for what had declared order before
+-- it, a limit, the sizes of diagrams, or an order in print.
 abbrev pub unnamed_order : (limit : Option (List ℕ)) → (sizes print_order : Bool) → OrderChoice
 unnamed_order (Some limit) sizes print_order = Declared
 unnamed_order None true print_order = Declared
 unnamed_order None false true = Declared
 unnamed_order None false false = Auto
 
--- the file of the order where one is given, extended where that is asked for, else the order that the word names, and declared order for any
--- other word; and where there is no word, the order of words that name none
+-- the file of the order where one is given, extended where that is asked for, else the order that the word names, and declared order for
+-- any other word; and where there is no word, the order of words that name none
 abbrev pub IsChoice : (file order : Option (List ℕ)) → (extend : Bool) → (unnamed : OrderChoice) → OrderChoice → Type 0
 IsChoice (Some path) word extend unnamed (File p) = (extend ≡ false) × (p.now ≡ path)
 IsChoice (Some path) word extend unnamed (Extended p) = (extend ≡ true) × (p.now ≡ path)
@@ -166,7 +183,9 @@ IsChoice None (Some word) extend unnamed Best = bytes_eq word (codes "best") ≡
 IsChoice None (Some word) extend unnamed Auto = bytes_eq word (codes "auto") ≡ true
 IsChoice None (Some word) extend unnamed Cones = bytes_eq word (codes "cones") ≡ true
 IsChoice None (Some word) extend unnamed Declared =
-    (bytes_eq word (codes "depth") ≡ false) × (bytes_eq word (codes "interleave") ≡ false) × (bytes_eq word (codes "index") ≡ false) × (bytes_eq word (codes "force") ≡ false) × (bytes_eq word (codes "best") ≡ false) × (bytes_eq word (codes "auto") ≡ false) × (bytes_eq word (codes "cones") ≡ false)
+    (bytes_eq word (codes "depth") ≡ false) × (bytes_eq word (codes "interleave") ≡ false) × (bytes_eq word (codes "index") ≡ false)
+    × (bytes_eq word (codes "force") ≡ false) × (bytes_eq word (codes "best") ≡ false) × (bytes_eq word (codes "auto") ≡ false)
+    × (bytes_eq word (codes "cones") ≡ false)
 IsChoice None None extend unnamed choice = choice ≡ unnamed
 
 -- ---- pairs that are picked
@@ -221,14 +240,16 @@ ArePicks [] (Some text) All = ⊥
 ArePicks [] None picks = picks ≡ All
 
 -- the order that was found for the arguments, which is that of cones where pairs are picked
-abbrev pub IsOrderWhere : (picked : Bool) → (file order : Option (List ℕ)) → (extend : Bool) → (unnamed : OrderChoice) → OrderChoice → Type 0
+abbrev pub IsOrderWhere : (picked : Bool) → (file order : Option (List ℕ)) → (extend : Bool) → (unnamed : OrderChoice) → OrderChoice
+    → Type 0
 IsOrderWhere true file word extend unnamed choice = choice ≡ Cones
 IsOrderWhere false file word extend unnamed choice = IsChoice file word extend unnamed choice
 
 abbrev pub IsOrderIn : List Row → OrderChoice → Type 0
 IsOrderIn rows choice =
     IsOrderWhere (are_picked (names_in rows) (share_in rows)) (first_of (codes "order-file") rows) (first_of (codes "order") rows)
-    (flag_of (first_of (codes "extend") rows)) (unnamed_order (first_of (codes "limit") rows) (flag_of (first_of (codes "sizes") rows)) (flag_of (first_of (codes "print-order") rows))) choice
+    (flag_of (first_of (codes "extend") rows)) (unnamed_order (first_of (codes "limit") rows) (flag_of (first_of (codes "sizes") rows))
+    (flag_of (first_of (codes "print-order") rows))) choice
 
 -- the word for standard input in place of a file
 abbrev pub IsDash : List ℕ → Type 0
@@ -291,7 +312,8 @@ IsLimit None choice n = n ≡ usual_limit choice
 
 -- the unit of a size, and the bytes that it stands for
 abbrev pub IsUnit : Text → ℕ → Type 0
-IsUnit unit bytes = ((unit ≡ codes "K") × (bytes ≡ 1024)) ⊎ ((unit ≡ codes "M") × (bytes ≡ 1024 ^ 2)) ⊎ ((unit ≡ codes "G") × (bytes ≡ 1024 ^ 3))
+IsUnit unit bytes = ((unit ≡ codes "K") × (bytes ≡ 1024)) ⊎ ((unit ≡ codes "M") × (bytes ≡ 1024 ^ 2))
+    ⊎ ((unit ≡ codes "G") × (bytes ≡ 1024 ^ 3))
 
 -- a text ends in no unit
 abbrev pub HasNoUnit : Text → Type 0
@@ -299,11 +321,13 @@ HasNoUnit text = (front unit : Text) (bytes : ℕ) → IsUnit unit bytes → tex
 
 -- a text is a number and its unit, which is a byte where none is named
 abbrev pub IsInUnits : Text → (number : Text) → (bytes : ℕ) → Type 0
-IsInUnits text number bytes = ((unit : Text) × IsUnit unit bytes × (text ≡ number ++ unit)) ⊎ (HasNoUnit text × (number ≡ text) × (bytes ≡ 1))
+IsInUnits text number bytes = ((unit : Text) × IsUnit unit bytes × (text ≡ number ++ unit))
+    ⊎ (HasNoUnit text × (number ≡ text) × (bytes ≡ 1))
 
 -- the number of bytes that a text says: a decimal number, with K, M or G behind it for 1,024, its square and its cube
 abbrev pub IsSize : Text → ℕ → Type 0
-IsSize text n = (number : Text) × (bytes : ℕ) × IsInUnits text number bytes × IsNumeral 10 (without_leading_plus number) × (n ≡ digits_value 10 (without_leading_plus number) * bytes)
+IsSize text n = (number : Text) × (bytes : ℕ) × IsInUnits text number bytes × IsNumeral 10 (without_leading_plus number)
+    × (n ≡ digits_value 10 (without_leading_plus number) * bytes)
 
 -- the same from 16 MiB on, which a 64 bit number can hold
 abbrev pub IsMemory : Text → ℕ → Type 0
@@ -355,7 +379,8 @@ AskForJson rows = IsSomeAnd (first_of (codes "format") rows) (λ word. bytes_eq 
 
 -- the words ask for explanations, which are lines behind a report of all pairs, and for an order in print, a share of the pairs, or JSON
 abbrev pub GiveExplainBeside : List Row → Type 0
-GiveExplainBeside rows = IsGiven (codes "explain") rows × ((flag_of (first_of (codes "print-order") rows) ≡ true) ⊎ IsGiven (codes "share") rows ⊎ AskForJson rows)
+GiveExplainBeside rows = IsGiven (codes "explain") rows × ((flag_of (first_of (codes "print-order") rows) ≡ true)
+    ⊎ IsGiven (codes "share") rows ⊎ AskForJson rows)
 
 -- the words give a file for the values of a pair that differs, and ask for an order in print, which compares none
 abbrev pub GiveIdleVcd : List Row → Type 0
@@ -363,12 +388,14 @@ GiveIdleVcd rows = IsGiven (codes "vcd") rows × (flag_of (first_of (codes "prin
 
 -- the words ask for causes, which a report of all pairs as JSON tells, and for an order in print, a share of the pairs, or another report
 abbrev pub GiveCausesBeside : List Row → Type 0
-GiveCausesBeside rows = (flag_of (first_of (codes "causes") rows) ≡ true) × ((flag_of (first_of (codes "print-order") rows) ≡ true) ⊎ IsGiven (codes "share") rows ⊎ (AskForJson rows → ⊥))
+GiveCausesBeside rows = (flag_of (first_of (codes "causes") rows) ≡ true)
+    × ((flag_of (first_of (codes "print-order") rows) ≡ true) ⊎ IsGiven (codes "share") rows ⊎ (AskForJson rows → ⊥))
 
 -- the words give two arguments that exclude each other
 abbrev pub AreAtOdds : List Row → Type 0
 AreAtOdds rows =
-    GiveTwoOrders rows ⊎ GiveTwoPicks rows ⊎ GiveFoundWith (codes "sizes") rows ⊎ GiveFoundWith (codes "print-order") rows ⊎ GivePicksInOrder rows ⊎ GiveIdleMemory rows ⊎ GiveIdleExtend rows ⊎ GiveExplainBeside rows ⊎ GiveIdleVcd rows ⊎ GiveCausesBeside rows
+    GiveTwoOrders rows ⊎ GiveTwoPicks rows ⊎ GiveFoundWith (codes "sizes") rows ⊎ GiveFoundWith (codes "print-order") rows
+    ⊎ GivePicksInOrder rows ⊎ GiveIdleMemory rows ⊎ GiveIdleExtend rows ⊎ GiveExplainBeside rows ⊎ GiveIdleVcd rows ⊎ GiveCausesBeside rows
 
 -- the words give a memory that is none, or out of its range
 abbrev pub GiveBadMemory : List Row → Type 0
@@ -404,13 +431,16 @@ pub record AreOptions (rows : List Row) (o : Options) : Type 0 where
 -- the kinds of the first fault that clap finds in the words; none where it takes them
 abbrev pub AreFaults : List Text → Kinds → Type 0
 AreFaults words kinds =
-    (matching order format assignment : Option ValueParser) × TakesMatches matching × TakesOrders order × TakesFormats format × TakesAssignments assignment × (kinds ≡ fault_of (tool_app matching order format assignment) words)
+    (matching order format assignment : Option ValueParser) × TakesMatches matching × TakesOrders order × TakesFormats format
+    × TakesAssignments assignment × (kinds ≡ fault_of (tool_app matching order format assignment) words)
 
 -- clap takes the words, and the rows are its matches of the command
 abbrev pub AreFound : List Text → List Row → Type 0
 AreFound words rows =
-    (matching order format assignment : Option ValueParser) × TakesMatches matching × TakesOrders order × TakesFormats format × TakesAssignments assignment
-    × (fault_of (tool_app matching order format assignment) words ≡ []) × (rows ≡ matches_of (tool_app matching order format assignment) words)
+    (matching order format assignment : Option ValueParser) × TakesMatches matching × TakesOrders order × TakesFormats format
+    × TakesAssignments assignment
+    × (fault_of (tool_app matching order format assignment) words ≡ [])
+    × (rows ≡ matches_of (tool_app matching order format assignment) words)
 
 -- The words ask for these options, by clap's matches of the command. No two of them exclude each other.
 abbrev pub AskFor : List Text → Options → Type 0
@@ -436,11 +466,12 @@ IsRefusedFor rows refused =
     ⊎ (((AreAtOdds rows → ⊥) × (GiveBadMemory rows ⊎ GiveBadShare rows) × IsToldAs ValueValidation refused)
     ⊎ (refused ≡ OutOfMemory))
 
--- The words are refused for the first fault that clap finds in them, or for two arguments that exclude each other, or else for a memory or a
--- share that is none, or for want of memory.
+-- The words are refused for the first fault that clap finds in them, or for two arguments that exclude each other, or else for a memory or
+-- a share that is none, or for want of memory.
 abbrev pub IsRefusal : List Text → Refused → Type 0
 IsRefusal words refused =
     ((kinds : Kinds) × (kind : ErrorKind) × AreFaults words kinds × IsAmong kind kinds × IsToldAs kind refused)
     ⊎ (((rows : List Row) × AreFound words rows × AreAtOdds rows × IsToldAs ArgumentConflict refused)
-    ⊎ (((rows : List Row) × AreFound words rows × (AreAtOdds rows → ⊥) × (GiveBadMemory rows ⊎ GiveBadShare rows) × IsToldAs ValueValidation refused)
+    ⊎ (((rows : List Row) × AreFound words rows × (AreAtOdds rows → ⊥) × (GiveBadMemory rows ⊎ GiveBadShare rows)
+    × IsToldAs ValueValidation refused)
     ⊎ (refused ≡ OutOfMemory)))

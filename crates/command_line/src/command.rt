@@ -1,7 +1,10 @@
 //! The command of the program, as clap knows it.
 ghost use Rattle.std.specs.Prelude.{◌≡◌, false, codes, IfOk};
 ghost use Rattle.clap.specs.Words.{app_of, new_rule, rule_of};
-ghost use Rattle.command_line.specs.Words.{TakesMatches, TakesOrders, match_rule, order_rule, order_file_rule, extend_rule, given_rule, only_rule, share_rule, explain_rule, vcd_rule, workers_rule, limit_rule, memory_rule, sizes_rule, print_order_rule, TakesFormats, format_rule, TakesAssignments, assignment_rule, causes_rule, verbose_rule, bare_app, IsTool};
+ghost use Rattle.command_line.specs.Words.{TakesMatches, TakesOrders, match_rule, order_rule, order_file_rule, extend_rule, given_rule};
+ghost use Rattle.command_line.specs.Words.{only_rule, share_rule, explain_rule, vcd_rule, workers_rule, limit_rule, memory_rule};
+ghost use Rattle.command_line.specs.Words.{sizes_rule, print_order_rule, TakesFormats, format_rule, TakesAssignments, assignment_rule};
+ghost use Rattle.command_line.specs.Words.{causes_rule, verbose_rule, bare_app, IsTool};
 
 use crate::help::{ABOUT, MORE};
 use clap::{Arg, ArgAction, Command, value_parser};
@@ -47,7 +50,11 @@ fn order<'a>(alloc: Global) -> Arg<'a>
         .value_name("ORDER")
         .value_parser(ORDERS.as_slice())
         .help(
-            "Order the variables as declared, by depth: as met below the outputs, interleaved: each behind what was met before it, by index: the number at the end of its name, by force: drawn to what it is joined with, or by the best of these, found by trying; by cones: judge each pair alone, in orders that are found for it, and report as by declared; or auto: find one by trying, else go by cones, and report as by declared [default: auto, but declared with --limit, --sizes or --print-order, and cones with --only or --share]",
+            "Order the variables as declared, by depth: as met below the outputs, interleaved: each behind what was met before it, by \
+                index: the number at the end of its name, by force: drawn to what it is joined with, or by the best of these, found by \
+                trying; by cones: judge each pair alone, in orders that are found for it, and report as by declared; or auto: find one by \
+                trying, else go by cones, and report as by declared [default: auto, but declared with --limit, --sizes or --print-order, \
+                and cones with --only or --share]",
         )
 }
 
@@ -69,7 +76,8 @@ fn extend<'a>(alloc: Global) -> Arg<'a>
         .long("extend")
         .action(ArgAction::SetTrue)
         .help(
-            "Take the file of --order-file as it is: names that are no variables are passed over, variables that it lacks follow as declared",
+            "Take the file of --order-file as it is: names that are no variables are passed over, variables that it lacks follow as \
+                declared",
         )
 }
 
@@ -115,7 +123,8 @@ fn explain<'a>(alloc: Global) -> Arg<'a>
         .value_name("NAME")
         .action(ArgAction::Append)
         .help(
-            "Behind the report, list the inner signals that differ where the pair of this output of the first netlist, or `NEXT name` of a register, does; may be given more than once",
+            "Behind the report, list the inner signals that differ where the pair of this output of the first netlist, or `NEXT name` of a \
+                register, does; may be given more than once",
         )
 }
 
@@ -124,7 +133,8 @@ fn vcd<'a>(alloc: Global) -> Arg<'a>
     ensures local { result.global ≡ false }
 {
     Arg::new(alloc, "vcd").long("vcd").value_name("FILE").help(
-        "Where a pair differs, write the values of all signals of both netlists at the assignment of the first such line to this file, as a VCD of one step",
+        "Where a pair differs, write the values of all signals of both netlists at the assignment of the first such line to this file, as \
+            a VCD of one step",
     )
 }
 
@@ -213,7 +223,8 @@ fn assignment<'a>(alloc: Global) -> Arg<'a>
         .value_name("WHICH")
         .value_parser(ASSIGNMENTS.as_slice())
         .help(
-            "Tell all variables of an assignment, only those on which one of the two functions depends, or only those that are 1; as JSON tell the numbers of buses too",
+            "Tell all variables of an assignment, only those on which one of the two functions depends, or only those that are 1; as JSON \
+                tell the numbers of buses too",
         )
 }
 
@@ -237,7 +248,8 @@ fn verbose<'a>(alloc: Global) -> Arg<'a>
         .long("verbose")
         .action(ArgAction::SetTrue)
         .help(
-            "Tell on standard error how far the building is, what it ended with where orders were tried, how many pairs are undecided, and behind a fault where it stands and what helps",
+            "Tell on standard error how far the building is, what it ended with where orders were tried, how many pairs are undecided, and \
+                behind a fault where it stands and what helps",
         )
 }
 

@@ -8,7 +8,8 @@ pub(crate) static ABOUT: &str =
 pub(crate) static MORE: &str = "\
 For each pair of outputs a line EQUAL or DIFFER is printed, the latter with the least assignment on which the two differ;
 the next states of each pair of registers are compared in the same way (NEXT); then come the outputs and registers without
-a partner (ONLY), and last the counts. A pair that no attempt decides has a line UNDECIDED. Without FIRST and SECOND both netlists are read from standard input, with a line
+a partner (ONLY), and last the counts. A pair that no attempt decides has a line UNDECIDED. \
+    Without FIRST and SECOND both netlists are read from standard input, with a line
 `%%` between them.
 
 Status:

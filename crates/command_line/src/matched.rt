@@ -1,7 +1,9 @@
 //! What the matches of the parser ask for.
 ghost use Rattle.std.specs.Prelude.{◌≡◌, ◌≢◌, ◌≤◌, ℕ, List, [], Option, Some, None, Err, IfOk, IfSome, IsSomeAnd, codes, map, option_map};
 ghost use Rattle.clap.specs.Words.{first_of, found_of, one_of, rows_of};
-ghost use Rattle.command_line.specs.Words.{IsMatching, flag_of, unnamed_order, IsChoice, IsOrderIn, IsForm, IsAssignment, IsNumberIn, usual_limit, IsLimit, IsMemory, GiveBadShare, IsShare, AreAtOdds, ArePicks, AreTexts, AreOptions, are_picked, explained_in, names_in, share_in};
+ghost use Rattle.command_line.specs.Words.{IsMatching, flag_of, unnamed_order, IsChoice, IsOrderIn, IsForm, IsAssignment, IsNumberIn};
+ghost use Rattle.command_line.specs.Words.{usual_limit, IsLimit, IsMemory, GiveBadShare, IsShare, AreAtOdds, ArePicks, AreTexts};
+ghost use Rattle.command_line.specs.Words.{AreOptions, are_picked, explained_in, names_in, share_in};
 ghost use Rattle.command_line.specs.declared.options.OrderChoice.{OrderChoice as ChoiceValue};
 ghost use Rattle.report_text.specs.declared.outcome.Share.{Share as ShareValue};
 
@@ -87,7 +89,8 @@ fn order_of<'a>(
 /// The order where the words name none.
 pub(crate) fn unnamed_in(matches: &ArgMatches<'_>) -> OrderChoice<'static>
     ensures { let rows = rows_of (found_of matches.now) in
-        result ≡ unnamed_order (first_of (codes "limit") rows) (flag_of (first_of (codes "sizes") rows)) (flag_of (first_of (codes "print-order") rows)) }
+        result ≡ unnamed_order (first_of (codes "limit") rows) (flag_of (first_of (codes "sizes") rows))
+        (flag_of (first_of (codes "print-order") rows)) }
 {
     if word_of(matches, "limit").is_some()
         || is_asked(matches, "sizes")
@@ -175,7 +178,8 @@ fn named<'a>(alloc: Global, names: &[&'a str]) -> Result<Picks<'a>, BadPicks>
 /// The pairs of a share, where there is a word that says one, else all.
 fn shared<'a>(word: Option<&'a str>) -> Result<Picks<'a>, BadPicks>
     ensures picks { IfOk result (ArePicks [] (option_map (λ s. s.now) word.entry)) }
-    ensures share { result ≡ Err BadPicks.Share → IsSomeAnd (option_map (λ s. s.now) word.entry) (λ text. (s : ShareValue) → IsShare text s → ⊥) }
+    ensures share { result ≡ Err BadPicks.Share → IsSomeAnd
+        (option_map (λ s. s.now) word.entry) (λ text. (s : ShareValue) → IsShare text s → ⊥) }
 {
     let Some(word) = word else {
         return Ok(Picks::All);

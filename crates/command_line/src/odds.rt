@@ -2,7 +2,9 @@
 ghost use Rattle.std.specs.Prelude.{◌≡◌, ◌↔◌, ◌⊎◌, Bool, true, IsSomeAnd, IsTrue, MatchOption, bytes_eq, codes, option_map};
 ghost use Rattle.clap.specs.Words.{found_of, rows_of};
 ghost use Rattle.command_line.specs.declared.options.OrderChoice.{OrderChoice as ChoiceValue};
-ghost use Rattle.command_line.specs.Words.{IsOrderIn, IsChoice, IsFoundName, GiveTwoOrders, GiveTwoPicks, GiveFound, GiveFoundWith, GiveOther, GivePicksInOrder, GiveIdleMemory, GiveIdleExtend, AskForJson, GiveExplainBeside, GiveIdleVcd, GiveCausesBeside, AreAtOdds};
+ghost use Rattle.command_line.specs.Words.{IsOrderIn, IsChoice, IsFoundName, GiveTwoOrders, GiveTwoPicks, GiveFound, GiveFoundWith};
+ghost use Rattle.command_line.specs.Words.{GiveOther, GivePicksInOrder, GiveIdleMemory, GiveIdleExtend, AskForJson, GiveExplainBeside};
+ghost use Rattle.command_line.specs.Words.{GiveIdleVcd, GiveCausesBeside, AreAtOdds};
 
 use crate::matched::{has_picks, unnamed_in};
 use crate::options::OrderChoice;
@@ -83,7 +85,8 @@ fn picks_in_order(matches: &ArgMatches<'_>) -> bool
 
 /// Whether an order is to be found, of a file, a word, and the order where there is neither.
 fn comes_to_found(path: Option<&str>, word: Option<&str>, unnamed: OrderChoice<'_>) -> bool
-    ensures { (extend : Bool) → let choice = IsChoice (option_map (λ s. s.now) path.entry) (option_map (λ s. s.now) word.entry) extend unnamed.entry in
+    ensures { (extend : Bool) → let choice = IsChoice (option_map (λ s. s.now) path.entry)
+        (option_map (λ s. s.now) word.entry) extend unnamed.entry in
         IsTrue result ↔ (choice ChoiceValue.Auto ⊎ choice ChoiceValue.Cones) }
 {
     match (path, word) {

@@ -2,7 +2,8 @@
 ghost use Rattle.std.specs.Prelude.{IfOk, IfErr, map, string_bytes};
 ghost use Rattle.clap.specs.Values.{kind_of};
 ghost use Rattle.clap.specs.Words.{app_of, found_of, rows_of};
-ghost use Rattle.command_line.specs.Words.{IsTool, AreFound, AreAtOdds, AreOptions, AskFor, TellsVersion, IsToldAs, IsRefusedFor, IsRefusal};
+ghost use Rattle.command_line.specs.Words.{IsTool, AreFound, AreAtOdds, AreOptions, AskFor, TellsVersion, IsToldAs, IsRefusedFor};
+ghost use Rattle.command_line.specs.Words.{IsRefusal};
 
 use crate::command::command;
 use crate::matched::{BadPicks, explained_in, memory_in, options_of, picks_in};

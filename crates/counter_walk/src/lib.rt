@@ -68,7 +68,9 @@ pub fn least_difference(
 ) -> Result<Option<Vec<bool>>, AllocError>
     requires first_known { Has store.now f }
     requires second_known { Has store.now g }
-    ensures least { IfOk result (λ found. MatchOption found (Agree store.now.levels (den store.now f) (den store.now g)) (λ bits. IsLeastDifference store.now.levels (den store.now f) (den store.now g) bits.items)) }
+    ensures least { IfOk result (λ found. MatchOption found
+        (Agree store.now.levels (den store.now f) (den store.now g))
+        (λ bits. IsLeastDifference store.now.levels (den store.now f) (den store.now g) bits.items)) }
 {
     let levels = store.levels();
     if same(f, g) {

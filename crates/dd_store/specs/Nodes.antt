@@ -1,6 +1,7 @@
 -- What contracts see of a store: its number of levels, the number of nodes that is allowed, and the children of
 -- the nodes of each shard, in the order in which they were made.
-use Rattle.std.specs.Prelude.{◌≡◌, ℕ, ◌+◌, ◌*◌, ◌<◌, ◌≤◌, ◌^◌, Bool, cond, nat_lt, List, [], ◌∷◌, ◌++◌, length, slice_index_or, slice_get, slice_set, replicate, unwrap_or, nat_eq, Option, Some, None, Result, Ok, Err, ◌⊎◌, ◌↔◌}
+use Rattle.std.specs.Prelude.{◌≡◌, ℕ, ◌+◌, ◌*◌, ◌<◌, ◌≤◌, ◌^◌, Bool, cond, nat_lt, List, [], ◌∷◌, ◌++◌, length, slice_index_or, slice_get}
+use Rattle.std.specs.Prelude.{slice_set, replicate, unwrap_or, nat_eq, Option, Some, None, Result, Ok, Err, ◌⊎◌, ◌↔◌}
 use Rattle.std.specs.List.{sum_by}
 use Rattle.std.specs.Option.{option_map}
 use Rattle.dd_store.specs.declared.reference.NodeId.{NodeId}
@@ -129,7 +130,8 @@ with_node S v lo hi =
 abbrev pub Makes : Nodes → ℕ → Ref → Ref → Result Ref StoreFault → Nodes → Type 0
 Makes S v lo hi (Ok r) T =
     (IsThere S v lo hi r × (T ≡ S))
-    ⊎ (IsNeeded S v lo hi × (count_of S < S.limit) × (r ≡ Node (fresh S v (plain_pair lo hi).0 (plain_pair lo hi).1) (is_marked hi)) × (T ≡ with_node S v (plain_pair lo hi).0 (plain_pair lo hi).1))
+    ⊎ (IsNeeded S v lo hi × (count_of S < S.limit) × (r ≡ Node (fresh S v (plain_pair lo hi).0 (plain_pair lo hi).1) (is_marked hi))
+    × (T ≡ with_node S v (plain_pair lo hi).0 (plain_pair lo hi).1))
 Makes S v lo hi (Err Full) T = IsNeeded S v lo hi × (S.limit ≤ count_of S) × (T ≡ S)
 Makes S v lo hi (Err OutOfMemory) T = IsNeeded S v lo hi × (count_of S < S.limit) × (T ≡ S)
 

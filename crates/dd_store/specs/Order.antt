@@ -10,7 +10,8 @@ use Rattle.dd_store.specs.contracts.reference.NodeIdOrd.TheImpl as node_ord
 
 -- a node comes before another by level, then by shard, then by index
 abbrev pub node_lt : NodeId → NodeId → Bool
-node_lt a b = nat_lt a.level b.level || ((a.level == b.level) && (nat_lt a.shard b.shard || ((a.shard == b.shard) && nat_lt a.index b.index)))
+node_lt a b = nat_lt a.level b.level || ((a.level == b.level) &&
+    (nat_lt a.shard b.shard || ((a.shard == b.shard) && nat_lt a.index b.index)))
 
 -- two names are one
 abbrev pub node_eq : NodeId → NodeId → Bool

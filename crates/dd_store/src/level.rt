@@ -1,6 +1,7 @@
 //! The shards of one level, and lists of pairs of children that are added to them, by four threads; or by makers (`makers`), who note
 //! the references too.
-ghost use Rattle.std.specs.Prelude.{List, ◌≡◌, ◌⊎◌, ◌<◌, ◌≤◌, ◌-◌, ◌^◌, ◌++◌, [], ℕ, length, map, slice_index_or, vec_capacity, Some, All, MatchResult};
+ghost use Rattle.std.specs.Prelude.{List, ◌≡◌, ◌⊎◌, ◌<◌, ◌≤◌, ◌-◌, ◌^◌, ◌++◌, [], ℕ, length, map, slice_index_or, vec_capacity, Some, All};
+ghost use Rattle.std.specs.Prelude.{MatchResult};
 ghost use Rattle.std.specs.List.{sum_by, AllZip};
 ghost use Rattle.dd_store.specs.declared.reference.Ref.{Ref as RefValue};
 ghost use Rattle.dd_store.specs.Graph.{Pair};
@@ -81,7 +82,8 @@ impl Shard {
         requires { limit < 2 ^ 32 }
         ensures grows { Grows (plain_list list.now) self.old.shard self.new.shard }
         ensures within { length self.old.shard ≤ limit → length self.new.shard ≤ limit }
-        ensures noted { MatchResult result (λ _. (refs : List RefValue) × (self.new.found.items ≡ self.old.found.items ++ refs) × AllZip (Names level shard self.new.shard) list.now refs) (λ f. IsHalted limit (plain_list list.now) self.new.shard f) }
+        ensures noted { MatchResult result (λ _. (refs : List RefValue) × (self.new.found.items ≡ self.old.found.items ++ refs)
+            × AllZip (Names level shard self.new.shard) list.now refs) (λ f. IsHalted limit (plain_list list.now) self.new.shard f) }
     {
         if self.found.reserve(list.len()).is_err() {
             return Err(StoreFault::OutOfMemory);
@@ -116,7 +118,8 @@ impl Shard {
         requires shard { shard < 16 }
         ensures grows { Grows (plain_list (all_at parts.now shard)) self.old.shard self.new.shard }
         ensures within { length self.old.shard ≤ limit → length self.new.shard ≤ limit }
-        ensures noted { MatchResult result (λ _. AllZip (Names level shard self.new.shard) (all_at parts.now shard) self.new.found.items) (λ f. IsHalted limit (plain_list (all_at parts.now shard)) self.new.shard f) }
+        ensures noted { MatchResult result (λ _. AllZip (Names level shard self.new.shard) (all_at parts.now shard) self.new.found.items)
+            (λ f. IsHalted limit (plain_list (all_at parts.now shard)) self.new.shard f) }
     {
         self.found.clear();
         for part in parts {
@@ -139,7 +142,8 @@ pub(crate) fn add_lists<R: Threads + Sync, H: Watch + Sync>(
     requires slots { length slots.old ≡ 16 }
     requires lists { length lists.now ≡ 16 }
     requires limit { limit < 2 ^ 32 }
-    ensures { (s : ℕ) (d : SlotValue) → s < 16 → IsAdded limit (list_at lists.now s) (slice_index_or slots.old s d) (slice_index_or slots.new s d) }
+    ensures { (s : ℕ) (d : SlotValue) → s < 16 → IsAdded limit (list_at lists.now s) (slice_index_or slots.old s d)
+        (slice_index_or slots.new s d) }
 {
     let add = |shard: usize, slot: &mut Shard|
         requires { (shard < 16) × (length lists.now ≡ 16) × (limit < 2 ^ 32) }

@@ -56,7 +56,8 @@ fn make_shards<H: Watch>(
     requires limit { limit < 2 ^ 32 }
     requires lists { All (λ part. length part.items ≡ 16) parts.now }
     requires shards { first + length slots.old ≤ 16 }
-    ensures { (i : ℕ) (d : SlotValue) → i < length slots.old → IsNoted limit level (first + i) (all_at parts.now (first + i)) (slice_index_or slots.old i d) (slice_index_or slots.new i d) }
+    ensures { (i : ℕ) (d : SlotValue) → i < length slots.old
+        → IsNoted limit level (first + i) (all_at parts.now (first + i)) (slice_index_or slots.old i d) (slice_index_or slots.new i d) }
 {
     for place in 0..slots.len() {
         let shard = first + place;
@@ -76,12 +77,15 @@ pub(crate) fn make_slots<R: Threads + Sync, H: Watch + Sync>(
     requires slots { length slots.old ≡ 16 }
     requires lists { All (λ part. length part.items ≡ 16) parts.now }
     requires limit { limit < 2 ^ 32 }
-    ensures { (s : ℕ) (d : SlotValue) → s < 16 → IsNoted limit level s (all_at parts.now s) (slice_index_or slots.old s d) (slice_index_or slots.new s d) }
+    ensures { (s : ℕ) (d : SlotValue) → s < 16 → IsNoted limit level s (all_at parts.now s) (slice_index_or slots.old s d)
+        (slice_index_or slots.new s d) }
 {
     let watch = makers.watch;
     let make = |first: usize, share: &mut [Shard]|
         requires { (first + length share.now ≤ 16) × All (λ part. length part.items ≡ 16) parts.now × (limit < 2 ^ 32) }
-        ensures { (i : ℕ) (d : SlotValue) → i < length share.entry.now → IsNoted limit level (first + i) (all_at parts.entry.now (first + i)) (slice_index_or share.entry.now i d) (slice_index_or share.exit.now i d) }
+        ensures { (i : ℕ) (d : SlotValue) → i < length share.entry.now
+            → IsNoted limit level (first + i) (all_at parts.entry.now (first + i)) (slice_index_or share.entry.now i d)
+            (slice_index_or share.exit.now i d) }
     { make_shards(share, parts, limit, level, first, watch) };
     par_chunks_mut_for_each(makers.rt, slots, makers.share(), make);
 }

@@ -32,7 +32,8 @@ pub record AreParts (S : Nodes) (workers : ℕ) (roots : List Key) (p : PartsVie
   pub senders : (k : ℕ) → k < workers → length (slice_index_or p.noted k []) ≡ workers
   pub closure : IsClosure (wave_of S workers) roots (level_of_rows workers (row_of p.rows))
   pub places : (s k : ℕ) → s < workers → k < workers
-      → AllZip (λ x n. slice_get (map key_of (row_of p.rows k (level_of S x))) n ≡ Some x) (owed (wave_of S workers) roots (row_of p.rows s) s k) (noted_of p.noted k s)
+      → AllZip (λ x n. slice_get (map key_of (row_of p.rows k (level_of S x))) n ≡ Some x)
+      (owed (wave_of S workers) roots (row_of p.rows s) s k) (noted_of p.noted k s)
 
 -- each of these items, taken in turn behind what was taken before, is no Ask of a level that is closed by then
 abbrev pub AreOpen : Scope → List Item → List Item → Type 0

@@ -31,14 +31,16 @@ abbrev pub IsPromised : PromisedHandle (Result Part WorkFault) PartOf → Part �
 IsPromised h p = IsWorked h.promise.lanes.now h.promise.store.now h.promise.roots.now h.promise.number p
 
 -- The handle is of the thread that works for this port, on these lanes, store and roots.
-pub record WorksFor (l : LanesView) (s : Nodes) (roots : List Key) (h : PromisedHandle (Result Part WorkFault) PartOf) (p : PortView) : Type 0 where
+pub record WorksFor (l : LanesView) (s : Nodes) (roots : List Key) (h : PromisedHandle (Result Part WorkFault) PartOf)
+    (p : PortView) : Type 0 where
   pub lanes : h.promise.lanes.now ≡ l
   pub store : h.promise.store.now ≡ s
   pub keys : h.promise.roots.now ≡ roots
   pub number : h.promise.number ≡ p.number
 
 -- The threads work for the first of these ports, one for each.
-pub record AreStarted (l : LanesView) (s : Nodes) (roots : List Key) (children : List (PromisedHandle (Result Part WorkFault) PartOf)) (ports : List PortView) : Type 0 where
+pub record AreStarted (l : LanesView) (s : Nodes) (roots : List Key) (children : List (PromisedHandle (Result Part WorkFault) PartOf))
+    (ports : List PortView) : Type 0 where
   pub first : List PortView
   pub rest : List PortView
   pub all : first ++ rest ≡ ports

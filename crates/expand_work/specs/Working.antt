@@ -26,10 +26,12 @@ pub record IsWorking (l : LanesView) (S : Nodes) (roots : List Key) (v : ℕ) (w
   pub lean : (u : ℕ) → u < v → at w.rows u ≡ lean_row (length l.lanes) (records_of S (at w.tables u))
   pub many_due : length w.due ≡ length l.lanes
   pub told : (k : ℕ) → k < length l.lanes → at w.due k ≡ with_levels S (keys_in (at w.due k))
-  pub level : IsAt (lanes_wave S (length l.lanes)) roots w.port.number v (sent_to w.port) w.port.taken (λ k. keys_in (at w.due k)) (at w.tables) (at (recorded S w.tables))
+  pub level : IsAt (lanes_wave S (length l.lanes)) roots w.port.number v (sent_to w.port) w.port.taken (λ k. keys_in (at w.due k))
+      (at w.tables) (at (recorded S w.tables))
   pub put : (k : ℕ) → k < length l.lanes → put_to w.port k ≡ loads_of v w.port.number k (sent_to w.port k)
 
--- From w to u all that was due at level v is said: it was sent to the others and kept by the worker itself, and every lane has the level's End.
+-- From w to u all that was due at level v is said: it was sent to the others and kept by the worker itself, and every lane has the level's
+-- End.
 pub record HasSpoken (l : LanesView) (v : ℕ) (w u : Worker) : Type 0 where
   pub sent : PortView
   pub left : List (List (ℕ × Key))

@@ -25,7 +25,8 @@ fn send_bundle<R: Wait>(
     requires to { to < length lanes.now.lanes }
     requires some { 0 < length asks }
     requires may { All (MayFollow (lanes_scope lanes.now) (ends (sent_to port.old to))) (map (ask_of port.old.number) asks) }
-    requires leave { All (MayLeave (lanes_scope lanes.now) port.old.taken (ends (sent_to port.old to))) (map (ask_of port.old.number) asks) }
+    requires leave { All (MayLeave (lanes_scope lanes.now) port.old.taken (ends (sent_to port.old to)))
+        (map (ask_of port.old.number) asks) }
     ensures { OnOk result (SentTo port.old port.new to (map (ask_of port.old.number) asks) 1) }
 {
     let from = port.number();

@@ -84,9 +84,11 @@ HasRank c g r = (ranks : List ℕ) × AreRanks c ranks × (slice_index ranks g.o
 -- the entry asks for step j of a gate of rank r of one of the netlists
 abbrev pub IsEntryAt : List Levelled → Nodes → (r j : ℕ) → Entry → Type 0
 IsEntryAt netlists S r j e =
-    (one : Levelled) × Contains netlists one × ((g : GateLine) × Contains one.netlist.gates g × HasRank one.netlist g r × IsEntryOf one.netlist one.level S g j e)
+    (one : Levelled) × Contains netlists one × ((g : GateLine) × Contains one.netlist.gates g × HasRank one.netlist g r
+    × IsEntryOf one.netlist one.level S g j e)
 
--- In some store over so many levels, one wave of the netlists' building reaches more than n requests: that of a step of the gates of one rank.
+-- In some store over so many levels, one wave of the netlists' building reaches more than n requests: that of a step of the gates of one
+-- rank.
 pub record IsWide (n depth : ℕ) (netlists : List Levelled) : Type 0 where
   pub store : Nodes
   pub sound : IsSound store

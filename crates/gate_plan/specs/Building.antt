@@ -1,5 +1,6 @@
 -- What is built of netlists over the variables of a pairing: for each signal a reference that denotes its function.
-use Rattle.std.specs.Prelude.{◌≡◌, ℕ, ◌+◌, ◌<◌, ◌≤◌, ◌⊎◌, Bool, List, [], ◌∷◌, ◌++◌, map, length, min, unwrap_or, Option, Some, None, slice_index, slice_index_or, slice_set, Contains}
+use Rattle.std.specs.Prelude.{◌≡◌, ℕ, ◌+◌, ◌<◌, ◌≤◌, ◌⊎◌, Bool, List, [], ◌∷◌, ◌++◌, map, length, min, unwrap_or, Option, Some, None}
+use Rattle.std.specs.Prelude.{slice_index, slice_index_or, slice_set, Contains}
 use Rattle.dd_store.specs.declared.StoreFault.{StoreFault}
 use Rattle.dd_store.specs.declared.StoreFault.TheVariants as store_faults
 use Rattle.dd_store.specs.declared.reference.Ref.{Ref}
@@ -83,7 +84,8 @@ levelled_given (Some c) p = record { netlist = c; level = given_level p } ∷ []
 
 -- the netlists that are built for a pairing: the first, the second, and the condition where there is one
 abbrev pub levelled : Circuit → Circuit → Option Circuit → Paired → List Levelled
-levelled a b given p = record { netlist = a; level = first_level p } ∷ record { netlist = b; level = second_level p } ∷ levelled_given given p
+levelled a b given p = record { netlist = a; level = first_level p } ∷ record { netlist = b; level = second_level p }
+    ∷ levelled_given given p
 
 -- a netlist of a pairing without its plan
 abbrev pub levelled_of : Placed → Levelled
@@ -105,7 +107,8 @@ pub record ArePlaced (a b : Circuit) (given : Option Circuit) (p : Paired) (side
 abbrev pub Each : (Placed → List Ref → Type 0) → List Placed → List (List Ref) → Type 0
 Each P sides built =
     (length built ≡ length sides) ×
-    ((k : ℕ) (one : Placed) (refs : List Ref) → k < length sides → slice_index_or sides k one ≡ one → slice_index_or built k refs ≡ refs → P one refs)
+    ((k : ℕ) (one : Placed) (refs : List Ref) → k < length sides → slice_index_or sides k one ≡ one → slice_index_or built k refs ≡ refs
+    → P one refs)
 
 -- the reference of a signal
 abbrev pub reference_of : List Ref → ℕ → Ref
@@ -178,8 +181,10 @@ value_after g i bits = value_so_far g.kind (map (bit_of bits) g.operands) i
 pub record AreRight (net : Net) (level : ℕ → ℕ) (S : Nodes) (refs : List Ref) (rank : ℕ) : Type 0 where
   pub each : length refs ≡ length net.names
   pub known : (s : ℕ) → Has S (reference_of refs s)
-  pub below : (s : ℕ) → s < length net.names → slice_index net.ranks s < rank → Denotes (circuit net) level S (reference_of refs s) (λ bits. bit_of bits s)
-  pub values : (g : GateLine) → Contains net.gates g → rank_of net g < rank → (i : ℕ) → 0 < i → i ≤ length g.operands → IsDenoted (circuit net) level S (value_after g i)
+  pub below : (s : ℕ) → s < length net.names → slice_index net.ranks s < rank
+      → Denotes (circuit net) level S (reference_of refs s) (λ bits. bit_of bits s)
+  pub values : (g : GateLine) → Contains net.gates g → rank_of net g < rank → (i : ℕ) → 0 < i → i ≤ length g.operands
+      → IsDenoted (circuit net) level S (value_after g i)
 
 -- a gate has a value after so many folds: after none only if it is a copy
 abbrev pub IsBegun : GateLine → ℕ → Type 0
@@ -211,7 +216,8 @@ pub record IsBeginning (c : PairedCircuits) (S : Nodes) (sides : List Placed) (b
 abbrev pub asked : List Placed → List (List Ref) → ℕ → ℕ → List (Op × Ref × Ref)
 asked [] built rank fold = []
 asked (one ∷ sides) [] rank fold = []
-asked (one ∷ sides) (refs ∷ built) rank fold = map (entry_of refs) (plan_steps one.net one.net.gates rank fold) ++ asked sides built rank fold
+asked (one ∷ sides) (refs ∷ built) rank fold = map (entry_of refs) (plan_steps one.net one.net.gates rank fold)
+    ++ asked sides built rank fold
 
 -- after the copies of a rank
 abbrev pub AreCopied : List Placed → List (List Ref) → List (List Ref) → ℕ → Type 0

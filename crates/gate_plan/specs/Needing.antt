@@ -1,4 +1,5 @@
--- Which nodes two netlists, and a condition where there is one, need of a store: what their building adds, what a store without nodes has after it, and when it is Full.
+-- Which nodes two netlists, and a condition where there is one, need of a store: what their building adds, what a store without nodes has
+-- after it, and when it is Full.
 use Rattle.std.specs.Prelude.{◌≡◌, ℕ, ◌<◌, ◌≤◌, ◌⊎◌, Bool, List, Option, length, map, Contains}
 use Rattle.dd_store.specs.declared.reference.Ref.{Ref}
 use Rattle.dd_store.specs.Functions.{Agree}

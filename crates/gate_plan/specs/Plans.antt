@@ -1,5 +1,6 @@
 -- The plan of a netlist: the copies and the steps of its gates, by rank and fold number.
-use Rattle.std.specs.Prelude.{◌≡◌, ℕ, ◌+◌, ◌-◌, ◌<◌, ◌≤◌, ◌==◌, cond, List, [], ◌∷◌, ◌++◌, map, flat_map, length, Option, Some, None, max, nat_lt, slice_index, slice_index_or}
+use Rattle.std.specs.Prelude.{◌≡◌, ℕ, ◌+◌, ◌-◌, ◌<◌, ◌≤◌, ◌==◌, cond, List, [], ◌∷◌, ◌++◌, map, flat_map, length, Option, Some, None, max}
+use Rattle.std.specs.Prelude.{nat_lt, slice_index, slice_index_or}
 use Rattle.std.specs.Option.{option_map_or}
 use Rattle.net_bench.specs.declared.netlist.Kind.{Kind}
 use Rattle.net_bench.specs.declared.netlist.Kind.TheVariants.{And, Nand, Or, Nor, Xor, Xnor, Not, Buff, Dff}
@@ -52,7 +53,13 @@ folds_of g = length g.operands - 1
 
 -- a step is the operation that takes in operand j + 1
 abbrev pub step_at : GateLine → ℕ → Step
-step_at g j = record { out = g.out; op = op_at g.kind (length g.operands) (j + 1); first = cond (j == 0) (Some (operand_at g 0)) None; second = operand_at g (j + 1) }
+step_at g j = record {
+  out = g.out;
+  op = op_at g.kind (length g.operands) (j + 1);
+  first = cond (j == 0)
+      (Some (operand_at g 0)) None;
+  second = operand_at g (j + 1);
+}
 
 -- step j of a gate's fold, if it has one
 abbrev pub step_of : GateLine → ℕ → Option Step

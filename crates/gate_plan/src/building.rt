@@ -1,5 +1,6 @@
 //! The building of netlists' diagrams in one store, rank by rank.
-ghost use Rattle.std.specs.Prelude.{◌≡◌, ◌≢◌, ◌+◌, ◌-◌, ◌^◌, ◌<◌, ◌≤◌, Err, [], Contains, length, map, min, IfOk, IfErr, IfSome, OnOk, slice_get, slice_index_or, Some};
+ghost use Rattle.std.specs.Prelude.{◌≡◌, ◌≢◌, ◌+◌, ◌-◌, ◌^◌, ◌<◌, ◌≤◌, Err, [], Contains, length, map, min, IfOk, IfErr, IfSome, OnOk};
+ghost use Rattle.std.specs.Prelude.{slice_get, slice_index_or, Some};
 ghost use Rattle.dd_store.specs.Nodes.{IsSound, count_of};
 ghost use Rattle.dd_store.specs.View.{Keeps};
 ghost use Rattle.net_bench.specs.Circuit.{greatest};
@@ -11,7 +12,8 @@ ghost use Rattle.gate_plan.specs.Need.{IsCounted};
 ghost use Rattle.gate_plan.specs.Needing.{IsNeeded, IsNeededValue, HasNeed, IsBuildFault, IsPlacedValue, IsStillWithin};
 ghost use Rattle.gate_plan.specs.Asking.{AnyAsks, AnyAsksAt, AnyAsksIn, AnyAsksBelow, IsWithinOrUnasked, IsHeldWithin, IsPast};
 ghost use Rattle.gate_plan.specs.Plans.{IsPlan};
-ghost use Rattle.gate_plan.specs.Building.{Placed, IsPaired, AreDiagrams, AllRight, AllFolded, IsBeginning, circuits_of, levelled, levelled_of, ranks_of};
+ghost use Rattle.gate_plan.specs.Building.{Placed, IsPaired, AreDiagrams, AllRight, AllFolded, IsBeginning, circuits_of, levelled};
+ghost use Rattle.gate_plan.specs.Building.{levelled_of, ranks_of};
 
 use crate::circuits::Circuits;
 use crate::inputs::make_variables;
@@ -175,7 +177,8 @@ fn build_ranks<R: Threads + Wait + Sync, G: Monitor>(
     ensures sound { IsSound store.new }
     ensures adds { AddsDescribed store.old store.new (IsCounted store.old.levels (IsPlacedValue store.old.levels sides.now)) }
     ensures built { OnOk result (AllRight sides.now store.new built.new (greatest (map ranks_of sides.now) + 1)) }
-    ensures within { OnOk result (IsWithinOrUnasked (AnyAsksBelow sides.now store.new (greatest (map ranks_of sides.now))) store.old store.new) }
+    ensures within { OnOk result (IsWithinOrUnasked (AnyAsksBelow sides.now store.new
+        (greatest (map ranks_of sides.now))) store.old store.new) }
     ensures fault { IfErr result (IsBuildFault store.old.levels (IsPlacedValue store.old.levels sides.now) store.new) }
     ensures past { result ≡ Err WaveFault.TooManyRequests → IsPast engine.old.bound store.old.levels (map levelled_of sides.now) }
     ensures alone { most_of engine.old.bound < 2 ^ 64 - 1 → result ≢ Err WaveFault.NoWorker }
@@ -202,9 +205,11 @@ fn build_all<R: Threads + Wait + Sync, G: Monitor>(
     ensures sound { IsSound store.new }
     ensures adds { AddsDescribed store.old store.new (IsCounted store.old.levels (IsPlacedValue store.old.levels sides.now)) }
     ensures built { OnOk result (AllRight sides.now store.new built.new (greatest (map ranks_of sides.now) + 1)) }
-    ensures within { OnOk result (IsWithinOrUnasked (AnyAsksBelow sides.now store.new (greatest (map ranks_of sides.now))) store.old store.new) }
+    ensures within { OnOk result (IsWithinOrUnasked (AnyAsksBelow sides.now store.new
+        (greatest (map ranks_of sides.now))) store.old store.new) }
     ensures fault { IfErr result (IsBuildFault store.old.levels (IsPlacedValue store.old.levels sides.now) store.new) }
-    ensures past { result ≡ Err WaveFault.TooManyRequests → IsPast (G.bound crew.now.monitor.now) store.old.levels (map levelled_of sides.now) }
+    ensures past { result ≡ Err WaveFault.TooManyRequests → IsPast (G.bound crew.now.monitor.now) store.old.levels
+        (map levelled_of sides.now) }
     ensures alone { most_of (G.bound crew.now.monitor.now) < 2 ^ 64 - 1 → result ≢ Err WaveFault.NoWorker }
     ensures memory { count_of store.old ≤ store.old.limit → result ≡ Err WaveFault.OutOfMemory → count_of store.new ≤ store.new.limit }
 {
@@ -257,18 +262,24 @@ pub fn build<R: Threads + Wait + Sync, G: Monitor>(
     ensures keeps { Keeps store.old store.new }
     // Each signal of the netlists has the diagram of its function.
     ensures first { let c = circuits_of circuits.now in IfOk result (λ b. AreDiagrams c.first (first_level c.pairing) store.new b.first) }
-    ensures second { let c = circuits_of circuits.now in IfOk result (λ b. AreDiagrams c.second (second_level c.pairing) store.new b.second) }
-    ensures given { let c = circuits_of circuits.now in IfOk result (λ b. IfSome c.given (λ holds. AreDiagrams holds (given_level c.pairing) store.new b.given)) }
+    ensures second { let c = circuits_of circuits.now in IfOk result
+        (λ b. AreDiagrams c.second (second_level c.pairing) store.new b.second) }
+    ensures given { let c = circuits_of circuits.now in IfOk result
+        (λ b. IfSome c.given (λ holds. AreDiagrams holds (given_level c.pairing) store.new b.given)) }
     // Each node that is added is needed, also where the build is refused.
     ensures adds { let c = circuits_of circuits.now in AddsDescribed store.old store.new (IsNeeded c.first c.second c.given c.pairing) }
     // A store that is over its limit after a build is as it was, and no step of a gate had to be asked for.
-    ensures within { let c = circuits_of circuits.now in OnOk result (IsWithinOrUnasked (AnyAsks c.first c.second c.given c.pairing store.new) store.old store.new) }
+    ensures within { let c = circuits_of circuits.now in OnOk result
+        (IsWithinOrUnasked (AnyAsks c.first c.second c.given c.pairing store.new) store.old store.new) }
     // A store without nodes gets the nodes that are needed and no others, within its limit.
-    ensures need { let c = circuits_of circuits.now in count_of store.old ≡ 0 → OnOk result (HasNeed c.first c.second c.given c.pairing store.new) }
+    ensures need { let c = circuits_of circuits.now in count_of store.old ≡ 0
+        → OnOk result (HasNeed c.first c.second c.given c.pairing store.new) }
     // Full is answered only where the store has more nodes than its limit, or as many and lacks one that is needed.
-    ensures fault { let c = circuits_of circuits.now in IfErr result (IsBuildFault (length c.pairing.names) (IsNeededValue c.first c.second c.given c.pairing) store.new) }
+    ensures fault { let c = circuits_of circuits.now in IfErr result
+        (IsBuildFault (length c.pairing.names) (IsNeededValue c.first c.second c.given c.pairing) store.new) }
     // The build is refused for its requests only where one of its waves reaches more than the monitor allows.
-    ensures past { let c = circuits_of circuits.now in result ≡ Err WaveFault.TooManyRequests → IsPast (G.bound crew.now.monitor.now) (length c.pairing.names) (levelled c.first c.second c.given c.pairing) }
+    ensures past { let c = circuits_of circuits.now in result ≡ Err WaveFault.TooManyRequests
+        → IsPast (G.bound crew.now.monitor.now) (length c.pairing.names) (levelled c.first c.second c.given c.pairing) }
     // Where the monitor sets a bound, no worker is wanted.
     ensures alone { most_of (G.bound crew.now.monitor.now) < 2 ^ 64 - 1 → result ≢ Err WaveFault.NoWorker }
     // Where memory is wanted, a store that was within its limit is so still: Full comes first.

@@ -50,9 +50,11 @@ pub fn conjoin<R: Threads + Wait + Sync, G: Monitor>(
     // Full is answered only where the store has more nodes than its limit, or as many and lacks one that is wanted.
     ensures fault { IfErr result (IsWaveFault store.old (conjunctions references.now given) store.new) }
     // The wave is refused for its requests only where it reaches more than the monitor allows.
-    ensures past { result ≡ Err WaveFault.TooManyRequests → ArePast (G.bound crew.now.monitor.now) store.old (conjunctions references.now given) }
+    ensures past { result ≡ Err WaveFault.TooManyRequests → ArePast (G.bound crew.now.monitor.now) store.old
+        (conjunctions references.now given) }
     // A wave that was done reached no more than the monitor allows.
-    ensures within_bound { most_of (G.bound crew.now.monitor.now) < 2 ^ 64 - 1 → OnOk result (AreAtMost (most_of (G.bound crew.now.monitor.now)) store.old (conjunctions references.now given)) }
+    ensures within_bound { most_of (G.bound crew.now.monitor.now) < 2 ^ 64 - 1
+        → OnOk result (AreAtMost (most_of (G.bound crew.now.monitor.now)) store.old (conjunctions references.now given)) }
     // Where the monitor sets a bound, no worker is wanted.
     ensures alone { most_of (G.bound crew.now.monitor.now) < 2 ^ 64 - 1 → result ≢ Err WaveFault.NoWorker }
     // Where memory is wanted, a store that was within its limit is so still: Full comes first.

@@ -2,7 +2,8 @@
 ghost use Rattle.std.specs.Prelude.{◌≡◌, ◌<◌, ◌≤◌, ℕ, Contains, length, map, IfOk, OnOk, All};
 ghost use Rattle.net_bench.specs.Circuit.{circuit, greatest, variables_of};
 ghost use Rattle.gate_plan.specs.Plans.{IsPlan, plan_steps, plan_copies, plan_folds};
-ghost use Rattle.gate_plan.specs.Building.{Placed, circuits_of, ranks_of, folds_at, input_level, AddsPlaced, AreInputs, ArePlaced, AreCopied, Each, IsCopyBelow, IsStepBelow, answered_all, asked, copied_all};
+ghost use Rattle.gate_plan.specs.Building.{Placed, circuits_of, ranks_of, folds_at, input_level, AddsPlaced, AreInputs, ArePlaced};
+ghost use Rattle.gate_plan.specs.Building.{AreCopied, Each, IsCopyBelow, IsStepBelow, answered_all, asked, copied_all};
 
 use crate::circuits::Circuits;
 use crate::folds::{add_entries, copy_all, take_answers};
@@ -82,7 +83,8 @@ impl<'a> PlannedNetlist<'a> {
         which: Which,
     ) -> Result<PlannedNetlist<'a>, AllocError>
         ensures plan { IfOk result (λ side. IsPlan netlist.entry.now side.plan) }
-        ensures is { IfOk result (λ side. side ≡ record { net = netlist.entry.now; which = which; pairing = pairing.entry.now; plan = side.plan }) }
+        ensures is { IfOk result (λ side.
+            side ≡ record { net = netlist.entry.now; which = which; pairing = pairing.entry.now; plan = side.plan }) }
     {
         let plan = Plan::new(alloc, netlist)?;
         Ok(PlannedNetlist {
@@ -212,7 +214,8 @@ pub fn start(
     sides: &[PlannedNetlist<'_>],
     variables: &[Ref],
 ) -> Result<Vec<Diagrams>, AllocError>
-    requires { (one : Placed) → Contains sides.now one → (s : ℕ) → Contains (variables_of (circuit one.net)) s → input_level one s < length variables.now }
+    requires { (one : Placed) → Contains sides.now one → (s : ℕ) → Contains (variables_of (circuit one.net)) s
+        → input_level one s < length variables.now }
     ensures { IfOk result (λ built. Each (λ one refs. AreInputs one.net (input_level one) variables.now refs) sides.now built.items) }
 {
     let mut built = Vec::new(alloc);

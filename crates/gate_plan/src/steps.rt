@@ -2,7 +2,8 @@
 ghost use Rattle.std.specs.Prelude.{◌≡◌, ◌<◌, ◌≤◌, length, map, replicate, IfOk, OnOk};
 ghost use Rattle.net_bench.specs.Circuit.{greatest};
 ghost use Rattle.net_bench.specs.Labels.{is_complemented};
-ghost use Rattle.gate_plan.specs.Plans.{IsPlan, rank_at, steps_at, plain_op, last_op, folds_of, step_of, copy_of, AddsAt, AddsSteps, AddsGate, no_steps, rank_of};
+ghost use Rattle.gate_plan.specs.Plans.{IsPlan, rank_at, steps_at, plain_op, last_op, folds_of, step_of, copy_of, AddsAt, AddsSteps};
+ghost use Rattle.gate_plan.specs.Plans.{AddsGate, no_steps, rank_of};
 
 use net_bench::netlist::{GateLine, Kind, Signal};
 use net_bench::reader::Netlist;

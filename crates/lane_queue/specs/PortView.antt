@@ -1,5 +1,6 @@
 -- What a contract sees of lanes and of a port.
-use Rattle.std.specs.Prelude.{◌≡◌, ◌≢◌, ℕ, ◌+◌, ◌-◌, ◌<◌, ◌==◌, cond, List, [], ◌∷◌, ◌++◌, map, length, Option, Some, slice_index_or, slice_set}
+use Rattle.std.specs.Prelude.{◌≡◌, ◌≢◌, ℕ, ◌+◌, ◌-◌, ◌<◌, ◌==◌, cond, List, [], ◌∷◌, ◌++◌, map, length, Option, Some, slice_index_or}
+use Rattle.std.specs.Prelude.{slice_set}
 use Rattle.crossbeam_queue.specs.SegTies.{SegId}
 use Rattle.std.specs.declared.alloc.Global.{Global}
 use Rattle.req_table.specs.declared.Item.{Item}

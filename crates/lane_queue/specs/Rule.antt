@@ -59,7 +59,8 @@ pub record Fits (c : Terms) (seat : ℕ → ℕ) (sent : ℕ → List Item) (tak
   pub sends : sent_of v p ≡ sent p
   pub takes : p ≡ c.owner → (v.taken ≡ taken) × (v.left ≡ left)
 
--- The owner is a worker, and each port has one pass. Of each port, what was taken and then what waits is what it sent, and that list is fair.
+-- The owner is a worker, and each port has one pass. Of each port, what was taken and then what waits is what it sent, and that list is
+-- fair.
 pub record Ruled (items : List Item) (views : List View) : Type 0 where
   pub c : Terms
   pub seat : ℕ → ℕ

@@ -1,8 +1,10 @@
 //! The lanes of all workers.
-ghost use Rattle.std.specs.Prelude.{◌≡◌, ◌≢◌, ℕ, ◌+◌, ◌<◌, ◌≤◌, ◌++◌, length, map, slice_index_or, All, IfOk, OnOk, MatchResult, MatchOption, IfSome};
+ghost use Rattle.std.specs.Prelude.{◌≡◌, ◌≢◌, ℕ, ◌+◌, ◌<◌, ◌≤◌, ◌++◌, length, map, slice_index_or, All, IfOk, OnOk, MatchResult};
+ghost use Rattle.std.specs.Prelude.{MatchOption, IfSome};
 ghost use Rattle.req_table.specs.Lanes.{sent_by, ends};
 ghost use Rattle.lane_queue.specs.Loads.{load_from, items_in, Carries, MayFollowAll};
-ghost use Rattle.lane_queue.specs.PortView.{PortView, sent_to, put_to, has_put, has_taken, IsPortOf, IsTaken, IsKept, MayLeave, IsOpen, lanes_scope};
+ghost use Rattle.lane_queue.specs.PortView.{PortView, sent_to, put_to, has_put, has_taken, IsPortOf, IsTaken, IsKept, MayLeave, IsOpen};
+ghost use Rattle.lane_queue.specs.PortView.{lanes_scope};
 ghost use Rattle.req_table.specs.Sizes.{sizes_of};
 ghost use Rattle.lane_queue.specs.Make.{new_port};
 ghost use Rattle.crossbeam_queue.specs.SegTies.{SegId, IsSegPassOf};

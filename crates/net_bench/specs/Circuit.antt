@@ -1,5 +1,7 @@
 -- The netlist that statements make.
-use Rattle.std.specs.Prelude.{◌≡◌, ◌≢◌, ◌⊎◌, ℕ, zero, suc, ◌+◌, ◌<◌, ◌≤◌, Bool, true, false, not, if◌then◌else◌, IsTrue, List, [], ◌∷◌, ◌++◌, map, length, flat_map, filter, filter_map, fold, position, unwrap_or, Option, Some, None, option_map, bytes_eq, Contains, slice_get, slice_index, slice_index_or, All}
+use Rattle.std.specs.Prelude.{◌≡◌, ◌≢◌, ◌⊎◌, ℕ, zero, suc, ◌+◌, ◌<◌, ◌≤◌, Bool, true, false, not, if◌then◌else◌, IsTrue, List, [], ◌∷◌}
+use Rattle.std.specs.Prelude.{◌++◌, map, length, flat_map, filter, filter_map, fold, position, unwrap_or, Option, Some, None, option_map}
+use Rattle.std.specs.Prelude.{bytes_eq, Contains, slice_get, slice_index, slice_index_or, All}
 use Rattle.std.specs.List.{list_any}
 use Rattle.net_bench.specs.declared.netlist.Kind.{Kind}
 use Rattle.net_bench.specs.declared.netlist.Kind.TheVariants.{And, Nand, Or, Nor, Xor, Xnor, Not, Buff, Dff}
@@ -173,5 +175,6 @@ pub record IsNet (n : Net) : Type 0 where
   pub registers : All (λ g. IsTrue (is_register g)) n.registers
   -- a register has one operand, its next state
   pub next : All (λ g. All (λ s. s < length n.names) g.operands × (length g.operands ≡ 1)) n.registers
-  pub operands : All (λ g. All (λ s. s < length n.names) g.operands × (0 < length g.operands) × (IsTrue (takes_one g.kind) → length g.operands ≡ 1)) n.gates
+  pub operands : All (λ g. All (λ s. s < length n.names) g.operands × (0 < length g.operands)
+      × (IsTrue (takes_one g.kind) → length g.operands ≡ 1)) n.gates
   pub ranks : AreRanks (circuit n) n.ranks

@@ -1,12 +1,15 @@
 -- Why a text is no netlist: the faulty places of a text, and which fault is answered.
-use Rattle.std.specs.Prelude.{◌≡◌, ℕ, ◌+◌, ◌<◌, ◌≤◌, Bool, false, ◌||◌, ◌⊎◌, IsTrue, List, [], ◌∷◌, ◌++◌, map, length, take, flat_map, slice_get, Option, Some, None, Contains}
+use Rattle.std.specs.Prelude.{◌≡◌, ℕ, ◌+◌, ◌<◌, ◌≤◌, Bool, false, ◌||◌, ◌⊎◌, IsTrue, List, [], ◌∷◌, ◌++◌, map, length, take, flat_map}
+use Rattle.std.specs.Prelude.{slice_get, Option, Some, None, Contains}
 use Rattle.std.specs.List.{list_any, list_all}
 use Rattle.net_bench.specs.declared.netlist.Kind.{Kind}
 use Rattle.net_bench.specs.declared.netlist.GateLine.{GateLine}
 use Rattle.net_bench.specs.declared.netlist.BenchFault.{BenchFault}
-use Rattle.net_bench.specs.declared.netlist.BenchFault.TheVariants.{TooLong, BadByte, BadStatement, UnknownGate, WrongOperands, Redefined, TooMany, Undefined, Cycle, Read, OutOfMemory}
+use Rattle.net_bench.specs.declared.netlist.BenchFault.TheVariants.{TooLong, BadByte, BadStatement, UnknownGate, WrongOperands, Redefined}
+use Rattle.net_bench.specs.declared.netlist.BenchFault.TheVariants.{TooMany, Undefined, Cycle, Read, OutOfMemory}
 use Rattle.net_bench.specs.Text.{Word, Token, Open, Comma, Equals, Name, Unknown, HasTokens}
-use Rattle.net_bench.specs.Statement.{Statement, Input, Output, Gate, spelled, IsSpelledRight, AreSpelledRight, spelling, token_of, Reads, kind_of, takes_one, line_of, input_name, gate_name, uses, defined}
+use Rattle.net_bench.specs.Statement.{Statement, Input, Output, Gate, spelled, IsSpelledRight, AreSpelledRight, spelling, token_of, Reads}
+use Rattle.net_bench.specs.Statement.{kind_of, takes_one, line_of, input_name, gate_name, uses, defined}
 use Rattle.net_bench.specs.Circuit.{Circuit, is_name_in, circuit_of, distinct, IsEndless}
 
 -- the most bytes of a text
@@ -97,7 +100,8 @@ is_among name names = is_name_in names name
 -- the statement's signal has a gate or register before it, or has an INPUT before it and the statement is a gate or register
 abbrev pub redefines : List Statement → Statement → Bool
 redefines before s =
-    list_any (λ n. is_among n (flat_map gate_name before)) (defined s) || list_any (λ n. is_among n (flat_map input_name before)) (gate_name s)
+    list_any (λ n. is_among n (flat_map gate_name before)) (defined s) || list_any (λ n. is_among n (flat_map input_name before))
+    (gate_name s)
 
 -- up to this place the tokens are these whole statements, and then these
 abbrev pub StandsAfter : List Statement → List (ℕ × Token) → ℕ → List Token → Type 0

@@ -1,5 +1,7 @@
 -- Heights: what is known of the ranks while they are sought. A signal's height is 0, or 1 more than its rank.
-use Rattle.std.specs.Prelude.{◌≡◌, ◌≢◌, ◌⊎◌, ℕ, zero, suc, ◌+◌, ◌-◌, ◌<◌, ◌≤◌, Bool, true, false, ◌&&◌, ◌||◌, ◌==◌, nat_lt, nat_le, if◌then◌else◌, IsTrue, List, [], ◌∷◌, map, length, take, Option, Some, None, Contains, slice_get, slice_index, slice_index_or, All}
+use Rattle.std.specs.Prelude.{◌≡◌, ◌≢◌, ◌⊎◌, ℕ, zero, suc, ◌+◌, ◌-◌, ◌<◌, ◌≤◌, Bool, true, false, ◌&&◌, ◌||◌, ◌==◌, nat_lt, nat_le}
+use Rattle.std.specs.Prelude.{if◌then◌else◌, IsTrue, List, [], ◌∷◌, map, length, take, Option, Some, None, Contains, slice_get}
+use Rattle.std.specs.Prelude.{slice_index, slice_index_or, All}
 use Rattle.net_bench.specs.declared.netlist.GateLine.{GateLine}
 use Rattle.net_bench.specs.declared.netlist.Role.{Role}
 use Rattle.net_bench.specs.declared.netlist.Role.TheVariants.{Undefined as undefined, Input as input, Gate as gate, Register as register}
@@ -38,7 +40,8 @@ unranked (m ∷ ms) = if m == 0 then unranked ms + 1 else unranked ms
 
 -- the gate has a height, and it is the right one
 abbrev pub IsRanked : List ℕ → GateLine → Type 0
-IsRanked heights g = IsTrue (all_ranked heights g.operands) × (slice_index heights g.out ≡ greatest (map (slice_index heights) g.operands) + 1)
+IsRanked heights g = IsTrue (all_ranked heights g.operands)
+    × (slice_index heights g.out ≡ greatest (map (slice_index heights) g.operands) + 1)
 
 -- the heights are right, as far as they go; and none is greater than the number of heights
 pub record AreHeights (gates : List GateLine) (heights : List ℕ) : Type 0 where
@@ -89,7 +92,8 @@ IsEnded gates heights p = (0 < slice_index heights (out_at gates p)) ⊎ IsNever
 
 -- a gate that waits is one of the gates, and the operands that it has passed have heights
 abbrev pub IsFrame : List GateLine → List ℕ → Waiting → Type 0
-IsFrame gates heights f = (f.place < length gates) × (f.passed ≤ length (operands_at gates f.place)) × (all_ranked heights (take f.passed (operands_at gates f.place)) ≡ true)
+IsFrame gates heights f = (f.place < length gates) × (f.passed ≤ length (operands_at gates f.place))
+    × (all_ranked heights (take f.passed (operands_at gates f.place)) ≡ true)
 
 -- the gate that waits next waits for this one
 abbrev pub IsUnder : List GateLine → Waiting → List Waiting → Type 0

@@ -1,5 +1,7 @@
--- The first fault of a text, computed token by token from the reader's states. The definition of faulty places does not mention it; the laws in proofs/ tie the two.
-use Rattle.std.specs.Prelude.{◌≡◌, ℕ, ◌+◌, Bool, true, false, ◌||◌, nat_lt, if◌then◌else◌, List, [], ◌∷◌, ◌++◌, map, flat_map, length, fold, Option, Some, None, Result, Ok, Err}
+-- The first fault of a text, computed token by token from the reader's states. The definition of faulty places does not mention it; the
+-- laws in proofs/ tie the two.
+use Rattle.std.specs.Prelude.{◌≡◌, ℕ, ◌+◌, Bool, true, false, ◌||◌, nat_lt, if◌then◌else◌, List, [], ◌∷◌, ◌++◌, map, flat_map, length}
+use Rattle.std.specs.Prelude.{fold, Option, Some, None, Result, Ok, Err}
 use Rattle.std.specs.List.{list_all, list_any}
 use Rattle.net_bench.specs.declared.netlist.Kind.{Kind}
 use Rattle.net_bench.specs.declared.netlist.GateLine.{GateLine}
@@ -10,7 +12,8 @@ use Rattle.net_bench.specs.Pieces.{tokens_at}
 use Rattle.net_bench.specs.Statement.{Statement, Gate, kind_of, line_of, uses}
 use Rattle.net_bench.specs.Machine.{State, Between, Named, AtWord, AfterOperand, Finished, Failed, port, step}
 use Rattle.net_bench.specs.Circuit.{circuit_of, distinct, variables_of}
-use Rattle.net_bench.specs.Fault.{Cause, StrayByte, LongName, Misplaced, NoGateWord, OperandCount, SecondDefinition, Crowded, fault_of, max_name, max_signals, max_operands, counted_in, operands_in, has_wrong_operands, redefines, is_defined}
+use Rattle.net_bench.specs.Fault.{Cause, StrayByte, LongName, Misplaced, NoGateWord, OperandCount, SecondDefinition, Crowded, fault_of}
+use Rattle.net_bench.specs.Fault.{max_name, max_signals, max_operands, counted_in, operands_in, has_wrong_operands, redefines, is_defined}
 
 -- a fault and its line
 abbrev pub Found : Type 0
@@ -60,12 +63,14 @@ second (Some c) = if redefines c.0 c.1 then Some (SecondDefinition, line_of c.1)
 -- the tokens up to here count too many signals or operands
 abbrev pub crowded : ℕ → List Token → Option Found
 crowded line front =
-    if nat_lt max_signals (length (distinct (counted_in front))) || nat_lt max_operands (length (operands_in front)) then Some (Crowded, line) else None
+    if nat_lt max_signals (length (distinct (counted_in front))) || nat_lt max_operands (length (operands_in front)) then Some
+    (Crowded, line) else None
 
 -- what is wrong at the token, the causes in their order
 abbrev pub tests : State → ℕ → Token → List Token → List (Option Found)
 tests s line t front =
-    lexical line t ∷ syntactic line (step s t) ∷ gate_word (step s t) ∷ wrong_count (closed s t) ∷ second (closed s t) ∷ crowded line front ∷ []
+    lexical line t ∷ syntactic line (step s t) ∷ gate_word (step s t) ∷ wrong_count (closed s t) ∷ second (closed s t)
+    ∷ crowded line front ∷ []
 
 -- the first test that shows a fault
 abbrev pub first_of : List (Option Found) → Option Found

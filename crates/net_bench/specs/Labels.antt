@@ -51,7 +51,8 @@ is_complemented Not = true
 abbrev pub value_of : Kind → List Bool → Bool
 value_of kind bits = cond (is_complemented kind) (not (folded kind bits)) (folded kind bits)
 
--- One bit for each signal: each variable has the bit of its level, and each gate its kind's value of its operands' bits. A register has no equation.
+-- One bit for each signal: each variable has the bit of its level, and each gate its kind's value of its operands' bits. A register has no
+-- equation.
 pub record IsLabelling (c : Circuit) (level : ℕ → ℕ) (x bits : List Bool) : Type 0 where
   pub each : length bits ≡ length c.names
   pub variables : All (λ s. bit_of bits s ≡ bit_of x (level s)) (variables_of c)

@@ -62,8 +62,10 @@ tokens_of (Named done w n) = flat_map spelled done ++ Name w ∷ Open ∷ Name n
 tokens_of (Defining done out) = flat_map spelled done ++ Name out ∷ Equals ∷ []
 tokens_of (AtWord done out g) = flat_map spelled done ++ Name out ∷ Equals ∷ Name g ∷ []
 tokens_of (Operands done out g) = flat_map spelled done ++ Name out ∷ Equals ∷ Name g ∷ Open ∷ []
-tokens_of (AfterOperand done out g a others) = flat_map spelled done ++ Name out ∷ Equals ∷ Name g ∷ Open ∷ Name a ∷ flat_map after_comma others
-tokens_of (AfterComma done out g a others) = flat_map spelled done ++ Name out ∷ Equals ∷ Name g ∷ Open ∷ Name a ∷ (flat_map after_comma others ++ Comma ∷ [])
+tokens_of (AfterOperand done out g a others) = flat_map spelled done ++ Name out ∷ Equals ∷ Name g ∷ Open ∷ Name a
+    ∷ flat_map after_comma others
+tokens_of (AfterComma done out g a others) = flat_map spelled done ++ Name out ∷ Equals ∷ Name g ∷ Open ∷ Name a
+    ∷ (flat_map after_comma others ++ Comma ∷ [])
 tokens_of (Finished done) = flat_map spelled done ++ End ∷ []
 tokens_of Failed = []
 

@@ -36,7 +36,8 @@ IsEachOnce names = (i j : ℕ) (name : List ℕ) → slice_get names i ≡ Some 
 -- where the search for a name ends: at its number, or at the first empty slot where it has none
 abbrev pub IsProbe : List (List ℕ) → List ℕ → List ℕ → Probe → Type 0
 IsProbe names ts name (Number i) = slice_get names i ≡ Some name
-IsProbe names ts name (Slot j) = ((i : ℕ) → slice_get names i ≡ Some name → ⊥) × IsFree (length ts) (home_of spread_of (length ts) name) ts j
+IsProbe names ts name (Slot j) = ((i : ℕ) → slice_get names i ≡ Some name → ⊥)
+    × IsFree (length ts) (home_of spread_of (length ts) name) ts j
 
 -- what holds of each table
 pub record IsTable (bytes : List ℕ) (spans : List Span) (ts : List ℕ) : Type 0 where

@@ -6,7 +6,9 @@ use Rattle.net_bench.specs.declared.syntax.Said.TheVariants.{Input as input, Out
 use Rattle.net_bench.specs.declared.syntax.Pending.{Pending}
 use Rattle.net_bench.specs.declared.syntax.Next.{Next}
 use Rattle.net_bench.specs.declared.syntax.Next.TheVariants.{More as more, Whole as whole}
-use Rattle.net_bench.specs.declared.syntax.Pending.TheVariants.{Nothing as nothing, First as first_name, Opened as opened, Named as named, Defining as defining, AtWord as at_word, Operands as operands, AfterOperand as after_operand, AfterComma as after_comma}
+use Rattle.net_bench.specs.declared.syntax.Pending.TheVariants.{Nothing as nothing, First as first_name, Opened as opened, Named as named}
+use Rattle.net_bench.specs.declared.syntax.Pending.TheVariants.{Defining as defining, AtWord as at_word, Operands as operands}
+use Rattle.net_bench.specs.declared.syntax.Pending.TheVariants.{AfterOperand as after_operand, AfterComma as after_comma}
 use Rattle.net_bench.specs.Machine.{State, Between, First, Opened, Named, Defining, AtWord, Operands, AfterOperand, AfterComma}
 use Rattle.net_bench.specs.Text.{Word}
 use Rattle.net_bench.specs.Statement.{Statement, Input, Output, Gate}

@@ -1,5 +1,8 @@
--- What the reader keeps beside its state: the signals that the tokens so far have counted, and what the whole statements say of them, by number.
-use Rattle.std.specs.Prelude.{◌≡◌, ◌⊎◌, ℕ, ◌+◌, ◌<◌, ◌≤◌, Bool, true, false, ◌||◌, if◌then◌else◌, List, [], ◌∷◌, ◌++◌, map, flat_map, filter, filter_map, fold, length, replicate, slice_get, slice_set, All, Option, Some, None, option_map, option_to_list}
+-- What the reader keeps beside its state: the signals that the tokens so far have counted, and what the whole statements say of them, by
+-- number.
+use Rattle.std.specs.Prelude.{◌≡◌, ◌⊎◌, ℕ, ◌+◌, ◌<◌, ◌≤◌, Bool, true, false, ◌||◌, if◌then◌else◌, List, [], ◌∷◌, ◌++◌, map, flat_map}
+use Rattle.std.specs.Prelude.{filter, filter_map, fold, length, replicate, slice_get, slice_set, All, Option, Some, None, option_map}
+use Rattle.std.specs.Prelude.{option_to_list}
 use Rattle.net_bench.specs.declared.symbols.Symbol.{Symbol}
 use Rattle.net_bench.specs.declared.netlist.Role.{Role}
 use Rattle.net_bench.specs.declared.netlist.Role.TheVariants.{Undefined as undefined, Input as input, Gate as gate, Register as register}
@@ -10,11 +13,14 @@ use Rattle.net_bench.specs.declared.netlist.GateLine.{GateLine}
 use Rattle.net_bench.specs.declared.netlist.BenchFault.{BenchFault}
 use Rattle.net_bench.specs.declared.netlist.BenchFault.TheVariants.{TooMany, OutOfMemory}
 use Rattle.net_bench.specs.Text.{Word, Token, Name}
-use Rattle.net_bench.specs.Statement.{Statement, Input, Output, Gate, counted, operands, uses, input_name, output_name, gate_name, kind_of, line_of}
-use Rattle.net_bench.specs.Machine.{State, Between, First, Opened, Named, Defining, AtWord, Operands, AfterOperand, AfterComma, Finished, Failed, tokens_of, step, IsRight}
+use Rattle.net_bench.specs.Statement.{Statement, Input, Output, Gate, counted, operands, uses, input_name, output_name, gate_name, kind_of}
+use Rattle.net_bench.specs.Statement.{line_of}
+use Rattle.net_bench.specs.Machine.{State, Between, First, Opened, Named, Defining, AtWord, Operands, AfterOperand, AfterComma, Finished}
+use Rattle.net_bench.specs.Machine.{Failed, tokens_of, step, IsRight}
 use Rattle.net_bench.specs.declared.syntax.Pending.{Pending}
 use Rattle.net_bench.specs.Said.{state_of}
-use Rattle.net_bench.specs.Circuit.{is_name_in, with_name, distinct, find, number_of, gate_line, is_gate, is_register, is_register_kind, Net, HasRole}
+use Rattle.net_bench.specs.Circuit.{is_name_in, with_name, distinct, find, number_of, gate_line, is_gate, is_register, is_register_kind}
+use Rattle.net_bench.specs.Circuit.{Net, HasRole}
 use Rattle.net_bench.specs.Sound.{has_kind}
 use Rattle.net_bench.specs.Fault.{OperandCount, SecondDefinition, max_signals, max_operands, has_wrong_operands, redefines}
 use Rattle.net_bench.specs.Judge.{Found, first_of, tests, told}
@@ -134,7 +140,8 @@ pub record IsSymbol (done : List Statement) (n : List ℕ) (s : Symbol) : Type 0
 abbrev pub AreSymbols : List Statement → List (List ℕ) → List Symbol → Type 0
 AreSymbols done names symbols = (n : List ℕ) (i : ℕ) (s : Symbol) → find names n ≡ Some i → slice_get symbols i ≡ Some s → IsSymbol done n s
 
--- the first of the signals of the statement that is not whole yet is that of the statement, and its symbol is that of its name behind these statements
+-- the first of the signals of the statement that is not whole yet is that of the statement, and its symbol is that of its name behind these
+-- statements
 abbrev pub KnowsSubject : List Statement → List Use → List Symbol → Statement → Type 0
 KnowsSubject done begun symbols x =
     (u : Use) (s : Symbol) → slice_get begun 0 ≡ Some u → slice_get symbols u.signal ≡ Some s → IsSymbol done (subject x).text s
@@ -158,7 +165,8 @@ outputs_with x u s = []
 -- its gate or register
 abbrev pub line_with : Statement → Use → List Use → Option GateLine
 line_with (Gate out word first others) u us =
-    option_map (λ kind. (let g : GateLine = record { out = u.signal; kind = kind; operands = map (λ v. v.signal) us; line = out.line } in g)) (kind_of word.text)
+    option_map (λ kind. (let g : GateLine = record { out = u.signal; kind = kind; operands = map (λ v. v.signal) us; line = out.line } in
+    g)) (kind_of word.text)
 line_with x u us = None
 
 -- its uses
@@ -240,7 +248,8 @@ pub record Defines (x : Statement) (u : Use) (us : List Use) (s : Symbol) (old n
   pub names : new.names ≡ old.names
   pub operands : new.operands ≡ old.operands
   pub begun : new.begun.items ≡ []
-  pub symbols : new.symbols.items ≡ slice_set old.symbols.items u.signal (symbol_after x s (length old.gates.items) (length old.registers.items))
+  pub symbols : new.symbols.items ≡ slice_set old.symbols.items u.signal
+      (symbol_after x s (length old.gates.items) (length old.registers.items))
   pub uses : new.uses.items ≡ old.uses.items ++ uses_with x u us
   pub inputs : new.inputs.items ≡ old.inputs.items ++ inputs_with x u s
   pub outputs : new.outputs.items ≡ old.outputs.items ++ outputs_with x u s
@@ -250,7 +259,8 @@ pub record Defines (x : Statement) (u : Use) (us : List Use) (s : Symbol) (old n
 -- the statement that is closed, by what the table knows of its signals
 abbrev pub IsClosed : Statement → SymbolTable → SymbolTable → Type 0
 IsClosed x old new =
-    (u : Use) × (us : List Use) × (s : Symbol) × (old.begun.items ≡ u ∷ us) × (slice_get old.symbols.items u.signal ≡ Some s) × Defines x u us s old new
+    (u : Use) × (us : List Use) × (s : Symbol) × (old.begun.items ≡ u ∷ us) × (slice_get old.symbols.items u.signal ≡ Some s)
+    × Defines x u us s old new
 
 -- what is wrong with a whole statement behind these
 abbrev pub statement_fault : List Statement → Statement → Option Found
@@ -287,4 +297,5 @@ Tells fault s line t = (f : Found) × (first_of (token_tests s line t) ≡ Some 
 -- the tests of a token have found nothing, and the part and the table are those of the next state
 abbrev pub GoesOn : State → ℕ → Token → Pending → SymbolTable → Type 0
 GoesOn s line t p table =
-    (first_of (token_tests s line t) ≡ None) × ((done : List Statement) × (state_of done p ≡ step s t) × IsTold done (state_of done p) table)
+    (first_of (token_tests s line t) ≡ None) × ((done : List Statement) × (state_of done p ≡ step s t)
+    × IsTold done (state_of done p) table)

@@ -128,8 +128,10 @@ pub fn add_driven(
     first: Use,
     operands: &[Use],
 ) -> Result<(), AllocError>
-    ensures gates { OnOk result (gates.new.items ≡ gates.old.items ++ filter is_gate (option_to_list (line_with (statement_of said.now) first operands.now))) }
-    ensures registers { OnOk result (registers.new.items ≡ registers.old.items ++ filter is_register (option_to_list (line_with (statement_of said.now) first operands.now))) }
+    ensures gates { OnOk result (gates.new.items ≡ gates.old.items
+        ++ filter is_gate (option_to_list (line_with (statement_of said.now) first operands.now))) }
+    ensures registers { OnOk result (registers.new.items ≡ registers.old.items
+        ++ filter is_register (option_to_list (line_with (statement_of said.now) first operands.now))) }
 {
     let line = line_of(alloc, said, first, operands)?;
     add_line(gates, registers, line)

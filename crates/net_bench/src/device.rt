@@ -1,5 +1,6 @@
 //! What a text comes from, and what a report goes to.
-ghost use Rattle.std.specs.Prelude.{◌≡◌, ℕ, ◌+◌, ◌<◌, ◌≤◌, ◌^◌, ◌||◌, Bool, false, List, length, Option, IfOk, IfSome, IsTrue, is_err, Err, Some, None};
+ghost use Rattle.std.specs.Prelude.{◌≡◌, ℕ, ◌+◌, ◌<◌, ◌≤◌, ◌^◌, ◌||◌, Bool, false, List, length, Option, IfOk, IfSome, IsTrue, is_err, Err};
+ghost use Rattle.std.specs.Prelude.{Some, None};
 ghost use Rattle.std.specs.Io.KnownBytes.{ReadConsumes, WriteAppends, Keeps};
 ghost use Rattle.net_bench.specs.Devices.{TakesAtMost, took_none, failed_text, text_fault_text};
 

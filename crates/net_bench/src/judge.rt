@@ -1,5 +1,6 @@
 // The statements of a text without a faulty place, in one pass over its tokens, or the first fault.
-ghost use Rattle.std.specs.Prelude.{◌≡◌, ◌≢◌, ◌⊎◌, ◌≤◌, ◌<◌, List, [], ◌∷◌, ◌++◌, length, All, Some, None, option_map, IfOk, IfErr, OnOk, Ok, Err};
+ghost use Rattle.std.specs.Prelude.{◌≡◌, ◌≢◌, ◌⊎◌, ◌≤◌, ◌<◌, List, [], ◌∷◌, ◌++◌, length, All, Some, None, option_map, IfOk, IfErr, OnOk};
+ghost use Rattle.std.specs.Prelude.{Ok, Err};
 ghost use Rattle.net_bench.specs.Text.{End};
 ghost use Rattle.net_bench.specs.Scan.{seen};
 ghost use Rattle.net_bench.specs.Said.{statement_of, state_of};
@@ -52,9 +53,12 @@ fn word_fault(part: &Pending<'_>) -> Option<BenchFault>
 fn close(alloc: Global, symbols: &mut SymbolTable, said: Said<'_>) -> Result<(), BenchFault>
     requires some { 0 < length symbols.old.begun.items }
     requires inside { All (λ u. u.signal < length symbols.old.symbols.items) symbols.old.begun.items }
-    ensures clean { OnOk result ((done : List Statement) → KnowsSubject done symbols.old.begun.items symbols.old.symbols.items (statement_of said.entry) → statement_fault done (statement_of said.entry) ≡ None) }
+    ensures clean { OnOk result ((done : List Statement) → KnowsSubject done symbols.old.begun.items symbols.old.symbols.items
+        (statement_of said.entry) → statement_fault done (statement_of said.entry) ≡ None) }
     ensures closed { OnOk result (IsClosed (statement_of said.entry) symbols.old symbols.new) }
-    ensures fault { IfErr result (λ f. (f ≡ BenchFault.OutOfMemory) ⊎ ((done : List Statement) → KnowsSubject done symbols.old.begun.items symbols.old.symbols.items (statement_of said.entry) → Some f ≡ option_map told (statement_fault done (statement_of said.entry)))) }
+    ensures fault { IfErr result (λ f. (f ≡ BenchFault.OutOfMemory)
+        ⊎ ((done : List Statement) → KnowsSubject done symbols.old.begun.items symbols.old.symbols.items (statement_of said.entry)
+        → Some f ≡ option_map told (statement_fault done (statement_of said.entry)))) }
 {
     if let Some(fault) = symbols.fault_of(&said) {
         return Err(fault);
@@ -73,8 +77,11 @@ fn take_token<'a>(
 ) -> Result<Pending<'a>, BenchFault>
     requires token { seen line token ≢ End }
     requires told { (done : List Statement) × IsTold done (state_of done part) symbols.old }
-    ensures goes { IfOk result (λ p. (done : List Statement) → IsTold done (state_of done part.entry) symbols.old → GoesOn (state_of done part.entry) line (seen line token.entry) p symbols.new) }
-    ensures fault { IfErr result (λ f. (f ≡ BenchFault.OutOfMemory) ⊎ ((done : List Statement) → IsTold done (state_of done part.entry) symbols.old → Tells f (state_of done part.entry) line (seen line token.entry))) }
+    ensures goes { IfOk result (λ p. (done : List Statement) → IsTold done (state_of done part.entry) symbols.old
+        → GoesOn (state_of done part.entry) line (seen line token.entry) p symbols.new) }
+    ensures fault { IfErr result (λ f. (f ≡ BenchFault.OutOfMemory)
+        ⊎ ((done : List Statement) → IsTold done (state_of done part.entry) symbols.old
+        → Tells f (state_of done part.entry) line (seen line token.entry))) }
 {
     if let Some(fault) = token_fault(line, token) {
         return Err(fault);
@@ -101,7 +108,8 @@ pub fn judge_text(alloc: Global, text: &[u8]) -> Result<SymbolTable, BenchFault>
     requires { length text.now ≤ 67108864 }
     ensures ok { OnOk result (judge (Between []) [] (tokens_at 1 text.now) ≡ Ok (Finished (statements_in text.now))) }
     ensures told { IfOk result (λ symbols. IsTold (statements_in text.now) (Between (statements_in text.now)) symbols) }
-    ensures fault { IfErr result (λ f. (f ≡ BenchFault.OutOfMemory) ⊎ ((found : Found) × (judge (Between []) [] (tokens_at 1 text.now) ≡ Err found) × (f ≡ told found))) }
+    ensures fault { IfErr result (λ f. (f ≡ BenchFault.OutOfMemory)
+        ⊎ ((found : Found) × (judge (Between []) [] (tokens_at 1 text.now) ≡ Err found) × (f ≡ told found))) }
 {
     let mut symbols = SymbolTable::new(alloc);
     let mut part = Pending::Nothing;

@@ -50,7 +50,8 @@ pub fn refused_is_none()
 
 /// The circuit of sound statements whose uses are all defined, with its ranks, is a netlist as its users see it.
 pub fn sound_nets()
-    ensures { (ss : List Statement) → IsSound ss → AreDefined ss → (ranks : List ℕ) → AreRanks (circuit_of ss) ranks → IsNet (net_of ss ranks) }
+    ensures { (ss : List Statement) → IsSound ss → AreDefined ss → (ranks : List ℕ) → AreRanks (circuit_of ss) ranks
+        → IsNet (net_of ss ranks) }
 {}
 
 /// The statements of a text without a faulty place are sound, one by one.

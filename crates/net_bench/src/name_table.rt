@@ -1,5 +1,6 @@
 //! Names by number. Each name's bytes are held once, one name behind the other; a name is found by open addressing.
-ghost use Rattle.std.specs.Prelude.{◌≡◌, ℕ, ◌+◌, ◌*◌, ◌<◌, ◌≤◌, ◌==◌, ◌^◌, List, [], ◌∷◌, ◌++◌, All, bytes_eq, fold, map, length, slice_get, slice_index_or, if◌then◌else◌, IfOk, OnOk, OnErr, Some, None};
+ghost use Rattle.std.specs.Prelude.{◌≡◌, ℕ, ◌+◌, ◌*◌, ◌<◌, ◌≤◌, ◌==◌, ◌^◌, List, [], ◌∷◌, ◌++◌, All, bytes_eq, fold, map, length};
+ghost use Rattle.std.specs.Prelude.{slice_get, slice_index_or, if◌then◌else◌, IfOk, OnOk, OnErr, Some, None};
 ghost use Rattle.net_bench.specs.Circuit.{with_name, find, number_of, is_name_in};
 ghost use Rattle.slot_table.specs.Probes.{Probes, home_of};
 ghost use Rattle.net_bench.specs.NameTable.{IsEachOnce, IsInside, IsProbe, IsTable, hash_of, name_in, names_in, spread_of};

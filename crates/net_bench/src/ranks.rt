@@ -83,8 +83,10 @@ pub fn ranks_of(
     requires one_gate { HasOneGateEach gates.now }
     requires defined { (s : ℕ) → s < length symbols.now → Contains variables.now s ⊎ ((g : GateLine) × Contains gates.now g × (g.out ≡ s)) }
     requires driven { (s : ℕ) → s < length symbols.now → Contains variables.now s ⊎ IsDriven gates.now symbols.now s }
-    ensures ranks { IfOk result (λ v. (c : Circuit) → length c.names ≡ length symbols.now → variables_of c ≡ variables.now → c.gates ≡ gates.now → AreRanks c v.items) }
-    ensures cycle { IfErr result (λ e. (e ≡ BenchFault.OutOfMemory) ⊎ ((line : ℕ) × (e ≡ Cycle line) × ((c : Circuit) → c.gates ≡ gates.now → FirstEndless c line))) }
+    ensures ranks { IfOk result (λ v. (c : Circuit) → length c.names ≡ length symbols.now → variables_of c ≡ variables.now
+        → c.gates ≡ gates.now → AreRanks c v.items) }
+    ensures cycle { IfErr result (λ e. (e ≡ BenchFault.OutOfMemory)
+        ⊎ ((line : ℕ) × (e ≡ Cycle line) × ((c : Circuit) → c.gates ≡ gates.now → FirstEndless c line))) }
 {
     let mut heights: Vec<u32> = match vec![in alloc; 0; symbols.len()] {
         Ok(heights) => heights,
@@ -116,8 +118,10 @@ fn rank_all(
     requires one_gate { HasOneGateEach gates.now }
     requires defined { (s : ℕ) → s < length ranks.old → Contains variables.now s ⊎ ((g : GateLine) × Contains gates.now g × (g.out ≡ s)) }
     requires driven { (s : ℕ) → s < length ranks.old → Contains variables.now s ⊎ IsDriven gates.now symbols.now s }
-    ensures ranks { OnOk result ((c : Circuit) → length c.names ≡ length ranks.old → variables_of c ≡ variables.now → c.gates ≡ gates.now → AreRanks c ranks.new) }
-    ensures cycle { IfErr result (λ e. (e ≡ BenchFault.OutOfMemory) ⊎ ((line : ℕ) × (e ≡ Cycle line) × ((c : Circuit) → c.gates ≡ gates.now → FirstEndless c line))) }
+    ensures ranks { OnOk result ((c : Circuit) → length c.names ≡ length ranks.old → variables_of c ≡ variables.now → c.gates ≡ gates.now
+        → AreRanks c ranks.new) }
+    ensures cycle { IfErr result (λ e. (e ≡ BenchFault.OutOfMemory)
+        ⊎ ((line : ℕ) × (e ≡ Cycle line) × ((c : Circuit) → c.gates ≡ gates.now → FirstEndless c line))) }
 {
     rank_variables(ranks, variables);
     match settle(alloc, gates, symbols, ranks) {

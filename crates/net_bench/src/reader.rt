@@ -1,5 +1,6 @@
 //! The netlist of a text.
-ghost use Rattle.std.specs.Prelude.{◌≡◌, ◌+◌, ◌<◌, ◌⊎◌, ℕ, length, Contains, IfOk, IfErr, IfSome, OnOk, IsTrue, slice_index, slice_get, Some, Err};
+ghost use Rattle.std.specs.Prelude.{◌≡◌, ◌+◌, ◌<◌, ◌⊎◌, ℕ, length, Contains, IfOk, IfErr, IfSome, OnOk, IsTrue, slice_index, slice_get};
+ghost use Rattle.std.specs.Prelude.{Some, Err};
 ghost use Rattle.net_bench.specs.Circuit.{circuit, circuit_of, find, variables_of, HasRole, gate_by, gate_of, IsNet, AreRanks};
 ghost use Rattle.net_bench.specs.Fault.{IsRefused, MakesNetlist, max_text};
 ghost use Rattle.net_bench.specs.Devices.{TakesAtMost};

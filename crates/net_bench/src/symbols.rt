@@ -1,11 +1,13 @@
 // The signals of a text, as its tokens count them and its statements define them.
-ghost use Rattle.std.specs.Prelude.{◌≡◌, ℕ, ◌+◌, ◌<◌, ◌≤◌, List, [], ◌∷◌, ◌++◌, length, replicate, slice_get, option_map, All, Some, IfErr, OnOk};
+ghost use Rattle.std.specs.Prelude.{◌≡◌, ℕ, ◌+◌, ◌<◌, ◌≤◌, List, [], ◌∷◌, ◌++◌, length, replicate, slice_get, option_map, All, Some, IfErr};
+ghost use Rattle.std.specs.Prelude.{OnOk};
 ghost use Rattle.net_bench.specs.Fault.{has_wrong_operands, is_one_operand_kind, redefines};
 ghost use Rattle.net_bench.specs.Judge.{told};
 ghost use Rattle.net_bench.specs.Said.{word_of, statement_of, state_of};
 ghost use Rattle.net_bench.specs.Scan.{seen};
 ghost use Rattle.net_bench.specs.Statement.{Statement, kind_of};
-ghost use Rattle.net_bench.specs.Symbols.{CountsMore, IsClosed, IsCrowding, IsSymbol, KeepsParts, KnowsSubject, blank, is_defined_role, is_driven_role, known_symbol, newest, newest_operands, statement_fault, subject, undefined_use};
+ghost use Rattle.net_bench.specs.Symbols.{CountsMore, IsClosed, IsCrowding, IsSymbol, KeepsParts, KnowsSubject, blank, is_defined_role};
+ghost use Rattle.net_bench.specs.Symbols.{is_driven_role, known_symbol, newest, newest_operands, statement_fault, subject, undefined_use};
 
 use crate::build::{add_driven, add_input, add_output, add_uses, next_symbol};
 use crate::kinds::kind_of;
@@ -176,7 +178,8 @@ impl SymbolTable {
     fn note(&mut self, signal: Signal, line: u32) -> Result<(), AllocError>
         requires { length self.old.symbols.items ≤ length self.old.names }
         ensures symbols { OnOk result ((n : ℕ) × (self.new.symbols.items ≡ self.old.symbols.items ++ replicate n blank)) }
-        ensures each { OnOk result (length self.old.names ≤ length self.old.symbols.items + 1 → length self.new.symbols.items ≡ length self.old.names) }
+        ensures each { OnOk result (length self.old.names ≤ length self.old.symbols.items + 1
+            → length self.new.symbols.items ≡ length self.old.names) }
         ensures begun { OnOk result (self.new.begun.items ≡ self.old.begun.items ++ (record { signal = signal; line = line }) ∷ []) }
         ensures names { self.new.names ≡ self.old.names }
         ensures operands { self.new.operands ≡ self.old.operands }
@@ -233,8 +236,10 @@ impl SymbolTable {
         requires operands { self.old.operands ≤ 4000000 }
         requires names { length self.old.names ≤ 1000000 }
         requires each { length self.old.symbols.items ≡ length self.old.names }
-        ensures ok { OnOk result (CountsMore self.old self.new (newest (state_of [] part.now) (seen line token.entry)) (newest_operands (state_of [] part.now) (seen line token.entry))) }
-        ensures err { IfErr result (IsCrowding line self.old (newest (state_of [] part.now) (seen line token.entry)) (newest_operands (state_of [] part.now) (seen line token.entry))) }
+        ensures ok { OnOk result (CountsMore self.old self.new (newest (state_of [] part.now) (seen line token.entry))
+            (newest_operands (state_of [] part.now) (seen line token.entry))) }
+        ensures err { IfErr result (IsCrowding line self.old (newest (state_of [] part.now) (seen line token.entry))
+            (newest_operands (state_of [] part.now) (seen line token.entry))) }
     {
         match part {
             Pending::Defining { out } => self.count_name(alloc, line, *out),
@@ -250,7 +255,8 @@ impl SymbolTable {
 
 /// Whether the statement defines a signal again that has this symbol.
 fn redefines(symbol: Symbol, said: &Said<'_>) -> bool
-    ensures { (done : List Statement) → IsSymbol done (subject (statement_of said.now)).text symbol → result ≡ redefines done (statement_of said.now) }
+    ensures { (done : List Statement) → IsSymbol done (subject (statement_of said.now)).text symbol
+        → result ≡ redefines done (statement_of said.now) }
 {
     match said {
         Said::Input { .. } => is_driven(symbol.role),

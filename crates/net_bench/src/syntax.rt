@@ -95,7 +95,8 @@ pub enum Next<'a> {
 
 /// The gate with one operand more.
 fn with_operand<'a>(gate: SaidGate<'a>, operand: Word<'a>) -> Result<SaidGate<'a>, AllocError>
-    ensures { IfOk result (λ g. (g.out ≡ gate.entry.out) × (g.word ≡ gate.entry.word) × (g.first ≡ gate.entry.first) × (g.others.items ≡ gate.entry.others.items ++ operand.entry ∷ [])) }
+    ensures { IfOk result (λ g. (g.out ≡ gate.entry.out) × (g.word ≡ gate.entry.word) × (g.first ≡ gate.entry.first)
+        × (g.others.items ≡ gate.entry.others.items ++ operand.entry ∷ [])) }
 {
     let SaidGate {
         out,
@@ -118,10 +119,12 @@ fn next_name<'a>(
     part: Pending<'a>,
     name: Word<'a>,
 ) -> Result<Pending<'a>, BenchFault>
-    ensures step { IfOk result (λ p. (done : List Statement) → state_of done p ≡ step (state_of done part.entry) (Name (word_of name.entry))) }
+    ensures step { IfOk result (λ p. (done : List Statement)
+        → state_of done p ≡ step (state_of done part.entry) (Name (word_of name.entry))) }
     ensures closed { IfOk result (λ p. (done : List Statement) → closed (state_of done part.entry) (Name (word_of name.entry)) ≡ None) }
     ensures broken { IfErr result (λ e. (e ≡ BenchFault.OutOfMemory) ⊎
-        ((e ≡ BadStatement name.entry.line) × ((done : List Statement) → step (state_of done part.entry) (Name (word_of name.entry)) ≡ Failed))) }
+        ((e ≡ BadStatement name.entry.line) × ((done : List Statement)
+        → step (state_of done part.entry) (Name (word_of name.entry)) ≡ Failed))) }
 {
     match part {
         Pending::Nothing => Ok(Pending::First { word: name }),
@@ -146,8 +149,10 @@ pub fn next_part<'a>(
     token: Token<'a>,
 ) -> Result<Next<'a>, BenchFault>
     requires { seen line token ≢ End }
-    ensures step { IfOk result (λ n. (done : List Statement) → next_state done n ≡ step (state_of done part.entry) (seen line token.entry)) }
-    ensures closed { IfOk result (λ n. (done : List Statement) → closing done n ≡ closed (state_of done part.entry) (seen line token.entry)) }
+    ensures step { IfOk result (λ n. (done : List Statement)
+        → next_state done n ≡ step (state_of done part.entry) (seen line token.entry)) }
+    ensures closed { IfOk result (λ n. (done : List Statement)
+        → closing done n ≡ closed (state_of done part.entry) (seen line token.entry)) }
     ensures broken { IfErr result (λ e. (e ≡ BenchFault.OutOfMemory) ⊎
         ((e ≡ BadStatement line) × ((done : List Statement) → step (state_of done part.entry) (seen line token.entry) ≡ Failed))) }
 {

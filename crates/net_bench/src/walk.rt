@@ -1,7 +1,9 @@
 // Heights of the gates, each 1 more than its rank, by one walk over the gates, on a stack of those that wait for an operand.
-ghost use Rattle.std.specs.Prelude.{◌≡◌, ℕ, ◌<◌, ◌≤◌, [], ◌∷◌, map, length, reverse, slice_get, slice_index, slice_index_or, All, OnOk, true, false};
+ghost use Rattle.std.specs.Prelude.{◌≡◌, ℕ, ◌<◌, ◌≤◌, [], ◌∷◌, map, length, reverse, slice_get, slice_index, slice_index_or, All, OnOk};
+ghost use Rattle.std.specs.Prelude.{true, false};
 ghost use Rattle.net_bench.specs.Circuit.{greatest};
-ghost use Rattle.net_bench.specs.Heights.{all_ranked, gate_place, operands_at, out_at, steps_left, AreHeights, HasOneGateEach, IsDriven, IsRanking, IsSettled};
+ghost use Rattle.net_bench.specs.Heights.{all_ranked, gate_place, operands_at, out_at, steps_left, AreHeights, HasOneGateEach, IsDriven};
+ghost use Rattle.net_bench.specs.Heights.{IsRanking, IsSettled};
 
 use crate::netlist::{GateLine, Role, Signal};
 use crate::symbols::Symbol;
@@ -95,7 +97,8 @@ fn advance(
     ensures ranking { OnOk result (IsRanking gates.now heights.new begun.new (reverse waiting.new.items)) }
     ensures kept { OnOk result ((s : ℕ) → 0 < slice_index heights.old s → slice_index heights.new s ≡ slice_index heights.old s) }
     ensures still { OnOk result ((p : ℕ) → slice_index_or begun.old p false ≡ true → slice_index_or begun.new p false ≡ true) }
-    ensures fewer { OnOk result (steps_left gates.now begun.new (reverse waiting.new.items) < steps_left gates.now begun.old (gate ∷ reverse waiting.old.items)) }
+    ensures fewer { OnOk result (steps_left gates.now begun.new (reverse waiting.new.items) < steps_left gates.now begun.old
+        (gate ∷ reverse waiting.old.items)) }
 {
     let Some(operand) = gates[gate.place].operands.as_slice().get(gate.passed) else {
         rank_gate(gates, gate.place, heights);

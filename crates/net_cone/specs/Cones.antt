@@ -1,5 +1,6 @@
 -- The cone of a signal: what a walk below it meets, as a netlist of its own.
-use Rattle.std.specs.Prelude.{◌≡◌, ◌+◌, ◌<◌, ℕ, Bool, List, [], ◌∷◌, ◌++◌, ◌↔◌, IsTrue, count_by, filter, map, length, slice_index, slice_index_or, Contains, All}
+use Rattle.std.specs.Prelude.{◌≡◌, ◌+◌, ◌<◌, ℕ, Bool, List, [], ◌∷◌, ◌++◌, ◌↔◌, IsTrue, count_by, filter, map, length, slice_index}
+use Rattle.std.specs.Prelude.{slice_index_or, Contains, All}
 use Rattle.net_bench.specs.declared.netlist.GateLine.{GateLine}
 use Rattle.net_bench.specs.declared.netlist.Kind.TheVariants.{Buff}
 use Rattle.net_bench.specs.Circuit.{AreOnce, Circuit, Feeds, IsNet, Net, circuit, variables_of}
@@ -48,7 +49,8 @@ pub record IsCopy (n : Net) (from : List ℕ) (g : GateLine) : Type 0 where
 abbrev pub last_gate : ℕ → ℕ → GateLine
 last_gate out top = record { out = out; kind = Buff; operands = top ∷ []; line = 0 }
 
--- The cone of a signal of a netlist whose variables have these names. By `from`, each signal of the cone but the last stands for one of the netlist.
+-- The cone of a signal of a netlist whose variables have these names. By `from`, each signal of the cone but the last stands for one of the
+-- netlist.
 pub record IsCone (n : Net) (root : ℕ) (names : List (List ℕ)) (cone : Net) (from : List ℕ) : Type 0 where
   pub copies : List GateLine
   pub top : ℕ

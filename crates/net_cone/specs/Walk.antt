@@ -1,5 +1,6 @@
 -- What holds while a cone is made: the seen of its signals, and their numbers in it.
-use Rattle.std.specs.Prelude.{◌≡◌, ◌⊎◌, ◌<◌, ◌≤◌, ◌+◌, ℕ, Bool, true, false, if◌then◌else◌, List, [], ◌∷◌, ◌++◌, count_by, filter, filter_map, fold, map, length, take, drop, slice_index, slice_index_or, Contains, All}
+use Rattle.std.specs.Prelude.{◌≡◌, ◌⊎◌, ◌<◌, ◌≤◌, ◌+◌, ℕ, Bool, true, false, if◌then◌else◌, List, [], ◌∷◌, ◌++◌, count_by, filter}
+use Rattle.std.specs.Prelude.{filter_map, fold, map, length, take, drop, slice_index, slice_index_or, Contains, All}
 use Rattle.net_bench.specs.declared.netlist.GateLine.{GateLine}
 use Rattle.net_bench.specs.Circuit.{Net, circuit, gate_of, with_name}
 use Rattle.net_cone.specs.declared.cone.Numbers.{Numbers}
@@ -61,7 +62,8 @@ gates_of gates signals = filter_map (gate_of gates) signals
 
 -- the names of a cone's signals, the variables first
 abbrev pub cone_names : Net → List (List ℕ) → ℕ → List ℕ → List (List ℕ)
-cone_names n given variables from = (map (variable_name given) (take variables from) ++ map (gate_name n) (drop variables from)) ++ (111 ∷ []) ∷ []
+cone_names n given variables from = (map (variable_name given) (take variables from) ++ map (gate_name n) (drop variables from))
+    ++ (111 ∷ []) ∷ []
 
 -- the parts of the cone are made as they are to be
 pub record IsDrawn (n : Net) (root : ℕ) (given : List (List ℕ)) (numbers : Numbers) (cone : Net) : Type 0 where
@@ -70,6 +72,7 @@ pub record IsDrawn (n : Net) (root : ℕ) (given : List (List ℕ)) (numbers : N
   pub inputs : length cone.inputs ≡ numbers.variables
   pub input : (i d : ℕ) → i < numbers.variables → slice_index_or cone.inputs i d ≡ i
   pub outputs : cone.outputs ≡ length numbers.from.items ∷ []
-  pub gates : cone.gates ≡ map (renamed numbers.to.items) (gates_of n.gates (drop numbers.variables numbers.from.items)) ++ last_gate (length numbers.from.items) (slice_index numbers.to.items root) ∷ []
+  pub gates : cone.gates ≡ map (renamed numbers.to.items) (gates_of n.gates (drop numbers.variables numbers.from.items))
+      ++ last_gate (length numbers.from.items) (slice_index numbers.to.items root) ∷ []
   pub registers : cone.registers ≡ []
   pub ranks : cone.ranks ≡ map (slice_index n.ranks) numbers.from.items ++ (slice_index n.ranks root + 1) ∷ []

@@ -38,7 +38,8 @@ fn visit_all(
     requires inside { All (λ s. s < length seen.old) signals.now }
     ensures here { OnOk result (All (λ s. IsVisited seen.new s) signals.now) }
     ensures kept { OnOk result (KeepsVisited seen.old seen.new) }
-    ensures only { OnOk result ((s : ℕ) → IsVisited seen.new s → IsVisited seen.old s ⊎ (Contains signals.now s × Contains waiting.new.items s)) }
+    ensures only { OnOk result ((s : ℕ) → IsVisited seen.new s
+        → IsVisited seen.old s ⊎ (Contains signals.now s × Contains waiting.new.items s)) }
     ensures waiting { OnOk result ((s : ℕ) → Contains waiting.old.items s → Contains waiting.new.items s) }
     ensures visited { OnOk result (All (λ s. IsVisited seen.old s) waiting.old.items → All (λ s. IsVisited seen.new s) waiting.new.items) }
     ensures steps { OnOk result (unvisited seen.new + length waiting.new.items ≡ unvisited seen.old + length waiting.old.items) }

@@ -56,7 +56,8 @@ fn number_all(
     requires none { from.old.items ≡ [] }
     ensures numbered { OnOk result (IsNumbering from.new.items to.new) }
     ensures variables { IfOk result (λ n. n ≡ length (filter (is_visited seen.now) (variables_of (circuit net.now)))) }
-    ensures from { OnOk result (from.new.items ≡ filter (is_visited seen.now) (variables_of (circuit net.now)) ++ filter (is_visited seen.now) outs.now) }
+    ensures from { OnOk result (from.new.items ≡ filter (is_visited seen.now) (variables_of (circuit net.now))
+        ++ filter (is_visited seen.now) outs.now) }
 {
     number_visited(seen, net.variables(), from, to)?;
     let variables = from.len();
@@ -76,7 +77,8 @@ fn numbers_of(
     ensures each { IfOk result (λ v. length v.to.items ≡ length net.now.names) }
     ensures numbered { IfOk result (λ v. IsNumbering v.from.items v.to.items) }
     ensures variables { IfOk result (λ v. v.variables ≡ length (filter (is_visited seen.now) (variables_of (circuit net.now)))) }
-    ensures from { IfOk result (λ v. v.from.items ≡ filter (is_visited seen.now) (variables_of (circuit net.now)) ++ filter (is_visited seen.now) (gate_signals net.now)) }
+    ensures from { IfOk result (λ v. v.from.items ≡ filter (is_visited seen.now) (variables_of (circuit net.now))
+        ++ filter (is_visited seen.now) (gate_signals net.now)) }
 {
     let mut to = Vec::from_elem(alloc, 0u32, net.count())?;
     let mut from = Vec::new(alloc);

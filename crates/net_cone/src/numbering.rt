@@ -1,5 +1,6 @@
 // The numbers of signals in a cone, and its gates by these numbers.
-ghost use Rattle.std.specs.Prelude.{◌≡◌, ◌≢◌, ◌<◌, ℕ, ◌++◌, ◌∷◌, [], filter, map, length, slice_index, slice_index_or, ◌+◌, All, IfOk, OnOk};
+ghost use Rattle.std.specs.Prelude.{◌≡◌, ◌≢◌, ◌<◌, ℕ, ◌++◌, ◌∷◌, [], filter, map, length, slice_index, slice_index_or, ◌+◌, All, IfOk};
+ghost use Rattle.std.specs.Prelude.{OnOk};
 ghost use Rattle.net_bench.specs.Circuit.{AreOnce, IsNet};
 ghost use Rattle.net_cone.specs.Cones.{gate_signals, last_gate};
 ghost use Rattle.net_cone.specs.Walk.{IsNumbering, gates_of, is_visited, renamed};

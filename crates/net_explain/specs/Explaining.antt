@@ -1,5 +1,6 @@
 -- Which inner signals of two netlists have one name and other values at an assignment.
-use Rattle.std.specs.Prelude.{◌≡◌, ◌↔◌, ℕ, zero, suc, ◌==◌, Bool, true, not, ◌&&◌, cond, if◌then◌else◌, List, [], ◌∷◌, ◌++◌, filter_map, length, slice_index_or, Option, Some, None, count_by, Contains}
+use Rattle.std.specs.Prelude.{◌≡◌, ◌↔◌, ℕ, zero, suc, ◌==◌, Bool, true, not, ◌&&◌, cond, if◌then◌else◌, List, [], ◌∷◌, ◌++◌, filter_map}
+use Rattle.std.specs.Prelude.{length, slice_index_or, Option, Some, None, count_by, Contains}
 use Rattle.net_bench.specs.declared.netlist.GateLine.{GateLine}
 use Rattle.net_bench.specs.Circuit.{Net, circuit, find, gate_of, highest_rank}
 use Rattle.net_bench.specs.Labels.{IsLabelling, bit_of}
@@ -43,13 +44,21 @@ differ b c = cond b (not c) c
 
 -- both signals are below those that are compared, they are not these, and they have other values
 abbrev pub is_inner : Viewed → Viewed → ℕ → ℕ → Bool
-is_inner v w s t = bit_of v.below s && (bit_of w.below t && (not (s == v.root && t == w.root) && differ (bit_of v.values s) (bit_of w.values t)))
+is_inner v w s t = bit_of v.below s && (bit_of w.below t &&
+    (not (s == v.root && t == w.root) && differ (bit_of v.values s) (bit_of w.values t)))
 
 -- two signals with the lines of their gates, where both have one
 abbrev pub inner_on : ℕ → ℕ → Bool → Option ℕ → Option ℕ → Option Inner
 inner_on s t value None line = None
 inner_on s t value (Some first) None = None
-inner_on s t value (Some first) (Some second) = Some (record { first = s; second = t; value = value; first_line = first; second_line = second })
+inner_on s t value (Some first) (Some second) = Some (record {
+  first = s;
+  second = t;
+  value = value;
+  first_line = first;
+  second_line =
+      second;
+})
 
 -- a signal of the first netlist with the one of its name in the second, if both are inner signals with other values
 abbrev pub inner_with : Net → Net → Viewed → Viewed → ℕ → Option ℕ → Option Inner

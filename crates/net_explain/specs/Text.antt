@@ -15,7 +15,8 @@ head_text subject count = codes "EXPLAIN " ++ (subject ++ (codes " inner signals
 
 -- the line of an inner signal: its name, its value in each netlist, and the line of its gate in each text
 abbrev pub inner_text : List (List ℕ) → Inner → List ℕ
-inner_text names i = codes "  " ++ (slice_index_or names i.first [] ++ (codes " first=" ++ (bit_text i.value ++ (codes " second=" ++ (bit_text (not i.value)
+inner_text names i = codes "  " ++ (slice_index_or names i.first []
+    ++ (codes " first=" ++ (bit_text i.value ++ (codes " second=" ++ (bit_text (not i.value)
     ++ (codes " line " ++ (decimal i.first_line ++ (codes " line " ++ (decimal i.second_line ++ 10 ∷ [])))))))))
 
 -- the lines of inner signals
@@ -29,7 +30,8 @@ part_text p = decimal p.behind ++ (codes " of " ++ decimal p.all)
 
 -- the last line: the gates between a signal and what is explained, in each netlist
 abbrev pub behind_text : List ℕ → (first second : GateCount) → List ℕ
-behind_text name first second = codes "  gates behind " ++ (name ++ (codes ": first " ++ (part_text first ++ (codes ", second " ++ (part_text second ++ 10 ∷ [])))))
+behind_text name first second = codes "  gates behind " ++ (name
+    ++ (codes ": first " ++ (part_text first ++ (codes ", second " ++ (part_text second ++ 10 ∷ [])))))
 
 -- the same of the first of the inner signals, where there is one
 abbrev pub parts_text : List (List ℕ) → List Inner → Option (GateCount × GateCount) → List ℕ

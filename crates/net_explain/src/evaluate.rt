@@ -1,5 +1,6 @@
 //! The values of a netlist's signals at an assignment of the variables.
-ghost use Rattle.std.specs.Prelude.{◌≡◌, ◌<◌, ◌+◌, ℕ, Bool, List, [], length, map, slice_set, slice_index_or, All, Contains, IfOk, MatchOption};
+ghost use Rattle.std.specs.Prelude.{◌≡◌, ◌<◌, ◌+◌, ℕ, Bool, List, [], length, map, slice_set, slice_index_or, All, Contains, IfOk};
+ghost use Rattle.std.specs.Prelude.{MatchOption};
 ghost use Rattle.net_bench.specs.Circuit.{IsNet, circuit, gate_of, variables_of};
 ghost use Rattle.net_bench.specs.Labels.{IsFunctionOf, IsLabelling, bit_of, value_of};
 ghost use Rattle.net_explain.specs.Ranked.{AreRows};

@@ -1,6 +1,7 @@
 //! The lines of an explanation.
 ghost use Rattle.std.specs.Prelude.{◌≡◌, ◌<◌, ◌++◌, length, All, IfOk, OnOk};
-ghost use Rattle.net_explain.specs.Text.{behind_text, bit_text, explanation_text, head_text, inner_text, inners_text, part_text, parts_text};
+ghost use Rattle.net_explain.specs.Text.{behind_text, bit_text, explanation_text, head_text, inner_text, inners_text, part_text};
+ghost use Rattle.net_explain.specs.Text.{parts_text};
 
 use crate::differing::{Inner, name_of};
 use crate::explaining::{Explanation, GateCount};

@@ -32,25 +32,30 @@ unfolding tokens_in pieces_in judge
 depth_c17 = refl
 
 -- by name the inputs are joined; by position they are the first netlist's
-joined : declared (both Name (netlist (codes "INPUT(a) OUTPUT(a)")) (netlist (codes "INPUT(x) OUTPUT(a) a = BUFF(x)"))) (given_side None) ≡ map (λ d. d ∷ []) (codes "ax")
+joined : declared (both Name (netlist (codes "INPUT(a) OUTPUT(a)")) (netlist (codes "INPUT(x) OUTPUT(a) a = BUFF(x)")))
+    (given_side None) ≡ map (λ d. d ∷ []) (codes "ax")
 unfolding tokens_in pieces_in judge
 joined = refl
 
-across : declared (both Position (netlist (codes "INPUT(a) OUTPUT(a)")) (netlist (codes "INPUT(x) OUTPUT(a) a = BUFF(x)"))) (given_side None) ≡ map (λ d. d ∷ []) (codes "a")
+across : declared (both Position (netlist (codes "INPUT(a) OUTPUT(a)")) (netlist (codes "INPUT(x) OUTPUT(a) a = BUFF(x)")))
+    (given_side None) ≡ map (λ d. d ∷ []) (codes "a")
 unfolding tokens_in pieces_in judge
 across = refl
 
 -- the second's inputs are met in its own order, under the first's names; the first's gate comes later in its text than its use
-crossed : by_depth (both Position (netlist (codes "INPUT(a) INPUT(b) INPUT(c) OUTPUT(b)")) (netlist (codes "INPUT(x) INPUT(y) INPUT(z) OUTPUT(f) f = AND(g, y) g = NOT(z)"))) (given_side None) ≡ map (λ d. d ∷ []) (codes "bca")
+crossed : by_depth (both Position (netlist (codes "INPUT(a) INPUT(b) INPUT(c) OUTPUT(b)"))
+    (netlist (codes "INPUT(x) INPUT(y) INPUT(z) OUTPUT(f) f = AND(g, y) g = NOT(z)"))) (given_side None) ≡ map (λ d. d ∷ []) (codes "bca")
 unfolding tokens_in pieces_in judge
 crossed = refl
 
 -- the condition's variables go by their names, also by position; new ones stand behind all others
-conditioned : declared (both Position (netlist (codes "INPUT(a) OUTPUT(a)")) (netlist (codes "INPUT(x) OUTPUT(a) a = BUFF(x)"))) (given_side (Some (netlist (codes "q = DFF(a) INPUT(x) INPUT(a) OUTPUT(q)")))) ≡ map (λ d. d ∷ []) (codes "axq")
+conditioned : declared (both Position (netlist (codes "INPUT(a) OUTPUT(a)")) (netlist (codes "INPUT(x) OUTPUT(a) a = BUFF(x)")))
+    (given_side (Some (netlist (codes "q = DFF(a) INPUT(x) INPUT(a) OUTPUT(q)")))) ≡ map (λ d. d ∷ []) (codes "axq")
 unfolding tokens_in pieces_in judge
 conditioned = refl
 
-conditioned_depth : by_depth (both Name (netlist (codes "INPUT(a) INPUT(b) OUTPUT(b)")) (netlist (codes "INPUT(a) OUTPUT(a)"))) (given_side (Some (netlist (codes "INPUT(z) INPUT(a) OUTPUT(z)")))) ≡ map (λ d. d ∷ []) (codes "baz")
+conditioned_depth : by_depth (both Name (netlist (codes "INPUT(a) INPUT(b) OUTPUT(b)")) (netlist (codes "INPUT(a) OUTPUT(a)")))
+    (given_side (Some (netlist (codes "INPUT(z) INPUT(a) OUTPUT(z)")))) ≡ map (λ d. d ∷ []) (codes "baz")
 unfolding tokens_in pieces_in judge
 conditioned_depth = refl
 
@@ -120,6 +125,7 @@ lacking : unfit_from six [] (map (λ d. 120 ∷ d ∷ []) (codes "6125")) ≡ So
 lacking = refl
 
 -- a list as far as it goes: other names are passed over, and what it lacks follows as declared
-as_far : extended (both Name (netlist c17) (netlist c17)) (given_side None) (map (λ d. d ∷ []) (codes "792x7")) ≡ map (λ d. d ∷ []) (codes "72136")
+as_far : extended (both Name (netlist c17) (netlist c17)) (given_side None) (map (λ d. d ∷ []) (codes "792x7")) ≡ map (λ d. d ∷ [])
+    (codes "72136")
 unfolding tokens_in pieces_in judge
 as_far = refl

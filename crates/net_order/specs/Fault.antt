@@ -1,7 +1,8 @@
 -- The text of each fault.
 use Rattle.std.specs.Prelude.{ℕ, List, ◌++◌, codes, decimal}
 use Rattle.net_order.specs.declared.order.OrderFault.{OrderFault}
-use Rattle.net_order.specs.declared.order.OrderFault.TheVariants.{CountsDiffer, NotAPermutation, TooManyInputs, OutOfMemory, BadName, TooLong, Read}
+use Rattle.net_order.specs.declared.order.OrderFault.TheVariants.{CountsDiffer, NotAPermutation, TooManyInputs, OutOfMemory, BadName}
+use Rattle.net_order.specs.declared.order.OrderFault.TheVariants.{TooLong, Read}
 
 -- What is printed of a fault.
 abbrev pub order_fault_text : OrderFault → List ℕ

@@ -1,6 +1,7 @@
 -- Variables moved towards what they are joined with: after Aloul, Markov and Sakallah, "FORCE: a fast and easy-to-implement
 -- variable-ordering heuristic", GLSVLSI 2003.
-use Rattle.std.specs.Prelude.{ℕ, zero, suc, ◌+◌, ◌-◌, ◌*◌, ◌/◌, ◌^◌, ◌==◌, min, max, nat_lt, if◌then◌else◌, List, [], ◌∷◌, ◌++◌, map, fold, filter, reverse, length, slice_index, slice_set, replicate}
+use Rattle.std.specs.Prelude.{ℕ, zero, suc, ◌+◌, ◌-◌, ◌*◌, ◌/◌, ◌^◌, ◌==◌, min, max, nat_lt, if◌then◌else◌, List, [], ◌∷◌, ◌++◌, map, fold}
+use Rattle.std.specs.Prelude.{filter, reverse, length, slice_index, slice_set, replicate}
 use Rattle.std.specs.List.{slice_index_or}
 use Rattle.net_bench.specs.declared.netlist.GateLine.{GateLine}
 use Rattle.net_bench.specs.Circuit.{Circuit, variables_of}
@@ -20,7 +21,8 @@ counted_from k table (p ∷ ps) = counted_from (k + 1) (slice_set table p k) ps
 
 -- By signal of a netlist, its vertex: the function tells those of variables, and the gates are numbered from k on, as they are written.
 unfoldable pub vertices : Circuit → (ℕ → ℕ) → ℕ → List ℕ
-vertices c variable k = counted_from k (fold (λ t s. slice_set t s (variable s)) (replicate (length c.names) 0) (variables_of c)) (map (λ g. g.out) c.gates)
+vertices c variable k = counted_from k (fold (λ t s. slice_set t s (variable s)) (replicate (length c.names) 0) (variables_of c))
+    (map (λ g. g.out) c.gates)
 
 -- The vertices of a gate's operands, and last its own.
 abbrev pub edge_of : List ℕ → GateLine → List ℕ
@@ -112,7 +114,8 @@ drawn_to total share place = if share == 0 then place else mean_of total share
 
 -- By vertex, where it is drawn to.
 unfoldable pub step : List (List ℕ) → List ℕ → List ℕ → List ℕ
-step edges shares places = map (λ v. drawn_to (slice_index (totals_of places edges) v) (slice_index shares v) (slice_index places v)) (numbers_below (length places))
+step edges shares places = map (λ v. drawn_to (slice_index (totals_of places edges) v) (slice_index shares v) (slice_index places v))
+    (numbers_below (length places))
 
 -- By vertex, where so many steps draw it to.
 unfoldable pub steps_of : List (List ℕ) → List ℕ → ℕ → List ℕ → List ℕ
@@ -131,7 +134,8 @@ round edges shares order = rising (slice_index (steps_of edges shares (steps_for
 unfoldable pub moved : ℕ → Graph → List ℕ
 moved variables graph =
     let shares = shares_of (length graph.ranks) graph.edges in
-    round graph.edges shares (round graph.edges shares (first_order variables graph.edges (rising (slice_index graph.ranks) (numbers_below (length graph.ranks)))))
+    round graph.edges shares (round graph.edges shares (first_order variables graph.edges
+    (rising (slice_index graph.ranks) (numbers_below (length graph.ranks)))))
 
 -- The variables alone, the last one first.
 abbrev pub variables_back : ℕ → List ℕ → List ℕ

@@ -1,5 +1,6 @@
 -- The order of the variables of two netlists.
-use Rattle.std.specs.Prelude.{◌≡◌, ◌<◌, ◌≤◌, ℕ, zero, suc, ◌+◌, ◌==◌, Bool, not, ◌&&◌, if◌then◌else◌, List, [], ◌∷◌, ◌++◌, map, filter, fold, length, flat_map, find, zip, unwrap_or, Option, Some, None, IfSome, nat_lt, nat_le, slice_index, All}
+use Rattle.std.specs.Prelude.{◌≡◌, ◌<◌, ◌≤◌, ℕ, zero, suc, ◌+◌, ◌==◌, Bool, not, ◌&&◌, if◌then◌else◌, List, [], ◌∷◌, ◌++◌, map, filter}
+use Rattle.std.specs.Prelude.{fold, length, flat_map, find, zip, unwrap_or, Option, Some, None, IfSome, nat_lt, nat_le, slice_index, All}
 use Rattle.std.specs.List.{list_any, slice_index_or}
 use Rattle.std.specs.Borrow.{Bor}
 use Rattle.net_bench.specs.declared.netlist.GateLine.{GateLine}
@@ -9,7 +10,8 @@ use Rattle.net_order.specs.declared.order.Match.TheVariants.{Name, Position}
 use Rattle.net_order.specs.declared.order.Order.{Order}
 use Rattle.net_order.specs.declared.order.Order.TheVariants.{Declared, Depth, Interleave, Index, Force, Listed, Extended}
 use Rattle.net_order.specs.declared.order.OrderFault.{OrderFault}
-use Rattle.net_order.specs.declared.order.OrderFault.TheVariants.{CountsDiffer, NotAPermutation, TooManyInputs, OutOfMemory, BadName, TooLong, Read}
+use Rattle.net_order.specs.declared.order.OrderFault.TheVariants.{CountsDiffer, NotAPermutation, TooManyInputs, OutOfMemory, BadName}
+use Rattle.net_order.specs.declared.order.OrderFault.TheVariants.{TooLong, Read}
 use Rattle.net_order.specs.Force.{Graph, moved, variables_alone, variables_back, with_gates}
 use Rattle.net_order.specs.Index.{index_key, rising}
 use Rattle.net_order.specs.declared.walk.Way.{Way}
@@ -262,7 +264,8 @@ ordered sides given (Extended names) = extended sides given names
 
 -- ---- a list of names
 
--- The first place, counted on from the number given, at which a name is no variable or stood before; one past the end where names are missing.
+-- The first place, counted on from the number given, at which a name is no variable or stood before; one past the end where names are
+-- missing.
 abbrev pub bad_place : List (List ℕ) → List (List ℕ) → List (List ℕ) → ℕ → Option ℕ
 bad_place variables before [] place = if nat_lt (length before) (length variables) then Some place else None
 bad_place variables before (n ∷ ns) place =
@@ -348,8 +351,8 @@ IsFit variables Force = Unit {0}
 IsFit variables (Listed names) = IsListing variables names
 IsFit variables (Extended names) = Unit {0}
 
--- A naming, or a pairing, as its users see it: the variables by level, by signal the level of an input or register of each netlist and of the
--- condition, and which outputs and which registers are compared.
+-- A naming, or a pairing, as its users see it: the variables by level, by signal the level of an input or register of each netlist and of
+-- the condition, and which outputs and which registers are compared.
 pub record Paired : Type 0 where
   pub names : List (List ℕ)
   pub first : List ℕ
@@ -382,8 +385,8 @@ names_by how a b given order = ordered (both how a b) (given_side given) order
 abbrev pub variables_in : Match → Circuit → Circuit → Option Circuit → List (List ℕ)
 variables_in how a b given = declared (both how a b) (given_side given)
 
--- This is the naming of two netlists, with a condition or without: its variables are in the order that is asked for, each input or register has its
--- variable's level, and outputs correspond to outputs, registers to registers.
+-- This is the naming of two netlists, with a condition or without: its variables are in the order that is asked for, each input or register
+-- has its variable's level, and outputs correspond to outputs, registers to registers.
 pub record IsNaming (how : Match) (a b : Circuit) (given : Option Circuit) (order : Order) (p : Paired) : Type 0 where
   pub counted : AreCounted how a b
   pub fit : IsFit (variables_in how a b given) order

@@ -3,7 +3,8 @@ use Rattle.std.specs.Prelude.{◌≡◌, ◌≢◌, ◌<◌, ◌≤◌, ℕ, nat
 use Rattle.net_bench.specs.Text.{Token, Open, Close, Comma, Equals, Name, Unknown, End, Tokens, HasTokens}
 use Rattle.net_bench.specs.Fault.{max_name, max_text}
 use Rattle.net_order.specs.declared.order.OrderFault.{OrderFault}
-use Rattle.net_order.specs.declared.order.OrderFault.TheVariants.{CountsDiffer, NotAPermutation, TooManyInputs, OutOfMemory, BadName, TooLong, Read}
+use Rattle.net_order.specs.declared.order.OrderFault.TheVariants.{CountsDiffer, NotAPermutation, TooManyInputs, OutOfMemory, BadName}
+use Rattle.net_order.specs.declared.order.OrderFault.TheVariants.{TooLong, Read}
 
 -- The name that a token of an order file is: a name token of at most 255 bytes.
 abbrev pub listed_name : Token → Option (List ℕ)
@@ -26,7 +27,8 @@ order_text (n ∷ ns) = n ++ (10 ∷ order_text ns)
 
 -- The text is an order file of these names.
 abbrev pub IsOrderText : List ℕ → List (List ℕ) → Type 0
-IsOrderText text names = (length text ≤ max_text) × (tokens : Tokens) × (line : ℕ) × HasTokens text (tokens ++ (line, End) ∷ []) × AreNames tokens names
+IsOrderText text names = (length text ≤ max_text) × (tokens : Tokens) × (line : ℕ) × HasTokens text (tokens ++ (line, End) ∷ [])
+    × AreNames tokens names
 
 -- The first token of the text that is no name stands on this line.
 abbrev pub HasBadName : List ℕ → ℕ → Type 0

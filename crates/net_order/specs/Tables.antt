@@ -27,7 +27,8 @@ AreMatched Position namer c = length (variables_of c) ≡ length (variables_of n
 abbrev pub ArePartners : Match → Circuit → Circuit → List ℕ → Type 0
 ArePartners Name namer c partners = Unit {0}
 ArePartners Position namer c partners =
-    (length partners ≡ length c.names) × ((s : ℕ) → s < length c.names → slice_index partners s ≡ partner (variables_of c) (variables_of namer) s)
+    (length partners ≡ length c.names) × ((s : ℕ) → s < length c.names
+    → slice_index partners s ≡ partner (variables_of c) (variables_of namer) s)
 
 -- A netlist of a pairing with the one that names its variables, and their table.
 pub record IsSide (how : Match) (namer net : Net) (partners : List ℕ) : Type 0 where
@@ -81,4 +82,5 @@ pub record AreLevels (names : List (List ℕ)) (sides : List Sided) (p : Paired)
 -- Why these variables were not put into the order that is asked for.
 abbrev pub IsUnordered : List (List ℕ) → Order → OrderFault → Type 0
 IsUnordered variables order fault =
-    (fault ≡ OutOfMemory) ⊎ ((place : ℕ) × (names : List (List ℕ)) × (fault ≡ NotAPermutation place) × (order ≡ Listed names) × (bad_place variables [] names 1 ≡ Some place))
+    (fault ≡ OutOfMemory) ⊎ ((place : ℕ) × (names : List (List ℕ)) × (fault ≡ NotAPermutation place) × (order ≡ Listed names)
+    × (bad_place variables [] names 1 ≡ Some place))

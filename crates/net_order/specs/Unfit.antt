@@ -12,11 +12,13 @@ pub record Unfit : Type 0 where
 -- The first of the variables that is not among the names.
 abbrev pub first_missing : List (List ℕ) → List (List ℕ) → Option Unfit
 first_missing [] names = None
-first_missing (v ∷ variables) names = if is_name_in names v then first_missing variables names else Some (record { why = Missing; name = v })
+first_missing (v ∷ variables) names = if is_name_in names v then first_missing variables names else Some
+    (record { why = Missing; name = v })
 
 -- The first name that is no variable or stood before, and where there is none, the first variable that the names lack.
 abbrev pub unfit_from : (variables before names : List (List ℕ)) → Option Unfit
 unfit_from variables before [] = first_missing variables before
 unfit_from variables before (n ∷ names) =
-    if is_name_in variables n then (if is_name_in before n then Some (record { why = Repeated; name = n }) else unfit_from variables (before ++ n ∷ []) names)
+    if is_name_in variables n then (if is_name_in before n then Some (record { why = Repeated; name = n }) else unfit_from variables
+    (before ++ n ∷ []) names)
     else Some (record { why = Foreign; name = n })

@@ -1,5 +1,6 @@
 -- A walk below the outputs with a stack: what holds between its steps.
-use Rattle.std.specs.Prelude.{◌≡◌, ◌==◌, ◌+◌, ◌<◌, ℕ, zero, suc, Bool, true, false, if◌then◌else◌, List, [], ◌∷◌, ◌++◌, fold, find, flat_map, map, length, slice_index_or, Some, All}
+use Rattle.std.specs.Prelude.{◌≡◌, ◌==◌, ◌+◌, ◌<◌, ℕ, zero, suc, Bool, true, false, if◌then◌else◌, List, [], ◌∷◌, ◌++◌, fold, find}
+use Rattle.std.specs.Prelude.{flat_map, map, length, slice_index_or, Some, All}
 use Rattle.std.specs.List.{sum_by}
 use Rattle.net_bench.specs.declared.netlist.GateLine.{GateLine}
 use Rattle.net_bench.specs.Circuit.{Circuit, Net, IsNet, circuit}

@@ -1,7 +1,8 @@
 //! Steps in which vertices are drawn to the middle of their edges, and rounds of such steps.
 ghost use Rattle.std.specs.Prelude.{◌≡◌, slice_index, IfOk, OnOk};
 ghost use Rattle.net_order.specs.Index.{rising};
-ghost use Rattle.net_order.specs.Force.{centre_of, degrees_of, drawn_to, mean_of, places_of, round, shares_of, step, steps_for, steps_of, totals_of, with_more};
+ghost use Rattle.net_order.specs.Force.{centre_of, degrees_of, drawn_to, mean_of, places_of, round, shares_of, step, steps_for, steps_of};
+ghost use Rattle.net_order.specs.Force.{totals_of, with_more};
 
 use crate::edge::{Edge, WHOLE, share_of};
 use crate::hypergraph::{count_from, number_at, put};

@@ -69,7 +69,8 @@ fn outs_of(alloc: Global, net: &Netlist) -> Result<Vec<usize>, AllocError>
 
 /// Puts the levels of a side's variables at their places.
 fn put_levels(table: &mut Vec<u64>, names: &NameTable, side: &NamedNetlist<'_>)
-    ensures { table.new.items ≡ fold (λ t s. slice_set t s (level_of names.now (named side.now s))) table.old.items (variables_of side.now.net) }
+    ensures { table.new.items ≡ fold (λ t s. slice_set t s (level_of names.now (named side.now s))) table.old.items
+        (variables_of side.now.net) }
 {
     let net = side.net();
     for variable in net.variables() {
@@ -162,7 +163,8 @@ fn add_side(
     names: &NameTable,
     side: &NamedNetlist<'_>,
 ) -> Result<(), AllocError>
-    ensures { OnOk result (record { edges = edges.new.items; ranks = ranks.new.items } ≡ with_side names.now (record { edges = edges.old.items; ranks = ranks.old.items }) side.now) }
+    ensures { OnOk result (record { edges = edges.new.items; ranks = ranks.new.items } ≡ with_side names.now
+        (record { edges = edges.old.items; ranks = ranks.old.items }) side.now) }
 {
     let first = ranks.len();
     if first >= MAX_VERTICES {
@@ -182,7 +184,8 @@ fn add_sides(
     names: &NameTable,
     sides: &[NamedNetlist<'_>],
 ) -> Result<(), AllocError>
-    ensures { OnOk result (record { edges = edges.new.items; ranks = ranks.new.items } ≡ fold (with_side names.now) (record { edges = edges.old.items; ranks = ranks.old.items }) sides.now) }
+    ensures { OnOk result (record { edges = edges.new.items; ranks = ranks.new.items } ≡ fold (with_side names.now)
+        (record { edges = edges.old.items; ranks = ranks.old.items }) sides.now) }
 {
     for i in 0..sides.len() {
         let side = &sides[i];

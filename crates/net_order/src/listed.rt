@@ -11,7 +11,8 @@ use std::alloc::{AllocError, Global};
 pub fn listed(alloc: Global, variables: &NameTable, list: &Names) -> Result<NameTable, OrderFault>
     ensures ok { IfOk result (λ t. (t ≡ list.now) × (bad_place variables.now [] list.now 1 ≡ None)) }
     ensures few { IfOk result (λ t. length t ≤ length variables.now) }
-    ensures err { IfErr result (λ f. (f ≡ OrderFault.OutOfMemory) ⊎ ((place : ℕ) × (f ≡ OrderFault.NotAPermutation place) × (bad_place variables.now [] list.now 1 ≡ Some place))) }
+    ensures err { IfErr result (λ f. (f ≡ OrderFault.OutOfMemory)
+        ⊎ ((place : ℕ) × (f ≡ OrderFault.NotAPermutation place) × (bad_place variables.now [] list.now 1 ≡ Some place))) }
 {
     let mut table = NameTable::new(alloc);
     let count = list.len();

@@ -147,8 +147,10 @@ pub(crate) fn finish(
     requires { AreCounted how (circuit first.now) (circuit second.now) }
     ensures names { IfOk result (λ p. p.names ≡ table) }
     ensures levels { IfOk result (AreLevels table sides.now) }
-    ensures outputs { IfOk result (λ p. p.outputs ≡ correspondence how (circuit first.now) (circuit second.now) first.now.outputs second.now.outputs) }
-    ensures registers { IfOk result (λ p. p.registers ≡ correspondence how (circuit first.now) (circuit second.now) (registers_of (circuit first.now)) (registers_of (circuit second.now))) }
+    ensures outputs { IfOk result (λ p. p.outputs ≡ correspondence how (circuit first.now)
+        (circuit second.now) first.now.outputs second.now.outputs) }
+    ensures registers { IfOk result (λ p. p.registers ≡ correspondence how (circuit first.now) (circuit second.now)
+        (registers_of (circuit first.now)) (registers_of (circuit second.now))) }
 {
     let levels = all_levels(alloc, &table, sides)?;
     let outputs = correspond(alloc, first, second, how, first.outputs(), second.outputs())?;
@@ -184,7 +186,8 @@ pub fn naming_of(
     // What is answered is the naming.
     ensures named { IfOk result (λ p. IsNaming how (circuit first.now) (circuit second.now) (condition given.entry) Declared p) }
     // There is none where the netlists are not counted, or memory ran out.
-    ensures refused { IfErr result (λ f. (f ≡ OrderFault.OutOfMemory) ⊎ ((f ≡ OrderFault.CountsDiffer) × (AreCounted how (circuit first.now) (circuit second.now) → ⊥))) }
+    ensures refused { IfErr result (λ f. (f ≡ OrderFault.OutOfMemory)
+        ⊎ ((f ≡ OrderFault.CountsDiffer) × (AreCounted how (circuit first.now) (circuit second.now) → ⊥))) }
 {
     if !are_counted(first, second, how) {
         return Err(OrderFault::CountsDiffer);

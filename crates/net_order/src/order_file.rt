@@ -1,5 +1,6 @@
 //! Order files: the names of variables, from the top level down.
-ghost use Rattle.std.specs.Prelude.{◌≡◌, ◌+◌, ◌≤◌, ◌⊎◌, ◌∷◌, ◌++◌, ℕ, [], length, map, IfOk, IfErr, IfSome, OnOk, IsTrue, MatchOption, Some, None, Err};
+ghost use Rattle.std.specs.Prelude.{◌≡◌, ◌+◌, ◌≤◌, ◌⊎◌, ◌∷◌, ◌++◌, ℕ, [], length, map, IfOk, IfErr, IfSome, OnOk, IsTrue, MatchOption};
+ghost use Rattle.std.specs.Prelude.{Some, None, Err};
 ghost use Rattle.net_bench.specs.Devices.{TakesAtMost};
 ghost use Rattle.net_bench.specs.Fault.{max_text};
 ghost use Rattle.net_bench.specs.Scan.{seen};
@@ -17,7 +18,8 @@ const MAX_NAME: usize = 255;
 
 /// The name that a token of an order file is.
 fn listed_name(token: Token<'_>) -> Option<&[u8]>
-    ensures { (line : ℕ) → MatchOption result (listed_name (seen line token.entry) ≡ None) (λ name. listed_name (seen line token.entry) ≡ Some name.now) }
+    ensures { (line : ℕ) → MatchOption result (listed_name (seen line token.entry) ≡ None)
+        (λ name. listed_name (seen line token.entry) ≡ Some name.now) }
 {
     match token {
         Token::Name(name) => if name.len() <= MAX_NAME {

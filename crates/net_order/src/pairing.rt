@@ -115,7 +115,8 @@ pub fn pair(
     // What is answered is the pairing.
     ensures paired { IfOk result (λ p. IsPairing how (circuit first.now) (circuit second.now) (condition given.entry) order.now p) }
     // What is refused has its cause, and none that comes before it, unless memory ran out.
-    ensures refused { IfErr result (λ f. (f ≡ OrderFault.OutOfMemory) ⊎ IsRefused how (circuit first.now) (circuit second.now) (condition given.entry) order.now f) }
+    ensures refused { IfErr result (λ f. (f ≡ OrderFault.OutOfMemory)
+        ⊎ IsRefused how (circuit first.now) (circuit second.now) (condition given.entry) order.now f) }
 {
     if !are_counted(first, second, how) {
         return Err(OrderFault::CountsDiffer);

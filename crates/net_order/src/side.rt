@@ -109,7 +109,8 @@ pub fn sides_of<'a>(
     how: Match,
 ) -> Result<Vec<NamedNetlist<'a>>, AllocError>
     requires { AreCounted how (circuit first.now) (circuit second.now) }
-    ensures { IfOk result (λ sides. sides.items ≡ both how (circuit first.entry.now) (circuit second.entry.now) ++ given_side (condition given.entry)) }
+    ensures { IfOk result (λ sides. sides.items ≡ both how (circuit first.entry.now) (circuit second.entry.now)
+        ++ given_side (condition given.entry)) }
 {
     let mut sides = Vec::new(alloc);
     sides.push(NamedNetlist::new(alloc, first, first, Match::Name)?)?;

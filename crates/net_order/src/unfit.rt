@@ -116,11 +116,14 @@ pub fn unfit_name(
     how: Match,
     list: &Names,
 ) -> Result<Option<Unfit>, OrderFault>
-    ensures told { IfOk result (λ u. u ≡ unfit_from (variables_in how (circuit first.now) (circuit second.now) (condition given.entry)) [] list.now) }
+    ensures told { IfOk result (λ u. u ≡ unfit_from (variables_in how (circuit first.now) (circuit second.now)
+        (condition given.entry)) [] list.now) }
     // There is none where `pair` accepts the list, and nowhere else.
-    ensures none { IfOk result (λ u. (u ≡ None) ↔ IsListing (variables_in how (circuit first.now) (circuit second.now) (condition given.entry)) list.now) }
+    ensures none { IfOk result (λ u. (u ≡ None) ↔ IsListing
+        (variables_in how (circuit first.now) (circuit second.now) (condition given.entry)) list.now) }
     // What is refused has the cause that `pair` tells for any other order.
-    ensures refused { IfErr result (λ f. (f ≡ OrderFault.OutOfMemory) ⊎ IsRefused how (circuit first.now) (circuit second.now) (condition given.entry) Order.Declared f) }
+    ensures refused { IfErr result (λ f. (f ≡ OrderFault.OutOfMemory)
+        ⊎ IsRefused how (circuit first.now) (circuit second.now) (condition given.entry) Order.Declared f) }
 {
     if !are_counted(first, second, how) {
         return Err(OrderFault::CountsDiffer);

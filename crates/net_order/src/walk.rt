@@ -1,5 +1,6 @@
 //! The variables as they are met below signals: a walk down with a stack of its own, which opens each gate once.
-ghost use Rattle.std.specs.Prelude.{◌≡◌, ◌<◌, ◌==◌, ◌∷◌, ◌++◌, [], length, map, fold, find, reverse, OnOk, IfOk, MatchOption, All, IsTrue, None};
+ghost use Rattle.std.specs.Prelude.{◌≡◌, ◌<◌, ◌==◌, ◌∷◌, ◌++◌, [], length, map, fold, find, reverse, OnOk, IfOk, MatchOption, All, IsTrue};
+ghost use Rattle.std.specs.Prelude.{None};
 ghost use Rattle.net_bench.specs.Circuit.{IsNet, circuit, variables_of};
 ghost use Rattle.net_order.specs.Order.{below, is_member, met, met_below, taken, with_number};
 ghost use Rattle.net_order.specs.Walk.{ArePaths, IsGoing, IsSettled, IsStepsOf, IsWalk, entered, outcome, steps_left};
@@ -99,7 +100,8 @@ fn push_operands(stack: &mut Vec<Frame>, operands: &[Signal]) -> Result<(), Allo
 fn steps_of<'a>(paths: &'a Paths<'_>, signal: u32) -> Option<&'a [Signal]>
     requires inside { signal < length paths.now.net.now.names }
     requires paths { ArePaths paths.now.way paths.now.net.now (map (λ l. l.items) paths.now.steps.items) }
-    ensures { MatchOption result (find (λ g. g.out == signal) paths.now.net.now.gates ≡ None) (λ os. IsStepsOf paths.now.way (circuit paths.now.net.now) signal os.now) }
+    ensures { MatchOption result (find (λ g. g.out == signal) paths.now.net.now.gates ≡ None)
+        (λ os. IsStepsOf paths.now.way (circuit paths.now.net.now) signal os.now) }
 {
     let Role::Gate(place) = paths.net.role(Signal::of(signal)) else {
         return None;
@@ -119,9 +121,13 @@ fn enter(
     signal: u32,
 ) -> Result<(), AllocError>
     requires paths { ArePaths paths.now.way paths.now.net.now (map (λ l. l.items) paths.now.steps.items) }
-    requires walking { IsGoing paths.now.way (circuit paths.now.net.now) found.old.items seen.old.items (Frame.Enter signal ∷ reverse stack.old.items) }
-    ensures walking { OnOk result (IsWalk paths.now.way (circuit paths.now.net.now) (outcome paths.now.way (circuit paths.now.net.now) found.old.items (Frame.Enter signal ∷ reverse stack.old.items)) found.new.items seen.new.items (reverse stack.new.items)) }
-    ensures fewer { OnOk result (steps_left paths.now.way (circuit paths.now.net.now) (reverse stack.new.items) < steps_left paths.now.way (circuit paths.now.net.now) (Frame.Enter signal ∷ reverse stack.old.items)) }
+    requires walking { IsGoing paths.now.way (circuit paths.now.net.now) found.old.items seen.old.items
+        (Frame.Enter signal ∷ reverse stack.old.items) }
+    ensures walking { OnOk result (IsWalk paths.now.way (circuit paths.now.net.now)
+        (outcome paths.now.way (circuit paths.now.net.now) found.old.items
+        (Frame.Enter signal ∷ reverse stack.old.items)) found.new.items seen.new.items (reverse stack.new.items)) }
+    ensures fewer { OnOk result (steps_left paths.now.way (circuit paths.now.net.now) (reverse stack.new.items) < steps_left paths.now.way
+        (circuit paths.now.net.now) (Frame.Enter signal ∷ reverse stack.old.items)) }
 {
     if seen[signal as usize] {
         return Ok(());
@@ -152,7 +158,8 @@ pub fn walk_below(
     requires inside { root < length paths.now.net.now.names }
     requires settled { IsSettled paths.now.way (circuit paths.now.net.now) found.old.items seen.old.items }
     ensures settled { OnOk result (IsSettled paths.now.way (circuit paths.now.net.now) found.new.items seen.new.items) }
-    ensures found { OnOk result (found.new.items ≡ fold with_number found.old.items (below paths.now.way (circuit paths.now.net.now) root)) }
+    ensures found { OnOk result (found.new.items ≡ fold with_number found.old.items
+        (below paths.now.way (circuit paths.now.net.now) root)) }
 {
     let mut stack = Vec::new(alloc);
     stack.push(Frame::Enter(root))?;

@@ -37,8 +37,10 @@ pub record IsDivided (results : List (Key × Ref)) (read : List Record) (homes :
 -- one pair more is read: a home for it, and the pair in the list of its shard, or the diagram that both its children are
 pub record IsPut (old : Divided) (p : Pair) (new : Divided) : Type 0 where
   pub listed : IsListed (list_at old.lists.items) p (list_at new.lists.items)
-  pub same : p.0 ≡ p.1 → (new.homes.numbers.items ≡ old.homes.numbers.items ++ 16 ∷ []) × (new.homes.equal.items ≡ old.homes.equal.items ++ p.0 ∷ [])
-  pub differ : p.0 ≢ p.1 → (new.homes.numbers.items ≡ old.homes.numbers.items ++ shard_of_pair p.0 p.1 ∷ []) × (new.homes.equal.items ≡ old.homes.equal.items)
+  pub same : p.0 ≡ p.1 → (new.homes.numbers.items ≡ old.homes.numbers.items ++ 16 ∷ [])
+      × (new.homes.equal.items ≡ old.homes.equal.items ++ p.0 ∷ [])
+  pub differ : p.0 ≢ p.1 → (new.homes.numbers.items ≡ old.homes.numbers.items ++ shard_of_pair p.0 p.1 ∷ [])
+      × (new.homes.equal.items ≡ old.homes.equal.items)
 
 -- each list has as many items as there are homes that name it
 pub record AreHomes (homes : Homes) (lists : ℕ → List Pair) : Type 0 where
@@ -64,9 +66,11 @@ abbrev pub IsPickedOf : List (Vec (Vec Pair Global) Global) → List (Vec Ref Gl
 IsPickedOf parts refs k homes answers = IsPicked homes.numbers.items (begin_of parts k) (source refs homes) (reverse answers)
 
 -- this is so of the first m parts
-pub record ArePicked (parts : List (Vec (Vec Pair Global) Global)) (homes : List Homes) (refs : List (Vec Ref Global)) (m : ℕ) (answers : List (Vec Ref Global)) : Type 0 where
+pub record ArePicked (parts : List (Vec (Vec Pair Global) Global)) (homes : List Homes) (refs : List (Vec Ref Global)) (m : ℕ)
+    (answers : List (Vec Ref Global)) : Type 0 where
   pub long : length answers ≡ m
-  pub each : (k : ℕ) (d : Vec Ref Global) (h : Homes) → k < m → IsPickedOf parts refs k (slice_index_or homes k h) (slice_index_or answers k d).items
+  pub each : (k : ℕ) (d : Vec Ref Global) (h : Homes) → k < m
+      → IsPickedOf parts refs k (slice_index_or homes k h) (slice_index_or answers k d).items
 
 -- a reference for each pair, by shard
 pub record AreRefsOf (parts : List (Vec (Vec Pair Global) Global)) (refs : List (Vec Ref Global)) : Type 0 where
@@ -78,4 +82,5 @@ pub record MayPick (parts : List (Vec (Vec Pair Global) Global)) (homes : List H
   pub many : length parts ≡ length homes
   pub sixteen : All (λ (part : Vec (Vec Pair Global) Global). length part.items ≡ 16) parts
   pub refs_of : AreRefsOf parts refs
-  pub homes_of : (k : ℕ) (d : Vec (Vec Pair Global) Global) (h : Homes) → k < length homes → AreHomes (slice_index_or homes k h) (list_at (slice_index_or parts k d).items)
+  pub homes_of : (k : ℕ) (d : Vec (Vec Pair Global) Global) (h : Homes) → k < length homes
+      → AreHomes (slice_index_or homes k h) (list_at (slice_index_or parts k d).items)

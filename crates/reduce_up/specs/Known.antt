@@ -47,7 +47,8 @@ woven (None ∷ known) found = slice_index_or found 0 False ∷ woven known (dro
 abbrev pub AreKept : Held → List Entry → List Ref → Held → Type 0
 AreKept old [] answers new = new ≡ old
 AreKept old (e ∷ es) [] new = new ≡ old
-AreKept old (e ∷ es) (r ∷ answers) new = (m : Held) × Keeps old (normal_of e.0 e.1 e.2).0 (mark_by (normal_of e.0 e.1 e.2).1 r) m × AreKept m es answers new
+AreKept old (e ∷ es) (r ∷ answers) new = (m : Held) × Keeps old (normal_of e.0 e.1 e.2).0 (mark_by (normal_of e.0 e.1 e.2).1 r) m
+    × AreKept m es answers new
 
 -- of a wave's answers those of its requests
 abbrev pub unless_known_answer : Option Ref → Ref → List Ref

@@ -1,5 +1,6 @@
 -- Requests of a store, and what their answers are.
-use Rattle.std.specs.Prelude.{◌≡◌, ℕ, ◌+◌, ◌<◌, ◌≤◌, ◌⊎◌, Bool, true, false, List, [], ◌∷◌, ◌++◌, length, Contains, min, slice_index_or, Result, IfErr, OnOk}
+use Rattle.std.specs.Prelude.{◌≡◌, ℕ, ◌+◌, ◌<◌, ◌≤◌, ◌⊎◌, Bool, true, false, List, [], ◌∷◌, ◌++◌, length, Contains, min, slice_index_or}
+use Rattle.std.specs.Prelude.{Result, IfErr, OnOk}
 use Rattle.std.proofs.Common.{suc}
 use Rattle.dd_store.specs.declared.reference.Ref.{Ref}
 use Rattle.req_table.specs.declared.Key.{Key}
@@ -42,7 +43,8 @@ pub record IsAnswerAt (s : Nodes) (v : ℕ) (k : Key) (b : Bool) (r : Ref) : Typ
 -- a child for b: an answer, or a deeper key that asks for the same, or for its complement
 abbrev pub IsChild : Nodes → ℕ → Key → Bool → Child → Type 0
 IsChild s v k b (Done r) = IsAnswerAt s v k b r
-IsChild s v k b (Ask l c m) = (v < l) × IsKeyAt s l c × ((q x : List Bool) → length q ≡ v → v + suc (length x) ≡ s.levels → turned m (meaning s c (q ++ b ∷ x)) ≡ meaning s k (q ++ b ∷ x))
+IsChild s v k b (Ask l c m) = (v < l) × IsKeyAt s l c × ((q x : List Bool) → length q ≡ v → v + suc (length x) ≡ s.levels
+    → turned m (meaning s c (q ++ b ∷ x)) ≡ meaning s k (q ++ b ∷ x))
 
 -- a record of level v
 pub record IsRecordAt (s : Nodes) (v : ℕ) (r : Record) : Type 0 where
@@ -78,7 +80,8 @@ IsResolved pairs (Ask l k m) answer = (r : Ref) × Contains pairs (k, r) × (ans
 -- complement of one
 pub record AddsDescribed (old new : Nodes) (Described : ℕ → (List Bool → Bool) → Type 0) : Type 0 where
   pub keeps : Keeps old new
-  pub described : (m : Ref) → Has new m → Has old m ⊎ ((v : ℕ) × (lo : Ref) × (hi : Ref) × (part new m ≡ node v lo hi) × OfEither (Described v) (den new m))
+  pub described : (m : Ref) → Has new m → Has old m ⊎ ((v : ℕ) × (lo : Ref) × (hi : Ref) × (part new m ≡ node v lo hi)
+      × OfEither (Described v) (den new m))
 
 -- the functions that the records of a row ask for
 abbrev pub AskedBy : Nodes → ℕ → List Record → ℕ → (List Bool → Bool) → Type 0
@@ -86,7 +89,8 @@ AskedBy s v row w f = (w ≡ v) × ((r : Record) × Contains row r × Agree s.le
 
 -- the row of level v is reduced up to its record i: from the store `start` with the answers `before` to the store s with
 -- the answers pairs
-pub record IsRowReduced (start : Nodes) (before : List (Key × Ref)) (v : ℕ) (row : List Record) (i : ℕ) (s : Nodes) (pairs : List (Key × Ref)) : Type 0 where
+pub record IsRowReduced (start : Nodes) (before : List (Key × Ref)) (v : ℕ) (row : List Record) (i : ℕ) (s : Nodes)
+    (pairs : List (Key × Ref)) : Type 0 where
   pub held : IsSound s
   pub adds : AddsDescribed start s (AskedBy start v row)
   pub answers : AreAnswers s pairs
@@ -129,7 +133,8 @@ pub record MayReduceRow (s : Nodes) (pairs : List (Key × Ref)) (v : ℕ) (recor
 
 -- what the reduction of a row of level v comes to and leaves: even where it is refused, the pairs are answers and nothing is added
 -- but what the records ask for; all of them have their answers, or else there is a cause
-pub record ReducesRow (old : Nodes) (before : List (Key × Ref)) (v : ℕ) (row : List Record) (result : Result (Unit {0}) WaveFault) (new : Nodes) (pairs : List (Key × Ref)) : Type 0 where
+pub record ReducesRow (old : Nodes) (before : List (Key × Ref)) (v : ℕ) (row : List Record) (result : Result (Unit {0}) WaveFault)
+    (new : Nodes) (pairs : List (Key × Ref)) : Type 0 where
   pub left : IsRowReduced old before v row 0 new pairs
   pub whole : OnOk result (IsRowReduced old before v row (length row) new pairs)
   pub fault : IfErr result (λ e. IsRowFault new v row e)

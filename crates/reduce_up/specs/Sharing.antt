@@ -51,7 +51,8 @@ RowCanStand results s v row = (d : Record) (p : Pair) → Contains row d → IsP
 -- complement of one
 pub record AddsRow (results : List (Key × Ref)) (old new : Nodes) (v : ℕ) (row : List Record) : Type 0 where
   pub keeps : Keeps old new
-  pub only : (m : Ref) → Has new m → Has old m ⊎ ((d : Record) × (p : Pair) × Contains row d × IsPairOf results d p × (p.0 ≢ p.1) × IsOfPair new v p m)
+  pub only : (m : Ref) → Has new m → Has old m ⊎ ((d : Record) × (p : Pair) × Contains row d × IsPairOf results d p × (p.0 ≢ p.1)
+      × IsOfPair new v p m)
 
 -- why records have no diagram: Full only where the store has as many nodes as its limit and lacks the node of a record's pair
 abbrev pub IsRowRefused : List (Key × Ref) → Nodes → ℕ → List Record → StoreFault → Type 0
@@ -61,6 +62,7 @@ IsRowRefused results s v row Full = (d : Record) × (p : Pair) × Contains row d
 -- of a row and the answers of its records, in order, the first i are noted in `new`, whose other answers are those of old; a
 -- key that has an answer keeps one
 pub record NotesFirst (old : List (Key × Ref)) (row : List Record) (answers : List Ref) (i : ℕ) (new : List (Key × Ref)) : Type 0 where
-  pub only : (k : Key) (a : Ref) → Contains new (k, a) → Contains old (k, a) ⊎ ((j : ℕ) × (d : Record) × (j < length row) × ((slice_index_or row j d).key ≡ k) × (slice_index_or answers j a ≡ a))
+  pub only : (k : Key) (a : Ref) → Contains new (k, a) → Contains old (k, a)
+      ⊎ ((j : ℕ) × (d : Record) × (j < length row) × ((slice_index_or row j d).key ≡ k) × (slice_index_or answers j a ≡ a))
   pub more : (k : Key) → HasAnswer old k → HasAnswer new k
   pub done : (j : ℕ) (d : Record) → j < i → HasAnswer new (slice_index_or row j d).key

@@ -28,8 +28,10 @@ pub record AreRead (n : ℕ) (roots : List Key) (p : PartsView) (a : AnswersView
 
 -- the diagrams of part k are picked in a share, where there was memory
 abbrev pub IsSharePicked : List (Vec (Vec Pair Global) Global) → List Homes → List (Vec Ref Global) → ℕ → PickShare → Type 0
-IsSharePicked parts homes refs k share = (h : Homes) → OnOk share.done (IsPickedOf parts refs k (slice_index_or homes k h) share.answers.items)
+IsSharePicked parts homes refs k share = (h : Homes) → OnOk share.done
+    (IsPickedOf parts refs k (slice_index_or homes k h) share.answers.items)
 
 -- the diagrams of all parts are picked, each in the part's share
 abbrev pub AreAllPicked : List (Vec (Vec Pair Global) Global) → List Homes → List (Vec Ref Global) → List PickShare → Type 0
-AreAllPicked parts homes refs shares = (k : ℕ) (d : PickShare) → k < length shares → IsSharePicked parts homes refs k (slice_index_or shares k d)
+AreAllPicked parts homes refs shares = (k : ℕ) (d : PickShare) → k < length shares
+    → IsSharePicked parts homes refs k (slice_index_or shares k d)

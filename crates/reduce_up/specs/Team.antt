@@ -1,5 +1,7 @@
--- Reduction where each worker's records stay where they are: what is still to be read of what a worker asked, and diagrams by level and place.
-use Rattle.std.specs.Prelude.{◌≡◌, ℕ, zero, suc, ◌+◌, ◌-◌, ◌<◌, ◌≤◌, List, [], ◌∷◌, ◌++◌, length, map, filter, take, slice_get, slice_index_or, Some}
+-- Reduction where each worker's records stay where they are: what is still to be read of what a worker asked, and diagrams by level and
+-- place.
+use Rattle.std.specs.Prelude.{◌≡◌, ℕ, zero, suc, ◌+◌, ◌-◌, ◌<◌, ◌≤◌, List, [], ◌∷◌, ◌++◌, length, map, filter, take, slice_get}
+use Rattle.std.specs.Prelude.{slice_index_or, Some}
 use Rattle.std.specs.Prelude.{Result, IfOk, IfErr, OnOk}
 use mathlib.Core.List.{reverse}
 use Rattle.std.specs.List.{AllZip}
@@ -126,22 +128,26 @@ pub record IsPartRead (n : ℕ) (roots : List Key) (p : PartsView) (a : AnswersV
   pub rest : AreLeft n (asked_above n roots p s v) left
 
 -- the pairs of the records of level v of the first m workers, divided, and what is left of what they asked for
-pub record AreDividedBy (n : ℕ) (roots : List Key) (p : PartsView) (a : AnswersView) (v m : ℕ) (parts : List (Vec (Vec Pair Global) Global)) (homes : List Homes) (lefts : List (Vec ℕ Global)) : Type 0 where
+pub record AreDividedBy (n : ℕ) (roots : List Key) (p : PartsView) (a : AnswersView) (v m : ℕ)
+    (parts : List (Vec (Vec Pair Global) Global)) (homes : List Homes) (lefts : List (Vec ℕ Global)) : Type 0 where
   pub many_parts : length parts ≡ m
   pub many_homes : length homes ≡ m
   pub many_lefts : length lefts ≡ m
   pub sixteen : (s : ℕ) (d : Vec (Vec Pair Global) Global) → s < m → length (slice_index_or parts s d).items ≡ 16
-  pub divided : (s : ℕ) (d : Vec (Vec Pair Global) Global) (h : Homes) → s < m → IsDivided (told n p a) (read_of p s v) (slice_index_or homes s h) (list_at (slice_index_or parts s d).items)
+  pub divided : (s : ℕ) (d : Vec (Vec Pair Global) Global) (h : Homes) → s < m
+      → IsDivided (told n p a) (read_of p s v) (slice_index_or homes s h) (list_at (slice_index_or parts s d).items)
   pub left : (s : ℕ) (d : Vec ℕ Global) → s < m → AreLeft n (asked_above n roots p s v) (slice_index_or lefts s d).items
 
 -- each worker's records of level v, of the first m, have their diagrams in store s
 pub record AreMadeOf (n : ℕ) (p : PartsView) (a : AnswersView) (s : Nodes) (v m : ℕ) (answers : List (Vec Ref Global)) : Type 0 where
   pub long : length answers ≡ m
-  pub each : (k : ℕ) (d : Vec Ref Global) → k < m → AllZip (IsAnswered (told n p a) s v) (row_of p.rows k v) (slice_index_or answers k d).items
+  pub each : (k : ℕ) (d : Vec Ref Global) → k < m → AllZip (IsAnswered (told n p a) s v) (row_of p.rows k v)
+      (slice_index_or answers k d).items
 
 -- a wave of so many levels is reduced down to level v: the diagrams of the levels from v on are known, and `left` is what is still to
 -- be read of what each worker asked for
-pub record IsReducedTo (n : ℕ) (roots : List Key) (p : PartsView) (count v : ℕ) (a : AnswersView) (left : List (Vec ℕ Global)) : Type 0 where
+pub record IsReducedTo (n : ℕ) (roots : List Key) (p : PartsView) (count v : ℕ) (a : AnswersView)
+    (left : List (Vec ℕ Global)) : Type 0 where
   pub halfway : IsHalfway n roots p v a
   pub levels : length a.found ≡ count
   pub lefts : AreAllLeft n roots p v left
@@ -161,7 +167,8 @@ pub record MayReadLevel (n : ℕ) (roots : List Key) (p : PartsView) (a : Answer
   pub lefts : AreAllLeft n roots p (v + 1) left
 
 -- level v may be reduced: the store is sound and has that level, the level's records may be read, and their pairs can stand there
-pub record MayReduceLevel (n : ℕ) (roots : List Key) (p : PartsView) (a : AnswersView) (s : Nodes) (v : ℕ) (left : List (Vec ℕ Global)) : Type 0 where
+pub record MayReduceLevel (n : ℕ) (roots : List Key) (p : PartsView) (a : AnswersView) (s : Nodes) (v : ℕ)
+    (left : List (Vec ℕ Global)) : Type 0 where
   pub held : IsSound s
   pub level : v < s.levels
   pub read : MayReadLevel n roots p a v left
@@ -169,7 +176,8 @@ pub record MayReduceLevel (n : ℕ) (roots : List Key) (p : PartsView) (a : Answ
 
 -- what the reduction of level v comes to and leaves: only nodes of its records are added, and each worker's records have their
 -- diagrams and are read; or why some have none
-pub record AnswersLevel (n : ℕ) (roots : List Key) (p : PartsView) (a : AnswersView) (old : Nodes) (v : ℕ) (result : Result (Vec (Vec Ref Global) Global) StoreFault) (new : Nodes) (left : List (Vec ℕ Global)) : Type 0 where
+pub record AnswersLevel (n : ℕ) (roots : List Key) (p : PartsView) (a : AnswersView) (old : Nodes) (v : ℕ)
+    (result : Result (Vec (Vec Ref Global) Global) StoreFault) (new : Nodes) (left : List (Vec ℕ Global)) : Type 0 where
   pub sound : IsSound new
   pub adds : AddsRow (told n p a) old new v (team_row n p v)
   pub made : IfOk result (λ answers. AreMadeOf n p a new v n answers.items)

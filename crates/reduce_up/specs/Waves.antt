@@ -1,5 +1,6 @@
 -- Waves: lists of operations on references of a store, whose diagrams are asked for together, and what a wave leaves.
-use Rattle.std.specs.Prelude.{◌≡◌, ℕ, ◌<◌, ◌≤◌, ◌⊎◌, Bool, List, [], ◌∷◌, ◌++◌, length, map, Contains, Option, None, Some, Result, IfOk, IfErr, OnOk}
+use Rattle.std.specs.Prelude.{◌≡◌, ℕ, ◌<◌, ◌≤◌, ◌⊎◌, Bool, List, [], ◌∷◌, ◌++◌, length, map, Contains, Option, None, Some, Result, IfOk}
+use Rattle.std.specs.Prelude.{IfErr, OnOk}
 use Rattle.std.specs.List.{AllZip}
 use Rattle.std.specs.declared.vec.Vec.{Vec}
 use Rattle.std.specs.declared.alloc.Global.{Global}
@@ -45,7 +46,8 @@ pub record IsWanted (s : Nodes) (entries : List Entry) (v : ℕ) (f : List Bool 
 
 -- each node of `new` is one of `old`, or lies below an answer, or is the complement of one that does
 abbrev pub AddsBelow : Nodes → Nodes → List Ref → Type 0
-AddsBelow old new answers = (m : Ref) → Has new m → Has old m ⊎ ((r : Ref) × (c : Ref) × Contains answers r × Met (part new) r c × IsOneNode new m c)
+AddsBelow old new answers = (m : Ref) → Has new m → Has old m
+    ⊎ ((r : Ref) × (c : Ref) × Contains answers r × Met (part new) r c × IsOneNode new m c)
 
 -- a request as an entry
 abbrev pub entry_for : Key → Entry

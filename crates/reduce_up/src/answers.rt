@@ -44,7 +44,10 @@ impl Answers {
     /// Puts the diagrams of a level in.
     pub(crate) fn put(&mut self, level: u16, answers: Vec<Vec<Ref>>)
         requires { level < length self.old.found }
-        ensures { self.new ≡ record { found = slice_set self.old.found level (map (λ (v : VecValue RefValue GlobalValue). v.items) answers.items) } }
+        ensures { self.new ≡ record {
+          found = slice_set self.old.found level
+              (map (λ (v : VecValue RefValue GlobalValue). v.items) answers.items);
+        } }
     {
         self.found[level as usize] = answers;
     }

@@ -23,14 +23,19 @@ fn make_part(
     requires held { IsSound store.old }
     requires level { level < store.old.levels }
     requires read { MayReadPart team.workers team.roots.now team.parts.now team.answers.now level sender left.old.items }
-    requires ready { RowCanStand (told team.workers team.parts.now team.answers.now) store.old level (team_row team.workers team.parts.now level) }
+    requires ready { RowCanStand (told team.workers team.parts.now team.answers.now) store.old level
+        (team_row team.workers team.parts.now level) }
     ensures sound { IsSound store.new }
     ensures extends { Extends store.old store.new }
-    ensures adds { AddsRow (told team.entry.workers team.entry.parts.now team.entry.answers.now) store.old store.new level (team_row team.entry.workers team.entry.parts.now level) }
-    ensures made { IfOk result (λ answers. AllZip (IsAnswered (told team.entry.workers team.entry.parts.now team.entry.answers.now) store.new level)
+    ensures adds { AddsRow (told team.entry.workers team.entry.parts.now team.entry.answers.now) store.old store.new level
+        (team_row team.entry.workers team.entry.parts.now level) }
+    ensures made { IfOk result (λ answers. AllZip (IsAnswered
+        (told team.entry.workers team.entry.parts.now team.entry.answers.now) store.new level)
         (row_of team.entry.parts.now.rows sender level) answers.items) }
-    ensures left { OnOk result (AreLeft team.entry.workers (asked_above team.entry.workers team.entry.roots.now team.entry.parts.now sender level) left.new.items) }
-    ensures fault { IfErr result (λ e. IsRowRefused (told team.entry.workers team.entry.parts.now team.entry.answers.now) store.new level (team_row team.entry.workers team.entry.parts.now level) e) }
+    ensures left { OnOk result (AreLeft team.entry.workers
+        (asked_above team.entry.workers team.entry.roots.now team.entry.parts.now sender level) left.new.items) }
+    ensures fault { IfErr result (λ e. IsRowRefused (told team.entry.workers team.entry.parts.now team.entry.answers.now) store.new level
+        (team_row team.entry.workers team.entry.parts.now level) e) }
 {
     let row = team.parts.children(sender, level);
     let Ok(mut answers) = emptied(room, row.len()) else {
@@ -59,7 +64,8 @@ pub(crate) fn make_level(
     rest: &mut Rest,
 ) -> Result<Vec<Vec<Ref>>, StoreFault>
     requires { MayReduceLevel team.workers team.roots.now team.parts.now team.answers.now store.old level rest.old.lefts.items }
-    ensures { AnswersLevel team.entry.workers team.entry.roots.now team.entry.parts.now team.entry.answers.now store.old level result store.new rest.new.lefts.items }
+    ensures { AnswersLevel team.entry.workers team.entry.roots.now team.entry.parts.now team.entry.answers.now store.old level result
+        store.new rest.new.lefts.items }
 {
     let Ok(mut answers) = Vec::with_capacity(team.alloc, team.workers as usize) else {
         return Err(StoreFault::OutOfMemory);

@@ -46,8 +46,10 @@ fn pick(
     requires sixteen { length refs.now ≡ 16 }
     requires starts { length starts.now ≡ 17 }
     requires homes { All (λ h. h ≤ 16) homes.now.numbers.items }
-    requires room { (s : ℕ) → s ≤ 16 → slice_index_or starts.now s 0 + length (chosen s homes.now.numbers.items homes.now.numbers.items) ≤ length (source refs.now homes.now s) }
-    ensures { OnOk result (IsPicked homes.now.numbers.items (λ s. slice_index_or starts.now s 0) (source refs.now homes.now) (reverse answers.new.items)) }
+    requires room { (s : ℕ) → s ≤ 16 → slice_index_or starts.now s 0 + length
+        (chosen s homes.now.numbers.items homes.now.numbers.items) ≤ length (source refs.now homes.now s) }
+    ensures { OnOk result (IsPicked homes.now.numbers.items (λ s. slice_index_or starts.now s 0) (source refs.now homes.now)
+        (reverse answers.new.items)) }
 {
     let mut places = Vec::with_capacity(*answers.allocator(), starts.len())?;
     places.extend_from_slice(starts)?;

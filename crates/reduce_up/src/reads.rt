@@ -38,7 +38,8 @@ fn read_part(
     divided: &mut Divided,
 ) -> Result<(), AllocError>
     requires { MayReadPart team.workers team.roots.now team.parts.now team.answers.now level sender left.old.items }
-    ensures { OnOk result (IsPartRead team.entry.workers team.entry.roots.now team.entry.parts.now team.entry.answers.now level sender divided.new left.new.items) }
+    ensures { OnOk result (IsPartRead team.entry.workers team.entry.roots.now team.entry.parts.now team.entry.answers.now level sender
+        divided.new left.new.items) }
 {
     let row = team.parts.children(sender, level);
     divided.empty(team.alloc, row.len())?;
@@ -81,7 +82,8 @@ fn read_shares(
     spare: &mut Spare,
 ) -> Result<Vec<ReadShare>, AllocError>
     requires { MayReadLevel field.workers field.roots.now field.parts.now answers.now level lefts.now }
-    ensures { IfOk result (λ shares. MayReadShares field.entry.workers field.entry.roots.now field.entry.parts.now answers.now level field.entry.workers shares.items) }
+    ensures { IfOk result (λ shares. MayReadShares field.entry.workers field.entry.roots.now field.entry.parts.now answers.now level
+        field.entry.workers shares.items) }
 {
     let _ = answers;
     let mut shares = Vec::with_capacity(field.alloc, field.workers as usize)?;
@@ -110,7 +112,8 @@ fn read_all<R: Threads + Sync>(
 {
     let read = |sender: usize, share: &mut ReadShare|
         requires { MayReadPart field.workers field.roots.now field.parts.now answers.now level sender share.now.left.items }
-        ensures { IsShareRead field.entry.workers field.entry.roots.now field.entry.parts.now answers.entry.now level sender share.exit.now }
+        ensures { IsShareRead field.entry.workers field.entry.roots.now field.entry.parts.now answers.entry.now level sender
+            share.exit.now }
     { share.read(field.team(answers), sender as u32, level) };
     par_for_each_mut(rt, shares, read);
 }
@@ -123,7 +126,8 @@ fn join_reads(
     shares: Vec<ReadShare>,
 ) -> Result<LevelRead, AllocError>
     requires { AreRead field.workers field.roots.now field.parts.now answers.now level field.workers shares.items }
-    ensures { IfOk result (λ r. AreDividedBy field.entry.workers field.entry.roots.now field.entry.parts.now answers.now level field.entry.workers r.parts.items r.homes.items r.lefts.items) }
+    ensures { IfOk result (λ r. AreDividedBy field.entry.workers field.entry.roots.now field.entry.parts.now answers.now level
+        field.entry.workers r.parts.items r.homes.items r.lefts.items) }
 {
     let _ = answers;
     let _ = field.workers;
@@ -157,7 +161,8 @@ pub(crate) fn read_level<R: Threads + Sync>(
     rest: &mut Rest,
 ) -> Result<LevelRead, AllocError>
     requires { MayReadLevel field.workers field.roots.now field.parts.now answers.now level rest.old.lefts.items }
-    ensures { IfOk result (λ r. AreDividedBy field.entry.workers field.entry.roots.now field.entry.parts.now answers.now level field.entry.workers r.parts.items r.homes.items r.lefts.items) }
+    ensures { IfOk result (λ r. AreDividedBy field.entry.workers field.entry.roots.now field.entry.parts.now answers.now level
+        field.entry.workers r.parts.items r.homes.items r.lefts.items) }
 {
     let lefts = rest.lefts.as_slice();
     let mut shares = read_shares(field, answers, level, lefts, &mut rest.spare)?;

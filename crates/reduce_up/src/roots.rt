@@ -17,7 +17,8 @@ fn root_answer(store: &Store, team: Team<'_>, lefts: &mut Vec<Vec<usize>>, root:
     requires root { root < length team.roots.now }
     requires lefts { AreRootsLeft team.workers team.roots.now (root + 1) lefts.old.items }
     ensures lefts { AreRootsLeft team.entry.workers team.entry.roots.now root lefts.new.items }
-    ensures answer { (d : KeyValue) → Contains (told team.entry.workers team.entry.parts.now team.entry.answers.now) (slice_index_or team.entry.roots.now root d, result) }
+    ensures answer { (d : KeyValue) → Contains (told team.entry.workers team.entry.parts.now team.entry.answers.now)
+        (slice_index_or team.entry.roots.now root d, result) }
 {
     let _ = store.levels();
     let key = team.roots[root];
@@ -40,7 +41,8 @@ pub(crate) fn root_answers(
     requires halfway { IsHalfway team.workers team.roots.now team.parts.now 0 team.answers.now }
     requires levels { length team.answers.now.found ≡ store.now.levels }
     requires lefts { AreRootsLeft team.workers team.roots.now (length team.roots.now) lefts.old.items }
-    ensures { IfOk result (λ answers. AllZip (λ k r. Contains (told team.entry.workers team.entry.parts.now team.entry.answers.now) (k, r)) team.entry.roots.now answers.items) }
+    ensures { IfOk result (λ answers. AllZip (λ k r. Contains (told team.entry.workers team.entry.parts.now team.entry.answers.now)
+        (k, r)) team.entry.roots.now answers.items) }
 {
     let mut root = team.roots.len();
     let mut answers = Vec::with_capacity(team.alloc, root)?;

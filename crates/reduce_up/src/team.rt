@@ -7,7 +7,8 @@ ghost use Rattle.req_table.specs.Keys.{IsKey};
 ghost use Rattle.reduce_up.specs.Reducing.{IsResolved, AddsDescribed, MayReduceRow, ReducesRow, IsRowWithin};
 ghost use Rattle.reduce_up.specs.Levels.{AreRecords, AskedInRows, AreReduced, IsReduceFault, IsWithinFrom};
 ghost use Rattle.expand_work.specs.Gathered.{AreParts};
-ghost use Rattle.reduce_up.specs.Team.{IsReducedTo, MayReduceLevel, AnswersLevel, IsNext, AreFewer, AreLeft, AreAllLeft, asked_above, gathered, team_row, told};
+ghost use Rattle.reduce_up.specs.Team.{IsReducedTo, MayReduceLevel, AnswersLevel, IsNext, AreFewer, AreLeft, AreAllLeft, asked_above};
+ghost use Rattle.reduce_up.specs.Team.{gathered, team_row, told};
 
 use crate::answers::Answers;
 use crate::faults::first_fault;
@@ -37,8 +38,10 @@ pub(crate) fn resolve(team: Team<'_>, sender: u32, left: &mut Vec<usize>, child:
     requires many { length team.parts.now.noted ≡ team.workers }
     requires sender { (k : ℕ) → k < team.workers → sender < length (slice_index_or team.parts.now.noted k []) }
     requires child { (c : ChildValue) × IsNext team.workers team.parts.now team.answers.now sender left.old.items child c }
-    ensures left { (c : ChildValue) → IsNext team.entry.workers team.entry.parts.now team.entry.answers.now sender left.old.items child c → AreFewer team.entry.workers c left.old.items left.new.items }
-    ensures answer { (c : ChildValue) → IsNext team.entry.workers team.entry.parts.now team.entry.answers.now sender left.old.items child c → IsResolved (told team.entry.workers team.entry.parts.now team.entry.answers.now) c result }
+    ensures left { (c : ChildValue) → IsNext team.entry.workers team.entry.parts.now team.entry.answers.now sender left.old.items child c
+        → AreFewer team.entry.workers c left.old.items left.new.items }
+    ensures answer { (c : ChildValue) → IsNext team.entry.workers team.entry.parts.now team.entry.answers.now sender left.old.items child
+        c → IsResolved (told team.entry.workers team.entry.parts.now team.entry.answers.now) c result }
 {
     match child.view() {
         PlacedChild::Done(answer) => answer,
@@ -166,7 +169,8 @@ fn level_answers<R: Threads + Sync, G: Monitor>(
     rest: &mut Rest,
 ) -> Result<Vec<Vec<Ref>>, StoreFault>
     requires { MayReduceLevel field.workers field.roots.now field.parts.now answers.now store.old level rest.old.lefts.items }
-    ensures { AnswersLevel field.entry.workers field.entry.roots.now field.entry.parts.now answers.now store.old level result store.new rest.new.lefts.items }
+    ensures { AnswersLevel field.entry.workers field.entry.roots.now field.entry.parts.now answers.now store.old level result store.new
+        rest.new.lefts.items }
 {
     if field.workers < 2 || level_size(field.parts, field.workers, level) < FEWEST_SHARED {
         return make_level(store, field.team(answers), level, rest);
@@ -183,11 +187,15 @@ fn reduce_team_level<R: Threads + Sync, G: Monitor>(
     level: u16,
 ) -> Result<(), WaveFault>
     requires level { level < store.old.levels }
-    requires reached { IsReducedTo field.workers field.roots.now field.parts.now store.old.levels (level + 1) progress.old.answers progress.old.rest.lefts.items }
-    requires ready { MayReduceRow store.old (told field.workers field.parts.now progress.old.answers) level (team_row field.workers field.parts.now level) }
+    requires reached { IsReducedTo field.workers field.roots.now field.parts.now store.old.levels
+        (level + 1) progress.old.answers progress.old.rest.lefts.items }
+    requires ready { MayReduceRow store.old (told field.workers field.parts.now progress.old.answers) level
+        (team_row field.workers field.parts.now level) }
     ensures row { ReducesRow store.old (told field.entry.workers field.entry.parts.now progress.old.answers) level
-        (team_row field.entry.workers field.entry.parts.now level) result store.new (told field.entry.workers field.entry.parts.now progress.new.answers) }
-    ensures reached { OnOk result (IsReducedTo field.entry.workers field.entry.roots.now field.entry.parts.now store.old.levels level progress.new.answers progress.new.rest.lefts.items) }
+        (team_row field.entry.workers field.entry.parts.now level) result store.new
+        (told field.entry.workers field.entry.parts.now progress.new.answers) }
+    ensures reached { OnOk result (IsReducedTo field.entry.workers field.entry.roots.now field.entry.parts.now store.old.levels level
+        progress.new.answers progress.new.rest.lefts.items) }
     ensures within { OnOk result (IsRowWithin store.old (team_row field.entry.workers field.entry.parts.now level) store.new) }
     ensures memory { result ≡ Err WaveFault.OutOfMemory → count_of store.new ≤ store.new.limit }
 {
@@ -214,7 +222,8 @@ pub(crate) fn begin(store: &Store, field: Field<'_>, spare: Spare) -> Result<Pro
     requires some { 0 < field.workers }
     requires roots { All (IsKey store.now) field.roots.now }
     requires parts { AreParts store.now field.workers field.roots.now field.parts.now }
-    ensures reached { IfOk result (λ g. IsReducedTo field.entry.workers field.entry.roots.now field.entry.parts.now store.now.levels store.now.levels g.answers g.rest.lefts.items) }
+    ensures reached { IfOk result (λ g. IsReducedTo field.entry.workers field.entry.roots.now field.entry.parts.now store.now.levels
+        store.now.levels g.answers g.rest.lefts.items) }
     ensures none { IfOk result (λ g. told field.entry.workers field.entry.parts.now g.answers ≡ []) }
 {
     let levels = store.levels();
@@ -232,15 +241,20 @@ pub(crate) fn reduce_team<R: Threads + Sync, G: Monitor>(
     progress: &mut Progress,
 ) -> Result<(), WaveFault>
     requires records { AreRecords store.old (gathered store.old.levels (team_row field.workers field.parts.now)) }
-    requires reached { IsReducedTo field.workers field.roots.now field.parts.now store.old.levels store.old.levels progress.old.answers progress.old.rest.lefts.items }
+    requires reached { IsReducedTo field.workers field.roots.now field.parts.now store.old.levels store.old.levels progress.old.answers
+        progress.old.rest.lefts.items }
     requires none { told field.workers field.parts.now progress.old.answers ≡ [] }
     ensures sound { IsSound store.new }
-    ensures adds { AddsDescribed store.old store.new (AskedInRows store.old (gathered store.old.levels (team_row field.entry.workers field.entry.parts.now))) }
+    ensures adds { AddsDescribed store.old store.new (AskedInRows store.old
+        (gathered store.old.levels (team_row field.entry.workers field.entry.parts.now))) }
     ensures answers { OnOk result (AreReduced (gathered store.old.levels (team_row field.entry.workers field.entry.parts.now)) store.new
         (told field.entry.workers field.entry.parts.now progress.new.answers)) }
-    ensures reached { OnOk result (IsReducedTo field.entry.workers field.entry.roots.now field.entry.parts.now store.old.levels 0 progress.new.answers progress.new.rest.lefts.items) }
-    ensures within { OnOk result (IsWithinFrom store.old (gathered store.old.levels (team_row field.entry.workers field.entry.parts.now)) 0 store.new) }
-    ensures fault { IfErr result (λ e. IsReduceFault store.new (gathered store.old.levels (team_row field.entry.workers field.entry.parts.now)) e) }
+    ensures reached { OnOk result (IsReducedTo field.entry.workers field.entry.roots.now field.entry.parts.now store.old.levels 0
+        progress.new.answers progress.new.rest.lefts.items) }
+    ensures within { OnOk result (IsWithinFrom store.old (gathered store.old.levels
+        (team_row field.entry.workers field.entry.parts.now)) 0 store.new) }
+    ensures fault { IfErr result (λ e. IsReduceFault store.new
+        (gathered store.old.levels (team_row field.entry.workers field.entry.parts.now)) e) }
     ensures memory { result ≡ Err WaveFault.OutOfMemory → count_of store.new ≤ store.new.limit }
 {
     let mut level = store.levels();

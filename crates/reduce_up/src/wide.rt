@@ -29,7 +29,8 @@ pub(crate) fn share_level<R: Threads + Sync, G: Monitor>(
     rest: &mut Rest,
 ) -> Result<Vec<Vec<Ref>>, StoreFault>
     requires { MayReduceLevel field.workers field.roots.now field.parts.now answers.now store.old level rest.old.lefts.items }
-    ensures { AnswersLevel field.entry.workers field.entry.roots.now field.entry.parts.now answers.now store.old level result store.new rest.new.lefts.items }
+    ensures { AnswersLevel field.entry.workers field.entry.roots.now field.entry.parts.now answers.now store.old level result store.new
+        rest.new.lefts.items }
 {
     let Ok(read) = read_level(crew.rt, field, answers, level, rest) else {
         return Err(StoreFault::OutOfMemory);

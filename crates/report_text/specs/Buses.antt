@@ -1,5 +1,7 @@
 -- Buses: variables whose names are one name with the numbers from 0 on behind it, each in brackets. A bus has a number at an assignment.
-use Rattle.std.specs.Prelude.{ℕ, zero, suc, ◌+◌, ◌-◌, ◌*◌, ◌==◌, Bool, true, false, ◌&&◌, if◌then◌else◌, List, [], ◌∷◌, ◌++◌, length, take, drop, flat_map, count_by, Option, Some, None, option_and_then, option_to_list, nat_lt, slice_get, slice_index, slice_index_or, codes, decimal}
+use Rattle.std.specs.Prelude.{ℕ, zero, suc, ◌+◌, ◌-◌, ◌*◌, ◌==◌, Bool, true, false, ◌&&◌, if◌then◌else◌, List, [], ◌∷◌, ◌++◌, length, take}
+use Rattle.std.specs.Prelude.{drop, flat_map, count_by, Option, Some, None, option_and_then, option_to_list, nat_lt, slice_get}
+use Rattle.std.specs.Prelude.{slice_index, slice_index_or, codes, decimal}
 use Rattle.std.specs.Cmp.Lexicographic.{pointwise}
 use Rattle.std.specs.List.{starts_with}
 use Rattle.std.specs.Int.{div_ceil}

@@ -1,5 +1,6 @@
 -- What a comparison found as one JSON object: its tokens, and their text.
-use Rattle.std.specs.Prelude.{◌≡◌, ℕ, zero, suc, Bool, true, false, List, [], ◌∷◌, ◌++◌, Option, Some, None, Result, OnOk, codes, decimal, drop, slice_index_or, if◌then◌else◌}
+use Rattle.std.specs.Prelude.{◌≡◌, ℕ, zero, suc, Bool, true, false, List, [], ◌∷◌, ◌++◌, Option, Some, None, Result, OnOk, codes, decimal}
+use Rattle.std.specs.Prelude.{drop, slice_index_or, if◌then◌else◌}
 use Rattle.std.specs.Str.{is_utf8}
 use Rattle.json.specs.Print.{print}
 use Rattle.json.specs.Token.{Token, begin_object, end_object, begin_array, end_array, key, string, number, boolean}
@@ -87,7 +88,8 @@ variable_tokens which v b m = if is_told which b m then key (shown v) ∷ bit_to
 
 -- each variable that is told with its bit; a variable without a mark has 1
 abbrev pub assignment_tokens : Option Assignment → List (List ℕ) → (bits marks : List Bool) → List Token
-assignment_tokens which (v ∷ vs) (b ∷ bs) ms = variable_tokens which v b (slice_index_or ms 0 true) ++ assignment_tokens which vs bs (drop 1 ms)
+assignment_tokens which (v ∷ vs) (b ∷ bs) ms = variable_tokens which v b (slice_index_or ms 0 true)
+    ++ assignment_tokens which vs bs (drop 1 ms)
 assignment_tokens which vs bs ms = []
 
 -- each bus with its number
@@ -111,17 +113,21 @@ values_tokens first second = key (codes "first") ∷ bit_token first ∷ key (co
 
 -- the members of a verdict; the variables stand by level
 abbrev pub verdict_members : Option Assignment → List (List ℕ) → Verdict → List Token
-verdict_members which variables (Equal role name size) = key (codes "verdict") ∷ string (codes "EQUAL") ∷ (subject_tokens role name ++ size_tokens size)
+verdict_members which variables (Equal role name size) = key (codes "verdict") ∷ string (codes "EQUAL")
+    ∷ (subject_tokens role name ++ size_tokens size)
 verdict_members which variables (Differs role name at first second extras) =
     key (codes "verdict") ∷ string (codes "DIFFER") ∷ (subject_tokens role name
-    ++ (key (codes "at") ∷ begin_object ∷ (assignment_tokens which variables at (marks_of extras.support) ++ (end_object ∷ (buses_tokens which (buses_in which variables) at ++ (values_tokens first second ++ sizes_tokens extras.sizes))))))
-verdict_members which variables (Lone side role name) = key (codes "verdict") ∷ string (codes "ONLY") ∷ key (codes "side") ∷ string (side_word side) ∷ subject_tokens role name
+    ++ (key (codes "at") ∷ begin_object ∷ (assignment_tokens which variables at (marks_of extras.support)
+    ++ (end_object ∷ (buses_tokens which (buses_in which variables) at ++ (values_tokens first second ++ sizes_tokens extras.sizes))))))
+verdict_members which variables (Lone side role name) = key (codes "verdict") ∷ string (codes "ONLY") ∷ key (codes "side")
+    ∷ string (side_word side) ∷ subject_tokens role name
 verdict_members which variables (Undecided role name) = key (codes "verdict") ∷ string (codes "UNDECIDED") ∷ subject_tokens role name
 
 -- an object for each verdict
 abbrev pub verdicts_tokens : Option Assignment → List (List ℕ) → List Verdict → List Token
 verdicts_tokens which variables [] = []
-verdicts_tokens which variables (v ∷ vs) = (begin_object ∷ (verdict_members which variables v ++ end_object ∷ [])) ++ verdicts_tokens which variables vs
+verdicts_tokens which variables (v ∷ vs) = (begin_object ∷ (verdict_members which variables v ++ end_object ∷ []))
+    ++ verdicts_tokens which variables vs
 
 -- the variables by level
 abbrev pub names_tokens : List (List ℕ) → List Token
@@ -143,7 +149,8 @@ share_tokens (Some s) = key (codes "share") ∷ begin_array ∷ number (decimal 
 
 abbrev pub counts_tokens : Outcome → List Token
 counts_tokens o =
-    key (codes "equal") ∷ number (decimal o.equal) ∷ key (codes "different") ∷ number (decimal o.different) ∷ key (codes "unmatched") ∷ number (decimal o.unmatched)
+    key (codes "equal") ∷ number (decimal o.equal) ∷ key (codes "different") ∷ number (decimal o.different) ∷ key (codes "unmatched")
+    ∷ number (decimal o.unmatched)
     ∷ undecided_tokens o.undecided
 
 -- an array behind its key
@@ -161,7 +168,8 @@ lines_tokens first second = key (codes "lines") ∷ begin_array ∷ number (deci
 
 -- the members of a cause
 abbrev pub cause_members : Caused → List Token
-cause_members c = key (codes "signal") ∷ string (shown c.signal) ∷ (lines_tokens c.first_line c.second_line ++ array_tokens (codes "pairs") (pairs_tokens c.pairs))
+cause_members c = key (codes "signal") ∷ string (shown c.signal)
+    ∷ (lines_tokens c.first_line c.second_line ++ array_tokens (codes "pairs") (pairs_tokens c.pairs))
 
 -- an object for each cause
 abbrev pub caused_tokens : List Caused → List Token
@@ -182,14 +190,16 @@ given_tokens false = []
 abbrev pub report_tokens : Option Assignment → Match → OrderKind → (given : Bool) → Option Share → Option (List Caused) → Found → List Token
 report_tokens which how kind given share causes found =
     begin_object ∷ (settings_tokens how kind ++ (given_tokens given ++ (array_tokens (codes "variables") (names_tokens found.variables)
-    ++ (array_tokens (codes "verdicts") (verdicts_tokens which found.variables found.verdicts) ++ (counts_tokens (counted found.verdicts) ++ (causes_tokens causes ++ (share_tokens share ++ end_object ∷ [])))))))
+    ++ (array_tokens (codes "verdicts") (verdicts_tokens which found.variables found.verdicts)
+    ++ (counts_tokens (counted found.verdicts) ++ (causes_tokens causes ++ (share_tokens share ++ end_object ∷ [])))))))
 
 -- its text, on one line
 abbrev pub json_text : Option Assignment → Match → OrderKind → (given : Bool) → Option Share → Option (List Caused) → Found → List ℕ
 json_text which how kind given share causes found = print (report_tokens which how kind given share causes found) ++ 10 ∷ []
 
 -- the bytes of a report in the form that is asked for: as JSON, which tells of a condition and of causes, or as lines
-abbrev pub form_text : (json : Bool) → Option Assignment → Match → OrderKind → (given : Bool) → Option Share → Option (List Caused) → Found → List ℕ
+abbrev pub form_text : (json : Bool) → Option Assignment → Match → OrderKind → (given : Bool) → Option Share → Option (List Caused)
+    → Found → List ℕ
 form_text true which how kind given share causes = json_text which how kind given share causes
 form_text false which how kind given share causes = report_text which share
 

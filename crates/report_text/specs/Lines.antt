@@ -1,5 +1,6 @@
 -- The verdicts of a comparison, and the bytes of their lines in a report. A name is a list of bytes.
-use Rattle.std.specs.Prelude.{ℕ, zero, suc, Bool, true, false, List, [], ◌∷◌, ◌++◌, Option, Some, None, codes, decimal, count_by, drop, slice_index_or, if◌then◌else◌}
+use Rattle.std.specs.Prelude.{ℕ, zero, suc, Bool, true, false, List, [], ◌∷◌, ◌++◌, Option, Some, None, codes, decimal, count_by, drop}
+use Rattle.std.specs.Prelude.{slice_index_or, if◌then◌else◌}
 use Rattle.report_text.specs.declared.assignment.Assignment.{Assignment}
 use Rattle.report_text.specs.declared.assignment.Assignment.TheVariants.{All, Support, Ones}
 use Rattle.report_text.specs.declared.outcome.Outcome.{Outcome}
@@ -62,7 +63,9 @@ subject_text NextState name = codes "NEXT " ++ name
 abbrev pub line_text : Option Assignment → List (List ℕ) → Verdict → List ℕ
 line_text which variables (Equal role name size) = codes "EQUAL " ++ (subject_text role name ++ size_text size)
 line_text which variables (Differs role name at first second extras) =
-    codes "DIFFER " ++ (subject_text role name ++ (codes " at" ++ (assignment_text which variables at (marks_of extras.support) ++ (codes " first=" ++ (bit_text first ++ (codes " second=" ++ (bit_text second ++ sizes_text extras.sizes)))))))
+    codes "DIFFER " ++ (subject_text role name ++ (codes " at"
+    ++ (assignment_text which variables at (marks_of extras.support)
+    ++ (codes " first=" ++ (bit_text first ++ (codes " second=" ++ (bit_text second ++ sizes_text extras.sizes)))))))
 line_text which variables (Lone side role name) = codes "ONLY " ++ (side_text side ++ (codes " " ++ subject_text role name))
 line_text which variables (Undecided role name) = codes "UNDECIDED " ++ subject_text role name
 
@@ -98,7 +101,13 @@ is_undecided (Undecided role name) = true
 
 -- how many verdicts of each kind there are
 abbrev pub counted : List Verdict → Outcome
-counted vs = record { equal = count_by is_equal vs; different = count_by is_different vs; unmatched = count_by is_lone vs; undecided = count_by is_undecided vs }
+counted vs = record {
+  equal = count_by is_equal vs;
+  different = count_by is_different vs;
+  unmatched = count_by is_lone vs;
+  undecided =
+      count_by is_undecided vs;
+}
 
 -- how many pairs are undecided, where some are
 abbrev pub undecided_text : ℕ → List ℕ
@@ -113,7 +122,8 @@ share_text (Some s) = codes ", share " ++ (decimal s.number ++ (codes " of " ++ 
 -- the last line, without its end
 abbrev pub counts_text : Option Share → Outcome → List ℕ
 counts_text share o =
-    decimal o.equal ++ (codes " equal, " ++ (decimal o.different ++ (codes " different, " ++ (decimal o.unmatched ++ (codes " unmatched" ++ (undecided_text o.undecided ++ share_text share))))))
+    decimal o.equal ++ (codes " equal, " ++ (decimal o.different
+    ++ (codes " different, " ++ (decimal o.unmatched ++ (codes " unmatched" ++ (undecided_text o.undecided ++ share_text share))))))
 
 -- the bytes of the report of what a comparison found: its lines, and last their counts
 abbrev pub report_text : Option Assignment → Option Share → Found → List ℕ

@@ -1,6 +1,7 @@
 //! What a comparison found as one JSON object.
 ghost use Rattle.std.specs.Prelude.{◌≡◌, IfOk, codes, option_map};
-ghost use Rattle.report_text.specs.Json.{Adds, names_tokens, settings_tokens, given_tokens, undecided_tokens, share_tokens, counts_tokens, array_tokens, json_text};
+ghost use Rattle.report_text.specs.Json.{Adds, names_tokens, settings_tokens, given_tokens, undecided_tokens, share_tokens, counts_tokens};
+ghost use Rattle.report_text.specs.Json.{array_tokens, json_text};
 
 use crate::assignment::Assignment;
 use crate::cause::Cause;
@@ -90,8 +91,8 @@ fn add_share(out: &mut Writer, share: Option<Share>) -> Result<(), AllocError>
     out.end_array()
 }
 
-/// What a report tells of a comparison besides what was found: how it pairs and orders the variables, whether there was a condition, and the
-/// share of the pairs that it is of.
+/// What a report tells of a comparison besides what was found: how it pairs and orders the variables, whether there was a condition, and
+/// the share of the pairs that it is of.
 #[derive(Clone, Copy, Drop)]
 pub struct Heading {
     pub matching: Match,
@@ -111,7 +112,8 @@ pub fn json_of(
     found: &Verdicts,
 ) -> Result<Vec<u8>, AllocError>
     ensures { IfOk result (λ text. text.items
-        ≡ json_text which heading.now.matching heading.now.kind heading.now.given heading.now.share (option_map (λ c. c.now) causes.entry) found.now) }
+        ≡ json_text which heading.now.matching heading.now.kind heading.now.given heading.now.share
+        (option_map (λ c. c.now) causes.entry) found.now) }
 {
     let Heading {
         matching,

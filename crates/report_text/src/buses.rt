@@ -1,7 +1,8 @@
 //! Buses: variables whose names are one name with the numbers from 0 on behind it, each in brackets.
 ghost use Rattle.std.specs.Prelude.{◌≡◌, ◌+◌, ◌<◌, ◌≤◌, ◌++◌, ◌^◌, count_by, flat_map, length, option_map, IfOk, OnOk, string_bytes};
 ghost use Rattle.net_bench.specs.Circuit.{find};
-ghost use Rattle.report_text.specs.Buses.{begins, bit_name, bit_of, bus_at, bus_name, bus_of, buses_of, hex_digit, hex_text, nibble, places_from};
+ghost use Rattle.report_text.specs.Buses.{begins, bit_name, bit_of, bus_at, bus_name, bus_of, buses_of, hex_digit, hex_text, nibble};
+ghost use Rattle.report_text.specs.Buses.{places_from};
 
 use net_order::names::Names;
 use std::alloc::{AllocError, Global};

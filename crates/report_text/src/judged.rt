@@ -1,7 +1,8 @@
 //! The verdicts of a comparison as an array of objects.
 ghost use Rattle.std.specs.Prelude.{◌≡◌, ◌∷◌, [], ◌++◌, IfOk, codes};
 ghost use Rattle.json.specs.Token.{begin_object, end_object, key};
-ghost use Rattle.report_text.specs.Json.{Adds, variable_tokens, assignment_tokens, numbers_tokens, buses_in, buses_tokens, verdict_members, verdicts_tokens, array_tokens};
+ghost use Rattle.report_text.specs.Json.{Adds, variable_tokens, assignment_tokens, numbers_tokens, buses_in, buses_tokens, verdict_members};
+ghost use Rattle.report_text.specs.Json.{verdicts_tokens, array_tokens};
 
 use crate::assignment::{Assignment, is_told, mark_at};
 use crate::buses::{Bus, buses_of, hex_of};
@@ -119,7 +120,8 @@ fn add_difference(
     bits: &[bool],
     marks: &[bool],
 ) -> Result<(), AllocError>
-    ensures { Adds result out.old out.new (key (codes "at") ∷ begin_object ∷ (assignment_tokens telling.now.which telling.now.names.now bits.now marks.now ++ end_object ∷ [])) }
+    ensures { Adds result out.old out.new (key (codes "at") ∷ begin_object
+        ∷ (assignment_tokens telling.now.which telling.now.names.now bits.now marks.now ++ end_object ∷ [])) }
 {
     out.key("at")?;
     out.begin_object()?;

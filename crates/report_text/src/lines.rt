@@ -1,6 +1,7 @@
 //! The lines of a report as bytes.
 ghost use Rattle.std.specs.Prelude.{◌≡◌, ◌++◌, ℕ, List, [], ◌∷◌, None, OnOk, codes};
-ghost use Rattle.report_text.specs.Lines.{line_text, variable_text, assignment_text, bit_text, side_text, sizes_text, subject_text, undecided_text, share_text, counts_text};
+ghost use Rattle.report_text.specs.Lines.{line_text, variable_text, assignment_text, bit_text, side_text, sizes_text, subject_text};
+ghost use Rattle.report_text.specs.Lines.{undecided_text, share_text, counts_text};
 
 use crate::assignment::{Assignment, is_told, mark_at};
 use crate::outcome::{Outcome, PairKind, Share, Side};
@@ -96,7 +97,8 @@ fn add_equal(
     label: Label<'_>,
     size: Option<u64>,
 ) -> Result<(), AllocError>
-    ensures { OnOk result (text.new.items ≡ text.old.items ++ (line_text None [] (Verdict.Equal label.entry.role label.entry.name.now size) ++ 10 ∷ [])) }
+    ensures { OnOk result (text.new.items ≡ text.old.items ++ (line_text None []
+        (Verdict.Equal label.entry.role label.entry.name.now size) ++ 10 ∷ [])) }
 {
     text.extend_from_slice(b"EQUAL ")?;
     add_label(text, label)?;
@@ -110,7 +112,8 @@ fn add_equal(
 
 /// Adds the values of two functions.
 fn add_values(text: &mut Vec<u8>, first: bool, second: bool) -> Result<(), AllocError>
-    ensures { OnOk result (text.new.items ≡ text.old.items ++ (codes " first=" ++ (bit_text first ++ (codes " second=" ++ bit_text second)))) }
+    ensures { OnOk result (text.new.items ≡ text.old.items ++ (codes " first="
+        ++ (bit_text first ++ (codes " second=" ++ bit_text second)))) }
 {
     text.extend_from_slice(b" first=")?;
     text.extend_from_slice(bit_word(first))?;
@@ -148,7 +151,9 @@ fn add_different(
     label: Label<'_>,
     at: Difference<'_>,
 ) -> Result<(), AllocError>
-    ensures { OnOk result (text.new.items ≡ text.old.items ++ (line_text at.entry.which names.now (Verdict.Differs label.entry.role label.entry.name.now at.entry.bits.now at.entry.first at.entry.second at.entry.extras.now) ++ 10 ∷ [])) }
+    ensures { OnOk result (text.new.items ≡ text.old.items ++ (line_text at.entry.which names.now
+        (Verdict.Differs label.entry.role label.entry.name.now at.entry.bits.now at.entry.first at.entry.second at.entry.extras.now) ++ 10
+        ∷ [])) }
 {
     text.extend_from_slice(b"DIFFER ")?;
     add_label(text, label)?;
@@ -172,7 +177,8 @@ fn side_word(side: Side) -> &'static [u8]
 
 /// Adds the line of an output or a register that has no partner.
 fn add_lone(text: &mut Vec<u8>, side: Side, label: Label<'_>) -> Result<(), AllocError>
-    ensures { OnOk result (text.new.items ≡ text.old.items ++ (line_text None [] (Verdict.Lone side label.entry.role label.entry.name.now) ++ 10 ∷ [])) }
+    ensures { OnOk result (text.new.items ≡ text.old.items ++ (line_text None [] (Verdict.Lone side label.entry.role label.entry.name.now)
+        ++ 10 ∷ [])) }
 {
     text.extend_from_slice(b"ONLY ")?;
     text.extend_from_slice(side_word(side))?;
@@ -184,7 +190,8 @@ fn add_lone(text: &mut Vec<u8>, side: Side, label: Label<'_>) -> Result<(), Allo
 
 /// Adds the line of a pair that no attempt has decided.
 fn add_undecided(text: &mut Vec<u8>, label: Label<'_>) -> Result<(), AllocError>
-    ensures { OnOk result (text.new.items ≡ text.old.items ++ (line_text None [] (Verdict.Undecided label.entry.role label.entry.name.now) ++ 10 ∷ [])) }
+    ensures { OnOk result (text.new.items ≡ text.old.items ++ (line_text None [] (Verdict.Undecided label.entry.role label.entry.name.now)
+        ++ 10 ∷ [])) }
 {
     text.extend_from_slice(b"UNDECIDED ")?;
     add_label(text, label)?;

@@ -9,7 +9,8 @@ use net_bench::device::{Failed, Sink};
 pub fn write_whole<W: Sink>(out: &mut W, bytes: &[u8]) -> Result<(), Failed>
     ensures ok { OnOk result (Appends (W.contents out.old) (W.contents out.new) bytes.now) }
     ensures kept { OnOk result ((W.has_failed out.new ≡ W.has_failed out.old) × (W.has_stopped out.new ≡ W.has_stopped out.old)) }
-    ensures err { OnErr result (AppendsFront (W.contents out.old) (W.contents out.new) (W.has_failed out.new) (W.has_stopped out.new) bytes.now) }
+    ensures err { OnErr result (AppendsFront (W.contents out.old) (W.contents out.new) (W.has_failed out.new)
+        (W.has_stopped out.new) bytes.now) }
 {
     let mut rest = bytes;
     while !rest.is_empty() {

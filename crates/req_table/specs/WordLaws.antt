@@ -42,7 +42,8 @@ first_word-back w h =
     ap (λ z. z * 2 ^ 58 + word_of (reference_of (w % 2 ^ 58))) n ∙ ap (λ z. w / 2 ^ 58 * 2 ^ 58 + z) f ∙ omega arith
 
 -- and says what it was made of
-pub word_made : (op : Op) (f g : Ref) (n w : ℕ) → n ≡ op_number op → IsWord w → reference_of w ≡ f → IsFirstWord (n * 2 ^ 58 + w) × (operation_of (n * 2 ^ 58 + w) g ≡ record { op = op; f = f; g = g })
+pub word_made : (op : Op) (f g : Ref) (n w : ℕ) → n ≡ op_number op → IsWord w → reference_of w ≡ f
+    → IsFirstWord (n * 2 ^ 58 + w) × (operation_of (n * 2 ^ 58 + w) g ≡ record { op = op; f = f; g = g })
 word_made op f g n w e h b =
     let small : w < 2 ^ 58 = small_word w h in
     let upper : (n * 2 ^ 58 + w) / 2 ^ 58 ≡ n = omega arith in

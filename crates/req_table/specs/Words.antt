@@ -13,7 +13,8 @@ first_word op f = op_number op * 2 ^ 58 + word_of f
 
 -- the operation of a number below 6
 abbrev pub op_of : ℕ → Op
-op_of n = if n == 0 then And else (if n == 1 then Or else (if n == 2 then Xor else (if n == 3 then Nand else (if n == 4 then Nor else Xnor))))
+op_of n = if n == 0 then And else (if n == 1 then Or else (if n == 2 then Xor else
+    (if n == 3 then Nand else (if n == 4 then Nor else Xnor))))
 
 -- all sixteen bytes as a number: the word of the second operand above the first word
 abbrev pub key_word : Operation → ℕ

@@ -5,8 +5,10 @@ ghost use Rattle.dd_store.specs.View.{Has};
 ghost use Rattle.std.specs.Option.{option_map};
 ghost use Rattle.dd_store.specs.Marks.{is_marked, mark_by, turned};
 ghost use Rattle.req_table.specs.Operation.{IsRequest};
-ghost use Rattle.req_table.specs.TerminalCase.{key, terminal_of, terminal_at, terminal_and, terminal_xor, form_of, in_order, plain_of, op_value, owner_of};
-ghost use Rattle.req_table.specs.Keys.{normal_of, level_of, child as child_at, record_of, meaning, child_value, Denotes, IsKey, IsChildIn, IsDeeper, IsHalf};
+ghost use Rattle.req_table.specs.TerminalCase.{key, terminal_of, terminal_at, terminal_and, terminal_xor, form_of, in_order, plain_of};
+ghost use Rattle.req_table.specs.TerminalCase.{op_value, owner_of};
+ghost use Rattle.req_table.specs.Keys.{normal_of, level_of, child as child_at, record_of, meaning, child_value, Denotes, IsKey, IsChildIn};
+ghost use Rattle.req_table.specs.Keys.{IsDeeper, IsHalf};
 ghost use Rattle.req_table.specs.ComputedTables.{IsRight, IsValueOf, known_of};
 
 use crate::{Child, ComputedTable, Key, Op, Record, number};

@@ -10,7 +10,8 @@ and_second : (a b : Bool) → (a && b) ≡ true → b ≡ true
 and_second true b e = e
 and_second false b e = absurd (true≢false (sym e))
 
-pub pairs-same : {X Y : Type 0} (e : X → X → Bool) (f : Y → Y → Bool) → ((x y : X) → e x y ≡ true → x ≡ y) → ((x y : Y) → f x y ≡ true → x ≡ y)
+pub pairs-same : {X Y : Type 0} (e : X → X → Bool) (f : Y → Y → Bool) → ((x y : X) → e x y ≡ true → x ≡ y)
+    → ((x y : Y) → f x y ≡ true → x ≡ y)
     → (p q : X × Y) → (e p.0 q.0 && f p.1 q.1) ≡ true → p ≡ q
 pairs-same e f first second p q both =
     let a = first p.0 q.0 (and_first _ _ both) in

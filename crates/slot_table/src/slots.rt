@@ -130,7 +130,8 @@ fn slot_for<T: Spread>(
     requires places { length items.now < 2 ^ 32 }
     ensures finds { OnOk result (Finds T.spread_of (length slots.new.items) items.now slots.new.items) }
     ensures count { OnOk result (IsSlotCount (length items.now + 1) (length slots.new.items)) }
-    ensures free { IfOk result (λ j. IsFree (length slots.new.items) (home_of T.spread_of (length slots.new.items) item) slots.new.items j) }
+    ensures free { IfOk result (λ j. IsFree (length slots.new.items)
+        (home_of T.spread_of (length slots.new.items) item) slots.new.items j) }
     ensures refused { OnErr result (slots.new.items ≡ slots.old.items) }
 {
     let count = slots.len();

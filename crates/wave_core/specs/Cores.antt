@@ -65,8 +65,10 @@ IsRefusal v e OutOfMemory = HasStep v e
 
 -- an Ask that the event takes, or keeps, is of a level that is not closed
 abbrev pub TakesOpen : CoreView → Event → Type 0
-TakesOpen v (Take by) = (s l : ℕ) (x : Key) (rest : List Item) → (core_state v).waiting by ≡ Ask s l x ∷ rest → ¬ IsClosed (core_wave v).scope l ((core_state v).taken by)
-TakesOpen v (Keep by) = (x : Key) (rest : List Key) → (core_state v).due by by ≡ x ∷ rest → ¬ IsClosed (core_wave v).scope ((core_wave v).level x) ((core_state v).taken by)
+TakesOpen v (Take by) = (s l : ℕ) (x : Key) (rest : List Item) → (core_state v).waiting by ≡ Ask s l x ∷ rest
+    → ¬ IsClosed (core_wave v).scope l ((core_state v).taken by)
+TakesOpen v (Keep by) = (x : Key) (rest : List Key) → (core_state v).due by by ≡ x ∷ rest
+    → ¬ IsClosed (core_wave v).scope ((core_wave v).level x) ((core_state v).taken by)
 TakesOpen v e = Unit {0}
 
 -- some events lead from one core to another

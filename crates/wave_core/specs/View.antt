@@ -90,7 +90,8 @@ pub record IsKept (v : View) : Type 0 where
   pub ended : (s k : ℕ) → s < v.workers → k < v.workers → number_of v.workers v.ended s k ≡ ends (by_place v.workers v.sent s k)
   pub counted : (k s : ℕ) → k < v.workers → s < v.workers → number_of v.workers v.counted k s ≡ ends (sent_by s (list_of v.taken k))
   pub kept : v.kept ≤ sum_over v.workers v.workers (λ s k. length (by_place v.workers v.sent s k))
-  pub tables : (k l : ℕ) → k < v.workers → l < v.levels → IsTable (asks_at l (list_of v.taken k)) (by_place v.levels v.tables k l) (by_place v.levels v.rows k l)
+  pub tables : (k l : ℕ) → k < v.workers → l < v.levels → IsTable (asks_at l (list_of v.taken k)) (by_place v.levels v.tables k l)
+      (by_place v.levels v.rows k l)
 
 -- How many events were done: each sent an item, took one, made a record or passed a level, and one that kept a request both
 -- sent it and took it.
@@ -104,7 +105,8 @@ IsOwnInOrder v by = by_place v.workers v.sent by by ≡ sent_by by (list_of v.ta
 -- the due lists after the child of a record of `by` was added to them; after both children
 abbrev pub owe_of : ℕ → ℕ → Child → List (List Key) → List (List Key)
 owe_of w by (Done r) d = d
-owe_of w by (Ask l x m) d = slice_set d (by * w + owner_of x.op x.f x.g w) (slice_index_or d (by * w + owner_of x.op x.f x.g w) [] ++ x ∷ [])
+owe_of w by (Ask l x m) d = slice_set d (by * w + owner_of x.op x.f x.g w)
+    (slice_index_or d (by * w + owner_of x.op x.f x.g w) [] ++ x ∷ [])
 
 abbrev pub owe_all : ℕ → ℕ → Record → List (List Key) → List (List Key)
 owe_all w by r d = owe_of w by r.high (owe_of w by r.low d)

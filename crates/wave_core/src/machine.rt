@@ -83,7 +83,8 @@ impl Machine {
     ) -> Result<Machine, AllocError>
         requires some { 0 < workers }
         requires few { workers ≤ 16 }
-        ensures { IfOk result (λ m. (m.workers ≡ workers) × (m.levels ≡ store.now.levels) × IsStart (wave_at store.now store.now.levels workers) roots.now (state_of m)) }
+        ensures { IfOk result (λ m. (m.workers ≡ workers) × (m.levels ≡ store.now.levels)
+            × IsStart (wave_at store.now store.now.levels workers) roots.now (state_of m)) }
     {
         let levels = store.levels();
         let wide = workers as usize;
@@ -107,7 +108,8 @@ impl Machine {
 
     /// Whether each worker is past the last level.
     pub fn is_finished(&self) -> bool
-        ensures { MatchBool result ((k : ℕ) → k < self.now.workers → slice_index_or self.now.at k 0 ≡ self.now.levels) ((k : ℕ) × (k < self.now.workers) × ¬ (slice_index_or self.now.at k 0 ≡ self.now.levels)) }
+        ensures { MatchBool result ((k : ℕ) → k < self.now.workers → slice_index_or self.now.at k 0 ≡ self.now.levels)
+            ((k : ℕ) × (k < self.now.workers) × ¬ (slice_index_or self.now.at k 0 ≡ self.now.levels)) }
     {
         for worker in 0..self.workers {
             if self.at[worker as usize] != self.levels {
@@ -141,7 +143,8 @@ impl Machine {
     /// The records of all levels.
     pub fn records_by_level(&self, alloc: Global) -> Result<Records, AllocError>
         ensures levels { IfOk result (λ r. length r ≡ self.now.levels) }
-        ensures rows { IfOk result (λ r. (v : ℕ) → v < self.now.levels → row_at r v ≡ level_of_rows self.now.workers (by_place self.now.levels self.now.rows) v) }
+        ensures rows { IfOk result (λ r. (v : ℕ) → v < self.now.levels
+            → row_at r v ≡ level_of_rows self.now.workers (by_place self.now.levels self.now.rows) v) }
     {
         let mut rows = Vec::new(alloc);
         for level in 0..self.levels {

@@ -1,12 +1,14 @@
 //! A core: the workers of one wave on one thread.
-ghost use Rattle.std.specs.Prelude.{◌≡◌, ℕ, ◌+◌, ◌<◌, ◌≤◌, List, [], ◌++◌, All, AllPairs, length, IfOk, IfErr, OnOk, OnErr, MatchBool, IsTrue};
+ghost use Rattle.std.specs.Prelude.{◌≡◌, ℕ, ◌+◌, ◌<◌, ◌≤◌, List, [], ◌++◌, All, AllPairs, length, IfOk, IfErr, OnOk, OnErr, MatchBool};
+ghost use Rattle.std.specs.Prelude.{IsTrue};
 ghost use Rattle.req_table.specs.Keys.{IsKey};
 ghost use Rattle.req_table.specs.declared.Item.{Item as ItemValue};
 ghost use Rattle.req_table.specs.declared.Record.{Record as RecordValue};
 ghost use Rattle.req_table.specs.Lanes.{sent_by, IsFair, IsClosed, LaneLaw};
 ghost use Rattle.req_table.specs.Settled.{IsClosure, IsSplit, level_of_rows};
 ghost use Rattle.req_table.specs.Tables.{row_at};
-ghost use Rattle.wave_core.specs.Cores.{CoreView, core_wave, core_state, events_done, IsSettledCore, IsNew, IsSameWave, IsRefusal, IsStopped, Reaches, TakesOpen};
+ghost use Rattle.wave_core.specs.Cores.{CoreView, core_wave, core_state, events_done, IsSettledCore, IsNew, IsSameWave, IsRefusal};
+ghost use Rattle.wave_core.specs.Cores.{IsStopped, Reaches, TakesOpen};
 ghost use Rattle.wave_core.specs.Step.{State, IsStep, IsRun, IsAllowed, IsFinished};
 ghost use Rattle.wave_core.specs.Drive.{all_events, AllowsOf, IsNumbered, IsDriven, IsTurn};
 ghost use Rattle.wave_core.specs.Fall.{core_measure};
@@ -65,8 +67,10 @@ impl<'a> Core<'a> {
     /// Does an event, and says whether it was allowed.
     fn turn(&mut self, event: Event) -> Result<bool, AllocError>
         ensures same { IsSameWave self.old self.new }
-        ensures ok { IfOk result (λ b. MatchBool b (IsStep (core_wave self.old) (core_state self.old) event (core_state self.new)) ((self.new ≡ self.old) × ¬ IsAllowed (core_wave self.old) (core_state self.old) event)) }
-        ensures counts { IfOk result (λ b. MatchBool b (events_done self.new ≡ events_done self.old + 1) (events_done self.new ≡ events_done self.old)) }
+        ensures ok { IfOk result (λ b. MatchBool b (IsStep (core_wave self.old) (core_state self.old) event (core_state self.new))
+            ((self.new ≡ self.old) × ¬ IsAllowed (core_wave self.old) (core_state self.old) event)) }
+        ensures counts { IfOk result (λ b. MatchBool b (events_done self.new ≡ events_done self.old + 1)
+            (events_done self.new ≡ events_done self.old)) }
         ensures err { OnErr result (self.new ≡ self.old) }
     {
         let _ = self.machine.workers();
@@ -124,7 +128,8 @@ impl<'a> Core<'a> {
 
     /// Whether each worker is past the last level; the core is then settled for its roots.
     pub fn finished(&self) -> bool
-        ensures value { MatchBool result (IsFinished (core_wave self.now) (core_state self.now)) (¬ IsFinished (core_wave self.now) (core_state self.now)) }
+        ensures value { MatchBool result (IsFinished (core_wave self.now) (core_state self.now))
+            (¬ IsFinished (core_wave self.now) (core_state self.now)) }
         ensures settled { IsTrue result → IsSettledCore self.now }
     {
         self.machine.is_finished()
@@ -132,7 +137,8 @@ impl<'a> Core<'a> {
 
     /// Whether an event is allowed.
     fn allows(&self, event: Event) -> bool
-        ensures { MatchBool result (IsAllowed (core_wave self.now) (core_state self.now) event) (¬ IsAllowed (core_wave self.now) (core_state self.now) event) }
+        ensures { MatchBool result (IsAllowed (core_wave self.now) (core_state self.now) event)
+            (¬ IsAllowed (core_wave self.now) (core_state self.now) event) }
     {
         match event {
             Event::Send { by, to } => self.machine.can_send(self.store, by, to),
@@ -197,7 +203,8 @@ impl<'a> Core<'a> {
     fn choose(&mut self, events: &[Event], choices: &[u8]) -> Result<(), AllocError>
         requires { events.now ≡ all_events (core_wave self.old) }
         ensures same { IsSameWave self.old self.new }
-        ensures ok { OnOk result ((d : State) → IsDriven (core_wave self.old) (core_state self.new) [] d → IsDriven (core_wave self.old) (core_state self.old) choices.now d) }
+        ensures ok { OnOk result ((d : State) → IsDriven (core_wave self.old) (core_state self.new) [] d
+            → IsDriven (core_wave self.old) (core_state self.old) choices.now d) }
         ensures reached { Reaches self.old self.new }
     {
         for choice in choices {
@@ -258,8 +265,10 @@ impl<'a> Core<'a> {
     pub fn taken(&self, by: u32) -> &[Item]
         requires { by < self.now.machine.workers }
         ensures value { result.now ≡ (core_state self.now).taken by }
-        ensures lane { LaneLaw (core_wave self.now).scope (λ s. (core_state self.now).sent s by) result.now ((core_state self.now).waiting by) }
-        ensures prefix { (s : ℕ) → s < self.now.machine.workers → (rest : List ItemValue) × ((core_state self.now).sent s by ≡ sent_by s result.now ++ rest) }
+        ensures lane { LaneLaw (core_wave self.now).scope (λ s. (core_state self.now).sent s by) result.now
+            ((core_state self.now).waiting by) }
+        ensures prefix { (s : ℕ) → s < self.now.machine.workers
+            → (rest : List ItemValue) × ((core_state self.now).sent s by ≡ sent_by s result.now ++ rest) }
     {
         self.machine.taken(by)
     }
@@ -279,7 +288,8 @@ impl<'a> Core<'a> {
     /// Whether a worker has taken an End of the level from every worker.
     pub fn closed(&self, by: u32, level: u16) -> bool
         requires { by < self.now.machine.workers }
-        ensures { MatchBool result (IsClosed (core_wave self.now).scope level ((core_state self.now).taken by)) (¬ IsClosed (core_wave self.now).scope level ((core_state self.now).taken by)) }
+        ensures { MatchBool result (IsClosed (core_wave self.now).scope level ((core_state self.now).taken by))
+            (¬ IsClosed (core_wave self.now).scope level ((core_state self.now).taken by)) }
     {
         self.machine.is_closed(self.store, by, level)
     }
@@ -287,8 +297,10 @@ impl<'a> Core<'a> {
     /// The records of all workers by level, as they stand; of a finished core those of exactly the reached requests.
     pub fn into_records(self) -> Result<Records, AllocError>
         ensures levels { IfOk result (λ r. length r ≡ self.entry.store.levels) }
-        ensures rows { IfOk result (λ r. (v : ℕ) → v < self.entry.store.levels → row_at r v ≡ level_of_rows self.entry.machine.workers (core_state self.entry).rows v) }
-        ensures closure { IsFinished (core_wave self.entry) (core_state self.entry) → IfOk result (λ r. IsClosure (core_wave self.entry) self.entry.roots (row_at r)) }
+        ensures rows { IfOk result (λ r. (v : ℕ) → v < self.entry.store.levels
+            → row_at r v ≡ level_of_rows self.entry.machine.workers (core_state self.entry).rows v) }
+        ensures closure { IsFinished (core_wave self.entry) (core_state self.entry)
+            → IfOk result (λ r. IsClosure (core_wave self.entry) self.entry.roots (row_at r)) }
     {
         self.machine.records_by_level(self.alloc)
     }

@@ -18,7 +18,8 @@ pub fn child_known(store: &Store, computed: &ComputedTable, op: Op, f: Ref, g: R
     requires right { IsRight store.now computed.now }
     ensures value { result ≡ child_known_at store.now computed.now op f g }
     ensures stands { IsChildIn store.now result }
-    ensures means { (x : List Bool) → length x ≡ store.now.levels → child_value store.now result x ≡ op_value op (den store.now f x) (den store.now g x) }
+    ensures means { (x : List Bool) → length x ≡ store.now.levels
+        → child_value store.now result x ≡ op_value op (den store.now f x) (den store.now g x) }
 {
     match known(computed, op, f, g) {
         Some(answer) => Child::Done(answer),

@@ -1,7 +1,8 @@
 //! Reduction of the records of a wave, from the last level up.
 ghost use Rattle.std.specs.Prelude.{◌≡◌, ◌<◌, IfOk, IfErr, OnOk, [], ◌∷◌};
 ghost use Rattle.dd_store.specs.Nodes.{IsSound};
-ghost use Rattle.reduce_up.specs.Reducing.{IsReady, IsRecordAt, AreAnswers, IsAnswer, AddsDescribed, AskedBy, MayReduceRow, ReducesRow, IsRowWithin, IsRecordFault};
+ghost use Rattle.reduce_up.specs.Reducing.{IsReady, IsRecordAt, AreAnswers, IsAnswer, AddsDescribed, AskedBy, MayReduceRow, ReducesRow};
+ghost use Rattle.reduce_up.specs.Reducing.{IsRowWithin, IsRecordFault};
 ghost use Rattle.reduce_up.specs.Levels.{AreRecords, AskedInRows, AreReduced, IsReduceFault, IsWithinFrom};
 
 use crate::parallel::share_row;

@@ -35,7 +35,8 @@ abbrev pub Grow : List (List Key) → List (List Key) → Type 0
 Grow old new = (w q : ℕ) (k : Key) → StandsAt old w q k → StandsAt new w q k
 
 -- of level v the first i requests are expanded, from the tables `start`; the pairs are their children
-pub record IsRowExpanded (s : Nodes) (entries : List Entry) (start : List (List Key)) (v i : ℕ) (tables : List (List Key)) (pairs : List (Placed × Placed)) : Type 0 where
+pub record IsRowExpanded (s : Nodes) (entries : List Entry) (start : List (List Key)) (v i : ℕ) (tables : List (List Key))
+    (pairs : List (Placed × Placed)) : Type 0 where
   pub admitted : AreAdmitted s entries tables
   pub grown : Grow start tables
   pub above : (w : ℕ) → w ≤ v → row tables w ≡ row start w
@@ -43,7 +44,8 @@ pub record IsRowExpanded (s : Nodes) (entries : List Entry) (start : List (List 
   pub split : (q : ℕ) (k : Key) (d : Placed × Placed) → StandsAt tables v q k → slice_get pairs q ≡ Some d → IsSplitAt s tables k d
 
 -- the levels before v are expanded. A level without requests may have any pairs
-pub record AreExpanded (s : Nodes) (entries : List Entry) (roots : List Placed) (v : ℕ) (tables : List (List Key)) (rows : List (List (Placed × Placed))) : Type 0 where
+pub record AreExpanded (s : Nodes) (entries : List Entry) (roots : List Placed) (v : ℕ) (tables : List (List Key))
+    (rows : List (List (Placed × Placed))) : Type 0 where
   pub admitted : AreAdmitted s entries tables
   pub rooted : AllZip (λ e p. IsPlaced tables p (child s e.0 e.1 e.2)) entries roots
   pub levels : length rows ≡ s.levels
@@ -60,7 +62,8 @@ pub record HaveSplit (s : Nodes) (entries : List Entry) (tables : List (List Key
   pub count : after % 2 ^ 64 ≡ (before + length requests) % 2 ^ 64
 
 -- all levels before v are expanded, from the roots down, and there is a list of answers for each level
-pub record IsDown (s : Nodes) (entries : List Entry) (v : ℕ) (tables : List (List Key)) (rows : List (List (Placed × Placed))) (roots : List Placed) (answers : List (List Ref)) : Type 0 where
+pub record IsDown (s : Nodes) (entries : List Entry) (v : ℕ) (tables : List (List Key)) (rows : List (List (Placed × Placed)))
+    (roots : List Placed) (answers : List (List Ref)) : Type 0 where
   pub bound : v ≤ s.levels
   pub expanded : AreExpanded s entries roots v tables rows
   pub levels : length answers ≡ s.levels

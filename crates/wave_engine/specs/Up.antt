@@ -38,7 +38,8 @@ abbrev pub AskedAt : Nodes → List (List Key) → ℕ → ℕ → (List Bool �
 AskedAt s tables v w f = (w ≡ v) × ((q : ℕ) × (k : Key) × StandsAt tables v q k × Agree s.levels f (meaning s k))
 
 -- level v can be reduced: each key has its pair of children, and their answers are known
-pub record IsReadyAt (s : Nodes) (tables : List (List Key)) (pairs : List (Placed × Placed)) (answers : List (List Ref)) (v : ℕ) : Type 0 where
+pub record IsReadyAt (s : Nodes) (tables : List (List Key)) (pairs : List (Placed × Placed)) (answers : List (List Ref))
+    (v : ℕ) : Type 0 where
   pub bounded : v < s.levels
   pub counts : length pairs ≡ length (row tables v)
   pub keys : (q : ℕ) (k : Key) → StandsAt tables v q k → IsKeyAt s v k
@@ -66,9 +67,10 @@ abbrev pub IsWithinBelow : Nodes → List (List Key) → ℕ → Nodes → Type 
 IsWithinBelow start tables v s =
     (count_of s ≤ s.limit) ⊎ (((w q : ℕ) (k : Key) → v ≤ w → StandsAt tables w q k → ⊥) × (s ≡ start))
 
--- the levels from v on have their answers: from the store `start` to the store s, which has new nodes only for what the entries ask for, or for
--- its complement
-pub record AreReducedBelow (start : Nodes) (entries : List Entry) (tables : List (List Key)) (v : ℕ) (s : Nodes) (answers : List (List Ref)) : Type 0 where
+-- the levels from v on have their answers: from the store `start` to the store s, which has new nodes only for what the entries ask for, or
+-- for its complement
+pub record AreReducedBelow (start : Nodes) (entries : List Entry) (tables : List (List Key)) (v : ℕ) (s : Nodes)
+    (answers : List (List Ref)) : Type 0 where
   pub held : IsSound s
   pub adds : AddsDescribed start s (IsWanted start entries)
   pub levels : length answers ≡ start.levels

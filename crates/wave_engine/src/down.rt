@@ -69,7 +69,8 @@ fn expand_level(
     requires admitted { AreAdmitted store.now entries.now requests.old }
     requires level { level < store.now.levels }
     ensures levels { length requests.new ≡ length requests.old }
-    ensures expanded { OnOk result (IsRowExpanded store.now entries.now requests.old level (length (row requests.old level)) requests.new pairs.new) }
+    ensures expanded { OnOk result (IsRowExpanded store.now entries.now requests.old level
+        (length (row requests.old level)) requests.new pairs.new) }
     ensures split { OnOk result (splits.new % 2 ^ 64 ≡ (splits.old + length (row requests.old level)) % 2 ^ 64) }
 {
     let _ = store.levels();
@@ -132,7 +133,8 @@ pub(crate) fn expand(
     ensures served { IfErr result (λ e. e ≢ WaveFault.NoWorker) }
     ensures bounded { result ≡ Err WaveFault.TooManyRequests → limits.wave < 2 ^ 64 - 1 }
     ensures past { result ≡ Err WaveFault.TooManyRequests → AreMoreThan limits.wave store.now entries.now }
-    ensures within_bound { limits.wave < 2 ^ 64 - 1 → IfOk result (λ v. v ≡ store.now.levels → AreAtMost limits.wave store.now entries.now) }
+    ensures within_bound { limits.wave < 2 ^ 64 - 1 → IfOk result (λ v. v ≡ store.now.levels
+        → AreAtMost limits.wave store.now entries.now) }
 {
     let _ = entries.len();
     let levels = store.levels();

@@ -50,12 +50,19 @@ impl<'a, R: Threads + Wait + Sync, G: Monitor> Runner<'a, R, G> {
         requires operands { All (IsEntry store.old) entries.now }
         requires right { IsRight store.old computed.old }
         ensures wave { AnswersWave store.old entries.now (unknown computed.old entries.now) result store.new }
-        ensures past { result ≡ Err WaveFault.TooManyRequests → ArePast (G.bound self.old.workspace.crew.now.monitor.now) store.old (unknown computed.old entries.now) }
-        ensures within_bound { most_of (G.bound self.old.workspace.crew.now.monitor.now) < 2 ^ 64 - 1 → OnOk result (AreAtMost (most_of (G.bound self.old.workspace.crew.now.monitor.now)) store.old (unknown computed.old entries.now)) }
+        ensures past { result ≡ Err WaveFault.TooManyRequests
+            → ArePast (G.bound self.old.workspace.crew.now.monitor.now) store.old (unknown computed.old entries.now) }
+        ensures within_bound { most_of (G.bound self.old.workspace.crew.now.monitor.now) < 2 ^ 64 - 1
+            → OnOk result (AreAtMost (most_of (G.bound self.old.workspace.crew.now.monitor.now)) store.old
+            (unknown computed.old entries.now)) }
         ensures alone { most_of (G.bound self.old.workspace.crew.now.monitor.now) < 2 ^ 64 - 1 → result ≢ Err WaveFault.NoWorker }
-        ensures expanded { OnOk result (HaveExpanded store.old 1 (requests_of (unknown computed.old entries.now)) (self.old.workspace.down.splits + self.old.workspace.rooms) (self.new.workspace.down.splits + self.new.workspace.rooms)) }
-        ensures reduced { OnOk result ((v : ℕ) × HaveReduced store.old (requests_of (unknown computed.old entries.now)) v self.old.workspace.up.reductions self.new.workspace.up.reductions) }
-        ensures all_reduced { most_of (G.bound self.old.workspace.crew.now.monitor.now) < 2 ^ 64 - 1 → OnOk result (HaveReduced store.old (requests_of (unknown computed.old entries.now)) store.old.levels self.old.workspace.up.reductions self.new.workspace.up.reductions) }
+        ensures expanded { OnOk result (HaveExpanded store.old 1 (requests_of (unknown computed.old entries.now))
+            (self.old.workspace.down.splits + self.old.workspace.rooms) (self.new.workspace.down.splits + self.new.workspace.rooms)) }
+        ensures reduced { OnOk result ((v : ℕ) × HaveReduced store.old
+            (requests_of (unknown computed.old entries.now)) v self.old.workspace.up.reductions self.new.workspace.up.reductions) }
+        ensures all_reduced { most_of (G.bound self.old.workspace.crew.now.monitor.now) < 2 ^ 64 - 1
+            → OnOk result (HaveReduced store.old (requests_of
+            (unknown computed.old entries.now)) store.old.levels self.old.workspace.up.reductions self.new.workspace.up.reductions) }
         ensures memory { count_of store.old ≤ store.old.limit → result ≡ Err WaveFault.OutOfMemory → count_of store.new ≤ store.new.limit }
         ensures monitor { self.new.workspace.crew.now.monitor ≡ self.old.workspace.crew.now.monitor }
         ensures kept { IfOk result (λ answers. IsKeptWave computed.old entries.now answers.items computed.new) }
@@ -90,7 +97,12 @@ impl<'a, R, G: Monitor> Model for Engine<'a, R, G> {
 
     ghost Value = { AtRest };
 
-    ghost view = { λ e. record { held = e.computed; bound = G.bound e.runner.workspace.crew.now.monitor.now; expanded = e.expanded; reduced = e.reduced } };
+    ghost view = { λ e. record {
+      held = e.computed;
+      bound = G.bound e.runner.workspace.crew.now.monitor.now;
+      expanded = e.expanded;
+      reduced = e.reduced;
+    } };
 }
 
 impl<'a, R: Threads + Wait + Sync, G: Monitor> Engine<'a, R, G> {
@@ -160,11 +172,16 @@ impl<'a, R: Threads + Wait + Sync, G: Monitor> Engine<'a, R, G> {
         requires right { IsRight store.old self.old.held }
         ensures wave { AnswersWave store.old entries.now (unknown self.old.held entries.now) result store.new }
         ensures past { result ≡ Err WaveFault.TooManyRequests → ArePast self.old.bound store.old (unknown self.old.held entries.now) }
-        ensures within_bound { most_of self.old.bound < 2 ^ 64 - 1 → OnOk result (AreAtMost (most_of self.old.bound) store.old (unknown self.old.held entries.now)) }
+        ensures within_bound { most_of self.old.bound < 2 ^ 64 - 1
+            → OnOk result (AreAtMost (most_of self.old.bound) store.old (unknown self.old.held entries.now)) }
         ensures alone { most_of self.old.bound < 2 ^ 64 - 1 → result ≢ Err WaveFault.NoWorker }
-        ensures expanded { OnOk result (HaveExpanded store.old 1 (requests_of (unknown self.old.held entries.now)) self.old.expanded self.new.expanded) }
-        ensures reduced { OnOk result ((v : ℕ) × HaveReduced store.old (requests_of (unknown self.old.held entries.now)) v self.old.reduced self.new.reduced) }
-        ensures all_reduced { most_of self.old.bound < 2 ^ 64 - 1 → OnOk result (HaveReduced store.old (requests_of (unknown self.old.held entries.now)) store.old.levels self.old.reduced self.new.reduced) }
+        ensures expanded { OnOk result (HaveExpanded store.old 1
+            (requests_of (unknown self.old.held entries.now)) self.old.expanded self.new.expanded) }
+        ensures reduced { OnOk result ((v : ℕ) × HaveReduced store.old
+            (requests_of (unknown self.old.held entries.now)) v self.old.reduced self.new.reduced) }
+        ensures all_reduced { most_of self.old.bound < 2 ^ 64 - 1
+            → OnOk result (HaveReduced store.old (requests_of
+            (unknown self.old.held entries.now)) store.old.levels self.old.reduced self.new.reduced) }
         ensures memory { count_of store.old ≤ store.old.limit → result ≡ Err WaveFault.OutOfMemory → count_of store.new ≤ store.new.limit }
         ensures kept { IfOk result (λ answers. IsKeptWave self.old.held entries.now answers.items self.new.held) }
         ensures refused { OnErr result (self.new ≡ self.old) }

@@ -91,9 +91,11 @@ pub(crate) fn hand_over<R: Threads + Wait + Sync, G: Monitor>(
     requires levels { length answers.old.items ≡ store.old.levels }
     ensures sound { IsSound store.new }
     ensures adds { AddsDescribed store.old store.new (IsWanted store.old entries.now) }
-    ensures reduced { OnOk result (AreReducedBelow store.new entries.now frontier.now.requests.now frontier.now.from store.new answers.new.items) }
+    ensures reduced { OnOk result (AreReducedBelow store.new entries.now frontier.now.requests.now frontier.now.from store.new
+        answers.new.items) }
     ensures within { OnOk result (IsWithinBelow store.old frontier.now.requests.now frontier.now.from store.new) }
-    ensures expanded { OnOk result (HaveExpanded store.old crew.now.workers.count (keys_from frontier.now.from frontier.now.requests.now) rooms.old rooms.new) }
+    ensures expanded { OnOk result (HaveExpanded store.old crew.now.workers.count
+        (keys_from frontier.now.from frontier.now.requests.now) rooms.old rooms.new) }
     ensures fault { IfErr result (λ e. IsWaveFault store.old entries.now store.new e) }
     ensures unbounded { IfErr result (λ e. e ≢ WaveFault.TooManyRequests) }
     ensures memory { count_of store.old ≤ store.old.limit → result ≡ Err WaveFault.OutOfMemory → count_of store.new ≤ store.new.limit }

@@ -5,7 +5,8 @@ ghost use Rattle.dd_store.specs.Nodes.{IsSound, count_of};
 ghost use Rattle.reduce_up.specs.Reducing.{AddsDescribed};
 ghost use Rattle.reduce_up.specs.Waves.{IsWanted, IsWaveFault, IsEntry};
 ghost use Rattle.wave_engine.specs.Down.{AreExpanded};
-ghost use Rattle.wave_engine.specs.Up.{ComesTo, IsReadyAt, AskedAt, IsLevelReduced, IsLevelCounted, IsLevelFault, AreReducedBelow, AreCounted};
+ghost use Rattle.wave_engine.specs.Up.{ComesTo, IsReadyAt, AskedAt, IsLevelReduced, IsLevelCounted, IsLevelFault, AreReducedBelow};
+ghost use Rattle.wave_engine.specs.Up.{AreCounted};
 
 use crate::lists::Answers;
 use crate::reductions::Reductions;
@@ -51,7 +52,8 @@ fn reduce_level(
     requires ready { IsReadyAt store.old level.now.requests.now level.now.pairs.now level.now.answers.now level.now.number }
     ensures sound { IsSound store.new }
     ensures adds { AddsDescribed store.old store.new (AskedAt store.old level.now.requests.now level.now.number) }
-    ensures whole { OnOk result (IsLevelReduced store.old level.now.requests.now level.now.number (length level.now.pairs.now) store.new own.new) }
+    ensures whole { OnOk result (IsLevelReduced store.old level.now.requests.now level.now.number
+        (length level.now.pairs.now) store.new own.new) }
     ensures counted { OnOk result (IsLevelCounted level.now.requests.now level.now.number reductions.old reductions.new) }
     ensures fault { IfErr result (λ e. IsLevelFault store.new level.now.requests.now level.now.number e) }
 {

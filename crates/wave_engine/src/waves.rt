@@ -25,8 +25,10 @@ pub fn wave<R: Threads + Wait + Sync, G: Monitor>(
     requires operands { All (IsEntry store.old) entries.now }
     requires right { IsRight store.old computed.old }
     ensures wave { AnswersWave store.old entries.now (unknown computed.old entries.now) result store.new }
-    ensures past { result ≡ Err WaveFault.TooManyRequests → ArePast (G.bound crew.now.monitor.now) store.old (unknown computed.old entries.now) }
-    ensures within_bound { most_of (G.bound crew.now.monitor.now) < 2 ^ 64 - 1 → OnOk result (AreAtMost (most_of (G.bound crew.now.monitor.now)) store.old (unknown computed.old entries.now)) }
+    ensures past { result ≡ Err WaveFault.TooManyRequests → ArePast (G.bound crew.now.monitor.now) store.old
+        (unknown computed.old entries.now) }
+    ensures within_bound { most_of (G.bound crew.now.monitor.now) < 2 ^ 64 - 1
+        → OnOk result (AreAtMost (most_of (G.bound crew.now.monitor.now)) store.old (unknown computed.old entries.now)) }
     ensures alone { most_of (G.bound crew.now.monitor.now) < 2 ^ 64 - 1 → result ≢ Err WaveFault.NoWorker }
     ensures memory { count_of store.old ≤ store.old.limit → result ≡ Err WaveFault.OutOfMemory → count_of store.new ≤ store.new.limit }
     ensures kept { IfOk result (λ answers. IsKeptWave computed.old entries.now answers.items computed.new) }

@@ -84,14 +84,16 @@ fn go_down(
     limits: Limits,
 ) -> Result<u16, WaveFault>
     requires operands { All (IsEntry store.now) entries.now }
-    ensures down { IfOk result (λ v. IsDown store.now entries.now v down.new.requests down.new.rows.items down.new.roots.items answers.new.items) }
+    ensures down { IfOk result (λ v. IsDown store.now entries.now v down.new.requests down.new.rows.items down.new.roots.items
+        answers.new.items) }
     ensures split { IfOk result (λ v. HaveSplit store.now entries.now down.new.requests v down.old.splits down.new.splits) }
     ensures alone { limits.level ≡ 2 ^ 64 - 1 → IfOk result (λ v. v ≡ store.now.levels) }
     ensures refused { IfErr result (λ e. e ≢ WaveFault.Full) }
     ensures served { IfErr result (λ e. e ≢ WaveFault.NoWorker) }
     ensures bounded { result ≡ Err WaveFault.TooManyRequests → limits.wave < 2 ^ 64 - 1 }
     ensures past { result ≡ Err WaveFault.TooManyRequests → AreMoreThan limits.wave store.now entries.now }
-    ensures within_bound { limits.wave < 2 ^ 64 - 1 → IfOk result (λ v. v ≡ store.now.levels → AreAtMost limits.wave store.now entries.now) }
+    ensures within_bound { limits.wave < 2 ^ 64 - 1 → IfOk result (λ v. v ≡ store.now.levels
+        → AreAtMost limits.wave store.now entries.now) }
 {
     let levels = store.levels();
     down.requests.restart(alloc, levels)?;
@@ -189,11 +191,15 @@ impl<'a, R: Threads + Wait + Sync, G: Monitor> Workspace<'a, R, G> {
         requires operands { All (IsEntry store.old) entries.now }
         ensures wave { AnswersWave store.old entries.now entries.now result store.new }
         ensures past { result ≡ Err WaveFault.TooManyRequests → ArePast (G.bound self.old.crew.now.monitor.now) store.old entries.now }
-        ensures within_bound { most_of (G.bound self.old.crew.now.monitor.now) < 2 ^ 64 - 1 → OnOk result (AreAtMost (most_of (G.bound self.old.crew.now.monitor.now)) store.old entries.now) }
+        ensures within_bound { most_of (G.bound self.old.crew.now.monitor.now) < 2 ^ 64 - 1
+            → OnOk result (AreAtMost (most_of (G.bound self.old.crew.now.monitor.now)) store.old entries.now) }
         ensures alone { most_of (G.bound self.old.crew.now.monitor.now) < 2 ^ 64 - 1 → result ≢ Err WaveFault.NoWorker }
-        ensures expanded { OnOk result (HaveExpanded store.old 1 (requests_of entries.now) (self.old.down.splits + self.old.rooms) (self.new.down.splits + self.new.rooms)) }
-        ensures reduced { OnOk result ((v : ℕ) × HaveReduced store.old (requests_of entries.now) v self.old.up.reductions self.new.up.reductions) }
-        ensures all_reduced { most_of (G.bound self.old.crew.now.monitor.now) < 2 ^ 64 - 1 → OnOk result (HaveReduced store.old (requests_of entries.now) store.old.levels self.old.up.reductions self.new.up.reductions) }
+        ensures expanded { OnOk result (HaveExpanded store.old 1 (requests_of entries.now) (self.old.down.splits + self.old.rooms)
+            (self.new.down.splits + self.new.rooms)) }
+        ensures reduced { OnOk result ((v : ℕ) × HaveReduced store.old
+            (requests_of entries.now) v self.old.up.reductions self.new.up.reductions) }
+        ensures all_reduced { most_of (G.bound self.old.crew.now.monitor.now) < 2 ^ 64 - 1
+            → OnOk result (HaveReduced store.old (requests_of entries.now) store.old.levels self.old.up.reductions self.new.up.reductions) }
         ensures memory { count_of store.old ≤ store.old.limit → result ≡ Err WaveFault.OutOfMemory → count_of store.new ≤ store.new.limit }
         ensures monitor { self.new.crew.now.monitor ≡ self.old.crew.now.monitor }
     {

@@ -54,7 +54,8 @@ impl Store {
         ensures grows { GrowsLevel self.old self.new level (plain_lists (list_at lists.now)) }
         ensures sound { IsSound self.new }
         ensures extends { Extends self.old self.new }
-        ensures answer { MatchResult result (λ _. IsLevelFault self.new level (plain_lists (list_at lists.now)) None) (λ f. IsLevelFault self.new level (plain_lists (list_at lists.now)) (Some f)) }
+        ensures answer { MatchResult result (λ _. IsLevelFault self.new level (plain_lists (list_at lists.now)) None)
+            (λ f. IsLevelFault self.new level (plain_lists (list_at lists.now)) (Some f)) }
     {
         match self.grow_level(rt, level, lists, watch) {
             None => Ok(()),
@@ -77,7 +78,8 @@ impl Store {
         ensures grows { GrowsLevel self.old self.new level (plain_lists (all_at parts.now)) }
         ensures sound { IsSound self.new }
         ensures sixteen { length refs.new.items ≡ 16 }
-        ensures answers { IfNone result ((s : ℕ) → s < 16 → AllZip (λ p r. IsThere self.new level p.0 p.1 r) (all_at parts.now s) (refs_at refs.new.items s)) }
+        ensures answers { IfNone result ((s : ℕ) → s < 16 → AllZip (λ p r. IsThere self.new level p.0 p.1 r) (all_at parts.now s)
+            (refs_at refs.new.items s)) }
         ensures fault { IfSome result (λ f. IsMakeFault self.new level (plain_lists (all_at parts.now)) f) }
     {
         let first = SHARDS * level as usize;
@@ -110,7 +112,8 @@ impl Store {
         ensures sound { IsSound self.new }
         ensures extends { Extends self.old self.new }
         ensures sixteen { IfOk result (λ refs. length refs.items ≡ 16) }
-        ensures answers { IfOk result (λ refs. (s : ℕ) → s < 16 → AllZip (λ p r. IsThere self.new level p.0 p.1 r) (all_at parts.now s) (refs_at refs.items s)) }
+        ensures answers { IfOk result (λ refs. (s : ℕ) → s < 16
+            → AllZip (λ p r. IsThere self.new level p.0 p.1 r) (all_at parts.now s) (refs_at refs.items s)) }
         ensures fault { IfErr result (λ f. IsMakeFault self.new level (plain_lists (all_at parts.now)) f) }
     {
         let Ok(mut refs) = Vec::with_capacity(self.alloc, SHARDS) else {

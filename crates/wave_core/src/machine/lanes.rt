@@ -16,7 +16,8 @@ impl Machine {
     pub fn send(&mut self, store: &Store, by: u32, to: u32) -> Result<bool, AllocError>
         ensures same { (self.new.workers ≡ self.old.workers) × (self.new.levels ≡ self.old.levels) }
         ensures kept { self.new.kept ≡ self.old.kept }
-        ensures ok { IfOk result (λ b. MatchBool b (Does store.now self.old (Send by to) self.new) ((self.new ≡ self.old) × ¬ Allows store.now self.old (Send by to))) }
+        ensures ok { IfOk result (λ b. MatchBool b (Does store.now self.old (Send by to) self.new)
+            ((self.new ≡ self.old) × ¬ Allows store.now self.old (Send by to))) }
         ensures err { OnErr result (self.new ≡ self.old) }
     {
         if by >= self.workers || to >= self.workers {
@@ -49,7 +50,8 @@ impl Machine {
     pub fn end(&mut self, store: &Store, by: u32, to: u32) -> Result<bool, AllocError>
         ensures same { (self.new.workers ≡ self.old.workers) × (self.new.levels ≡ self.old.levels) }
         ensures kept { self.new.kept ≡ self.old.kept }
-        ensures ok { IfOk result (λ b. MatchBool b (Does store.now self.old (End by to) self.new) ((self.new ≡ self.old) × ¬ Allows store.now self.old (End by to))) }
+        ensures ok { IfOk result (λ b. MatchBool b (Does store.now self.old (End by to) self.new)
+            ((self.new ≡ self.old) × ¬ Allows store.now self.old (End by to))) }
         ensures err { OnErr result (self.new ≡ self.old) }
     {
         if by >= self.workers || to >= self.workers {
@@ -86,7 +88,8 @@ impl Machine {
     pub fn take(&mut self, store: &Store, by: u32) -> Result<bool, AllocError>
         ensures same { (self.new.workers ≡ self.old.workers) × (self.new.levels ≡ self.old.levels) }
         ensures kept { self.new.kept ≡ self.old.kept }
-        ensures ok { IfOk result (λ b. MatchBool b (Does store.now self.old (Take by) self.new) ((self.new ≡ self.old) × ¬ Allows store.now self.old (Take by))) }
+        ensures ok { IfOk result (λ b. MatchBool b (Does store.now self.old (Take by) self.new)
+            ((self.new ≡ self.old) × ¬ Allows store.now self.old (Take by))) }
         ensures err { OnErr result (self.new ≡ self.old) }
     {
         if by >= self.workers {
@@ -132,10 +135,12 @@ impl Machine {
     /// Sends the first request that is due from `by` to itself, and takes it at once.
     pub fn keep(&mut self, store: &Store, by: u32) -> Result<bool, AllocError>
         requires own { by < self.old.workers → IsOwnInOrder self.old by }
-        requires below { by < self.old.workers → All (λ x. level_of store.now x < self.old.levels) (by_place self.old.workers self.old.due by by) }
+        requires below { by < self.old.workers → All (λ x. level_of store.now x < self.old.levels)
+            (by_place self.old.workers self.old.due by by) }
         ensures same { (self.new.workers ≡ self.old.workers) × (self.new.levels ≡ self.old.levels) }
         ensures kept { IfOk result (λ b. IsTrue b → self.new.kept ≡ self.old.kept + 1) }
-        ensures ok { IfOk result (λ b. MatchBool b (Does store.now self.old (Keep by) self.new) ((self.new ≡ self.old) × ¬ Allows store.now self.old (Keep by))) }
+        ensures ok { IfOk result (λ b. MatchBool b (Does store.now self.old (Keep by) self.new)
+            ((self.new ≡ self.old) × ¬ Allows store.now self.old (Keep by))) }
         ensures err { OnErr result (self.new ≡ self.old) }
     {
         if !self.can_keep(store, by) {

@@ -1,9 +1,11 @@
 //! The events of a level: a key of a closed level is expanded, and a worker goes on to the next level.
-ghost use Rattle.std.specs.Prelude.{◌≡◌, ℕ, ◌+◌, ◌*◌, ◌<◌, ◌≤◌, List, [], ◌∷◌, ◌++◌, slice_index_or, slice_set, map, All, Contains, MatchOption, IfSome, IfOk, OnOk, OnErr, MatchBool};
+ghost use Rattle.std.specs.Prelude.{◌≡◌, ℕ, ◌+◌, ◌*◌, ◌<◌, ◌≤◌, List, [], ◌∷◌, ◌++◌, slice_index_or, slice_set, map, All, Contains};
+ghost use Rattle.std.specs.Prelude.{MatchOption, IfSome, IfOk, OnOk, OnErr, MatchBool};
 ghost use Rattle.req_table.specs.Lanes.{IsClosed};
 ghost use Rattle.req_table.specs.Keys.{IsKey};
 ghost use Rattle.req_table.specs.declared.Key.{Key as KeyValue};
-ghost use Rattle.wave_core.specs.View.{View, IsKept, state_of, wave_of_view, Does, Allows, TookFairly, number_of, owe_of, owe_all, list_of, by_place};
+ghost use Rattle.wave_core.specs.View.{View, IsKept, state_of, wave_of_view, Does, Allows, TookFairly, number_of, owe_of, owe_all, list_of};
+ghost use Rattle.wave_core.specs.View.{by_place};
 ghost use Rattle.req_table.specs.Settled.{key_of};
 ghost use Rattle.wave_core.specs.Step.{IsAtWork, asks_here, row_here};
 ghost use Rattle.wave_core.specs.declared.Event.TheVariants.{Expand, Advance};
@@ -18,7 +20,8 @@ impl Machine {
     /// Whether each worker has sent more Ends to `by` than the level, and `by` has taken them.
     fn is_ended(&self, by: u32, level: u16) -> bool
         requires { by < self.now.workers }
-        ensures { MatchBool result ((s : ℕ) → s < self.now.workers → level < number_of self.now.workers self.now.counted by s) ((s : ℕ) × (s < self.now.workers) × (number_of self.now.workers self.now.counted by s ≤ level)) }
+        ensures { MatchBool result ((s : ℕ) → s < self.now.workers → level < number_of self.now.workers self.now.counted by s)
+            ((s : ℕ) × (s < self.now.workers) × (number_of self.now.workers self.now.counted by s ≤ level)) }
     {
         for sender in 0..self.workers {
             let place = (by * self.workers + sender) as usize;
@@ -33,7 +36,8 @@ impl Machine {
     pub fn is_closed(&self, store: &Store, by: u32, level: u16) -> bool
         requires by { by < self.now.workers }
         requires fair { TookFairly store.now self.now by }
-        ensures { MatchBool result (IsClosed (wave_of_view store.now self.now).scope level (list_of self.now.taken by)) (¬ IsClosed (wave_of_view store.now self.now).scope level (list_of self.now.taken by)) }
+        ensures { MatchBool result (IsClosed (wave_of_view store.now self.now).scope level (list_of self.now.taken by))
+            (¬ IsClosed (wave_of_view store.now self.now).scope level (list_of self.now.taken by)) }
     {
         let _ = &self.workers;
         if !self.is_ended(by, level) {
@@ -46,7 +50,8 @@ impl Machine {
     fn closed_level(&self, store: &Store, by: u32) -> Option<u16>
         requires fair { by < self.now.workers → TookFairly store.now self.now by }
         ensures kept { IsKept self.now }
-        ensures at_work { MatchOption result (¬ IsAtWork (wave_of_view store.now self.now) (state_of self.now) by) (λ level. (level ≡ slice_index_or self.now.at by 0) × IsAtWork (wave_of_view store.now self.now) (state_of self.now) by) }
+        ensures at_work { MatchOption result (¬ IsAtWork (wave_of_view store.now self.now) (state_of self.now) by)
+            (λ level. (level ≡ slice_index_or self.now.at by 0) × IsAtWork (wave_of_view store.now self.now) (state_of self.now) by) }
     {
         if by >= self.workers {
             return None;
@@ -64,7 +69,8 @@ impl Machine {
     /// Adds a child to what is due from `by`.
     fn owe(&mut self, by: u32, child: &Child) -> Result<(), AllocError>
         requires { by < self.old.workers }
-        ensures ok { OnOk result (let r : View = record self.old { due = owe_of self.old.workers by child.now self.old.due } in self.new ≡ r) }
+        ensures ok { OnOk result (let r : View = record self.old { due = owe_of self.old.workers by child.now self.old.due } in
+            self.new ≡ r) }
         ensures err { OnErr result (self.new ≡ self.old) }
     {
         match child {
@@ -80,7 +86,8 @@ impl Machine {
     fn forgive(&mut self, by: u32, child: &Child)
         requires { by < self.old.workers }
         ensures same { self.new.workers ≡ self.old.workers }
-        ensures back { (d : List (List KeyValue)) → self.old.due ≡ owe_of self.old.workers by child.now d → (let r : View = record self.old { due = d } in self.new ≡ r) }
+        ensures back { (d : List (List KeyValue)) → self.old.due ≡ owe_of self.old.workers by child.now d
+            → (let r : View = record self.old { due = d } in self.new ≡ r) }
     {
         match child {
             Child::Done(_) => {}
@@ -94,7 +101,8 @@ impl Machine {
     /// Adds both children of a record to what is due from `by`.
     fn owe_both(&mut self, by: u32, added: &Record) -> Result<(), AllocError>
         requires { by < self.old.workers }
-        ensures ok { OnOk result (let r : View = record self.old { due = owe_all self.old.workers by added.now self.old.due } in self.new ≡ r) }
+        ensures ok { OnOk result (let r : View = record self.old { due = owe_all self.old.workers by added.now self.old.due } in
+            self.new ≡ r) }
         ensures err { OnErr result (self.new ≡ self.old) }
     {
         self.owe(by, &added.low)?;
@@ -110,7 +118,8 @@ impl Machine {
     /// Takes both children of a record back.
     fn forgive_both(&mut self, by: u32, added: &Record)
         requires { by < self.old.workers }
-        ensures { (d : List (List KeyValue)) → self.old.due ≡ owe_all self.old.workers by added.now d → (let r : View = record self.old { due = d } in self.new ≡ r) }
+        ensures { (d : List (List KeyValue)) → self.old.due ≡ owe_all self.old.workers by added.now d
+            → (let r : View = record self.old { due = d } in self.new ≡ r) }
     {
         self.forgive(by, &added.high);
         self.forgive(by, &added.low);
@@ -121,8 +130,11 @@ impl Machine {
         requires by { by < self.now.workers }
         requires level { level < self.now.levels }
         requires here { level ≡ slice_index_or self.now.at by 0 }
-        ensures left { MatchOption result (All (Contains (row_here (state_of self.now) by)) (asks_here (state_of self.now) by)) (λ _. ¬ All (Contains (row_here (state_of self.now) by)) (asks_here (state_of self.now) by)) }
-        ensures front { IfSome result (λ x. (more : List KeyValue) × (by_place self.now.levels self.now.tables by level ≡ map key_of (by_place self.now.levels self.now.rows by level) ++ x ∷ more)) }
+        ensures left { MatchOption result (All (Contains (row_here (state_of self.now) by)) (asks_here (state_of self.now) by))
+            (λ _. ¬ All (Contains (row_here (state_of self.now) by)) (asks_here (state_of self.now) by)) }
+        ensures front { IfSome result (λ x. (more : List KeyValue)
+            × (by_place self.now.levels self.now.tables by level ≡ map key_of (by_place self.now.levels self.now.rows by level) ++ x
+            ∷ more)) }
     {
         let place = by as usize * self.levels as usize + level as usize;
         let done = self.rows[place].len();
@@ -136,8 +148,12 @@ impl Machine {
     fn note(&mut self, by: u32, level: u16, added: &Record) -> Result<(), AllocError>
         requires by { by < self.old.workers }
         requires level { level < self.old.levels }
-        requires next { (more : List KeyValue) × (by_place self.old.levels self.old.tables by level ≡ map key_of (by_place self.old.levels self.old.rows by level) ++ added.now.key ∷ more) }
-        ensures ok { OnOk result (let r : View = record self.old { rows = slice_set self.old.rows (by * self.old.levels + level) (by_place self.old.levels self.old.rows by level ++ added.now ∷ []) } in self.new ≡ r) }
+        requires next { (more : List KeyValue) × (by_place self.old.levels self.old.tables by level ≡ map key_of
+            (by_place self.old.levels self.old.rows by level) ++ added.now.key ∷ more) }
+        ensures ok { OnOk result (let r : View = record self.old {
+          rows = slice_set self.old.rows (by * self.old.levels + level)
+              (by_place self.old.levels self.old.rows by level ++ added.now ∷ []);
+        } in self.new ≡ r) }
         ensures err { OnErr result (self.new ≡ self.old) }
     {
         let place = by as usize * self.levels as usize + level as usize;
@@ -151,7 +167,8 @@ impl Machine {
         requires held { by < self.old.workers → All (IsKey store.now) (asks_here (state_of self.old) by) }
         ensures same { (self.new.workers ≡ self.old.workers) × (self.new.levels ≡ self.old.levels) }
         ensures kept { self.new.kept ≡ self.old.kept }
-        ensures ok { IfOk result (λ b. MatchBool b (Does store.now self.old (Expand by) self.new) ((self.new ≡ self.old) × ¬ Allows store.now self.old (Expand by))) }
+        ensures ok { IfOk result (λ b. MatchBool b (Does store.now self.old (Expand by) self.new)
+            ((self.new ≡ self.old) × ¬ Allows store.now self.old (Expand by))) }
         ensures err { OnErr result (self.new ≡ self.old) }
     {
         let Some(level) = self.closed_level(store, by) else {
@@ -174,7 +191,8 @@ impl Machine {
     /// Whether nothing is due from `by`.
     fn is_paid(&self, by: u32) -> bool
         requires { by < self.now.workers }
-        ensures { MatchBool result ((to : ℕ) → to < self.now.workers → by_place self.now.workers self.now.due by to ≡ []) ((to : ℕ) × (to < self.now.workers) × ¬ (by_place self.now.workers self.now.due by to ≡ [])) }
+        ensures { MatchBool result ((to : ℕ) → to < self.now.workers → by_place self.now.workers self.now.due by to ≡ [])
+            ((to : ℕ) × (to < self.now.workers) × ¬ (by_place self.now.workers self.now.due by to ≡ [])) }
     {
         for to in 0..self.workers {
             let place = (by * self.workers + to) as usize;
@@ -190,7 +208,8 @@ impl Machine {
         requires fair { by < self.old.workers → TookFairly store.now self.old by }
         ensures same { (self.new.workers ≡ self.old.workers) × (self.new.levels ≡ self.old.levels) }
         ensures kept { self.new.kept ≡ self.old.kept }
-        ensures done { MatchBool result (Does store.now self.old (Advance by) self.new) ((self.new ≡ self.old) × ¬ Allows store.now self.old (Advance by)) }
+        ensures done { MatchBool result (Does store.now self.old (Advance by) self.new)
+            ((self.new ≡ self.old) × ¬ Allows store.now self.old (Advance by)) }
     {
         let Some(level) = self.closed_level(store, by) else {
             return false;
