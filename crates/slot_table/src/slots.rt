@@ -1,5 +1,6 @@
 //! Slots that find the place of an item by open addressing.
-ghost use Rattle.std.specs.Prelude.{◌≡◌, ◌<◌, ◌≤◌, ◌+◌, ◌==◌, ◌++◌, ◌∷◌, [], ◌^◌, length, IfOk, OnOk, OnErr, if◌then◌else◌};
+ghost use Rattle.std.specs.Prelude.{◌≡◌, ◌<◌, ◌≤◌, ◌+◌, ◌==◌, ◌++◌, ◌∷◌, [], ◌^◌, length, vec_len, vec_capacity, IfOk, OnOk, OnErr};
+ghost use Rattle.std.specs.Prelude.{if◌then◌else◌};
 ghost use Rattle.slot_table.specs.Probes.{home_of, IsFree, IsFreeFor, HasFree, IsSlotCount, IsSought};
 ghost use Rattle.slot_table.specs.Stamps.{Finds, IsPower, stamp_of, tag_of};
 ghost use Rattle.slot_table.specs.Lists.{IsIn, IsOnce};
@@ -17,6 +18,9 @@ pub(crate) enum Sought {
 
 /// How many slots the first item makes.
 const FIRST_SLOTS: usize = 8;
+
+/// From how many items on a list grows by a quarter.
+const MANY_ITEMS: usize = 64;
 
 /// The slot, of `count`, in which the search for an item begins.
 fn home<T: Spread>(item: T, count: usize) -> usize
@@ -143,6 +147,19 @@ fn slot_for<T: Spread>(
     Ok(free_slot(slots.as_slice(), home(item, more)))
 }
 
+/// Makes room for one item more. A list of many items grows by a quarter, where a shorter one doubles: of what it takes, a
+/// tenth is empty in the mean, not three. The C library moves no large block that grows.
+fn make_room<T>(list: &mut Vec<T>) -> Result<(), AllocError>
+    ensures items { list.new.items ≡ list.old.items }
+    ensures room { OnOk result (vec_len list.new < vec_capacity list.new) }
+{
+    let len = list.len();
+    if len < MANY_ITEMS || len < list.capacity() {
+        return list.reserve(1);
+    }
+    list.reserve_exact(len / 4)
+}
+
 /// Adds an item at the end, whose search ended at `slot`. After an error all is as before.
 pub(crate) fn add_at<T: Spread>(
     items: &mut Vec<T>,
@@ -162,7 +179,7 @@ pub(crate) fn add_at<T: Spread>(
     ensures added { OnOk result (items.new.items ≡ items.old.items ++ item ∷ []) }
     ensures refused { OnErr result (items.new.items ≡ items.old.items) }
 {
-    items.reserve(1)?;
+    make_room(items)?;
     let slot = slot_for(items.as_slice(), slots, item, slot)?;
     slots[slot] = stamp(item, slots.len(), items.len());
     items.push_reserved(item);

@@ -16,12 +16,12 @@ returns-clause-finds g c =
     let n : ℕ = length ts in
     let x = c.args.item in
     let j : ℕ = c.in_ok-slot.slot in
-    let there : xs ≡ c.reserve.new.self.items = c.as_slice.ensures.value in
-    let long : length xs ≡ length c.reserve.new.self.items = ap (λ z. length z) there in
+    let there : xs ≡ c.make_room.new.list.items = c.as_slice.ensures.value in
+    let long : length xs ≡ length c.make_room.new.list.items = ap (λ z. length z) there in
     let more = slots-room (length xs) n c.in_ok-slot.ensures.count in
     let held : stamp_of s n x (length xs) ≡ c.stamp.result =
     let count : c.len.result ≡ n = c.len.ensures ∙ c.slot_for.new.slots.ok.0 in
-    let place : c.len-2.result ≡ length xs = c.len-2.ensures ∙ c.reserve.new.self.ok.0 ∙ sym long in
+    let place : c.len-2.result ≡ length xs = c.len-2.ensures ∙ c.make_room.new.list.ok.0 ∙ sym long in
     sym (c.stamp.ensures ∙ ap (λ z. stamp_of s z x c.len-2.result) count ∙ ap (λ z. stamp_of s n x z) place) in
     let size : n ≡ length (set ts j c.stamp.result) = sym (length-set ts j c.stamp.result) in
     let one : Finds s n (xs ++ x ∷ []) (set ts j (stamp_of s n x (length xs))) =
@@ -36,7 +36,7 @@ returns-clause-count g c =
     let xs = c.as_slice.result.now in
     let x = c.args.item in
     let ts : List ℕ = c.slot_for.new.slots.items in
-    let there : xs ≡ c.reserve.new.self.items = c.as_slice.ensures.value in
+    let there : xs ≡ c.make_room.new.list.items = c.as_slice.ensures.value in
     let more : c.push_reserved.new.self.items ≡ xs ++ x ∷ [] = c.push_reserved.ensures.items ∙ ap (λ z. z ++ x ∷ []) (sym there) in
     let long : length xs + 1 ≡ length c.push_reserved.new.self.items = sym (ap (λ z. length z) more ∙ length_push xs x) in
     let size : length ts ≡ length (set ts c.in_ok-slot.slot c.stamp.result) = sym (length-set ts c.in_ok-slot.slot c.stamp.result) in
@@ -48,5 +48,5 @@ returns-clause-once g c =
     let xs = c.args.items.now.items in
     let x = c.args.item in
     let more : c.push_reserved.new.self.items ≡ xs ++ x ∷ [] =
-    c.push_reserved.ensures.items ∙ ap (λ z. z ++ x ∷ []) c.in_ok-reserve.ensures.items in
+    c.push_reserved.ensures.items ∙ ap (λ z. z ++ x ∷ []) c.in_ok-make_room.ensures.items in
     subst (λ (z : List g.row.T.Denot). IsOnce z) (sym more) (IsOnce-push xs x c.requires.absent c.requires.once)
