@@ -22,8 +22,7 @@ static HELD: &str = "INPUT(e)\nOUTPUT(q)\nq = DFF(d)\nd = OR(w, q)\nw = BUFF(e)\
 
 /// Each kind of a gate, of two operands and of three.
 static KINDS: &str =
-    "INPUT(a)\nINPUT(b)\nINPUT(c)\nOUTPUT(g1)\ng1 = AND(a, b)\ng2 = NAND(a, b, c)\ng3 = OR(a, b)\ng4 = NOR(a, b, c)\ng5 = XOR(a, b)\ng6 = \
-        XNOR(a, b, c)\ng7 = NOT(a)\ng8 = BUFF(a)\n";
+    "INPUT(a)\nINPUT(b)\nINPUT(c)\nOUTPUT(g1)\ng1 = AND(a, b)\ng2 = NAND(a, b, c)\ng3 = OR(a, b)\ng4 = NOR(a, b, c)\ng5 = XOR(a, b)\ng6 = XNOR(a, b, c)\ng7 = NOT(a)\ng8 = BUFF(a)\n";
 
 /// Two netlists and their naming, by name.
 #[derive(Drop)]
@@ -76,16 +75,12 @@ fn adders_explained(rt: HostRuntime) -> Result<(), Fail> {
     let sum = explained(rt.alloc(), &adders, "s", &[true, true, false])?;
     assert!(rt;
         sum.as_slice()
-            == b"EXPLAIN s inner signals that differ: 1\n  x first=0 second=1 line 5 line 7\n  gates behind x: first 1 of 2, second 1 of \
-                2\n"
-                .as_slice()
+            == b"EXPLAIN s inner signals that differ: 1\n  x first=0 second=1 line 5 line 7\n  gates behind x: first 1 of 2, second 1 of 2\n".as_slice()
     );
     let carry = explained(rt.alloc(), &adders, "k", &[true, true, true])?;
     assert!(rt;
         carry.as_slice()
-            == b"EXPLAIN k inner signals that differ: 1\n  x first=0 second=1 line 5 line 7\n  gates behind x: first 3 of 4, second 3 of \
-                4\n"
-                .as_slice()
+            == b"EXPLAIN k inner signals that differ: 1\n  x first=0 second=1 line 5 line 7\n  gates behind x: first 3 of 4, second 3 of 4\n".as_slice()
     );
     let same = explained(rt.alloc(), &adders, "s", &[true, false, false])?;
     assert!(rt; same.as_slice() == b"EXPLAIN s inner signals that differ: 0\n".as_slice());
@@ -146,10 +141,7 @@ fn values_as_vcd(rt: HostRuntime) -> Result<(), Fail> {
     )?;
     assert!(rt;
         text.as_slice()
-            == b"$timescale 1 ns $end\n$scope module first $end\n$var wire 1 ! e $end\n$var wire 1 \" q $end\n$var wire 1 # d $end\n\
-                $upscope $end\n$scope module second $end\n$var wire 1 $ e $end\n$var wire 1 % q $end\n$var wire 1 & d $end\n$var wire 1 ' \
-                w $end\n$upscope $end\n$enddefinitions $end\n#0\n1!\n0\"\n1#\n1$\n0%\n1&\n1'\n#1\n"
-                .as_slice()
+            == b"$timescale 1 ns $end\n$scope module first $end\n$var wire 1 ! e $end\n$var wire 1 \" q $end\n$var wire 1 # d $end\n$upscope $end\n$scope module second $end\n$var wire 1 $ e $end\n$var wire 1 % q $end\n$var wire 1 & d $end\n$var wire 1 ' w $end\n$upscope $end\n$enddefinitions $end\n#0\n1!\n0\"\n1#\n1$\n0%\n1&\n1'\n#1\n".as_slice()
     );
     Ok(())
 }

@@ -8,8 +8,7 @@ use std::alloc::{AllocError, Global};
 use std::test::Fail;
 
 pub(crate) static C17: &str =
-    "INPUT(1)\nINPUT(2)\nINPUT(3)\nINPUT(6)\nINPUT(7)\nOUTPUT(22)\nOUTPUT(23)\n10 = NAND(1, 3)\n11 = NAND(3, 6)\n16 = NAND(2, 11)\n19 = \
-        NAND(11, 7)\n22 = NAND(10, 16)\n23 = NAND(16, 19)\n";
+    "INPUT(1)\nINPUT(2)\nINPUT(3)\nINPUT(6)\nINPUT(7)\nOUTPUT(22)\nOUTPUT(23)\n10 = NAND(1, 3)\n11 = NAND(3, 6)\n16 = NAND(2, 11)\n19 = NAND(11, 7)\n22 = NAND(10, 16)\n23 = NAND(16, 19)\n";
 
 /// A gate on a cycle, behind an input.
 static LOOP: &str = "INPUT(c)\nOUTPUT(a)\na = AND(b, c)\nb = NOT(a)\n";

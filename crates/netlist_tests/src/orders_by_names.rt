@@ -7,8 +7,7 @@ use std::alloc::Global;
 use std::test::Fail;
 
 const C17: &str =
-    "INPUT(1) INPUT(2) INPUT(3) INPUT(6) INPUT(7) OUTPUT(22) OUTPUT(23) 10 = NAND(1, 3) 11 = NAND(3, 6) 16 = NAND(2, 11) 19 = NAND(11, 7) \
-        22 = NAND(10, 16) 23 = NAND(16, 19)";
+    "INPUT(1) INPUT(2) INPUT(3) INPUT(6) INPUT(7) OUTPUT(22) OUTPUT(23) 10 = NAND(1, 3) 11 = NAND(3, 6) 16 = NAND(2, 11) 19 = NAND(11, 7) 22 = NAND(10, 16) 23 = NAND(16, 19)";
 
 /// The numbers are behind letters, brackets and dashes, or there are none.
 const MIXED: &str =
@@ -16,13 +15,11 @@ const MIXED: &str =
 
 /// Numbers of 18 digits and of more, which are all alike.
 const LONG: &str =
-    "INPUT(z99999999999999999999999) INPUT(y1000000000000000000) INPUT(x999999999999999999) INPUT(w18446744073709551616) \
-        OUTPUT(x999999999999999999)";
+    "INPUT(z99999999999999999999999) INPUT(y1000000000000000000) INPUT(x999999999999999999) INPUT(w18446744073709551616) OUTPUT(x999999999999999999)";
 
 /// Words that declare the bits of one bus behind those of the other.
 const WORDS: &str =
-    "INPUT(a[0]) INPUT(a[1]) INPUT(a[2]) INPUT(b[0]) INPUT(b[1]) INPUT(b[2]) OUTPUT(s) h0 = AND(a[0], b[0]) h1 = OR(a[1], b[1], h0) s = \
-        AND(a[2], b[2], h1)";
+    "INPUT(a[0]) INPUT(a[1]) INPUT(a[2]) INPUT(b[0]) INPUT(b[1]) INPUT(b[2]) OUTPUT(s) h0 = AND(a[0], b[0]) h1 = OR(a[1], b[1], h0) s = AND(a[2], b[2], h1)";
 
 /// Three pairs that stand apart by their numbers.
 const APART: &str =

@@ -12,17 +12,14 @@ use std::alloc::Global;
 use std::test::Fail;
 
 static C17C: &str =
-    "INPUT(1)\nINPUT(2)\nINPUT(3)\nINPUT(6)\nINPUT(7)\nOUTPUT(22)\nOUTPUT(24)\n10 = NAND(1, 3)\n11 = NAND(3, 6)\n16 = NAND(2, 11)\n19 = \
-        NAND(11, 7)\n22 = NAND(10, 16)\n24 = NAND(16, 19)\n";
+    "INPUT(1)\nINPUT(2)\nINPUT(3)\nINPUT(6)\nINPUT(7)\nOUTPUT(22)\nOUTPUT(24)\n10 = NAND(1, 3)\n11 = NAND(3, 6)\n16 = NAND(2, 11)\n19 = NAND(11, 7)\n22 = NAND(10, 16)\n24 = NAND(16, 19)\n";
 
 /// C17 without an input that no gate reads.
 static C17_SHORT: &str =
-    "INPUT(1)\nINPUT(2)\nINPUT(3)\nINPUT(6)\nOUTPUT(22)\nOUTPUT(23)\n10 = NAND(1, 3)\n11 = NAND(3, 6)\n16 = NAND(2, 11)\n19 = NAND(11, 6)\n\
-        22 = NAND(10, 16)\n23 = NAND(16, 19)\n";
+    "INPUT(1)\nINPUT(2)\nINPUT(3)\nINPUT(6)\nOUTPUT(22)\nOUTPUT(23)\n10 = NAND(1, 3)\n11 = NAND(3, 6)\n16 = NAND(2, 11)\n19 = NAND(11, 6)\n22 = NAND(10, 16)\n23 = NAND(16, 19)\n";
 
 static PAIRS: &str =
-    "INPUT(x1)\nINPUT(x2)\nINPUT(x3)\nINPUT(x4)\nINPUT(x5)\nINPUT(x6)\nOUTPUT(o)\na = AND(x1, x2)\nb = AND(x3, x4)\nc = AND(x5, x6)\no = \
-        OR(a, b, c)\n";
+    "INPUT(x1)\nINPUT(x2)\nINPUT(x3)\nINPUT(x4)\nINPUT(x5)\nINPUT(x6)\nOUTPUT(o)\na = AND(x1, x2)\nb = AND(x3, x4)\nc = AND(x5, x6)\no = OR(a, b, c)\n";
 
 fn netlist(alloc: Global, text: &str) -> Result<Netlist, OrderFault> {
     match parse_bench(alloc, text.as_bytes()) {

@@ -91,12 +91,7 @@ impl Monitor for AtShards {
 
 /// The variables of each pair stand far apart, which makes the diagram large.
 static PAIRS15: &str =
-    "INPUT(x1)\nINPUT(x2)\nINPUT(x3)\nINPUT(x4)\nINPUT(x5)\nINPUT(x6)\nINPUT(x7)\nINPUT(x8)\nINPUT(x9)\nINPUT(x10)\nINPUT(x11)\n\
-        INPUT(x12)\nINPUT(x13)\nINPUT(x14)\nINPUT(x15)\nINPUT(y1)\nINPUT(y2)\nINPUT(y3)\nINPUT(y4)\nINPUT(y5)\nINPUT(y6)\nINPUT(y7)\n\
-        INPUT(y8)\nINPUT(y9)\nINPUT(y10)\nINPUT(y11)\nINPUT(y12)\nINPUT(y13)\nINPUT(y14)\nINPUT(y15)\nOUTPUT(o)\na1 = AND(x1, y1)\na2 = \
-        AND(x2, y2)\na3 = AND(x3, y3)\na4 = AND(x4, y4)\na5 = AND(x5, y5)\na6 = AND(x6, y6)\na7 = AND(x7, y7)\na8 = AND(x8, y8)\na9 = \
-        AND(x9, y9)\na10 = AND(x10, y10)\na11 = AND(x11, y11)\na12 = AND(x12, y12)\na13 = AND(x13, y13)\na14 = AND(x14, y14)\na15 = \
-        AND(x15, y15)\no = OR(a1, a2, a3, a4, a5, a6, a7, a8, a9, a10, a11, a12, a13, a14, a15)\n";
+    "INPUT(x1)\nINPUT(x2)\nINPUT(x3)\nINPUT(x4)\nINPUT(x5)\nINPUT(x6)\nINPUT(x7)\nINPUT(x8)\nINPUT(x9)\nINPUT(x10)\nINPUT(x11)\nINPUT(x12)\nINPUT(x13)\nINPUT(x14)\nINPUT(x15)\nINPUT(y1)\nINPUT(y2)\nINPUT(y3)\nINPUT(y4)\nINPUT(y5)\nINPUT(y6)\nINPUT(y7)\nINPUT(y8)\nINPUT(y9)\nINPUT(y10)\nINPUT(y11)\nINPUT(y12)\nINPUT(y13)\nINPUT(y14)\nINPUT(y15)\nOUTPUT(o)\na1 = AND(x1, y1)\na2 = AND(x2, y2)\na3 = AND(x3, y3)\na4 = AND(x4, y4)\na5 = AND(x5, y5)\na6 = AND(x6, y6)\na7 = AND(x7, y7)\na8 = AND(x8, y8)\na9 = AND(x9, y9)\na10 = AND(x10, y10)\na11 = AND(x11, y11)\na12 = AND(x12, y12)\na13 = AND(x13, y13)\na14 = AND(x14, y14)\na15 = AND(x15, y15)\no = OR(a1, a2, a3, a4, a5, a6, a7, a8, a9, a10, a11, a12, a13, a14, a15)\n";
 
 #[test]
 fn two_at_a_level(rt: HostRuntime) -> Result<(), Fail> {

@@ -102,8 +102,7 @@ fn memo_in_wave(rt: HostRuntime) -> Result<(), Fail> {
 
 /// C17 behind buffers, so that each gate has the next rank.
 static BUFFERED: &str =
-    "INPUT(1)\nINPUT(2)\nINPUT(3)\nINPUT(6)\nINPUT(7)\nOUTPUT(22)\nOUTPUT(23)\na = BUFF(1)\nb = BUFF(2)\nc = BUFF(3)\nf = BUFF(6)\ng = \
-        BUFF(7)\n10 = NAND(a, c)\n11 = NAND(c, f)\n16 = NAND(b, 11)\n19 = NAND(11, g)\n22 = NAND(10, 16)\n23 = NAND(16, 19)\n";
+    "INPUT(1)\nINPUT(2)\nINPUT(3)\nINPUT(6)\nINPUT(7)\nOUTPUT(22)\nOUTPUT(23)\na = BUFF(1)\nb = BUFF(2)\nc = BUFF(3)\nf = BUFF(6)\ng = BUFF(7)\n10 = NAND(a, c)\n11 = NAND(c, f)\n16 = NAND(b, 11)\n19 = NAND(11, g)\n22 = NAND(10, 16)\n23 = NAND(16, 19)\n";
 
 /// How often a worker comes to a level in the building of two netlists, each request of which is the workers'.
 fn told<R: Abort + Threads + Wait + Sync>(
