@@ -158,6 +158,7 @@ impl<T: Spread> SlotTable<T> {
     }
 
     /// Finds an item, or adds it at the end, where there is room for one more. One search serves both.
+    #[inline(always)]
     pub fn find_or_add(&mut self, item: T, room: u64) -> Result<Admission, Refusal>
         requires { 0 < room → length self.old + room < 2 ^ 32 }
         ensures { IsPlaced room item self.old result self.new }

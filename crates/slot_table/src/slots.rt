@@ -75,6 +75,7 @@ pub fn free_slot(slots: &[u32], home: usize) -> usize
 }
 
 /// Where the search for an item ends.
+#[inline(always)]
 pub(crate) fn seek<T: Spread>(items: &[T], slots: &[u32], item: T) -> Sought
     requires finds { Finds T.spread_of (length slots.now) items.now slots.now }
     requires count { IsSlotCount (length items.now) (length slots.now) }
@@ -160,8 +161,29 @@ fn make_room<T>(list: &mut Vec<T>) -> Result<(), AllocError>
     list.reserve_exact(len / 4)
 }
 
-/// Adds an item at the end, whose search ended at `slot`. After an error all is as before.
-pub(crate) fn add_at<T: Spread>(
+/// Adds an item at the end, where there is room for it and slots enough, and stamps the first empty slot from its home.
+#[inline(always)]
+fn push_at<T: Spread>(items: &mut Vec<T>, slots: &mut Vec<u32>, item: T, slot: usize)
+    requires finds { Finds T.spread_of (length slots.old.items) items.old.items slots.old.items }
+    requires count { IsSlotCount (length items.old.items + 1) (length slots.old.items) }
+    requires free { IsFree (length slots.old.items) (home_of T.spread_of (length slots.old.items) item) slots.old.items slot }
+    requires places { length items.old.items + 1 < 2 ^ 32 }
+    requires room { vec_len items.old < vec_capacity items.old }
+    requires absent { IsIn items.old.items item → ⊥ }
+    requires once { IsOnce items.old.items }
+    ensures finds { Finds T.spread_of (length slots.new.items) items.new.items slots.new.items }
+    ensures count { IsSlotCount (length items.new.items) (length slots.new.items) }
+    ensures once { IsOnce items.new.items }
+    ensures added { items.new.items ≡ items.old.items ++ item ∷ [] }
+{
+    slots[slot] = stamp(item, slots.len(), items.len());
+    items.push_reserved(item);
+}
+
+/// Makes room for an item whose search ended at `slot`, and adds it at the end. After an error all is as before. Few items
+/// need this, so its code stands apart.
+#[inline(never)]
+fn grow_and_push<T: Spread>(
     items: &mut Vec<T>,
     slots: &mut Vec<u32>,
     item: T,
@@ -181,7 +203,33 @@ pub(crate) fn add_at<T: Spread>(
 {
     make_room(items)?;
     let slot = slot_for(items.as_slice(), slots, item, slot)?;
-    slots[slot] = stamp(item, slots.len(), items.len());
-    items.push_reserved(item);
+    push_at(items, slots, item, slot);
     Ok(())
+}
+
+/// Adds an item at the end, whose search ended at `slot`. After an error all is as before.
+#[inline(always)]
+pub(crate) fn add_at<T: Spread>(
+    items: &mut Vec<T>,
+    slots: &mut Vec<u32>,
+    item: T,
+    slot: usize,
+) -> Result<(), AllocError>
+    requires finds { Finds T.spread_of (length slots.old.items) items.old.items slots.old.items }
+    requires count { IsSlotCount (length items.old.items) (length slots.old.items) }
+    requires free { IsFreeFor T.spread_of slots.old.items item slot }
+    requires places { length items.old.items + 1 < 2 ^ 32 }
+    requires absent { IsIn items.old.items item → ⊥ }
+    requires once { IsOnce items.old.items }
+    ensures finds { Finds T.spread_of (length slots.new.items) items.new.items slots.new.items }
+    ensures count { IsSlotCount (length items.new.items) (length slots.new.items) }
+    ensures once { IsOnce items.new.items }
+    ensures added { OnOk result (items.new.items ≡ items.old.items ++ item ∷ []) }
+    ensures refused { OnErr result (items.new.items ≡ items.old.items) }
+{
+    if items.len() < slots.len() / 2 && items.len() < items.capacity() {
+        push_at(items, slots, item, slot);
+        return Ok(());
+    }
+    grow_and_push(items, slots, item, slot)
 }
