@@ -7,6 +7,7 @@ pub mod Rows
 pub mod Closure
 pub mod Means
 pub mod TerminalCases
+pub mod InOrder
 pub mod Waved
 pub mod Sized
 pub mod AsksFor

@@ -29,6 +29,7 @@ fn one_marked(f: Ref, g: Ref) -> bool
 }
 
 /// An operation by And, or by Xor of references without marks, and whether its answer is the complement of that one's.
+#[inline(always)]
 fn form(op: Op, f: Ref, g: Ref) -> (Op, Ref, Ref, bool)
     ensures { (key result.0 result.1 result.2, result.3) ≡ form_of op f g }
 {
@@ -43,6 +44,7 @@ fn form(op: Op, f: Ref, g: Ref) -> (Op, Ref, Ref, bool)
 }
 
 /// And of two references where it needs no request.
+#[inline(always)]
 fn terminal_and(f: Ref, g: Ref) -> Option<Ref>
     ensures { result ≡ terminal_and f g }
 {
@@ -59,6 +61,7 @@ fn terminal_and(f: Ref, g: Ref) -> Option<Ref>
 }
 
 /// Xor of two references where it needs no request.
+#[inline(always)]
 fn terminal_xor(f: Ref, g: Ref) -> Option<Ref>
     ensures { result ≡ terminal_xor f g }
 {
@@ -78,6 +81,7 @@ fn terminal_xor(f: Ref, g: Ref) -> Option<Ref>
 }
 
 /// The answer of And or Xor, where it needs no request.
+#[inline(always)]
 fn terminal_at(op: Op, f: Ref, g: Ref) -> Option<Ref>
     ensures { result ≡ terminal_at (key op f g) }
 {
@@ -99,6 +103,7 @@ fn marked(answer: Option<Ref>, mark: bool) -> Option<Ref>
 }
 
 /// The request, with the operands in order.
+#[inline(always)]
 fn request(op: Op, f: Ref, g: Ref) -> Key
     requires { IsRequest (in_order (key op f g)) }
     ensures { result ≡ in_order (key op f g) }
@@ -149,12 +154,12 @@ pub fn normal(op: Op, f: Ref, g: Ref) -> (Key, bool)
 }
 
 /// The level of a request: the smaller level of its operands.
+#[inline(always)]
 pub fn level_of(store: &Store, key: Key) -> u16
     ensures { result ≡ level_of store.now key }
 {
-    let first = store.top(key.f());
-    let second = store.top(key.g());
-    if first < second { first } else { second }
+    // Both operands are nodes, in order of their levels.
+    store.top(key.f())
 }
 
 /// What an operation comes to: its terminal case, or else its request.
