@@ -30,6 +30,7 @@ impl Splits {
     }
 
     /// The record of a request, which is one more.
+    #[inline(always)]
     pub fn split(&mut self, store: &Store, key: Key) -> Record
         requires key { IsKey store.now key }
         ensures record { result ≡ record_of store.now key }

@@ -17,6 +17,7 @@ use req_table::{Child, Op, Placed};
 use std::alloc::AllocError;
 
 /// Places a child: a request is admitted to the table of its level.
+#[inline(always)]
 fn place_child(store: &Store, requests: &mut Requests, asked: Child) -> Result<Placed, AllocError>
     requires levels { length requests.old ≡ store.now.levels }
     requires stands { IsChildIn store.now asked }
