@@ -11,11 +11,12 @@ code_of False = 0
 code_of True = 1
 code_of (Node m b) = 2 + m.shard + 17 * m.level + 65537 * m.index + (if b then 7 else 0)
 
--- a number that neighbours in a shard share, so that their parents stand together too: a shard has 1,024 places for each
+-- a number that neighbours in a shard share, so that their parents stand together too: a shard has 4,096 places for each; numbers
+-- of neighbouring blocks are five apart, so that threads that share a level's shards in rows have some of them each
 abbrev pub block_of : Ref → ℕ
 block_of False = 1
 block_of True = 2
-block_of (Node m b) = 1 + m.index / 1024
+block_of (Node m b) = 1 + 5 * (m.index / 4096)
 
 -- the shard of a node with these children, or with their complements where the second has a mark
 abbrev pub shard_of_pair : Ref → Ref → ℕ

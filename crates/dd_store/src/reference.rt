@@ -22,7 +22,10 @@ const INDEX_CODE: u64 = 65537;
 const MARK_CODE: u64 = 7;
 
 /// How many neighbours in a shard have one number of a block.
-const BLOCK: u64 = 1024;
+const BLOCK: u64 = 4096;
+
+/// How far apart the numbers of neighbouring blocks are.
+const APART: u64 = 5;
 
 /// The lowest bits of a level, of a shard and of a place in a word. Bit 0 is the mark.
 const LEVEL_BIT: u64 = 1 << 41;
@@ -117,7 +120,7 @@ impl Ref {
         ensures { result ≡ mark_by mark self }
     {
         Ref {
-            word: self.word / 2 * 2 + (self.word + mark as u64) % 2,
+            word: self.word ^ mark as u64,
         }
     }
 
@@ -275,11 +278,17 @@ pub fn code(reference: Ref) -> u64
 fn block(reference: Ref) -> u64
     ensures { result ≡ block_of reference }
 {
-    match reference.view() {
-        Reference::False => 1,
-        Reference::True => 2,
-        Reference::Node { id, .. } => 1 + id.index as u64 / BLOCK,
-    }
+    let place = reference.word / INDEX_BIT % PLACES;
+    1 + (reference == Ref::TRUE) as u64 + APART * (place / BLOCK)
+}
+
+/// The shard, 0 to 15, in which the node with these children lies, the second without a mark.
+#[inline(always)]
+pub(crate) fn shard_of_plain(lo: Ref, hi: Ref) -> u8
+    requires { is_marked hi ≡ false }
+    ensures { result ≡ shard_of_pair lo hi }
+{
+    ((block(lo) + block(hi)) % SHARDS as u64) as u8
 }
 
 /// The shard, 0 to 15, in which the node with these children lies, or with their complements where the second has a mark.
@@ -287,5 +296,5 @@ pub fn shard_of(lo: Ref, hi: Ref) -> u8
     ensures { result ≡ shard_of_pair lo hi }
 {
     let pair = marked_pair((lo, hi), hi.is_marked());
-    ((block(pair.0) + block(pair.1)) % SHARDS as u64) as u8
+    shard_of_plain(pair.0, pair.1)
 }

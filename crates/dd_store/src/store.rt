@@ -11,7 +11,7 @@ mod reading;
 
 use crate::StoreFault;
 use crate::level::Shard;
-use crate::reference::{NodeId, Ref, Reference, SHARDS, marked_pair, shard_of};
+use crate::reference::{NodeId, Ref, Reference, SHARDS, marked_pair, shard_of_plain};
 use slot_table::{Admission, SlotTable};
 use std::alloc::{AllocError, Global};
 use std::marker::Model;
@@ -92,6 +92,7 @@ impl Store {
     }
 
     /// The node with these children, which differ, the second without a mark: the one that is there, or a new one.
+    #[inline(always)]
     fn find_or_add(&mut self, level: u16, lo: Ref, hi: Ref) -> Result<Ref, StoreFault>
         requires level { level < self.old.levels }
         requires lo_here { IsRef (node self.old) lo }
@@ -102,7 +103,7 @@ impl Store {
         requires plain { is_marked hi ≡ false }
         ensures { Makes self.old level lo hi result self.new }
     {
-        let shard = shard_of(lo, hi);
+        let shard = shard_of_plain(lo, hi);
         let place = SHARDS * level as usize + shard as usize;
         let room = self.limit.saturating_sub(self.count);
         let slot = &mut self.slots[place];

@@ -5,7 +5,7 @@ ghost use Rattle.dd_store.specs.Marks.{is_marked};
 ghost use Rattle.dd_store.specs.Nodes.{node, children, low_of, high_of, cofactor_of, IsFound, shard_at};
 ghost use Rattle.slot_table.specs.Probes.{IsSlotCount};
 
-use crate::reference::{NodeId, Ref, Reference, SHARDS, marked_pair, shard_of};
+use crate::reference::{NodeId, Ref, Reference, SHARDS, marked_pair, shard_of_plain};
 use crate::store::Store;
 
 impl Store {
@@ -124,7 +124,7 @@ impl Store {
         requires plain { is_marked hi ≡ false }
         ensures { IsFound self.now level lo hi result }
     {
-        let shard = shard_of(lo, hi);
+        let shard = shard_of_plain(lo, hi);
         let place = SHARDS * level as usize + shard as usize;
         let slot = &self.slots[place];
         match slot.shard.find((lo, hi)) {

@@ -24,10 +24,10 @@ abbrev new : After-find_or_add → Nodes
 new c = record {
   levels = c.self.inside.levels;
   limit = c.self.inside.limit;
-  shards = pairs_of (set c.self.inside.slots.items (16 * c.args.level + c.shard_of-shard.result) (slot c));
+  shards = pairs_of (set c.self.inside.slots.items (16 * c.args.level + c.shard_of_plain-shard.result) (slot c));
 }
 
-placing : (c : After-find_or_add) → Placing (old c) (new c) c.self.inside.count c.args.level c.args.lo c.args.hi c.shard_of-shard.result
+placing : (c : After-find_or_add) → Placing (old c) (new c) c.self.inside.count c.args.level c.args.lo c.args.hi c.shard_of_plain-shard.result
     c.index_mut-slot.result.now.shard c.find_or_add.new.self c.saturating_sub-room.result
 placing c = record {
   kept = c.self.invariant;
@@ -40,13 +40,13 @@ placing c = record {
   });
   differ = c.requires.differ;
   plain = c.requires.plain;
-  shard = c.shard_of-shard.ensures;
+  shard = c.shard_of_plain-shard.ensures;
   read = pairs_of-read c.self.inside.slots.items _ c.index_mut-slot.result.now c.index_mut-slot.ensures.value;
   room_is = c.saturating_sub-room.ensures;
   written =
-      let e : pairs_of (set c.self.inside.slots.items (16 * c.args.level + c.shard_of-shard.result) (slot c))
-      ≡ set (pairs_of c.self.inside.slots.items) (16 * c.args.level + c.shard_of-shard.result) c.find_or_add.new.self =
-      pairs_of-set c.self.inside.slots.items (16 * c.args.level + c.shard_of-shard.result) (slot c) in
+      let e : pairs_of (set c.self.inside.slots.items (16 * c.args.level + c.shard_of_plain-shard.result) (slot c))
+      ≡ set (pairs_of c.self.inside.slots.items) (16 * c.args.level + c.shard_of_plain-shard.result) c.find_or_add.new.self =
+      pairs_of-set c.self.inside.slots.items (16 * c.args.level + c.shard_of_plain-shard.result) (slot c) in
       λ i. record { levels = c.self.inside.levels; limit = c.self.inside.limit; shards = e i };
 }
 
@@ -54,8 +54,8 @@ pub find_or_add-requires : goal.find_or_add-requires
 find_or_add-requires c =
     let S : Nodes = record { levels = c.self.inside.levels; limit = c.self.inside.limit; shards = pairs_of c.self.inside.slots.items } in
     let lt : c.args.level < S.levels = rw (ap (λ (z : Nodes). z.levels) c.self.view_is) c.requires.level in
-    placing_room S c.self.inside.count c.args.level c.args.lo c.args.hi c.shard_of-shard.result c.index_mut-slot.result.now.shard
-    c.saturating_sub-room.result c.self.invariant lt c.shard_of-shard.ensures
+    placing_room S c.self.inside.count c.args.level c.args.lo c.args.hi c.shard_of_plain-shard.result c.index_mut-slot.result.now.shard
+    c.saturating_sub-room.result c.self.invariant lt c.shard_of_plain-shard.ensures
     (pairs_of-read c.self.inside.slots.items _ c.index_mut-slot.result.now c.index_mut-slot.ensures.value) c.saturating_sub-room.ensures
 
 pub returns-in_err-placed : goal.returns-in_err-placed
@@ -75,7 +75,7 @@ invariant_of-self-in-Added c =
 pub returns : goal.returns
 returns c =
     let w = (goal.at.returns c).After-find_or_add in
-    let id : NodeId = record { level = c.args.level; shard = c.shard_of-shard.result; index = c.match-placed.index } in
+    let id : NodeId = record { level = c.args.level; shard = c.shard_of_plain-shard.result; index = c.match-placed.index } in
     let placed : IsPlaced c.saturating_sub-room.result (c.args.lo, c.args.hi) c.index_mut-slot.result.now.shard (Ok c.in_ok-placed.placed) c.find_or_add.new.self = c.in_ok-placed.ensures in
     let made : Makes (old w) c.args.level c.args.lo c.args.hi (Ok (Node id false)) c.match-placed.self = elim c.match-placed.branch [
       | in-Found v ↦

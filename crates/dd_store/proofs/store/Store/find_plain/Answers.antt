@@ -11,10 +11,10 @@ pub returns-in-Some : goal.returns-in-Some
 returns-in-Some c =
     let S : Nodes = record { levels = c.self.inside.levels; limit = c.self.inside.limit; shards = pairs_of c.self.inside.slots.items } in
     let lt : c.args.level < S.levels = rw (ap (λ (z : Nodes). z.levels) c.self.view_is) c.requires.level in
-    let m : NodeId = record { level = c.args.level; shard = c.shard_of-shard.result; index = c.in-Some.index } in
+    let m : NodeId = record { level = c.args.level; shard = c.shard_of_plain-shard.result; index = c.in-Some.index } in
     let there =
-    found_in_shard S c.args.level c.args.lo c.args.hi c.index-slot.result.now.shard c.shard_of-shard.result c.in-Some.index
-    c.self.invariant.sound lt c.shard_of-shard.ensures (pairs_of-read c.self.inside.slots.items _ c.index-slot.result.now c.index-slot.ensures) c.in-Some.ensures in
+    found_in_shard S c.args.level c.args.lo c.args.hi c.index-slot.result.now.shard c.shard_of_plain-shard.result c.in-Some.index
+    c.self.invariant.sound lt c.shard_of_plain-shard.ensures (pairs_of-read c.self.inside.slots.items _ c.index-slot.result.now c.index-slot.ensures) c.in-Some.ensures in
     let found : IsNodeOf S c.args.level c.args.lo c.args.hi (Node m false) = (refl, children-of S m false (c.args.lo, c.args.hi) there) in
     rw (c.node.ensures, ← c.self.view_is) found
 
@@ -23,5 +23,5 @@ returns-in-None c =
     let S : Nodes = record { levels = c.self.inside.levels; limit = c.self.inside.limit; shards = pairs_of c.self.inside.slots.items } in
     let lt : c.args.level < S.levels = rw (ap (λ (z : Nodes). z.levels) c.self.view_is) c.requires.level in
     rw (← c.self.view_is)
-    (absent_in_shard S c.args.level c.args.lo c.args.hi c.index-slot.result.now.shard c.shard_of-shard.result c.self.invariant.sound lt c.requires.plain
-    c.shard_of-shard.ensures (pairs_of-read c.self.inside.slots.items _ c.index-slot.result.now c.index-slot.ensures) (λ i e. c.in-None.ensures (i, e)))
+    (absent_in_shard S c.args.level c.args.lo c.args.hi c.index-slot.result.now.shard c.shard_of_plain-shard.result c.self.invariant.sound lt c.requires.plain
+    c.shard_of_plain-shard.ensures (pairs_of-read c.self.inside.slots.items _ c.index-slot.result.now c.index-slot.ensures) (λ i e. c.in-None.ensures (i, e)))
