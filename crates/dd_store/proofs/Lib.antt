@@ -14,7 +14,7 @@ pub mod Places
 pub mod Placing
 pub mod Plain
 pub mod References
-pub mod Slots
+pub mod Shards
 pub mod Splicing
 pub mod Standing
 pub mod Storing

@@ -33,11 +33,11 @@ plain_lists lists s = plain_list (lists s)
 abbrev pub refs_at : List (Vec Ref Global) → ℕ → List Ref
 refs_at lists s = slice_index_or (map (λ (v : Vec Ref Global). v.items) lists) s []
 
--- a slot has grown by pairs of a list, within the limit
+-- a shard has grown by pairs of a list, within the limit
 abbrev pub IsGrown : ℕ → List Pair → Shard → Shard → Type 0
 IsGrown limit list old new = Grows list old.shard new.shard × (length old.shard ≤ limit → length new.shard ≤ limit)
 
--- what adding a list leaves of a slot: its pairs are added as nodes have them
+-- what adding a list leaves of a shard: its pairs are added as nodes have them
 abbrev pub IsAdded : ℕ → List Pair → Shard → Shard → Type 0
 IsAdded limit list old new = IsGrown limit (plain_list list) old new × IsStopped limit (plain_list list) new.shard new.fault
 
@@ -56,23 +56,23 @@ abbrev pub AreNoted : ℕ → ℕ → ℕ → List Pair → List Pair → List R
 AreNoted limit v s list new found None = AllZip (Names v s new) list found
 AreNoted limit v s list new found (Some f) = IsHalted limit (plain_list list) new f
 
--- what making a list leaves of a slot
+-- what making a list leaves of a shard
 abbrev pub IsNoted : ℕ → ℕ → ℕ → List Pair → Shard → Shard → Type 0
 IsNoted limit v s list old new = IsGrown limit (plain_list list) old new × AreNoted limit v s list new.shard new.found.items new.fault
 
 -- the pairs of each shard
 abbrev pub pairs_of : List Shard → List (List Pair)
-pairs_of slots = map (λ (c : Shard). c.shard) slots
+pairs_of shards = map (λ (c : Shard). c.shard) shards
 
 -- each shard holds at most so many pairs
 abbrev pub AreWithin : ℕ → List Shard → Type 0
-AreWithin limit slots = (i : ℕ) → length (slice_index_or (pairs_of slots) i []) ≤ limit
+AreWithin limit shards = (i : ℕ) → length (slice_index_or (pairs_of shards) i []) ≤ limit
 
--- the fault of a level: want of memory where a slot has it, else Full where a slot has it
+-- the fault of a level: want of memory where a shard has it, else Full where a shard has it
 abbrev pub IsFault : List Shard → Option StoreFault → Type 0
-IsFault slots None = (i : ℕ) (c : Shard) → slice_get slots i ≡ Some c → c.fault ≡ None
-IsFault slots (Some f) = (i : ℕ) × (c : Shard) × (slice_get slots i ≡ Some c) × (c.fault ≡ Some f)
+IsFault shards None = (i : ℕ) (c : Shard) → slice_get shards i ≡ Some c → c.fault ≡ None
+IsFault shards (Some f) = (i : ℕ) × (c : Shard) × (slice_get shards i ≡ Some c) × (c.fault ≡ Some f)
 
--- no slot was refused memory
+-- no shard was refused memory
 abbrev pub HadMemory : List Shard → Type 0
-HadMemory slots = (i : ℕ) (c : Shard) → slice_get slots i ≡ Some c → c.fault ≡ Some OutOfMemory → ⊥
+HadMemory shards = (i : ℕ) (c : Shard) → slice_get shards i ≡ Some c → c.fault ≡ Some OutOfMemory → ⊥

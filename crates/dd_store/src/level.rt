@@ -7,7 +7,7 @@ ghost use Rattle.dd_store.specs.declared.reference.Ref.{Ref as RefValue};
 ghost use Rattle.dd_store.specs.Graph.{Pair};
 ghost use Rattle.dd_store.specs.Growing.{Grows, IsStopped};
 ghost use Rattle.dd_store.specs.Levels.{IsAdded, IsHalted, Names, list_at, all_at, plain_list, pairs_of, AreWithin, IsFault, HadMemory};
-ghost use Rattle.dd_store.specs.declared.level.Shard.{Shard as SlotValue};
+ghost use Rattle.dd_store.specs.declared.level.Shard.{Shard as ShardValue};
 ghost use Rattle.slot_table.specs.Placing.{IsPlaced};
 
 use crate::StoreFault;
@@ -130,66 +130,66 @@ impl Shard {
     }
 }
 
-/// Adds list i to slot i, for the sixteen slots of a level. Four threads share the slots, four in a row for each.
+/// Adds list i to shard i, for the sixteen shards of a level. Four threads share the shards, four in a row for each.
 pub(crate) fn add_lists<R: Threads + Sync, H: Watch + Sync>(
     rt: &R,
-    slots: &mut [Shard],
+    shards: &mut [Shard],
     level: u16,
     lists: &[Vec<(Ref, Ref)>],
     limit: u64,
     watch: &H,
 )
-    requires slots { length slots.old ≡ 16 }
+    requires shards { length shards.old ≡ 16 }
     requires lists { length lists.now ≡ 16 }
     requires limit { limit < 2 ^ 32 }
-    ensures { (s : ℕ) (d : SlotValue) → s < 16 → IsAdded limit (list_at lists.now s) (slice_index_or slots.old s d)
-        (slice_index_or slots.new s d) }
+    ensures { (s : ℕ) (d : ShardValue) → s < 16 → IsAdded limit (list_at lists.now s) (slice_index_or shards.old s d)
+        (slice_index_or shards.new s d) }
 {
-    let add = |shard: usize, slot: &mut Shard|
+    let add = |shard: usize, held: &mut Shard|
         requires { (shard < 16) × (length lists.now ≡ 16) × (limit < 2 ^ 32) }
-        ensures { IsAdded limit (list_at lists.entry.now shard) slot.entry.now slot.exit.now }
+        ensures { IsAdded limit (list_at lists.entry.now shard) held.entry.now held.exit.now }
     {
         watch.at_shard(shard as u8, level);
-        slot.add_list(lists[shard].as_slice(), limit);
+        held.add_list(lists[shard].as_slice(), limit);
     };
-    thread::for_each_mut(rt, slots, 4, &add);
+    thread::for_each_mut(rt, shards, 4, &add);
 }
 
-/// Takes the references out of the slots.
-pub(crate) fn take_found(alloc: Global, slots: &mut [Shard], refs: &mut Vec<Vec<Ref>>)
+/// Takes the references out of the shards.
+pub(crate) fn take_found(alloc: Global, shards: &mut [Shard], refs: &mut Vec<Vec<Ref>>)
     requires empty { refs.old.items ≡ [] }
-    requires room { length slots.old ≤ vec_capacity refs.old }
-    ensures found { refs.new.items ≡ map (λ (c : SlotValue). c.found) slots.old }
-    ensures shards { pairs_of slots.new ≡ pairs_of slots.old }
+    requires room { length shards.old ≤ vec_capacity refs.old }
+    ensures found { refs.new.items ≡ map (λ (c : ShardValue). c.found) shards.old }
+    ensures shards { pairs_of shards.new ≡ pairs_of shards.old }
 {
-    for place in 0..slots.len() {
-        let found = mem::replace(&mut slots[place].found, Vec::new(alloc));
+    for place in 0..shards.len() {
+        let found = mem::replace(&mut shards[place].found, Vec::new(alloc));
         refs.push_reserved(found);
     }
 }
 
 /// How many nodes the shards of a level hold.
-pub(crate) fn level_count(slots: &[Shard], limit: u64) -> u64
-    requires slots { length slots.now ≤ 16 }
+pub(crate) fn level_count(shards: &[Shard], limit: u64) -> u64
+    requires shards { length shards.now ≤ 16 }
     requires limit { limit < 2 ^ 32 }
-    requires within { AreWithin limit slots.now }
-    ensures { result ≡ sum_by (λ (ps : List Pair). length ps) (pairs_of slots.now) }
+    requires within { AreWithin limit shards.now }
+    ensures { result ≡ sum_by (λ (ps : List Pair). length ps) (pairs_of shards.now) }
 {
     let mut total = 0;
-    for slot in slots {
-        total += slot.shard.len() as u64;
+    for held in shards {
+        total += held.shard.len() as u64;
     }
     total
 }
 
 /// Why pairs of the last lists are missing; want of memory comes before the limit.
-pub(crate) fn level_fault(slots: &[Shard]) -> Option<StoreFault>
-    ensures fault { IsFault slots.now result }
-    ensures memory { HadMemory slots.now ⊎ (result ≡ Some StoreFault.OutOfMemory) }
+pub(crate) fn level_fault(shards: &[Shard]) -> Option<StoreFault>
+    ensures fault { IsFault shards.now result }
+    ensures memory { HadMemory shards.now ⊎ (result ≡ Some StoreFault.OutOfMemory) }
 {
     let mut worst = None;
-    for slot in slots {
-        if let Some(fault) = slot.fault {
+    for held in shards {
+        if let Some(fault) = held.fault {
             if fault == StoreFault::OutOfMemory {
                 return Some(fault);
             }

@@ -1,6 +1,6 @@
 //! Threads that share the shards of a level, where each makes nodes in some neighbouring shards of its own.
 ghost use Rattle.std.specs.Prelude.{◌≡◌, ◌+◌, ◌^◌, ◌<◌, ◌≤◌, ℕ, length, slice_index_or, All};
-ghost use Rattle.dd_store.specs.declared.level.Shard.{Shard as SlotValue};
+ghost use Rattle.dd_store.specs.declared.level.Shard.{Shard as ShardValue};
 ghost use Rattle.dd_store.specs.Levels.{IsNoted, all_at};
 
 use crate::level::{Shard, Watch};
@@ -28,9 +28,9 @@ impl<'a, R, H> Makers<'a, R, H> {
     }
 }
 
-/// Adds list i of each part to slot i, and notes the references of its pairs.
+/// Adds list i of each part to shard i, and notes the references of its pairs.
 fn note_lists(
-    slot: &mut Shard,
+    held: &mut Shard,
     parts: &[Vec<Vec<(Ref, Ref)>>],
     limit: u64,
     level: u16,
@@ -39,14 +39,14 @@ fn note_lists(
     requires limit { limit < 2 ^ 32 }
     requires lists { All (λ part. length part.items ≡ 16) parts.now }
     requires shard { shard < 16 }
-    ensures { IsNoted limit level shard (all_at parts.now shard) slot.old slot.new }
+    ensures { IsNoted limit level shard (all_at parts.now shard) held.old held.new }
 {
-    slot.fault = slot.make_lists(parts, limit, level, shard as u8).err();
+    held.fault = held.make_lists(parts, limit, level, shard as u8).err();
 }
 
-/// Adds the lists of neighbouring shards, of which `first` is the first, to their slots, and notes the references of the pairs.
+/// Adds the lists of neighbouring shards, of which `first` is the first, to them, and notes the references of the pairs.
 fn make_shards<H: Watch>(
-    slots: &mut [Shard],
+    shards: &mut [Shard],
     parts: &[Vec<Vec<(Ref, Ref)>>],
     limit: u64,
     level: u16,
@@ -55,37 +55,37 @@ fn make_shards<H: Watch>(
 )
     requires limit { limit < 2 ^ 32 }
     requires lists { All (λ part. length part.items ≡ 16) parts.now }
-    requires shards { first + length slots.old ≤ 16 }
-    ensures { (i : ℕ) (d : SlotValue) → i < length slots.old
-        → IsNoted limit level (first + i) (all_at parts.now (first + i)) (slice_index_or slots.old i d) (slice_index_or slots.new i d) }
+    requires shards { first + length shards.old ≤ 16 }
+    ensures { (i : ℕ) (d : ShardValue) → i < length shards.old
+        → IsNoted limit level (first + i) (all_at parts.now (first + i)) (slice_index_or shards.old i d) (slice_index_or shards.new i d) }
 {
-    for place in 0..slots.len() {
+    for place in 0..shards.len() {
         let shard = first + place;
         watch.at_shard(shard as u8, level);
-        note_lists(&mut slots[place], parts, limit, level, shard);
+        note_lists(&mut shards[place], parts, limit, level, shard);
     }
 }
 
-/// Adds list i of each part to slot i, for the sixteen slots of a level, and notes the references of its pairs.
-pub(crate) fn make_slots<R: Threads + Sync, H: Watch + Sync>(
+/// Adds list i of each part to shard i, for the sixteen shards of a level, and notes the references of its pairs.
+pub(crate) fn make_level<R: Threads + Sync, H: Watch + Sync>(
     makers: &Makers<'_, R, H>,
-    slots: &mut [Shard],
+    shards: &mut [Shard],
     parts: &[Vec<Vec<(Ref, Ref)>>],
     limit: u64,
     level: u16,
 )
-    requires slots { length slots.old ≡ 16 }
+    requires shards { length shards.old ≡ 16 }
     requires lists { All (λ part. length part.items ≡ 16) parts.now }
     requires limit { limit < 2 ^ 32 }
-    ensures { (s : ℕ) (d : SlotValue) → s < 16 → IsNoted limit level s (all_at parts.now s) (slice_index_or slots.old s d)
-        (slice_index_or slots.new s d) }
+    ensures { (s : ℕ) (d : ShardValue) → s < 16 → IsNoted limit level s (all_at parts.now s) (slice_index_or shards.old s d)
+        (slice_index_or shards.new s d) }
 {
     let watch = makers.watch;
     let make = |first: usize, share: &mut [Shard]|
         requires { (first + length share.now ≤ 16) × All (λ part. length part.items ≡ 16) parts.now × (limit < 2 ^ 32) }
-        ensures { (i : ℕ) (d : SlotValue) → i < length share.entry.now
+        ensures { (i : ℕ) (d : ShardValue) → i < length share.entry.now
             → IsNoted limit level (first + i) (all_at parts.entry.now (first + i)) (slice_index_or share.entry.now i d)
             (slice_index_or share.exit.now i d) }
     { make_shards(share, parts, limit, level, first, watch) };
-    par_chunks_mut_for_each(makers.rt, slots, makers.share(), make);
+    par_chunks_mut_for_each(makers.rt, shards, makers.share(), make);
 }

@@ -24,7 +24,7 @@ pub struct Store {
     levels: u16,
     limit: u64,
     count: u64,
-    slots: Vec<Shard>,
+    shards: Vec<Shard>,
 }
 
 impl Model for Store {
@@ -34,9 +34,9 @@ impl Model for Store {
 
     ghost use Rattle.dd_store.specs.Levels.{pairs_of};
 
-    ghost view = { λ s. record { levels = s.levels; limit = s.limit; shards = pairs_of s.slots.items } };
+    ghost view = { λ s. record { levels = s.levels; limit = s.limit; shards = pairs_of s.shards.items } };
 
-    ghost invariant = { λ s. IsKept (record { levels = s.levels; limit = s.limit; shards = pairs_of s.slots.items }) s.count };
+    ghost invariant = { λ s. IsKept (record { levels = s.levels; limit = s.limit; shards = pairs_of s.shards.items }) s.count };
 }
 
 impl Store {
@@ -46,9 +46,9 @@ impl Store {
         requires small_limit { limit < 2 ^ 32 }
         ensures { IfOk result (λ s. s ≡ empty_nodes levels limit) }
     {
-        let mut slots = Vec::new(alloc);
+        let mut shards = Vec::new(alloc);
         for _ in 0..SHARDS * levels as usize {
-            slots.push(Shard {
+            shards.push(Shard {
                 shard: SlotTable::new(alloc),
                 fault: None,
                 found: Vec::new(alloc),
@@ -59,7 +59,7 @@ impl Store {
             levels,
             limit,
             count: 0,
-            slots,
+            shards,
         })
     }
 
@@ -106,8 +106,8 @@ impl Store {
         let shard = shard_of_plain(lo, hi);
         let place = SHARDS * level as usize + shard as usize;
         let room = self.limit.saturating_sub(self.count);
-        let slot = &mut self.slots[place];
-        let placed = slot.shard.find_or_add((lo, hi), room)?;
+        let held = &mut self.shards[place];
+        let placed = held.shard.find_or_add((lo, hi), room)?;
         let index = match placed {
             Admission::Found(index) => index,
             Admission::Added(index) => {

@@ -7,7 +7,7 @@ ghost use Rattle.dd_store.specs.Nodes.{IsSound, IsThere, Extends};
 
 use crate::StoreFault;
 use crate::level::{Watch, add_lists, level_count, level_fault, take_found};
-use crate::makers::{Makers, make_slots};
+use crate::makers::{Makers, make_level};
 use crate::reference::{Ref, SHARDS};
 use crate::store::Store;
 use std::thread::Threads;
@@ -29,11 +29,11 @@ impl Store {
     {
         let first = SHARDS * level as usize;
         let limit = self.limit;
-        let slots = &mut self.slots[first..first + SHARDS];
-        let before = level_count(slots, limit);
-        add_lists(rt, slots, level, lists, limit, watch);
-        let after = level_count(slots, limit);
-        let fault = level_fault(slots);
+        let shards = &mut self.shards[first..first + SHARDS];
+        let before = level_count(shards, limit);
+        add_lists(rt, shards, level, lists, limit, watch);
+        let after = level_count(shards, limit);
+        let fault = level_fault(shards);
         self.count = self.count - before + after;
         fault
     }
@@ -84,12 +84,12 @@ impl Store {
     {
         let first = SHARDS * level as usize;
         let limit = self.limit;
-        let slots = &mut self.slots[first..first + SHARDS];
-        let before = level_count(slots, limit);
-        make_slots(makers, slots, parts, limit, level);
-        let after = level_count(slots, limit);
-        let halted = level_fault(slots);
-        take_found(self.alloc, slots, refs);
+        let shards = &mut self.shards[first..first + SHARDS];
+        let before = level_count(shards, limit);
+        make_level(makers, shards, parts, limit, level);
+        let after = level_count(shards, limit);
+        let halted = level_fault(shards);
+        take_found(self.alloc, shards, refs);
         self.count = self.count - before + after;
         halted
     }

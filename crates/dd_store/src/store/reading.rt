@@ -25,8 +25,8 @@ impl Store {
         ensures { node self.now id ≡ Some result }
     {
         let place = SHARDS * id.level as usize + id.shard as usize;
-        let slot = &self.slots[place];
-        slot.shard.at(id.index as usize)
+        let held = &self.shards[place];
+        held.shard.at(id.index as usize)
     }
 
     /// The children of a reference, low and high, in one read: those of its node, complemented where it has a mark.
@@ -101,8 +101,8 @@ impl Store {
         ensures { IsSlotCount (length (shard_at self.now level shard)) result }
     {
         let place = SHARDS * level as usize + shard as usize;
-        let slot = &self.slots[place];
-        slot.shard.slots() as u64
+        let held = &self.shards[place];
+        held.shard.slots() as u64
     }
 
     /// The reference of a level with these children, where there is one.
@@ -126,8 +126,8 @@ impl Store {
     {
         let shard = shard_of_plain(lo, hi);
         let place = SHARDS * level as usize + shard as usize;
-        let slot = &self.slots[place];
-        match slot.shard.find((lo, hi)) {
+        let held = &self.shards[place];
+        match held.shard.find((lo, hi)) {
             Some(index) => Some(Ref::node(NodeId {
                 level,
                 shard,

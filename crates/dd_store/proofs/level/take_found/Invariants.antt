@@ -7,9 +7,9 @@ use Rattle.dd_store.proofs.level.take_found.Given as goal
 
 abbrev pub invariant-loop-place : goal.invariant-loop-place
 invariant-loop-place l = record {
-  found : l.refs.items ≡ map (λ (c : Shard). c.found) (take l.place l.fn.slots);
+  found : l.refs.items ≡ map (λ (c : Shard). c.found) (take l.place l.fn.shards);
   count : vec_len l.refs ≡ l.place;
   room : vec_capacity l.refs ≡ vec_capacity l.fn.refs;
-  shards : pairs_of l.slots ≡ pairs_of l.fn.slots;
-  rest : (i : ℕ) (d : Shard) → l.place ≤ i → get_or l.slots i d ≡ get_or l.fn.slots i d;
+  shards : pairs_of l.shards ≡ pairs_of l.fn.shards;
+  rest : (i : ℕ) (d : Shard) → l.place ≤ i → get_or l.shards i d ≡ get_or l.fn.shards i d;
 }

@@ -10,20 +10,20 @@ pub loop-place-preserved : goal.loop-place-preserved
 loop-place-preserved g c =
     let v = c.loop-place.invariant in
     let p = c.loop-place.place in
-    let e : Shard = c.index-slots-place.result in
-    let u : Shard = c.note_lists.new.slot in
-    let now : length c.loop-place.slots ≡ length c.args.slots.now = c.loop-place.auto.slots in
+    let e : Shard = c.index-shards-place.result in
+    let u : Shard = c.note_lists.new.held in
+    let now : length c.loop-place.shards ≡ length c.args.shards.now = c.loop-place.auto.shards in
     let lt = c.loop-place-test.true in
     let Noted : ℕ → Shard → Shard → Type 0 = λ i old new. IsNoted c.args.limit c.args.level (c.args.first + i) (all_at c.args.parts.now (c.args.first + i)) old new in
-    let at : (d : Shard) → Noted p (get_or c.args.slots.now p d) u = λ d.
-    subst (λ z. Noted p z u) (get_or_default c.loop-place.slots p e d (omega (arith, now, lt)) ∙ v.rest p d (omega arith)) c.note_lists.ensures in
+    let at : (d : Shard) → Noted p (get_or c.args.shards.now p d) u = λ d.
+    subst (λ z. Noted p z u) (get_or_default c.loop-place.shards p e d (omega (arith, now, lt)) ∙ v.rest p d (omega arith)) c.note_lists.ensures in
     record {
       made = λ i d le. elim (cases_lt i p) [
-        | inl below ↦ subst (λ z. Noted i (get_or c.args.slots.now i d) z) (sym (get_or-set_other c.loop-place.slots p i u d (omega (arith, below)))) (v.made i d below)
+        | inl below ↦ subst (λ z. Noted i (get_or c.args.shards.now i d) z) (sym (get_or-set_other c.loop-place.shards p i u d (omega (arith, below)))) (v.made i d below)
         | inr above ↦
             let is : p ≡ i = omega (arith, le, above) in
-            subst (λ j. Noted j (get_or c.args.slots.now j d) (get_or (set c.loop-place.slots p u) j d)) is
-            (subst (λ z. Noted p (get_or c.args.slots.now p d) z) (sym (get_or-set_at c.loop-place.slots p p u d refl (omega (arith, now, lt)))) (at d))
+            subst (λ j. Noted j (get_or c.args.shards.now j d) (get_or (set c.loop-place.shards p u) j d)) is
+            (subst (λ z. Noted p (get_or c.args.shards.now p d) z) (sym (get_or-set_at c.loop-place.shards p p u d refl (omega (arith, now, lt)))) (at d))
       ];
-      rest = λ j d le. get_or-set_other c.loop-place.slots p j u d (omega (arith, le)) ∙ v.rest j d (omega (arith, le));
+      rest = λ j d le. get_or-set_other c.loop-place.shards p j u d (omega (arith, le)) ∙ v.rest j d (omega (arith, le));
     }

@@ -3,25 +3,25 @@ use Rattle.dd_store.specs.declared.reference.NodeId.{NodeId}
 use Rattle.dd_store.specs.declared.reference.Reference.TheVariants.{Node}
 use Rattle.dd_store.specs.Nodes.{Nodes, IsNodeOf}
 use Rattle.dd_store.specs.Levels.{pairs_of}
-use Rattle.dd_store.proofs.Slots.{pairs_of-read}
+use Rattle.dd_store.proofs.Shards.{pairs_of-read}
 use Rattle.dd_store.proofs.Storing.{found_in_shard, absent_in_shard, children-of}
 use Rattle.dd_store.proofs.store.Store.find_plain.Goals as goal
 
 pub returns-in-Some : goal.returns-in-Some
 returns-in-Some c =
-    let S : Nodes = record { levels = c.self.inside.levels; limit = c.self.inside.limit; shards = pairs_of c.self.inside.slots.items } in
+    let S : Nodes = record { levels = c.self.inside.levels; limit = c.self.inside.limit; shards = pairs_of c.self.inside.shards.items } in
     let lt : c.args.level < S.levels = rw (ap (λ (z : Nodes). z.levels) c.self.view_is) c.requires.level in
     let m : NodeId = record { level = c.args.level; shard = c.shard_of_plain-shard.result; index = c.in-Some.index } in
     let there =
-    found_in_shard S c.args.level c.args.lo c.args.hi c.index-slot.result.now.shard c.shard_of_plain-shard.result c.in-Some.index
-    c.self.invariant.sound lt c.shard_of_plain-shard.ensures (pairs_of-read c.self.inside.slots.items _ c.index-slot.result.now c.index-slot.ensures) c.in-Some.ensures in
+    found_in_shard S c.args.level c.args.lo c.args.hi c.index-held.result.now.shard c.shard_of_plain-shard.result c.in-Some.index
+    c.self.invariant.sound lt c.shard_of_plain-shard.ensures (pairs_of-read c.self.inside.shards.items _ c.index-held.result.now c.index-held.ensures) c.in-Some.ensures in
     let found : IsNodeOf S c.args.level c.args.lo c.args.hi (Node m false) = (refl, children-of S m false (c.args.lo, c.args.hi) there) in
     rw (c.node.ensures, ← c.self.view_is) found
 
 pub returns-in-None : goal.returns-in-None
 returns-in-None c =
-    let S : Nodes = record { levels = c.self.inside.levels; limit = c.self.inside.limit; shards = pairs_of c.self.inside.slots.items } in
+    let S : Nodes = record { levels = c.self.inside.levels; limit = c.self.inside.limit; shards = pairs_of c.self.inside.shards.items } in
     let lt : c.args.level < S.levels = rw (ap (λ (z : Nodes). z.levels) c.self.view_is) c.requires.level in
     rw (← c.self.view_is)
-    (absent_in_shard S c.args.level c.args.lo c.args.hi c.index-slot.result.now.shard c.shard_of_plain-shard.result c.self.invariant.sound lt c.requires.plain
-    c.shard_of_plain-shard.ensures (pairs_of-read c.self.inside.slots.items _ c.index-slot.result.now c.index-slot.ensures) (λ i e. c.in-None.ensures (i, e)))
+    (absent_in_shard S c.args.level c.args.lo c.args.hi c.index-held.result.now.shard c.shard_of_plain-shard.result c.self.invariant.sound lt c.requires.plain
+    c.shard_of_plain-shard.ensures (pairs_of-read c.self.inside.shards.items _ c.index-held.result.now c.index-held.ensures) (λ i e. c.in-None.ensures (i, e)))
