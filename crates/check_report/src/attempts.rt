@@ -6,20 +6,19 @@ ghost use Rattle.net_order.specs.declared.order.Order.{Order as OrderValue};
 ghost use Rattle.net_order.specs.Order.{condition};
 ghost use Rattle.check_report.specs.Asking.{asked_in};
 ghost use Rattle.check_report.specs.declared.choice.Candidate.{Candidate as CandidateValue};
-ghost use Rattle.check_report.specs.Best.{IsBudget, order_of};
+ghost use Rattle.check_report.specs.Best.{order_of};
 ghost use Rattle.check_report.specs.Check.{IsCheckFault, IsLate};
 ghost use Rattle.check_report.specs.Limits.{FitsWithin, Exceeds};
 ghost use Rattle.check_report.specs.Report.{AreVerdicts};
 ghost use Rattle.check_report.specs.Tasks.{OfTask};
-ghost use Rattle.check_report.specs.Trials.{AreAllPassed, ArePassedBefore, AreTrials, EndsAtOnce, EndsSearch, IsDecided, IsFirstRound};
-ghost use Rattle.check_report.specs.Trials.{IsEnded, IsFull, IsGivingUp, IsPairingIn, IsPassed, IsRound, IsTelling, IsTrial, IsTurn};
+ghost use Rattle.check_report.specs.Trials.{AreTrials, EndsAtOnce, IsEnded, IsFirstRound, IsPairingIn, IsRound, IsTelling, IsTrial, IsTurn};
 ghost use Rattle.check_report.specs.Trials.{told_in};
 ghost use Rattle.check_report.specs.Widths.{IsTooWide};
 
 use crate::bounded::Bounded;
 use crate::checking::{compare, compare_as_declared};
 use crate::choice::Candidate;
-use crate::ending::{cause_of, end_of, fault_of, tell};
+use crate::ending::{cause_of, end_of, tell};
 use crate::fault::CheckFault;
 use crate::task::Task;
 use crate::trials::{Trial, is_tried, keep, paired, put_furthest_first};
@@ -29,12 +28,6 @@ use report_text::Verdict;
 use std::sync::Wait;
 use std::sync::atomic::AtomicU32;
 use std::thread::Threads;
-
-/// The nodes of the first budget.
-pub const FIRST_BUDGET: u64 = 16_384;
-
-/// Each budget has so many times the nodes of the one before it.
-pub const GROWTH: u64 = 16;
 
 /// A wave may have so many requests for each node of the budget.
 const REQUESTS: u64 = 8;
@@ -209,7 +202,7 @@ pub fn try_first<H: Threads + Wait + Sync, G: Monitor>(
 }
 
 /// Tries the orders again within a larger budget, those first that came furthest.
-fn try_again<H: Threads + Wait + Sync, G: Monitor>(
+pub fn try_again<H: Threads + Wait + Sync, G: Monitor>(
     task: &Task<'_, H>,
     declared: Option<&Pairing>,
     trials: &mut Vec<Trial>,
@@ -240,70 +233,4 @@ fn try_again<H: Threads + Wait + Sync, G: Monitor>(
         }
     }
     Ok(Round::GivenUp { full: all_full })
-}
-
-/// Goes on within the budgets behind the first one, up to the limit.
-fn find_later<H: Threads + Wait + Sync, G: Monitor>(
-    task: &Task<'_, H>,
-    declared: Option<&Pairing>,
-    mut trials: Vec<Trial>,
-    limit: u64,
-    monitor: &G,
-) -> Result<Decided, CheckFault>
-    requires small { limit < 2 ^ 32 }
-    requires telling { IsTelling task.now declared }
-    requires trials { AreTrials task.now trials.items }
-    requires more { FIRST_BUDGET < limit }
-    requires first { (c : CandidateValue) → IsPassed task.now FIRST_BUDGET (G.bound monitor.now) c }
-    ensures decided { IfOk result (λ d. IsDecided task.now declared.entry d.budget d.trial d.verdicts.items) }
-    ensures budget { IfOk result (λ d. IsBudget limit d.budget) }
-    ensures passed { IfOk result (λ d. ArePassedBefore task.now limit (G.bound monitor.now)
-        (record { order = d.trial.candidate; budget = d.budget })) }
-    ensures full { result ≡ Err (CheckFault.Wave WaveFault.Full) → (c : CandidateValue) → IsFull task.now limit c }
-    ensures given_up { IfErr result (λ fault. IsGivingUp fault → AreAllPassed task.now limit (G.bound monitor.now)) }
-    ensures fault { OfTask task.now (λ told s. IfErr result (λ fault. (c : CandidateValue)
-        × IsCheckFault told ⊥ ⊥ ⊥ s.order s.matching (order_of c) fault)) }
-    ensures ends { IfErr result EndsSearch }
-{
-    let mut budget = FIRST_BUDGET * GROWTH;
-    while budget < limit {
-        match try_again(task, declared, &mut trials, budget, monitor)? {
-            Round::Decided(decided) => return Ok(decided),
-            Round::GivenUp { .. } => {}
-        }
-        budget *= GROWTH;
-    }
-    match try_again(task, declared, &mut trials, limit, monitor)? {
-        Round::Decided(decided) => Ok(decided),
-        Round::GivenUp { full } => Err(fault_of(full)),
-    }
-}
-
-/// Tries the candidates within budgets that grow up to the limit. The verdicts are told over the variables of the order that decides, or
-/// over those of a pairing that is given.
-pub fn find_attempt<H: Threads + Wait + Sync, G: Monitor>(
-    task: &Task<'_, H>,
-    declared: Option<&Pairing>,
-    limit: u64,
-    monitor: &G,
-) -> Result<Decided, CheckFault>
-    requires small { limit < 2 ^ 32 }
-    requires telling { IsTelling task.now declared }
-    ensures decided { IfOk result (λ d. IsDecided task.now declared.entry d.budget d.trial d.verdicts.items) }
-    ensures budget { IfOk result (λ d. IsBudget limit d.budget) }
-    ensures passed { IfOk result (λ d. ArePassedBefore task.now limit (G.bound monitor.now)
-        (record { order = d.trial.candidate; budget = d.budget })) }
-    ensures full { result ≡ Err (CheckFault.Wave WaveFault.Full) → (c : CandidateValue) → IsFull task.now limit c }
-    ensures given_up { IfErr result (λ fault. IsGivingUp fault → AreAllPassed task.now limit (G.bound monitor.now)) }
-    ensures fault { OfTask task.now (λ told s. IfErr result (λ fault. (c : CandidateValue)
-        × IsCheckFault told ⊥ ⊥ ⊥ s.order s.matching (order_of c) fault)) }
-    ensures ends { IfErr result EndsSearch }
-{
-    let mut trials = Vec::new(task.alloc);
-    let budget = FIRST_BUDGET.min(limit);
-    match try_first(task, declared, &mut trials, budget, monitor)? {
-        Round::Decided(decided) => Ok(decided),
-        Round::GivenUp { full } if limit <= FIRST_BUDGET => Err(fault_of(full)),
-        Round::GivenUp { .. } => find_later(task, declared, trials, limit, monitor),
-    }
 }

@@ -18,12 +18,13 @@ ghost use Rattle.check_report.specs.Tasks.{OfTask};
 ghost use Rattle.check_report.specs.Trials.{IsGivingUp, IsNamingIn, ordered_names};
 ghost use Rattle.check_report.specs.Widths.{AreTooWide};
 
-use crate::attempts::{Decided, find_attempt};
+use crate::attempts::Decided;
 use crate::checking::compare;
 use crate::choice::{Attempt, Choice};
 use crate::coned::by_cones;
 use crate::coning::as_late;
 use crate::fault::CheckFault;
+use crate::searching::find_attempt;
 use crate::task::Task;
 use crate::trials::{Trial, named, paired};
 use expand_work::{Monitor, WaveFault};

@@ -6,12 +6,12 @@ ghost use Rattle.check_report.specs.Cones.{cone_limit};
 ghost use Rattle.check_report.specs.Coning.{AreEnded, EndsPairs, IsEndedIn, IsKnown, IsLeftOut, IsOf, IsReady, IsRoundOf, IsToldIn};
 ghost use Rattle.check_report.specs.Hands.{IsTurned, turns_in};
 
-use crate::attempts::{FIRST_BUDGET, GROWTH};
 use crate::coning::Whole;
 use crate::fault::CheckFault;
 use crate::hands::{deal, gather, numbers_of};
 use crate::known::{count_left, fill, left_in, none_known};
 use crate::pairs::judge_pair;
+use crate::searching::{FIRST_BUDGET, GROWTH};
 use crate::subject::Subject;
 use expand_work::{AttemptEnd, Monitor};
 use rayon::prelude::*;

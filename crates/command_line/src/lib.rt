@@ -8,10 +8,11 @@
 //! **Only tests show** the texts of help and of mistakes (`tests/stored.txt`), and that the manual page and completions
 //! have the same options (`tests/papers.py`).
 //!
-//! **Begin** with `specs/Words` and `Defaults`; then `command`, the arguments, `matched`, what their matches say by
+//! **Begin** with `specs/Words` and `Defaults`; then `command`, its `arguments`, `matched`, what their matches say by
 //! their `values`, and `odds`, what excludes what.
 #![tactic(auto)]
 
+mod arguments;
 mod command;
 mod help;
 pub mod laws;

@@ -17,7 +17,9 @@ ghost use Rattle.check_report.specs.Limits.{FitsWithin, Exceeds};
 
 /// What two netlists need, with a condition or without, is within a limit or beyond it.
 pub fn one_of_both()
-    ensures { (how : Match) (order : Order) (a b : Net) (given : Option Net) (p : Paired) → IsNet a → IsNet b → IfSome given (λ net. IsNet net × HasOneOutput (circuit net)) →
-        IsPairing how (circuit a) (circuit b) (option_map circuit given) order p → (limit : ℕ) → limit < 2 ^ 32 →
-        FitsWithin limit (circuit a) (circuit b) (option_map circuit given) p ⊎ Exceeds limit (circuit a) (circuit b) (option_map circuit given) p }
+    ensures { (how : Match) (order : Order) (a b : Net) (given : Option Net) (p : Paired) → IsNet a → IsNet b
+        → IfSome given (λ net. IsNet net × HasOneOutput (circuit net))
+        → IsPairing how (circuit a) (circuit b) (option_map circuit given) order p → (limit : ℕ) → limit < 2 ^ 32
+        → FitsWithin limit (circuit a) (circuit b) (option_map circuit given) p
+        ⊎ Exceeds limit (circuit a) (circuit b) (option_map circuit given) p }
 {}

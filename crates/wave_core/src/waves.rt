@@ -1,5 +1,5 @@
 //! A core: the workers of one wave on one thread.
-ghost use Rattle.std.specs.Prelude.{◌≡◌, ℕ, ◌+◌, ◌<◌, ◌≤◌, List, [], ◌++◌, All, AllPairs, length, IfOk, IfErr, OnOk, OnErr, MatchBool};
+ghost use Rattle.std.specs.Prelude.{◌≡◌, ℕ, ◌+◌, ◌<◌, ◌≤◌, List, ◌++◌, All, AllPairs, length, IfOk, IfErr, OnOk, OnErr, MatchBool};
 ghost use Rattle.std.specs.Prelude.{IsTrue};
 ghost use Rattle.req_table.specs.Keys.{IsKey};
 ghost use Rattle.req_table.specs.declared.Item.{Item as ItemValue};
@@ -8,12 +8,11 @@ ghost use Rattle.req_table.specs.Lanes.{sent_by, IsFair, IsClosed, LaneLaw};
 ghost use Rattle.req_table.specs.Settled.{IsClosure, IsSplit, level_of_rows};
 ghost use Rattle.req_table.specs.Tables.{row_at};
 ghost use Rattle.wave_core.specs.Cores.{CoreView, core_wave, core_state, events_done, IsSettledCore, IsNew, IsSameWave, IsRefusal};
-ghost use Rattle.wave_core.specs.Cores.{IsStopped, Reaches, TakesOpen};
-ghost use Rattle.wave_core.specs.Step.{State, IsStep, IsRun, IsAllowed, IsFinished};
-ghost use Rattle.wave_core.specs.Drive.{all_events, AllowsOf, IsNumbered, IsDriven, IsTurn};
-ghost use Rattle.wave_core.specs.Fall.{core_measure};
+ghost use Rattle.wave_core.specs.Cores.{IsStopped, TakesOpen};
+ghost use Rattle.wave_core.specs.Step.{IsStep, IsRun, IsAllowed, IsFinished};
 
-use crate::events::all_events;
+mod driving;
+
 use crate::machine::Machine;
 use crate::{CoreFault, Event, Records};
 use dd_store::Store;
@@ -147,107 +146,6 @@ impl<'a> Core<'a> {
             Event::Expand { by } => self.machine.can_expand(self.store, by),
             Event::Advance { by } => self.machine.can_advance(self.store, by),
             Event::Keep { by } => self.machine.can_keep(self.store, by),
-        }
-    }
-
-    /// How many of the events are allowed.
-    fn count_allowed(&self, events: &[Event]) -> usize
-        ensures { AllowsOf (core_wave self.now) (core_state self.now) events.now result }
-    {
-        let mut count = 0;
-        for event in events {
-            if self.allows(*event) {
-                count += 1;
-            }
-        }
-        count
-    }
-
-    /// The allowed one of a number, from 0.
-    fn numbered(&self, events: &[Event], number: usize) -> Event
-        requires { (m : ℕ) × (number < m) × AllowsOf (core_wave self.now) (core_state self.now) events.now m }
-        ensures { IsNumbered (core_wave self.now) (core_state self.now) events.now number result }
-    {
-        let mut left = number;
-        for event in events {
-            if self.allows(*event) {
-                if left == 0 {
-                    return *event;
-                }
-                left -= 1;
-            }
-        }
-        unreachable!()
-    }
-
-    /// Does the allowed event that a choice numbers.
-    fn turn_by(&mut self, events: &[Event], choice: usize) -> Result<(), AllocError>
-        requires events { events.now ≡ all_events (core_wave self.old) }
-        requires more { ¬ IsFinished (core_wave self.old) (core_state self.old) }
-        ensures same { IsSameWave self.old self.new }
-        ensures ok { OnOk result (IsTurn (core_wave self.old) (core_state self.old) choice (core_state self.new)) }
-        ensures falls { OnOk result (core_measure self.new < core_measure self.old) }
-        ensures err { OnErr result (self.new ≡ self.old) }
-    {
-        let _ = &self.machine;
-        let count = self.count_allowed(events);
-        let event = self.numbered(events, choice % count);
-        match self.turn(event) {
-            Ok(true) => Ok(()),
-            Ok(false) => unreachable!(),
-            Err(fault) => Err(fault),
-        }
-    }
-
-    /// Does what each choice numbers, until the core is finished or no choice is left.
-    fn choose(&mut self, events: &[Event], choices: &[u8]) -> Result<(), AllocError>
-        requires { events.now ≡ all_events (core_wave self.old) }
-        ensures same { IsSameWave self.old self.new }
-        ensures ok { OnOk result ((d : State) → IsDriven (core_wave self.old) (core_state self.new) [] d
-            → IsDriven (core_wave self.old) (core_state self.old) choices.now d) }
-        ensures reached { Reaches self.old self.new }
-    {
-        for choice in choices {
-            if self.finished() {
-                return Ok(());
-            }
-            self.turn_by(events, *choice as usize)?;
-        }
-        Ok(())
-    }
-
-    /// Does the first allowed event until the core is finished.
-    fn finish(&mut self, events: &[Event]) -> Result<(), AllocError>
-        requires { events.now ≡ all_events (core_wave self.old) }
-        ensures same { IsSameWave self.old self.new }
-        ensures ok { OnOk result (IsDriven (core_wave self.old) (core_state self.old) [] (core_state self.new)) }
-        ensures finished { OnOk result (IsFinished (core_wave self.new) (core_state self.new)) }
-        ensures reached { Reaches self.old self.new }
-    {
-        while !self.finished() {
-            self.turn_by(events, 0)?;
-        }
-        Ok(())
-    }
-
-    /// Does, for each choice, the allowed event that it numbers modulo their count, in the order by worker and then by kind
-    /// of event; then always the first allowed one, until the core is finished.
-    pub fn drive(&mut self, choices: &[u8]) -> Result<(), CoreFault>
-        ensures same { IsSameWave self.old self.new }
-        ensures driven { OnOk result (IsDriven (core_wave self.old) (core_state self.old) choices.now (core_state self.new)) }
-        ensures finished { OnOk result (IsFinished (core_wave self.new) (core_state self.new)) }
-        ensures reached { Reaches self.old self.new }
-        ensures fault { IfErr result (λ e. e ≡ CoreFault.OutOfMemory) }
-    {
-        let Ok(events) = all_events(self.alloc, self.machine.workers()) else {
-            return Err(CoreFault::OutOfMemory);
-        };
-        if self.choose(&events, choices).is_err() {
-            return Err(CoreFault::OutOfMemory);
-        }
-        match self.finish(&events) {
-            Ok(()) => Ok(()),
-            Err(_) => Err(CoreFault::OutOfMemory),
         }
     }
 

@@ -5,7 +5,7 @@ use Rattle.check_report.specs.Best.{order_of}
 use Rattle.check_report.specs.Trials.{ArePassed, Decides, IsPassed, IsRound}
 use Rattle.check_report.proofs.Budgets.{each_budget, next_budget, tried_next}
 use Rattle.check_report.proofs.Rounds.{given_up_fault, passed_at}
-use Rattle.check_report.proofs.attempts.find_later.Goals as goal
+use Rattle.check_report.proofs.searching.find_later.Goals as goal
 
 pub loop-budget-init : goal.loop-budget-init
 loop-budget-init g c = record {

@@ -4,7 +4,7 @@ use Rattle.check_report.specs.declared.choice.Candidate.TheVariants.{Declared}
 use Rattle.check_report.specs.Best.{IsAllowed, MayGoByCones}
 use Rattle.check_report.proofs.Findings.{allowed_fault, same_allowed}
 use Rattle.check_report.proofs.Printing.{never_tried}
-use Rattle.check_report.proofs.listing.text_for.Goals as goal
+use Rattle.check_report.proofs.ordering.text_for.Goals as goal
 
 pub returns-in-One-clause-text : goal.returns-in-One-clause-text
 returns-in-One-clause-text g c = λ told ga. rw c.in-One.is (c.given_text.ensures.text told ga)

@@ -1,7 +1,7 @@
 use Rattle.std.proofs.Common.{◌-◌, ◌≡◌, ◌<◌, ◌*◌, ◌^◌, ℕ}
 use Rattle.check_report.specs.declared.choice.Candidate.{Candidate}
 use Rattle.check_report.specs.Trials.{AreTrials, IsPassed}
-use Rattle.check_report.proofs.attempts.find_later.Given as goal
+use Rattle.check_report.proofs.searching.find_later.Given as goal
 
 abbrev pub invariant-loop-budget : goal.invariant-loop-budget
 invariant-loop-budget g l = record {

@@ -5,7 +5,7 @@ use Rattle.check_report.specs.Trials.{ArePassed, Decides, IsFirstRound, IsPassed
 use Rattle.check_report.proofs.Budgets.{each_budget, first_is_one}
 use Rattle.check_report.specs.declared.choice.Candidate.{Candidate}
 use Rattle.check_report.proofs.Rounds.{given_up_fault, passed_first}
-use Rattle.check_report.proofs.attempts.find_attempt.Goals as goal
+use Rattle.check_report.proofs.searching.find_attempt.Goals as goal
 
 pub returns-in-Decided-clause-budget : goal.returns-in-Decided-clause-budget
 returns-in-Decided-clause-budget g c =

@@ -8,13 +8,13 @@ use Rattle.check_report.specs.Check.{IsCheckFault}
 use Rattle.check_report.specs.Limits.{AreBeyond}
 use Rattle.check_report.proofs.Printing.{printed}
 use Rattle.check_report.proofs.Trying.{accepted_in}
-use Rattle.check_report.proofs.listing.best_text.Goals as goal
+use Rattle.check_report.proofs.ordering.best_text.Goals as goal
 
-pub returns-in-Ok-text_of-clause-text : goal.returns-in-Ok-text_of-clause-text
-returns-in-Ok-text_of-clause-text g c = λ told ga. (
+pub returns-in-Ok-file_of-clause-text : goal.returns-in-Ok-file_of-clause-text
+returns-in-Ok-file_of-clause-text g c = λ told ga. (
   order_of c.in-Ok.found.order,
-  printed told c.args.task.now.settings.now.matching (order_of c.in-Ok.found.order) (asked_in c.args.task.now.settings.now) c.in-Ok.verdicts c.in-Ok-text_of.text.items (c.in-Ok.ensures.judged told ga)
-      (c.in-Ok-text_of.ensures.text ∙ ap order_text c.variables.ensures),
+  printed told c.args.task.now.settings.now.matching (order_of c.in-Ok.found.order) (asked_in c.args.task.now.settings.now) c.in-Ok.verdicts c.in-Ok-file_of.text.items (c.in-Ok.ensures.judged told ga)
+      (c.in-Ok-file_of.ensures.text ∙ ap order_text c.variables.ensures),
   c.in-Ok.ensures.chosen told ga,
 )
 
@@ -23,7 +23,7 @@ returns-in-Ok-clause-fault g c = λ told ga.
     let j = c.in-Ok.ensures.judged told ga in (
       order_of c.in-Ok.found.order,
       (c.in-Ok.found.order, refl),
-      subst (IsCheckFault told ⊥ ⊥ ⊥ c.args.task.now.settings.now.order c.args.task.now.settings.now.matching (order_of c.in-Ok.found.order)) (sym c.in-Err-text_of.ensures.fault)
+      subst (IsCheckFault told ⊥ ⊥ ⊥ c.args.task.now.settings.now.order c.args.task.now.settings.now.matching (order_of c.in-Ok.found.order)) (sym c.in-Err-file_of.ensures.fault)
           (accepted_in c.args.task.now.settings.now.order told c.args.task.now.settings.now.matching (order_of c.in-Ok.found.order) j.a j.b j.c j.p j.paired),
     )
 
