@@ -70,7 +70,7 @@ def holders(words, note, threshold):
 def rows_of(program, room, size, callers, threshold):
     pair = write_wave(room / f"wave{size}", size)
     netlist = str(pair / "a.bench")
-    nodes, requests = needed_nodes(program, netlist, SECONDS), 2 << size
+    nodes, requests = needed_nodes(program, [netlist, netlist], SECONDS), 2 << size
     words = [program, "--order", "declared", "--workers", "1", netlist, netlist]
     for name, held in holders(words, room / f"note{size}", threshold).most_common():
         users = ", ".join(sorted({plain(user) for user in users_of(name, callers)} - {plain(name)}))

@@ -7,6 +7,7 @@ Each FOLDER has a.bench and b.bench. They are compared by `--order cones`, K tim
 worker in N runs at once, of which an N-th is what N processors would take that share no work and wait for nobody. The table in
 Markdown has, of the least of each: one worker's seconds on the clock, the N workers' as a ratio to it with that of the medians, their
 processor time as a ratio to one worker's, the share of N processors that they left idle, and an N-th of the runs at once as a ratio.
+The last line has the geometric means of the N workers' least and of the runs at once.
 """
 import argparse
 import os
@@ -27,7 +28,7 @@ def seconds(words, copies=1):
     return time.monotonic() - begun, sum(after[2:4]) - sum(before[2:4])
 
 
-def row(folder, settings):
+def print_row(folder, settings):
     files = [str(folder / "a.bench"), str(folder / "b.bench")]
     words = {n: [settings.program, "--order", "cones", "--workers", str(n), *files] for n in (1, settings.workers)}
     runs = [[], [], []]
@@ -39,7 +40,8 @@ def row(folder, settings):
     medians = [statistics.median(clock for clock, _ in column) for column in runs]
     idle = 1 - many[1] / (many[0] * settings.workers)
     cells = (many[0] / one[0], medians[1] / medians[0], many[1] / one[1], idle, apart[0] / one[0] / settings.workers)
-    return f"| {folder.name} | {one[0]:.2f} | " + " | ".join(f"{cell:.2f}" for cell in cells) + " |"
+    print(f"| {folder.name} | {one[0]:.2f} | " + " | ".join(f"{cell:.2f}" for cell in cells) + " |", flush=True)
+    return cells[0], cells[-1]
 
 
 def main():
@@ -50,8 +52,8 @@ def main():
     parser.add_argument("--repeats", type=int, default=3)
     settings = parser.parse_args()
     print("| netlist | one worker s | least | medians | work | idle | runs at once |\n|---|---:|---:|---:|---:|---:|---:|")
-    for folder in settings.folders:
-        print(row(folder, settings), flush=True)
+    means = [statistics.geometric_mean(ratios) for ratios in zip(*(print_row(folder, settings) for folder in settings.folders))]
+    print("\nin the geometric mean {:.2f} of the least, the runs at once {:.2f}".format(*means))
 
 
 main()

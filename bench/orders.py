@@ -1,10 +1,13 @@
 #!/usr/bin/env python3
 """Time and memory of pairs of netlists by each order of the variables, and what `best` costs over the best of the others.
 
-usage: bench/orders.py PROGRAM FOLDER .. [--limit N] [--workers N] [--seconds S] [--repeats R]
+usage: bench/orders.py PROGRAM FOLDER .. [--limit N] [--workers N] [--seconds S] [--repeats R] [--nodes]
 
 Each FOLDER has two files *.bench, or pairs of them in folders of its own. A run that is over its limit of nodes or its seconds is
 `-`. The last line is the sum over all pairs that some order ends: of `best`, and of the best of the others in hindsight.
+
+With --nodes the table has the needed nodes of each order but `best` instead: the least limit by which a run ends with its report, or
+`more` where that is over the limit.
 """
 import argparse
 import os
@@ -13,6 +16,8 @@ import resource
 import subprocess
 import sys
 import time
+
+from workers import needed_nodes
 
 ORDERS = ["interleave", "force", "index", "depth", "declared", "best"]
 
@@ -48,6 +53,17 @@ def least(runs):
     return min((run for run in runs if run), default=None)
 
 
+def print_nodes(settings):
+    print("| pair | " + " | ".join(ORDERS[:-1]) + " |\n| --- |" + " ---: |" * len(ORDERS[:-1]))
+    for name, files in pairs_in(settings.folders):
+        cells = []
+        for order in ORDERS[:-1]:
+            words = ["--order", order, "--workers", settings.workers, *map(str, files)]
+            nodes = needed_nodes(settings.program, words, settings.seconds, int(settings.limit))
+            cells.append("more" if nodes is None else f"{nodes:,}")
+        print(f"| {name} | " + " | ".join(cells) + " |", flush=True)
+
+
 def main():
     parser = argparse.ArgumentParser(usage=__doc__.split("usage: ")[1].split("\n")[0])
     parser.add_argument("program")
@@ -56,7 +72,10 @@ def main():
     parser.add_argument("--workers", default="1")
     parser.add_argument("--seconds", type=int, default=120)
     parser.add_argument("--repeats", type=int, default=2)
+    parser.add_argument("--nodes", action="store_true")
     settings = parser.parse_args()
+    if settings.nodes:
+        return print_nodes(settings)
     print("| pair | " + " | ".join(f"{order} s | MB" for order in ORDERS) + " |")
     print("| --- |" + " ---: |" * (2 * len(ORDERS)))
     best, hindsight = 0.0, 0.0

@@ -86,12 +86,14 @@ def pairs(count):
     return "\n".join([*lines, f"o = OR({', '.join(f'a{i}' for i in range(count))})"]) + "\n"
 
 
-def needed_nodes(program, path, limit):
-    """The least node limit that is not refused."""
+def needed_nodes(program, words, limit, most=(1 << 32) - 1):
+    """The least node limit by which a run of the words ends with its report, or None where that is more than `most`."""
     few, many = 1, 1
-    is_within = lambda nodes: run([program, "--limit", str(nodes), path, path], limit).status == 0
+    is_within = lambda nodes: run([program, "--limit", str(nodes), *words], limit).status in (0, 1)
     while not is_within(many):
-        few, many = many, 2 * many
+        if many == most:
+            return None
+        few, many = many, min(2 * many, most)
     while few + 1 < many:
         middle = (few + many) // 2
         few, many = (few, middle) if is_within(middle) else (middle, many)
@@ -102,7 +104,7 @@ def memory_rows(folder, settings):
     for count in PAIRS:
         path = folder / f"pairs_{count}.bench"
         path.write_text(pairs(count))
-        nodes = needed_nodes(settings.program, str(path), settings.limit)
+        nodes = needed_nodes(settings.program, [str(path), str(path)], settings.limit)
         cells = [f"{count} pairs", str(nodes)]
         for workers in WORKERS:
             one = answered([settings.program, "--order", "declared", "--workers", str(workers), str(path), str(path)], settings)
