@@ -8,6 +8,7 @@ use Rattle.net_bench.specs.Circuit.{Circuit, Net, circuit}
 use Rattle.net_order.specs.declared.order.Order.{Order}
 use Rattle.net_order.specs.declared.order.Order.TheVariants as orders
 use Rattle.net_order.specs.Order.{Paired, condition}
+use Rattle.report_text.specs.declared.cause.PairName.{PairName}
 use Rattle.report_text.specs.declared.verdict.Verdict.{Verdict}
 use Rattle.report_text.specs.Lines.{Found}
 use Rattle.check_report.specs.declared.choice.Attempt.{Attempt}
@@ -16,7 +17,6 @@ use Rattle.check_report.specs.declared.choice.Choice.{Choice}
 use Rattle.check_report.specs.declared.choice.Choice.TheVariants.{One, Best, Auto, Cones}
 use Rattle.check_report.specs.declared.fault.CheckFault.{CheckFault}
 use Rattle.check_report.specs.declared.settings.Settings.{Settings}
-use Rattle.check_report.specs.declared.target.Target.{Target}
 use Rattle.check_report.specs.Best.{IsAllowed}
 use Rattle.check_report.specs.Check.{AreGiven, IsCheckFault, IsCondition}
 use Rattle.check_report.specs.Devices.{Told}
@@ -54,11 +54,11 @@ all_found P f (y ∷ ys) x all e =
 -- ---- explanations that are added one by one
 
 module _ (a b : Net) (p : Paired) (verdicts : List Verdict) where
-  one_more : (ts : List Target) (t : Target) (bytes one : List ℕ) → AreExplained a b p verdicts ts bytes → IsExplained a b p verdicts t one → AreExplained a b p verdicts (ts ++ t ∷ []) (bytes ++ one)
+  one_more : (ts : List PairName) (t : PairName) (bytes one : List ℕ) → AreExplained a b p verdicts ts bytes → IsExplained a b p verdicts t one → AreExplained a b p verdicts (ts ++ t ∷ []) (bytes ++ one)
   one_more [] t bytes one none is = (one, [], is, refl, ap (λ z. z ++ one) none ∙ sym (append-nil one))
   one_more (u ∷ us) t bytes one w is = (w.0, w.1 ++ one, w.2, one_more us t w.1 one w.3 is, ap (λ z. z ++ one) w.4 ∙ append_assoc w.0 w.1 one)
 
-  pub next_explained : (ts : List Target) (i : ℕ) (t : Target) (old new one : List ℕ) → i < length ts → t ≡ get_or ts i t → AreExplained a b p verdicts (take i ts) old → IsExplained a b p verdicts t one → new ≡ old ++ one →
+  pub next_explained : (ts : List PairName) (i : ℕ) (t : PairName) (old new one : List ℕ) → i < length ts → t ≡ get_or ts i t → AreExplained a b p verdicts (take i ts) old → IsExplained a b p verdicts t one → new ≡ old ++ one →
       AreExplained a b p verdicts (take (i + 1) ts) new
   next_explained ts i t old new one lt here are is grown =
       let e : take (i + 1) ts ≡ take i ts ++ t ∷ [] = take_more ts i t lt ∙ ap (λ z. take i ts ++ z ∷ []) (sym here) in
@@ -75,19 +75,19 @@ told_allowed Auto tried = (Declared, refl)
 told_allowed Cones tried = refl
 
 -- something is asked for, or nothing is
-pub some_targets : (ts : List Target) → false ≡ (length ts == 0) → 0 < length ts
+pub some_targets : (ts : List PairName) → false ≡ (length ts == 0) → 0 < length ts
 some_targets ts e = grind (arith, nat_tests)
 
-pub no_targets : (ts : List Target) → true ≡ (length ts == 0) → length ts ≡ 0
+pub no_targets : (ts : List PairName) → true ≡ (length ts == 0) → length ts ≡ 0
 no_targets ts e = grind (arith, nat_tests)
 
 -- where something is asked for, explanations stand behind
-pub behind_some : (ts : List Target) (told : Told) (s : Settings) (tried : Option Attempt) (found : Found) (bytes : List ℕ) → 0 < length ts → HaveExplanations told s tried found bytes → IsBehind ts told s tried found bytes
+pub behind_some : (ts : List PairName) (told : Told) (s : Settings) (tried : Option Attempt) (found : Found) (bytes : List ℕ) → 0 < length ts → HaveExplanations told s tried found bytes → IsBehind ts told s tried found bytes
 behind_some [] told s tried found bytes some have = absurd (omega (arith, some))
 behind_some (t ∷ ts) told s tried found bytes some have = have
 
 -- where nothing is, nothing does
-pub behind_none : (ts : List Target) (told : Told) (s : Settings) (tried : Option Attempt) (found : Found) (bytes : List ℕ) → length ts ≡ 0 → bytes ≡ [] → IsBehind ts told s tried found bytes
+pub behind_none : (ts : List PairName) (told : Told) (s : Settings) (tried : Option Attempt) (found : Found) (bytes : List ℕ) → length ts ≡ 0 → bytes ≡ [] → IsBehind ts told s tried found bytes
 behind_none [] told s tried found bytes none is = is
 behind_none (t ∷ ts) told s tried found bytes none is = absurd (omega (arith, none))
 

@@ -18,8 +18,7 @@ use Rattle.check_report.specs.declared.led.Led.{Led}
 use Rattle.check_report.specs.declared.choice.Attempt.{Attempt}
 use Rattle.check_report.specs.declared.settings.Settings.{Settings}
 use Rattle.check_report.specs.declared.subject.Subject.{Subject}
-use Rattle.check_report.specs.declared.target.Target.{Target}
-use Rattle.check_report.specs.Causing.{AreCauses, AreLed, Causes, HaveCauses, IsLed, IsLedPair, causes_of, first_time, is_led_by, leading, led_by, name_of}
+use Rattle.check_report.specs.Causing.{AreCauses, AreLed, Causes, HaveCauses, IsLed, IsLedPair, causes_of, first_time, is_led_by, leading, led_by}
 use Rattle.check_report.specs.Devices.{Told}
 use Rattle.check_report.specs.Explaining.{is_subject_of}
 use Rattle.check_report.proofs.Explanations.{none_left}
@@ -39,11 +38,11 @@ module _ (a b : Net) (p : Paired) (pairs : List Subject) where
       subst (λ us. AreLed a b p pairs us new) (sym e) (subst (AreLed a b p pairs (take i vs ++ v ∷ [])) (sym grown) (one_more (take i vs) v old one are is))
 
 -- the pair of a verdict that differs
-pub of_verdict : {E : Type 0} (a b : Net) (p : Paired) (pairs : List Subject) (r : Result (Option Led) E) (t : Target) (bits : List Bool) (v : Verdict) (role : PairKind) (name : List ℕ) (at : List Bool) (first second : Bool) (extras : Extras)
+pub of_verdict : {E : Type 0} (a b : Net) (p : Paired) (pairs : List Subject) (r : Result (Option Led) E) (t : PairName) (bits : List Bool) (v : Verdict) (role : PairKind) (name : List ℕ) (at : List Bool) (first second : Bool) (extras : Extras)
     → v ≡ Differs role name at first second extras → t ≡ record { role = role; name = name } → bits ≡ at → IfOk r (IsLedPair a b p t bits (find (is_subject_of (circuit a) t) pairs)) → IfOk r (IsLed a b p pairs v)
 of_verdict a b p pairs r t bits v role name at first second extras differs named same is =
     subst (λ (u : Verdict). IfOk r (IsLed a b p pairs u)) (sym differs)
-    (subst (λ (u : Target). IfOk r (IsLedPair a b p u at (find (is_subject_of (circuit a) u) pairs))) named
+    (subst (λ (u : PairName). IfOk r (IsLedPair a b p u at (find (is_subject_of (circuit a) u) pairs))) named
     (subst (λ (x : List Bool). IfOk r (IsLedPair a b p t x (find (is_subject_of (circuit a) t) pairs))) same is))
 
 -- what all have the first has
@@ -52,7 +51,7 @@ first_has P [] o e all = subst (λ z. IfSome z P) (sym e) tt
 first_has P (x ∷ xs) o e all = subst (λ z. IfSome z P) (sym e) (all 0 x (omega arith))
 
 -- the first inner signal of a pair is one of the netlist
-pub known_led : (t : Target) (o : Option Inner) (led : Option Led) (n : ℕ) → led ≡ option_map (led_by t) o → IfSome o (λ inner. inner.first < n) → IfSome led (λ one. one.inner.first < n)
+pub known_led : (t : PairName) (o : Option Inner) (led : Option Led) (n : ℕ) → led ≡ option_map (led_by t) o → IfSome o (λ inner. inner.first < n) → IfSome led (λ one. one.inner.first < n)
 known_led t None led n e known = subst (λ z. IfSome z (λ (one : Led). one.inner.first < n)) (sym e) tt
 known_led t (Some i) led n e known = subst (λ z. IfSome z (λ (one : Led). one.inner.first < n)) (sym e) known
 
@@ -66,11 +65,11 @@ all_more P old new o all one grown = subst (All P) (sym grown) (All-append P old
 -- ---- pairs under a cause
 
 module _ (signal : ℕ) (l : Led) (old new : List PairName) where
-  pub stands_under : (name : PairName) → is_led_by signal l ≡ true → name ≡ name_of l.pair → new ≡ old ++ name ∷ [] → new ≡ old ++ map (λ (one : Led). name_of one.pair) (filter (is_led_by signal) (l ∷ []))
-  stands_under name is same grown = grown ∙ ap (λ z. old ++ z ∷ []) same ∙ ap (λ b. old ++ map (λ (one : Led). name_of one.pair) (cond b (l ∷ []) [])) (sym is)
+  pub stands_under : (name : PairName) → is_led_by signal l ≡ true → name ≡ l.pair → new ≡ old ++ name ∷ [] → new ≡ old ++ map (λ (one : Led). one.pair) (filter (is_led_by signal) (l ∷ []))
+  stands_under name is same grown = grown ∙ ap (λ z. old ++ z ∷ []) same ∙ ap (λ b. old ++ map (λ (one : Led). one.pair) (cond b (l ∷ []) [])) (sym is)
 
-  pub stands_elsewhere : is_led_by signal l ≡ false → new ≡ old → new ≡ old ++ map (λ (one : Led). name_of one.pair) (filter (is_led_by signal) (l ∷ []))
-  stands_elsewhere is same = same ∙ sym (append-nil old) ∙ ap (λ b. old ++ map (λ (one : Led). name_of one.pair) (cond b (l ∷ []) [])) (sym is)
+  pub stands_elsewhere : is_led_by signal l ≡ false → new ≡ old → new ≡ old ++ map (λ (one : Led). one.pair) (filter (is_led_by signal) (l ∷ []))
+  stands_elsewhere is same = same ∙ sym (append-nil old) ∙ ap (λ b. old ++ map (λ (one : Led). one.pair) (cond b (l ∷ []) [])) (sym is)
 
 pub more_under : {A B : Type 0} (f : A → B) (p : A → Bool) (xs : List A) (i : ℕ) (x : A) (old new : List B) → i < length xs → x ≡ get_or xs i x → old ≡ map f (filter p (take i xs)) → new ≡ old ++ map f (filter p (x ∷ [])) →
     new ≡ map f (filter p (take (i + 1) xs))

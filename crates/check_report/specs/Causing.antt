@@ -17,7 +17,6 @@ use Rattle.check_report.specs.declared.led.Led.{Led}
 use Rattle.check_report.specs.declared.choice.Attempt.{Attempt}
 use Rattle.check_report.specs.declared.settings.Settings.{Settings}
 use Rattle.check_report.specs.declared.subject.Subject.{Subject}
-use Rattle.check_report.specs.declared.target.Target.{Target}
 use Rattle.check_report.specs.Check.{HaveNaming}
 use Rattle.check_report.specs.Devices.{Told}
 use Rattle.check_report.specs.Explaining.{is_subject_of, told_order}
@@ -26,11 +25,11 @@ use Rattle.check_report.specs.Report.{subjects}
 -- ---- the first inner signal that differs
 
 -- a pair with this first inner signal
-abbrev pub led_by : Target → Inner → Led
+abbrev pub led_by : PairName → Inner → Led
 led_by t inner = record { pair = t; inner = inner }
 
 -- a pair with the first of its inner signals that differ at the assignment, where it is one of those that are compared and one does
-abbrev pub IsLedPair : Net → Net → Paired → Target → List Bool → Option Subject → Option Led → Type 0
+abbrev pub IsLedPair : Net → Net → Paired → PairName → List Bool → Option Subject → Option Led → Type 0
 IsLedPair a b p t at None led = led ≡ None
 IsLedPair a b p t at (Some s) led = (e : Explained) × IsExplanation a b p (s.first, s.second) at e
     × (led ≡ option_map (led_by t) (slice_get e.inner 0))
@@ -39,7 +38,7 @@ IsLedPair a b p t at (Some s) led = (e : Explained) × IsExplanation a b p (s.fi
 abbrev pub IsLed : Net → Net → Paired → List Subject → Verdict → Option Led → Type 0
 IsLed a b p pairs (Equal role name size) led = led ≡ None
 IsLed a b p pairs (Differs role name at first second extras) led =
-    let t : Target = record { role = role; name = name } in IsLedPair a b p t at (find (is_subject_of (circuit a) t) pairs) led
+    let t : PairName = record { role = role; name = name } in IsLedPair a b p t at (find (is_subject_of (circuit a) t) pairs) led
 IsLed a b p pairs (Lone side role name) led = led ≡ None
 IsLed a b p pairs (Undecided role name) led = led ≡ None
 
@@ -55,10 +54,6 @@ AreLed a b p pairs (v ∷ vs) led = (one : Option Led) × (rest : List Led) × I
 abbrev pub is_led_by : ℕ → Led → Bool
 is_led_by signal l = l.inner.first == signal
 
--- what a report calls a pair
-abbrev pub name_of : Target → PairName
-name_of t = record { role = t.role; name = t.name }
-
 -- the cause that an inner signal is: of the pairs that have it as their first
 abbrev pub cause_of : List (List ℕ) → List Led → Inner → Caused
 cause_of names led i =
@@ -66,8 +61,7 @@ cause_of names led i =
       signal = slice_index_or names i.first [];
       first_line = i.first_line;
       second_line = i.second_line;
-      pairs = map
-          (λ one. name_of one.pair) (filter (is_led_by i.first) led);
+      pairs = map (λ one. one.pair) (filter (is_led_by i.first) led);
     }
 
 -- an inner signal, where none of the pairs before has it

@@ -7,6 +7,7 @@ use Rattle.net_explain.specs.Text.{explanation_text}
 use Rattle.net_order.specs.declared.order.Order.{Order}
 use Rattle.net_order.specs.declared.order.Order.TheVariants as orders
 use Rattle.net_order.specs.Order.{Paired, name_of, registers_of}
+use Rattle.report_text.specs.declared.cause.PairName.{PairName}
 use Rattle.report_text.specs.declared.outcome.PairKind.{PairKind}
 use Rattle.report_text.specs.declared.outcome.PairKind.TheVariants.{Output, NextState}
 use Rattle.report_text.specs.declared.verdict.Verdict.{Verdict}
@@ -19,7 +20,6 @@ use Rattle.check_report.specs.declared.fault.CheckFault.{CheckFault}
 use Rattle.check_report.specs.declared.fault.CheckFault.TheVariants.{Explain}
 use Rattle.check_report.specs.declared.settings.Settings.{Settings}
 use Rattle.check_report.specs.declared.subject.Subject.{Subject}
-use Rattle.check_report.specs.declared.target.Target.{Target}
 use Rattle.check_report.specs.Best.{IsAllowed, order_of}
 use Rattle.check_report.specs.Check.{AreGiven, HaveNaming, IsCheckFault}
 use Rattle.check_report.specs.Devices.{Told}
@@ -36,7 +36,7 @@ is_same_role NextState Output = false
 is_same_role NextState NextState = true
 
 -- this role and this name are asked for
-abbrev pub is_target : Target → PairKind → List ℕ → Bool
+abbrev pub is_target : PairName → PairKind → List ℕ → Bool
 is_target t role name = is_same_role t.role role && bytes_eq t.name name
 
 -- the signals of a netlist that have this role
@@ -45,36 +45,36 @@ signals_of a Output = a.outputs
 signals_of a NextState = registers_of a
 
 -- the netlist has this output, or this register
-abbrev pub IsTargetIn : Circuit → Target → Type 0
+abbrev pub IsTargetIn : Circuit → PairName → Type 0
 IsTargetIn a t = IsTrue (is_among (map (name_of a) (signals_of a t.role)) t.name)
 
 -- the netlist has each of these
-abbrev pub AreTargetsIn : Circuit → List Target → Type 0
-AreTargetsIn a targets = (t : Target) → Contains targets t → IsTargetIn a t
+abbrev pub AreTargetsIn : Circuit → List PairName → Type 0
+AreTargetsIn a targets = (t : PairName) → Contains targets t → IsTargetIn a t
 
 -- one of these is no output and no register of the netlist
-abbrev pub HasUnknownTarget : Circuit → List Target → Type 0
-HasUnknownTarget a targets = (t : Target) × Contains targets t × (IsTargetIn a t → ⊥)
+abbrev pub HasUnknownTarget : Circuit → List PairName → Type 0
+HasUnknownTarget a targets = (t : PairName) × Contains targets t × (IsTargetIn a t → ⊥)
 
 -- ---- an explanation
 
 -- what is said of a pair where there is no assignment to explain it at
-abbrev pub said_text : Target → List ℕ → List ℕ
+abbrev pub said_text : PairName → List ℕ → List ℕ
 said_text t said = codes "EXPLAIN " ++ (subject_text t.role t.name ++ (codes ": " ++ (said ++ 10 ∷ [])))
 
 -- the pair is that which is asked for
-abbrev pub is_subject_of : Circuit → Target → Subject → Bool
+abbrev pub is_subject_of : Circuit → PairName → Subject → Bool
 is_subject_of a t s = is_target t s.role (name_of a s.named)
 
 -- the verdict is on it
-abbrev pub is_verdict_on : Target → Verdict → Bool
+abbrev pub is_verdict_on : PairName → Verdict → Bool
 is_verdict_on t (Equal role name size) = is_target t role name
 is_verdict_on t (Differs role name at first second extras) = is_target t role name
 is_verdict_on t (Lone side role name) = is_target t role name
 is_verdict_on t (Undecided role name) = is_target t role name
 
 -- The text is what is said of a pair with this verdict: where it differs, what explains that at the assignment of the verdict.
-abbrev pub ExplainsVerdict : Net → Net → Paired → Target → Subject → Verdict → List ℕ → Type 0
+abbrev pub ExplainsVerdict : Net → Net → Paired → PairName → Subject → Verdict → List ℕ → Type 0
 ExplainsVerdict a b p t s (Equal role name size) text = text ≡ said_text t (codes "equal")
 ExplainsVerdict a b p t s (Differs role name at first second extras) text =
     (e : Explained) × IsExplanation a b p (s.first, s.second) at e × (text ≡ explanation_text (subject_text t.role t.name) a.names e)
@@ -82,22 +82,22 @@ ExplainsVerdict a b p t s (Lone side role name) text = text ≡ said_text t (cod
 ExplainsVerdict a b p t s (Undecided role name) text = text ≡ said_text t (codes "undecided")
 
 -- the same of a pair with its verdict, which it may not have where only some pairs are compared
-abbrev pub ExplainsPair : Net → Net → Paired → Target → Subject → Option Verdict → List ℕ → Type 0
+abbrev pub ExplainsPair : Net → Net → Paired → PairName → Subject → Option Verdict → List ℕ → Type 0
 ExplainsPair a b p t s None text = text ≡ said_text t (codes "not compared")
 ExplainsPair a b p t s (Some v) text = ExplainsVerdict a b p t s v text
 
 -- the same of what is asked for, which may be in no pair
-abbrev pub ExplainsTarget : Net → Net → Paired → Target → Option Subject → Option Verdict → List ℕ → Type 0
+abbrev pub ExplainsTarget : Net → Net → Paired → PairName → Option Subject → Option Verdict → List ℕ → Type 0
 ExplainsTarget a b p t None v text = text ≡ said_text t (codes "no partner")
 ExplainsTarget a b p t (Some s) v text = ExplainsPair a b p t s v text
 
 -- the text is the explanation of what is asked for, by the pair and the verdict of its name
-abbrev pub IsExplained : Net → Net → Paired → List Verdict → Target → List ℕ → Type 0
+abbrev pub IsExplained : Net → Net → Paired → List Verdict → PairName → List ℕ → Type 0
 IsExplained a b p verdicts t text = ExplainsTarget a b p t (find (is_subject_of (circuit a) t) (subjects (circuit a) (circuit b) p))
     (find (is_verdict_on t) verdicts) text
 
 -- the bytes are the explanations of all that is asked for, one behind the other
-abbrev pub AreExplained : Net → Net → Paired → List Verdict → List Target → List ℕ → Type 0
+abbrev pub AreExplained : Net → Net → Paired → List Verdict → List PairName → List ℕ → Type 0
 AreExplained a b p verdicts [] bytes = bytes ≡ []
 AreExplained a b p verdicts (t ∷ ts) bytes = (one rest : List ℕ) × IsExplained a b p verdicts t one × AreExplained a b p verdicts ts rest
     × (bytes ≡ one ++ rest)
@@ -128,14 +128,14 @@ pub record HaveExplanations (told : Told) (s : Settings) (tried : Option Attempt
   pub explained : AreExplained a b p found.verdicts s.explain.items bytes
 
 -- what stands behind the report: nothing where nothing is asked for
-abbrev pub IsBehind : List Target → Told → Settings → Option Attempt → Found → List ℕ → Type 0
+abbrev pub IsBehind : List PairName → Told → Settings → Option Attempt → Found → List ℕ → Type 0
 IsBehind [] told s tried found bytes = bytes ≡ []
 IsBehind (t ∷ ts) told s tried found bytes = HaveExplanations told s tried found bytes
 
 -- ---- why there is no report
 
 -- what is asked for is refused: one name is no output and no register of the first netlist that the devices gave
-pub record IsUnexplained (told : Told) (targets : List Target) (fault : CheckFault) : Type 0 where
+pub record IsUnexplained (told : Told) (targets : List PairName) (fault : CheckFault) : Type 0 where
   pub is : fault ≡ Explain
   pub a : Circuit
   pub b : Circuit

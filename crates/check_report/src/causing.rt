@@ -6,7 +6,7 @@ ghost use Rattle.net_bench.specs.Circuit.{circuit};
 ghost use Rattle.net_order.specs.declared.order.Order.{Order as OrderValue};
 ghost use Rattle.check_report.specs.declared.led.Led.{Led as LedValue};
 ghost use Rattle.check_report.specs.Best.{IsAllowed, MayGoByCones};
-ghost use Rattle.check_report.specs.Causing.{AreCauses, AreLed, cause_of, causes_in, causes_of, first_time, is_led_by, name_of};
+ghost use Rattle.check_report.specs.Causing.{AreCauses, AreLed, cause_of, causes_in, causes_of, first_time, is_led_by};
 ghost use Rattle.check_report.specs.Check.{IsCheckFault};
 ghost use Rattle.check_report.specs.Comparing.{IsInside};
 ghost use Rattle.check_report.specs.Explaining.{told_order};
@@ -19,7 +19,6 @@ use crate::explaining::told_naming;
 use crate::fault::CheckFault;
 use crate::led::{Led, all_led};
 use crate::subject::Subject;
-use crate::target::Target;
 use crate::task::Task;
 use net_bench::netlist::Signal;
 use net_bench::reader::Netlist;
@@ -48,9 +47,9 @@ fn leads(signal: Signal, led: &[Led]) -> bool
     false
 }
 
-/// What a report calls a pair.
-fn named(alloc: Global, pair: &Target) -> Result<PairName, AllocError>
-    ensures { IfOk result (λ name. name ≡ name_of pair.now) }
+/// A copy of a pair's name.
+fn copied(alloc: Global, pair: &PairName) -> Result<PairName, AllocError>
+    ensures { IfOk result (λ name. name ≡ pair.now) }
 {
     let name = Name::copied(alloc, pair.name.as_slice())?;
     Ok(PairName {
@@ -66,19 +65,19 @@ fn add_under(
     led: &Led,
     pairs: &mut Vec<PairName>,
 ) -> Result<(), AllocError>
-    ensures { OnOk result (pairs.new.items ≡ pairs.old.items ++ map (λ one. name_of one.pair) (filter (is_led_by signal) (led.now ∷ []))) }
+    ensures { OnOk result (pairs.new.items ≡ pairs.old.items ++ map (λ one. one.pair) (filter (is_led_by signal) (led.now ∷ []))) }
 {
     if !is_led_by(signal, led) {
         return Ok(());
     }
-    let name = named(alloc, &led.pair)?;
+    let name = copied(alloc, &led.pair)?;
     pairs.push(name)?;
     Ok(())
 }
 
 /// The names of those of the pairs that have this first inner signal.
 fn pairs_under(alloc: Global, signal: Signal, led: &[Led]) -> Result<Vec<PairName>, AllocError>
-    ensures { IfOk result (λ pairs. pairs.items ≡ map (λ one. name_of one.pair) (filter (is_led_by signal) led.now)) }
+    ensures { IfOk result (λ pairs. pairs.items ≡ map (λ one. one.pair) (filter (is_led_by signal) led.now)) }
 {
     let mut pairs = Vec::new(alloc);
     for place in 0..led.len() {

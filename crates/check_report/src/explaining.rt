@@ -24,14 +24,13 @@ use crate::compared::subjects_of;
 use crate::fault::CheckFault;
 use crate::picking::{has_name, registers_of};
 use crate::subject::Subject;
-use crate::target::Target;
 use crate::task::Task;
 use crate::trials::{is_same, named, named_in};
 use net_bench::reader::Netlist;
 use net_explain::{explain, explanation_of};
 use net_order::naming::Naming;
 use net_order::order::{Order, OrderFault};
-use report_text::{PairKind, Verdict, Verdicts};
+use report_text::{PairKind, PairName, Verdict, Verdicts};
 use std::alloc::{AllocError, Global};
 
 /// Whether two roles are one.
@@ -47,14 +46,14 @@ fn is_same_role(role: PairKind, other: PairKind) -> bool
 }
 
 /// Whether this role and this name are asked for.
-fn is_target(target: &Target, role: PairKind, name: &[u8]) -> bool
+fn is_target(target: &PairName, role: PairKind, name: &[u8]) -> bool
     ensures { result ≡ is_target target.now role name.now }
 {
     is_same_role(target.role, role) && is_same(target.name.as_slice(), name)
 }
 
 /// Whether the netlist has this output, or this register.
-fn is_known(net: &Netlist, target: &Target) -> bool
+fn is_known(net: &Netlist, target: &PairName) -> bool
     ensures { IsTrue result ↔ IsTargetIn (circuit net.now) target.now }
 {
     let name = target.name.as_slice();
@@ -65,7 +64,7 @@ fn is_known(net: &Netlist, target: &Target) -> bool
 }
 
 /// Whether the netlist has each of these.
-pub(crate) fn are_known(net: &Netlist, targets: &[Target]) -> bool
+pub(crate) fn are_known(net: &Netlist, targets: &[PairName]) -> bool
     ensures known { result ≡ true → AreTargetsIn (circuit net.now) targets.now }
     ensures unknown { result ≡ false → HasUnknownTarget (circuit net.now) targets.now }
 {
@@ -78,7 +77,7 @@ pub(crate) fn are_known(net: &Netlist, targets: &[Target]) -> bool
 }
 
 /// Adds what a line of a report would call it.
-fn add_subject(text: &mut Vec<u8>, target: &Target) -> Result<(), AllocError>
+fn add_subject(text: &mut Vec<u8>, target: &PairName) -> Result<(), AllocError>
     ensures { OnOk result (text.new.items ≡ text.old.items ++ subject_text target.now.role target.now.name) }
 {
     match target.role {
@@ -90,7 +89,7 @@ fn add_subject(text: &mut Vec<u8>, target: &Target) -> Result<(), AllocError>
 }
 
 /// The line of a pair where there is no assignment to explain it at.
-fn said(alloc: Global, target: &Target, said: &[u8]) -> Result<Vec<u8>, AllocError>
+fn said(alloc: Global, target: &PairName, said: &[u8]) -> Result<Vec<u8>, AllocError>
     ensures { IfOk result (λ text. text.items ≡ said_text target.now said.now) }
 {
     let mut text = Vec::new(alloc);
@@ -106,7 +105,7 @@ fn said(alloc: Global, target: &Target, said: &[u8]) -> Result<Vec<u8>, AllocErr
 fn difference<H>(
     task: &Task<'_, H>,
     naming: &Naming,
-    target: &Target,
+    target: &PairName,
     subject: Subject,
     at: &[bool],
 ) -> Result<Vec<u8>, AllocError>
@@ -126,7 +125,7 @@ fn difference<H>(
 fn explained<H>(
     task: &Task<'_, H>,
     naming: &Naming,
-    target: &Target,
+    target: &PairName,
     subject: Subject,
     verdict: &Verdict,
 ) -> Result<Vec<u8>, AllocError>
@@ -143,7 +142,7 @@ fn explained<H>(
 }
 
 /// Whether a verdict is on what is asked for.
-fn is_verdict_on(target: &Target, verdict: &Verdict) -> bool
+fn is_verdict_on(target: &PairName, verdict: &Verdict) -> bool
     ensures { result ≡ is_verdict_on target.now verdict.now }
 {
     match verdict {
@@ -158,7 +157,7 @@ fn is_verdict_on(target: &Target, verdict: &Verdict) -> bool
 fn explained_pair<H>(
     task: &Task<'_, H>,
     naming: &Naming,
-    target: &Target,
+    target: &PairName,
     subject: Subject,
     verdicts: &[Verdict],
 ) -> Result<Vec<u8>, AllocError>
@@ -176,7 +175,7 @@ fn explained_pair<H>(
 }
 
 /// The pair that is asked for, where there is one.
-pub(crate) fn subject_of(net: &Netlist, target: &Target, subjects: &[Subject]) -> Option<Subject>
+pub(crate) fn subject_of(net: &Netlist, target: &PairName, subjects: &[Subject]) -> Option<Subject>
     requires { All (λ subject. subject.named < length net.now.names) subjects.now }
     ensures { result ≡ find (is_subject_of (circuit net.now) target.now) subjects.now }
 {
@@ -193,7 +192,7 @@ pub(crate) fn subject_of(net: &Netlist, target: &Target, subjects: &[Subject]) -
 fn explanation<H>(
     task: &Task<'_, H>,
     naming: &Naming,
-    target: &Target,
+    target: &PairName,
     subjects: &[Subject],
     verdicts: &[Verdict],
 ) -> Result<Vec<u8>, AllocError>

@@ -8,17 +8,16 @@ ghost use Rattle.check_report.specs.Explaining.{is_subject_of};
 
 use crate::explaining::subject_of;
 use crate::subject::Subject;
-use crate::target::Target;
 use crate::task::Task;
 use net_explain::{Inner, explain};
 use net_order::naming::Naming;
-use report_text::{Name, PairKind, Verdict};
+use report_text::{Name, PairKind, PairName, Verdict};
 use std::alloc::{AllocError, Global};
 
 /// A pair that differs, with the first of its inner signals that do.
 #[derive(Drop)]
 pub struct Led {
-    pub pair: Target,
+    pub pair: PairName,
     pub inner: Inner,
 }
 
@@ -47,7 +46,7 @@ fn first_inner<H>(
 }
 
 /// A pair with its first inner signal, where it has one.
-fn led_by(pair: Target, first: Option<Inner>) -> Option<Led>
+fn led_by(pair: PairName, first: Option<Inner>) -> Option<Led>
     ensures { result ≡ option_map (led_by pair) first }
 {
     match first {
@@ -61,7 +60,7 @@ fn led_subject<H>(
     task: &Task<'_, H>,
     naming: &Naming,
     subject: Subject,
-    pair: Target,
+    pair: PairName,
     at: &[bool],
 ) -> Result<Option<Led>, AllocError>
     requires { IsInside (circuit task.now.first.now) (circuit task.now.second.now) subject }
@@ -77,7 +76,7 @@ fn led_pair<H>(
     task: &Task<'_, H>,
     naming: &Naming,
     pairs: &[Subject],
-    pair: Target,
+    pair: PairName,
     at: &[bool],
 ) -> Result<Option<Led>, AllocError>
     requires { All (IsInside (circuit task.now.first.now) (circuit task.now.second.now)) pairs.now }
@@ -92,11 +91,11 @@ fn led_pair<H>(
 }
 
 /// The pair of this role and this name.
-fn pair_of(alloc: Global, role: PairKind, name: &Name) -> Result<Target, AllocError>
+fn pair_of(alloc: Global, role: PairKind, name: &Name) -> Result<PairName, AllocError>
     ensures { IfOk result (λ pair. pair ≡ record { role = role; name = name.now }) }
 {
     let name = Name::copied(alloc, name.as_slice())?;
-    Ok(Target { role, name })
+    Ok(PairName { role, name })
 }
 
 /// The pair of a verdict with the first of its inner signals that differ, where it differs and one does.

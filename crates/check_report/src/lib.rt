@@ -52,7 +52,6 @@ mod settings;
 mod sharing;
 mod spreading;
 mod subject;
-mod target;
 mod task;
 mod telling;
 mod trials;
@@ -68,6 +67,5 @@ pub use report_text::{
     Verdicts, json_of, report_of, write_whole,
 };
 pub use settings::Settings;
-pub use target::Target;
 pub use task::Context;
 pub use turns::cone_limit;

@@ -5,9 +5,8 @@ ghost use Rattle.check_report.specs.declared.picked.Picked.TheVariants.{All};
 
 use crate::choice::Choice;
 use crate::picked::Picked;
-use crate::target::Target;
 use net_order::order::Match;
-use report_text::Assignment;
+use report_text::{Assignment, PairName};
 
 /// How two netlists are compared.
 #[derive(Drop)]
@@ -26,7 +25,7 @@ pub struct Settings {
     /// Whether the report is one JSON object, and not lines.
     pub json: bool,
     /// The pairs that are explained behind the report.
-    pub explain: Vec<Target>,
+    pub explain: Vec<PairName>,
     /// Which variables the assignments of the report tell, where that is asked for; as JSON it has buses then.
     pub assignment: Option<Assignment>,
     /// Whether the values of the first pair that differs are wanted as a VCD.

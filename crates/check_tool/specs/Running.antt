@@ -26,7 +26,7 @@ use Rattle.check_report.specs.declared.settings.Settings.{Settings}
 use Rattle.check_report.specs.Deciding.{IsUnknown}
 use Rattle.check_report.specs.Dumping.{IsReportWithVcd, bytes_in}
 use Rattle.check_report.specs.Explaining.{IsUnexplained}
-use Rattle.check_report.specs.declared.target.Target.{Target}
+use Rattle.report_text.specs.declared.cause.PairName.{PairName}
 use Rattle.report_text.specs.declared.outcome.PairKind.{PairKind}
 use Rattle.report_text.specs.declared.outcome.PairKind.TheVariants.{Output, NextState}
 use Rattle.command_line.specs.declared.options.Picks.{Picks}
@@ -222,8 +222,8 @@ IsCalled word Output name = (word ≡ name) × ((register : List ℕ) → word �
 IsCalled word NextState name = word ≡ codes "NEXT " ++ name
 
 -- what these words ask to be explained
-abbrev pub AreTargetsOf : List (Bor (List ℕ)) → List Target → Type 0
-AreTargetsOf words targets = AllZip (λ (w : Bor (List ℕ)) (t : Target). IsCalled w.now t.role t.name) words targets
+abbrev pub AreTargetsOf : List (Bor (List ℕ)) → List PairName → Type 0
+AreTargetsOf words targets = AllZip (λ (w : Bor (List ℕ)) (t : PairName). IsCalled w.now t.role t.name) words targets
 
 -- The settings of a check that the options ask for, in an order of this choice, of these pairs.
 pub record AreSettings (o : Options) (choice : Choice) (picked : Picked) (s : Settings) : Type 0 where
@@ -317,7 +317,7 @@ AreUnknown told input o = (one two : Option (List ℕ)) × AreTexts told input o
 
 -- what is to be explained is refused: one name is that of no output and no register of the first of these texts
 abbrev pub AreTargetsUnknown : (one two : Option (List ℕ)) → (given : Option (Option (List ℕ))) → Options → CheckFault → Type 0
-AreTargetsUnknown one two given o fault = (targets : List Target) × AreTargetsOf o.explain.items targets
+AreTargetsUnknown one two given o fault = (targets : List PairName) × AreTargetsOf o.explain.items targets
     × IsUnexplained (told_of one two given) targets fault
 
 -- why the check of two texts failed, in an order of this choice

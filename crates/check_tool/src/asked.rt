@@ -5,7 +5,7 @@ ghost use Rattle.command_line.specs.declared.options.OrderChoice.{OrderChoice as
 ghost use Rattle.check_tool.specs.Running.{AreSettings, AreTargetsOf, IsCalled, IsPickedOf, limit_of, limit_in};
 
 use crate::fault::ToolFault;
-use check_report::{Choice, Name, PairKind, Picked, Settings, Target};
+use check_report::{Choice, Name, PairKind, PairName, Picked, Settings};
 use command_line::{Options, OrderChoice, Picks};
 use std::alloc::{AllocError, Global};
 
@@ -61,16 +61,16 @@ fn called(word: &str) -> (PairKind, &str)
 }
 
 /// What a word asks to be explained.
-fn target_of(alloc: Global, word: &str) -> Result<Target, AllocError>
+fn target_of(alloc: Global, word: &str) -> Result<PairName, AllocError>
     ensures { IfOk result (λ target. IsCalled word.now target.role target.name) }
 {
     let (role, name) = called(word);
     let name = Name::copied(alloc, name.as_bytes())?;
-    Ok(Target { role, name })
+    Ok(PairName { role, name })
 }
 
 /// What words ask to be explained.
-fn all_targets(alloc: Global, words: &[&str]) -> Result<Vec<Target>, AllocError>
+fn all_targets(alloc: Global, words: &[&str]) -> Result<Vec<PairName>, AllocError>
     ensures { IfOk result (λ targets. AreTargetsOf words.now targets.items) }
 {
     let mut targets = Vec::new(alloc);
@@ -81,7 +81,7 @@ fn all_targets(alloc: Global, words: &[&str]) -> Result<Vec<Target>, AllocError>
 }
 
 /// What is asked to be explained.
-pub(crate) fn targets_of(alloc: Global, words: &[&str]) -> Result<Vec<Target>, ToolFault>
+pub(crate) fn targets_of(alloc: Global, words: &[&str]) -> Result<Vec<PairName>, ToolFault>
     ensures targets { IfOk result (λ targets. AreTargetsOf words.now targets.items) }
     ensures fault { IfErr result (λ fault. fault ≡ ToolFault.OutOfMemory) }
 {
@@ -96,7 +96,7 @@ pub(crate) fn settings_of(
     options: &Options<'_>,
     order: Choice,
     picked: Picked,
-    explain: Vec<Target>,
+    explain: Vec<PairName>,
 ) -> Settings
     requires auto { order ≡ ChoiceValue.Auto → options.now.order ≡ OrderValue.Auto }
     requires cones { order ≡ ChoiceValue.Cones → options.now.order ≡ OrderValue.Cones }

@@ -6,13 +6,13 @@ use Rattle.check_report.specs.Explaining.{AreExplained, told_order}
 use Rattle.check_report.proofs.Explanations.{behind_none, behind_some, no_targets, some_targets, told_allowed}
 use Rattle.check_report.proofs.Rounds.{accepted, memory_ends, order_ends}
 use Rattle.check_report.proofs.Subjects.{subjects_inside}
-use Rattle.check_report.specs.declared.target.Target.{Target}
+use Rattle.report_text.specs.declared.cause.PairName.{PairName}
 use Rattle.check_report.proofs.explaining.behind.Goals as goal
 
 pub returns-then-is_empty-clause-behind : goal.returns-then-is_empty-clause-behind
 returns-then-is_empty-clause-behind g c = λ told ga.
     let s = c.args.task.now.settings.now in
-    let none : length s.explain.items ≡ 0 = ap (λ (ts : List Target). length ts) (sym c.as_slice-targets.ensures.value) ∙ no_targets c.as_slice-targets.result.now c.if-is_empty.ensures in
+    let none : length s.explain.items ≡ 0 = ap (λ (ts : List PairName). length ts) (sym c.as_slice-targets.ensures.value) ∙ no_targets c.as_slice-targets.result.now c.if-is_empty.ensures in
     behind_none s.explain.items told s c.args.tried c.args.verdicts.now _ none c.new.ensures.items
 
 -- ---- no naming
@@ -56,7 +56,7 @@ explanations-requires-clause-inside g c =
 pub returns-in-Ok-explanations-clause-behind : goal.returns-in-Ok-explanations-clause-behind
 returns-in-Ok-explanations-clause-behind g c = λ told ga.
     let task = c.args.task.now in
-    let some : 0 < length task.settings.now.explain.items = subst (λ (ts : List Target). 0 < length ts) c.as_slice-targets.ensures.value (some_targets c.as_slice-targets.result.now c.if-is_empty.ensures) in
+    let some : 0 < length task.settings.now.explain.items = subst (λ (ts : List PairName). 0 < length ts) c.as_slice-targets.ensures.value (some_targets c.as_slice-targets.result.now c.if-is_empty.ensures) in
     behind_some task.settings.now.explain.items told task.settings.now c.args.tried c.args.verdicts.now _ some
     (record {
       a = task.first.now;

@@ -1,6 +1,6 @@
 use Rattle.std.proofs.Common.{◌≡◌, ◌+◌, ◌∷◌, [], ◌++◌, ℕ, List, Bor, get_or, sym, subst, take}
 use Rattle.std.proofs.lemmas.List.{take_more}
-use Rattle.check_report.specs.declared.target.Target.{Target}
+use Rattle.report_text.specs.declared.cause.PairName.{PairName}
 use Rattle.check_report.proofs.Adding.{zip_push}
 use Rattle.check_tool.specs.Running.{AreTargetsOf, IsCalled}
 use Rattle.check_tool.proofs.asked.all_targets.Goals as goal
@@ -14,4 +14,4 @@ loop-word-preserved c =
     let e : take (i + 1) words ≡ take i words ++ w ∷ [] = take_more words i none c.loop-word-test.true in
     subst (λ ws. AreTargetsOf ws c.push.new.self.items) (sym e)
     (subst (AreTargetsOf (take i words ++ w ∷ [])) (sym c.in_ok-push.ensures.items)
-    (zip_push (λ (v : Bor (List ℕ)) (t : Target). IsCalled v.now t.role t.name) (take i words) c.loop-word.targets.items w _ c.loop-word.invariant c.in_ok-target_of.ensures))
+    (zip_push (λ (v : Bor (List ℕ)) (t : PairName). IsCalled v.now t.role t.name) (take i words) c.loop-word.targets.items w _ c.loop-word.invariant c.in_ok-target_of.ensures))
