@@ -20,7 +20,8 @@ use Rattle.lane_queue.proofs.Facts.{load-mine, load-other}
 use Rattle.lane_queue.specs.PortView.{LanesView, PortView, IsPortOf}
 use Rattle.expand_work.specs.Work.{at}
 use Rattle.expand_work.specs.Noted.{Enters, EntersAt, StandsAt, leveled, IsNoted, Notes}
-use Rattle.expand_work.proofs.Zips.{zip_push, zip_append, zip_weaker}
+use Rattle.dd_store.proofs.Noting.{zip_push, zip_append}
+use Rattle.expand_work.proofs.Zips.{zip_weaker}
 
 -- ---- a table that a key was offered to
 pub offered_enters : (ks new : List Key) (x : Key) (p : ℕ) (fresh : Bool) → Offers ks x fresh new → slice_get new p ≡ Some x → Enters ks x p new

@@ -1,6 +1,7 @@
 -- Two lists, place by place.
 use Rattle.std.proofs.Common.{◌≡◌, ℕ, zero, suc, ◌<◌, List, [], ◌∷◌, ◌++◌, length, slice_index_or, refl, sym, ap, ◌∙◌, subst, arith, append_assoc}
 use Rattle.std.specs.List.{AllZip}
+use Rattle.dd_store.proofs.Noting.{zip_push}
 
 -- a loop over a list has gone one element further
 pub turned : {A : Type 0} (done rest next all : List A) (x : A) → rest ≡ x ∷ next → done ++ rest ≡ all → (done ++ x ∷ []) ++ next ≡ all
@@ -8,14 +9,8 @@ turned done rest next all x is whole = append_assoc done (x ∷ []) next ∙ ap 
 
 module _ {A B : Type 0} (R : A → B → Type 0) where
   -- one more pair at the end
-  pub zip_push : (xs : List A) (ys : List B) (x : A) (y : B) → AllZip R xs ys → R x y → AllZip R (xs ++ x ∷ []) (ys ++ y ∷ [])
-  zip_push [] [] x y h r = (r, tt)
-  zip_push [] (z ∷ ys) x y h r = absurd h
-  zip_push (z ∷ xs) [] x y h r = absurd h
-  zip_push (u ∷ xs) (v ∷ ys) x y h r = (h.0, zip_push xs ys x y h.1 r)
-
   pub zip_grown : (xs xs' : List A) (ys ys' : List B) (x : A) (y : B) → xs' ≡ xs ++ x ∷ [] → ys' ≡ ys ++ y ∷ [] → AllZip R xs ys → R x y → AllZip R xs' ys'
-  zip_grown xs xs' ys ys' x y x-is y-is h r = subst (λ us. AllZip R us ys') (sym x-is) (subst (λ vs. AllZip R (xs ++ x ∷ []) vs) (sym y-is) (zip_push xs ys x y h r))
+  zip_grown xs xs' ys ys' x y x-is y-is h r = subst (λ us. AllZip R us ys') (sym x-is) (subst (λ vs. AllZip R (xs ++ x ∷ []) vs) (sym y-is) (zip_push R xs ys x y h r))
 
   -- the pair at a place
   pub zip_at : (xs : List A) (ys : List B) (i : ℕ) (d : A) (e : B) → AllZip R xs ys → i < length xs → R (slice_index_or xs i d) (slice_index_or ys i e)
@@ -30,13 +25,6 @@ module _ {A B : Type 0} (R : A → B → Type 0) where
   zip_long [] (z ∷ ys) h = absurd h
   zip_long (z ∷ xs) [] h = absurd h
   zip_long (u ∷ xs) (v ∷ ys) h = let a = zip_long xs ys h.1 in omega (arith, a)
-
-  -- two lists behind two others
-  pub zip_append : (xs us : List A) (ys vs : List B) → AllZip R xs ys → AllZip R us vs → AllZip R (xs ++ us) (ys ++ vs)
-  zip_append [] us [] vs h k = k
-  zip_append [] us (y ∷ ys) vs h k = absurd h
-  zip_append (x ∷ xs) us [] vs h k = absurd h
-  zip_append (x ∷ xs) us (y ∷ ys) vs h k = (h.0, zip_append xs us ys vs h.1 k)
 
 pub zip_weaker : {A B : Type 0} (R Q : A → B → Type 0) → ((x : A) (y : B) → R x y → Q x y) → (xs : List A) (ys : List B) → AllZip R xs ys → AllZip Q xs ys
 zip_weaker R Q f [] [] h = tt

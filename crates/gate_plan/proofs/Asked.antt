@@ -8,7 +8,7 @@ use Rattle.dd_store.specs.View.{Has}
 use Rattle.dd_store.proofs.View.{one_diagram}
 use Rattle.net_bench.specs.declared.netlist.GateLine.{GateLine}
 use Rattle.net_order.specs.Order.{Paired}
-use Rattle.net_bench.specs.Circuit.{Circuit, Net, IsNet, circuit, greatest}
+use Rattle.net_bench.specs.Circuit.{Circuit, Net, IsNet, circuit, greatest, rank_of}
 use Rattle.net_bench.specs.Labels.{bit_of}
 use Rattle.net_bench.proofs.Built.{has_labelling}
 use Rattle.req_table.specs.declared.Op.{Op}
@@ -19,7 +19,7 @@ use Rattle.reduce_up.specs.Waves.{Entry, HasRequest, IsWithinLimit}
 use Rattle.reduce_up.proofs.Known.{request_unknown, kept_none, unknown_is}
 use Rattle.wave_engine.specs.Bounds.{ArePast}
 use Rattle.gate_plan.specs.declared.steps.Step.{Step}
-use Rattle.gate_plan.specs.Plans.{operand_at, folds_of, step_of, step_at, rank_of, plan_steps, plan_folds, IsPlan}
+use Rattle.gate_plan.specs.Plans.{operand_at, folds_of, step_of, step_at, plan_steps, plan_folds, IsPlan}
 use Rattle.gate_plan.specs.Building.{Placed, input_level, reference_of, first_operand, entry_of, Denotes, value_after, AreFolded, AllFolded, ArePlaced, Levelled, levelled_of, asked}
 use Rattle.gate_plan.specs.Needing.{IsStillWithin}
 use Rattle.gate_plan.specs.Asking.{first_taken, second_taken, IsAsked, Asks, AnyAsks, AnyAsksAt, AnyAsksIn, AnyAsksBelow, IsWithinOrUnasked, IsHeldWithin, IsEntryOf, IsEntryAt, IsPast}

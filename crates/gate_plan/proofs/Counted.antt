@@ -105,7 +105,7 @@ module _ (S T : Nodes) (entries : List Entry) (Values : (List Bool → Bool) →
 bit_behind : (q r : List Bool) (v : ℕ) → length q ≡ v → bit (q ++ r) v ≡ get_or r (v - v) false
 bit_behind q r v e = get_or-append_right q r v v false e (omega arith)
 
-bit_between : (q : List Bool) (b : Bool) (r : List Bool) (v : ℕ) → length q ≡ v → bit (q ++ b ∷ r) v ≡ b
+pub bit_between : (q : List Bool) (b : Bool) (r : List Bool) (v : ℕ) → length q ≡ v → bit (q ++ b ∷ r) v ≡ b
 bit_between q b r v e = ap (λ k. get_or (q ++ b ∷ r) k false) (sym e) ∙ get_or-append_seam q b r false
 
 -- the bit of a level is counted at the level
@@ -130,7 +130,7 @@ bit_counted n v f lt h = record {
     back = replicate (n - suc v) false
 
 -- what agrees with a counted function is counted
-counted_as : (n : ℕ) (Values : (List Bool → Bool) → Type 0) (v : ℕ) (f g : List Bool → Bool) → Agree n f g → IsCounted n Values v g → IsCounted n Values v f
+pub counted_as : (n : ℕ) (Values : (List Bool → Bool) → Type 0) (v : ℕ) (f g : List Bool → Bool) → Agree n f g → IsCounted n Values v g → IsCounted n Values v f
 counted_as n Values v f g a c = record { value = c.value; is_value = c.is_value; fixed = fixed_as n v c.value g f a c.fixed; depends = reads c.depends }
   where
     reads : DependsOn n v g → DependsOn n v f

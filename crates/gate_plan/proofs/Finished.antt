@@ -4,14 +4,13 @@ use Rattle.std.specs.Prelude.{Contains}
 use Rattle.dd_store.specs.declared.reference.Ref.{Ref}
 use Rattle.dd_store.specs.Nodes.{Nodes, IsSound, count_of}
 use Rattle.expand_work.specs.declared.fault.WaveFault.{WaveFault}
-use Rattle.net_bench.specs.Circuit.{greatest}
+use Rattle.net_bench.specs.Circuit.{greatest, rank_of}
 use Rattle.reduce_up.specs.Reducing.{AddsDescribed}
 use Rattle.gate_plan.specs.Asking.{AnyAsks, AnyAsksBelow, IsWithinOrUnasked, IsPast}
 use Rattle.gate_plan.specs.Building.{PairedCircuits, Placed, Levelled, levelled, levelled_of, ranks_of, AllRight, AreDiagrams, IsBeginning}
 use Rattle.gate_plan.specs.Folds.{IsVariable}
 use Rattle.gate_plan.specs.Need.{IsCounted}
 use Rattle.gate_plan.specs.Needing.{IsNeeded, IsNeededValue, IsPlacedValue, HasNeed, IsBuildFault, IsStillWithin}
-use Rattle.gate_plan.specs.Plans.{rank_of}
 use Rattle.gate_plan.proofs.Asked.{all_unasked, later_unasked, still_within}
 use Rattle.gate_plan.proofs.Counted.{adds_more, adds_next, fault_next}
 use Rattle.gate_plan.proofs.Needed.{needed_adds, needed_fault, need_left, diagrams_at}

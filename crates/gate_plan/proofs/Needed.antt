@@ -8,14 +8,13 @@ use Rattle.dd_store.specs.View.{part, Has}
 use Rattle.dd_store.proofs.View.{parts, denotes, same_ref}
 use Rattle.expand_work.specs.declared.fault.WaveFault.{WaveFault}
 use Rattle.net_bench.specs.declared.netlist.GateLine.{GateLine}
-use Rattle.net_bench.specs.Circuit.{Circuit, Net, circuit, greatest}
+use Rattle.net_bench.specs.Circuit.{Circuit, Net, circuit, greatest, rank_of}
 use Rattle.net_order.specs.Order.{Paired}
 use Rattle.reduce_up.specs.Reducing.{AddsDescribed}
 use Rattle.gate_plan.specs.Building.{Placed, Levelled, levelled, levelled_of, ArePlaced, input_level, reference_of, IsDenoted, value_after, AreVariables, AllRight, AreDiagrams}
 use Rattle.gate_plan.specs.Folds.{IsVariable, IsFoldValue}
 use Rattle.gate_plan.specs.Need.{IsCounted, IsComplete}
 use Rattle.gate_plan.specs.Needing.{IsNeeded, IsNeededValue, IsPlacedValue, IsValueOf, IsLeanFor, IsCompleteFor, HasNeed, IsBuildFault, IsStillWithin}
-use Rattle.gate_plan.specs.Plans.{rank_of}
 use Rattle.gate_plan.proofs.Counted.{adds_more, fault_more, lean_from}
 use Rattle.gate_plan.proofs.Needs.{complete}
 use Rattle.gate_plan.proofs.Running.{all_right, all_values}

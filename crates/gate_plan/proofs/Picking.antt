@@ -6,11 +6,11 @@ use Rattle.std.proofs.lemmas.List.Elements.{Contains-append_left, Contains-appen
 use Rattle.std.proofs.lemmas.Bool.{ne_eqb}
 use Rattle.std.proofs.lemmas.Bool.Decides.{nat_tests}
 use Rattle.net_bench.specs.declared.netlist.GateLine.{GateLine}
-use Rattle.net_bench.specs.Circuit.{Net, IsNet, greatest}
+use Rattle.net_bench.specs.Circuit.{Net, IsNet, greatest, rank_of}
 use Rattle.net_bench.specs.Labels.{is_complemented}
 use Rattle.gate_plan.specs.declared.steps.Step.{Step}
 use Rattle.gate_plan.specs.declared.steps.Copied.{Copied}
-use Rattle.gate_plan.specs.Plans.{RankSteps, IsPlan, rank_of, step_of, step_at, copy_of, folds_of, operand_at, plan_steps, plan_copies, plan_folds}
+use Rattle.gate_plan.specs.Plans.{RankSteps, IsPlan, step_of, step_at, copy_of, folds_of, operand_at, plan_steps, plan_copies, plan_folds}
 use Rattle.gate_plan.specs.Building.{first_operand, IsStepBelow, IsCopyBelow}
 use Rattle.gate_plan.proofs.Lists.{same_number, lt_or_le}
 use Rattle.gate_plan.proofs.Ranks.{any_default, out_below, operand_below, some_operand}

@@ -1,26 +1,17 @@
 -- The plan of more and more gates.
-use Rattle.std.proofs.Common.{◌≡◌, ◌≢◌, ℕ, ◌+◌, ◌-◌, ◌<◌, ◌≤◌, ◌==◌, Bool, true, false, cond, List, [], ◌∷◌, ◌++◌, length, map, get_or, max, min, nat_lt, Option, Some, None, ◌⊎◌, inl, inr, set, take, replicate, refl, sym, ◌∙◌, ap, subst, arith, eq-eqb, append_assoc}
+use Rattle.std.proofs.Common.{◌≡◌, ◌≢◌, ℕ, ◌+◌, ◌-◌, ◌<◌, ◌≤◌, ◌==◌, Bool, true, false, cond, List, [], ◌∷◌, ◌++◌, length, map, get_or, max, min, nat_lt, Option, Some, None, ◌⊎◌, inl, inr, set, replicate, refl, sym, ◌∙◌, ap, subst, arith, eq-eqb, append_assoc}
 use Rattle.std.specs.Prelude.{flat_map}
 use Rattle.std.specs.Option.{option_map_or}
-use Rattle.std.proofs.lemmas.List.{append-nil, map-append, map_more, get_or-set_same, get_or-set_other, get_or-replicate, get_or_past, length-set, length-replicate}
+use Rattle.std.proofs.lemmas.List.{append-nil, map-append, get_or-set_same, get_or-set_other, get_or-replicate, get_or_past, length-set, length-replicate}
 use Rattle.std.proofs.lemmas.Grind.{flat_map-append}
 use Rattle.std.proofs.lemmas.Bool.{ne_eqb}
 use Rattle.std.proofs.lemmas.Bool.Decides.{nat_tests}
 use Rattle.net_bench.specs.declared.netlist.GateLine.{GateLine}
-use Rattle.net_bench.specs.Circuit.{Net, greatest}
+use Rattle.net_bench.specs.Circuit.{Net, greatest, rank_of}
+use Rattle.net_bench.proofs.Greatest.{greatest_more}
 use Rattle.gate_plan.specs.declared.steps.Step.{Step}
-use Rattle.gate_plan.specs.Plans.{RankSteps, AddsAt, AddsSteps, AddsGate, Plans, fold_at, rank_at, steps_at, no_steps, rank_of, step_of, step_at, steps_of, copies_of, folds_of, plan_steps, plan_copies, plan_folds}
+use Rattle.gate_plan.specs.Plans.{RankSteps, AddsAt, AddsSteps, AddsGate, Plans, fold_at, rank_at, steps_at, no_steps, step_of, step_at, steps_of, copies_of, folds_of, plan_steps, plan_copies, plan_folds}
 use Rattle.gate_plan.proofs.Lists.{same_number, lt_or_le}
-
-pub greatest_more : (xs : List ℕ) (x : ℕ) → greatest (xs ++ x ∷ []) ≡ max (greatest xs) x
-greatest_more [] x = grind (arith, nat_tests)
-greatest_more (y ∷ xs) x =
-    let e : greatest (xs ++ x ∷ []) ≡ max (greatest xs) x = greatest_more xs x in
-    rw e (grind (arith, nat_tests))
-
--- one more item, and the greatest of the numbers of those so far
-pub greatest_next : {X : Type 0} (f : X → ℕ) (xs : List X) (i : ℕ) (x : X) → i < length xs → get_or xs i x ≡ x → greatest (map f (take (i + 1) xs)) ≡ max (greatest (map f (take i xs))) (f x)
-greatest_next f xs i x lt at = ap greatest (map_more f xs i x lt ∙ ap (λ y. map f (take i xs) ++ f y ∷ []) at) ∙ greatest_more (map f (take i xs)) (f x)
 
 -- ---- the steps of one gate
 

@@ -3,10 +3,9 @@ use Rattle.std.proofs.Common.{◌≡◌, ℕ, zero, suc, ◌+◌, ◌<◌, ◌�
 use Rattle.std.specs.Prelude.{Contains, All, slice_index, IsTrue}
 use Rattle.net_bench.specs.declared.netlist.GateLine.{GateLine}
 use Rattle.net_bench.specs.Statement.{takes_one}
-use Rattle.net_bench.specs.Circuit.{Net, circuit, IsNet, greatest, variables_of}
+use Rattle.net_bench.specs.Circuit.{Net, circuit, IsNet, greatest, variables_of, rank_of}
 use Rattle.net_bench.proofs.OneLabelling.{at_contained}
 use Rattle.net_bench.proofs.Chains.{greatest_above, lower}
-use Rattle.gate_plan.specs.Plans.{rank_of}
 use Rattle.gate_plan.proofs.Lists.{lt_or_le}
 
 -- within a list the default does not matter

@@ -14,7 +14,7 @@ use Rattle.dd_store.proofs.View.{kept_den}
 use Rattle.net_bench.specs.declared.netlist.Kind.{Kind}
 use Rattle.net_bench.specs.declared.netlist.Kind.TheVariants.{And, Nand, Or, Nor, Xor, Xnor, Not, Buff, Dff}
 use Rattle.net_bench.specs.declared.netlist.GateLine.{GateLine}
-use Rattle.net_bench.specs.Circuit.{Net, IsNet, circuit, greatest, IsDefined, variables_of}
+use Rattle.net_bench.specs.Circuit.{Net, IsNet, circuit, greatest, IsDefined, variables_of, rank_of}
 use Rattle.net_bench.specs.Labels.{bit_of, is_complemented, value_of, IsLabelling}
 use Rattle.net_bench.proofs.OneLabelling.{at_contained}
 use Rattle.net_bench.proofs.Built.{has_labelling}
@@ -24,7 +24,7 @@ use Rattle.reduce_up.specs.Waves.{entry_value, IsEntry, AnswersEach}
 use Rattle.gate_plan.specs.declared.steps.Step.{Step}
 use Rattle.gate_plan.specs.declared.steps.Copied.{Copied}
 use Rattle.gate_plan.specs.Folds.{IsFoldValue, plain_step, last_step, step_at as bit_step}
-use Rattle.gate_plan.specs.Plans.{plain_op, last_op, op_at, operand_at, folds_of, step_of, step_at, copy_of, rank_of, plan_steps, plan_copies, plan_folds, IsPlan}
+use Rattle.gate_plan.specs.Plans.{plain_op, last_op, op_at, operand_at, folds_of, step_of, step_at, copy_of, plan_steps, plan_copies, plan_folds, IsPlan}
 use Rattle.gate_plan.specs.Building.{Placed, input_level, reference_of, first_operand, entry_of, copied_all, answered_all, Denotes, IsDenoted, value_after, AreRight, IsBegun, AreFolded, AreVariables, AreInputs, AreDiagrams, AllRight, AllFolded, AreCopied, IsCopyBelow, IsStepBelow, asked, levelled_of}
 use Rattle.gate_plan.specs.Needing.{IsPlacedValue}
 use Rattle.gate_plan.proofs.Folding.{fold_step, fold_start, one_operand, so_far_last}

@@ -4,7 +4,7 @@ use Rattle.dd_store.specs.declared.reference.Ref.{Ref}
 use Rattle.dd_store.specs.Nodes.{Nodes, IsSound, count_of}
 use Rattle.dd_store.specs.View.{Has}
 use Rattle.net_bench.specs.declared.netlist.GateLine.{GateLine}
-use Rattle.net_bench.specs.Circuit.{Circuit, circuit, AreRanks}
+use Rattle.net_bench.specs.Circuit.{Circuit, circuit, AreRanks, rank_of}
 use Rattle.net_bench.specs.Labels.{bit_of}
 use Rattle.net_order.specs.Order.{Paired}
 use Rattle.req_table.specs.ComputedTables.{Held, IsRight}
@@ -12,7 +12,7 @@ use Rattle.req_table.specs.TerminalCase.{terminal_of}
 use Rattle.reduce_up.specs.Waves.{Entry}
 use Rattle.wave_engine.specs.Bounds.{AreMoreThan}
 use Rattle.gate_plan.specs.Building.{Placed, Levelled, levelled, input_level, Denotes, value_after}
-use Rattle.gate_plan.specs.Plans.{rank_of, folds_of, step_at, operand_at}
+use Rattle.gate_plan.specs.Plans.{folds_of, step_at, operand_at}
 
 -- what step j of a gate's fold takes in first, by the labels: the first operand, or the value so far
 abbrev pub first_taken : GateLine → ℕ → List Bool → Bool

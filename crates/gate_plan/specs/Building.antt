@@ -12,7 +12,7 @@ use Rattle.expand_work.specs.declared.fault.WaveFault.{WaveFault}
 use Rattle.expand_work.specs.declared.fault.WaveFault.TheVariants as wave_faults
 use Rattle.req_table.specs.declared.Op.{Op}
 use Rattle.net_bench.specs.declared.netlist.GateLine.{GateLine}
-use Rattle.net_bench.specs.Circuit.{Circuit, Net, circuit, variables_of}
+use Rattle.net_bench.specs.Circuit.{Circuit, Net, circuit, variables_of, rank_of}
 use Rattle.net_bench.specs.Labels.{bit_of, IsLabelling, IsFunctionOf}
 use Rattle.net_order.specs.declared.order.Match.{Match}
 use Rattle.net_order.specs.declared.order.Order.{Order}
@@ -24,7 +24,7 @@ use Rattle.gate_plan.specs.declared.steps.Step.{Step}
 use Rattle.gate_plan.specs.declared.steps.Copied.{Copied}
 use Rattle.dd_store.specs.Marks.{mark_by}
 use Rattle.gate_plan.specs.Folds.{value_so_far}
-use Rattle.gate_plan.specs.Plans.{rank_of, plan_steps, plan_copies, plan_folds, IsPlan, RankSteps}
+use Rattle.gate_plan.specs.Plans.{plan_steps, plan_copies, plan_folds, IsPlan, RankSteps}
 
 -- a reference for each signal of the first netlist, of the second and of the condition
 pub record References : Type 0 where

@@ -5,7 +5,7 @@ use Rattle.std.specs.Option.{option_map_or}
 use Rattle.net_bench.specs.declared.netlist.Kind.{Kind}
 use Rattle.net_bench.specs.declared.netlist.Kind.TheVariants.{And, Nand, Or, Nor, Xor, Xnor, Not, Buff, Dff}
 use Rattle.net_bench.specs.declared.netlist.GateLine.{GateLine}
-use Rattle.net_bench.specs.Circuit.{Net, IsNet, greatest}
+use Rattle.net_bench.specs.Circuit.{Net, IsNet, greatest, rank_of}
 use Rattle.net_bench.specs.Labels.{is_complemented}
 use Rattle.req_table.specs.declared.Op.{Op}
 use Rattle.req_table.specs.declared.Op.TheVariants as ops
@@ -70,10 +70,6 @@ copies_of g = option_map_or (λ c. c ∷ []) (copy_of g) []
 
 abbrev pub steps_of : GateLine → ℕ → List Step
 steps_of g j = option_map_or (λ s. s ∷ []) (step_of g j) []
-
--- the rank of a gate
-abbrev pub rank_of : Net → GateLine → ℕ
-rank_of net g = slice_index net.ranks g.out
 
 -- the copies of a rank, in the order of the text
 abbrev pub plan_copies : Net → List GateLine → ℕ → List Copied

@@ -1,9 +1,8 @@
 //! The folds of a netlist's gates, by rank.
 ghost use Rattle.std.specs.Prelude.{◌≡◌, ◌<◌, ◌≤◌, length, map, replicate, IfOk, OnOk};
-ghost use Rattle.net_bench.specs.Circuit.{greatest};
 ghost use Rattle.net_bench.specs.Labels.{is_complemented};
 ghost use Rattle.gate_plan.specs.Plans.{IsPlan, rank_at, steps_at, plain_op, last_op, folds_of, step_of, copy_of, AddsAt, AddsSteps};
-ghost use Rattle.gate_plan.specs.Plans.{AddsGate, no_steps, rank_of};
+ghost use Rattle.gate_plan.specs.Plans.{AddsGate, no_steps};
 
 use net_bench::netlist::{GateLine, Kind, Signal};
 use net_bench::reader::Netlist;
@@ -178,20 +177,6 @@ impl RankPlan {
     }
 }
 
-/// The greatest rank of a gate, 0 where there is none.
-fn highest_rank(netlist: &Netlist) -> usize
-    ensures { result ≡ greatest (map (λ g. rank_of netlist.now g) netlist.now.gates) }
-{
-    let mut highest = 0;
-    for gate in netlist.gates() {
-        let rank = netlist.rank(gate.out) as usize;
-        if rank > highest {
-            highest = rank;
-        }
-    }
-    highest
-}
-
 /// So many ranks without gates.
 fn empty_ranks(alloc: Global, count: usize) -> Result<Vec<RankPlan>, AllocError>
     ensures { IfOk result (λ v. v.items ≡ replicate count no_steps) }
@@ -223,7 +208,7 @@ impl Plan {
     pub fn new(alloc: Global, netlist: &Netlist) -> Result<Plan, AllocError>
         ensures { IfOk result (λ p. IsPlan netlist.now p) }
     {
-        let mut ranks = empty_ranks(alloc, highest_rank(netlist))?;
+        let mut ranks = empty_ranks(alloc, netlist.highest_rank())?;
         for gate in netlist.gates() {
             let rank = netlist.rank(gate.out) as usize;
             ranks[rank - 1].add_gate(alloc, gate)?;

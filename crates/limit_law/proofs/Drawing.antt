@@ -1,13 +1,12 @@
 -- The diagram of a function is drawn in a store within its limit, or some function that is counted has no room there.
-use Rattle.std.proofs.Common.{◌≡◌, ◌≢◌, ◌∙◌, ℕ, zero, suc, ◌+◌, ◌<◌, ◌≤◌, ◌⊎◌, inl, inr, Bool, true, false, cond, List, [], ◌∷◌, ◌++◌, length, drop, get_or, refl, sym, ap, subst, arith, append_assoc}
+use Rattle.std.proofs.Common.{◌≡◌, ◌≢◌, ◌∙◌, ℕ, zero, suc, ◌+◌, ◌<◌, ◌≤◌, ◌⊎◌, inl, inr, Bool, true, false, cond, List, [], ◌∷◌, ◌++◌, length, drop, refl, sym, ap, subst, arith, append_assoc}
 use Rattle.std.specs.Prelude.{Ok, Err}
-use Rattle.std.proofs.Math.Seq.{drop-append_seam, get_or-append_seam}
+use Rattle.std.proofs.Math.Seq.{drop-append_seam}
 use Rattle.std.proofs.lemmas.List.{length-append, append-nil}
 use Rattle.dd_store.specs.declared.StoreFault.TheVariants.{Full}
 use Rattle.dd_store.specs.declared.reference.Ref.{Ref}
 use Rattle.dd_store.specs.declared.reference.Reference.TheVariants.{False, True}
 use Rattle.dd_store.specs.Functions.{Agree, IsFixed, DependsOn, OfEither}
-use Rattle.dd_store.specs.Graph.{bit}
 use Rattle.dd_store.specs.Marks.{plain_pair}
 use Rattle.dd_store.specs.Nodes.{Nodes, den, IsSound, IsBranch, Makes, IsNeeded, count_of, with_node}
 use Rattle.dd_store.specs.Parts.{Part, top_of}
@@ -17,10 +16,11 @@ use Rattle.dd_store.proofs.Lacking.{depends, no_diagram}
 use Rattle.dd_store.proofs.Laws.{den-false, den-true}
 use Rattle.dd_store.proofs.Storing.{CanMake, Makes-branch, Makes-cases, Makes-sound, count-with_node}
 use Rattle.dd_store.proofs.View.{absent, denotes, keeps-refl, keeps-trans, kept_den, kept_top, made, parts, same_ref, top-node, top-part}
-use Rattle.reduce_up.proofs.Below.{fixed_as, node_reads}
+use Rattle.reduce_up.proofs.Below.{node_reads}
 use Rattle.reduce_up.proofs.Opposite.{either_kept, one_node_either, one_node_part}
 use Rattle.gate_plan.specs.Need.{IsCounted, IsLean}
 use Rattle.gate_plan.specs.Needing.{LacksCounted}
+use Rattle.gate_plan.proofs.Counted.{bit_between, counted_as}
 use Rattle.limit_law.proofs.Making.{make}
 
 -- ---- lists of bits
@@ -30,9 +30,6 @@ seam p b q = append_assoc p (b ∷ []) q
 
 longer : (p : List Bool) (b : Bool) (v : ℕ) → length p ≡ v → length (p ++ b ∷ []) ≡ suc v
 longer p b v h = simp length-append (omega arith)
-
-bit_between : (q : List Bool) (b : Bool) (r : List Bool) (v : ℕ) → length q ≡ v → bit (q ++ b ∷ r) v ≡ b
-bit_between q b r v e = ap (λ k. get_or (q ++ b ∷ r) k false) (sym e) ∙ get_or-append_seam q b r false
 
 behind : (v : ℕ) (q x : List Bool) → length q ≡ v → drop v (q ++ x) ≡ x
 behind v q x e = ap (λ k. drop k (q ++ x)) (sym e) ∙ drop-append_seam q x
@@ -45,15 +42,6 @@ joined n v lt f p g h q (b ∷ x) hq hx = h q b x hq (omega arith)
 -- and for one of them
 for_bit : (n v : ℕ) (f : List Bool → Bool) (p : List Bool) (b : Bool) (g : List Bool → Bool) → IsFixed n (suc v) f (p ++ b ∷ []) g → (q x : List Bool) → length q ≡ v → v + suc (length x) ≡ n → g (q ++ b ∷ x) ≡ f (p ++ b ∷ x)
 for_bit n v f p b g h q x hq hx = ap g (sym (seam q b x)) ∙ h (q ++ b ∷ []) x (longer q b v hq) (omega arith) ∙ ap f (seam p b x)
-
--- what agrees with a counted function is counted
-counted_as : (n : ℕ) (Values : (List Bool → Bool) → Type 0) (v : ℕ) (f g : List Bool → Bool) → Agree n f g → IsCounted n Values v g → IsCounted n Values v f
-counted_as n Values v f g a c = record { value = c.value; is_value = c.is_value; fixed = fixed_as n v c.value g f a c.fixed; depends = reads c.depends }
-  where
-    reads : DependsOn n v g → DependsOn n v f
-    reads (q, r, hq, hr, differ) =
-        let whole : (b : Bool) → length (q ++ b ∷ r) ≡ n = λ b. simp length-append (omega arith) in
-        (q, r, hq, hr, λ e. differ (sym (a (q ++ false ∷ r) (whole false)) ∙ e ∙ a (q ++ true ∷ r) (whole true)))
 
 -- ---- stores of needed nodes alone, within a limit
 

@@ -22,15 +22,11 @@ impl<'a> Source for OneByte<'a> {
             self.failed = true;
             return Err(Failed);
         }
-        let Some((byte, after)) = self.left.split_first() else {
-            return Ok(0);
-        };
-        let Some(first) = buf.first_mut() else {
-            return Ok(0);
-        };
-        *first = *byte;
+        let count = self.left.len().min(buf.len()).min(1);
+        let (bytes, after) = self.left.split_at(count);
+        buf[..count].copy_from_slice(bytes);
         self.left = after;
-        Ok(1)
+        Ok(count)
     }
 }
 
@@ -47,9 +43,7 @@ impl Source for Endless {
     ghost has_failed = { λ _. false };
 
     fn read(&mut self, buf: &mut [u8]) -> Result<usize, Failed> {
-        for byte in buf.iter_mut() {
-            *byte = b' ';
-        }
+        buf.fill(b' ');
         self.given = self.given.saturating_add(buf.len());
         self.asked = usize::max(self.asked, self.given);
         Ok(buf.len())

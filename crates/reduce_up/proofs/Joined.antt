@@ -31,7 +31,8 @@ use Rattle.req_table.specs.declared.Record.{Record}
 use Rattle.req_table.specs.Settled.{level_of_rows}
 use Rattle.expand_work.specs.Expanded.{row_of}
 use Rattle.expand_work.specs.Gathered.{PartsView}
-use Rattle.expand_work.proofs.Zips.{zip_long, zip_append, zip_weaker}
+use Rattle.dd_store.proofs.Noting.{zip_append}
+use Rattle.expand_work.proofs.Zips.{zip_long, zip_weaker}
 use Rattle.reduce_up.specs.declared.division.Homes.{Homes}
 use Rattle.reduce_up.specs.Sharing.{IsPairOf, IsAnswered, CanStand, RowCanStand, AddsRow, IsRowRefused}
 use Rattle.reduce_up.specs.Division.{chosen, span, source, begin_of, IsDivided, IsPicked, IsPickedOf, ArePicked, AreHomes, AreRefsOf}

@@ -16,7 +16,8 @@ use Rattle.dd_store.proofs.Storing.{small_shard}
 use Rattle.dd_store.proofs.View.{same_ref}
 use Rattle.req_table.specs.declared.Key.{Key}
 use Rattle.req_table.specs.declared.Record.{Record}
-use Rattle.expand_work.proofs.Zips.{zip_push, zip_long}
+use Rattle.dd_store.proofs.Noting.{zip_push}
+use Rattle.expand_work.proofs.Zips.{zip_long}
 use Rattle.reduce_up.specs.declared.division.Divided.{Divided}
 use Rattle.reduce_up.specs.declared.division.Homes.{Homes}
 use Rattle.reduce_up.specs.Sharing.{IsPairOf}

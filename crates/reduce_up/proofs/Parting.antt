@@ -5,7 +5,7 @@ use mathlib.Core.List.{reverse}
 use Rattle.std.proofs.lemmas.List.{reverse-append, take_more, get_or-drop, length-drop}
 use Rattle.std.proofs.lemmas.Option.{slice_get_within, get_or_from_slice_get}
 use Rattle.std.proofs.lemmas.List.Elements.{Contains-push_cases}
-use Rattle.expand_work.proofs.Zips.{zip_push}
+use Rattle.dd_store.proofs.Noting.{zip_push}
 use mathlib.Core.Logic.{dite}
 use native.Mathlib.Decide.{ℕ_discrete}
 use Rattle.reduce_up.specs.Division.{chosen, span}

@@ -17,6 +17,8 @@ use std::test::Fail;
 use std::thread::Threads;
 use wave_engine::Engine;
 
+const OPS: [Op; 6] = [Op::And, Op::Or, Op::Xor, Op::Nand, Op::Nor, Op::Xnor];
+
 /// Numbers that look random, from a seed.
 #[derive(Drop)]
 struct Random {
@@ -33,14 +35,7 @@ impl Random {
     }
 
     fn op(&mut self) -> Op {
-        match self.below(6) {
-            0 => Op::And,
-            1 => Op::Or,
-            2 => Op::Xor,
-            3 => Op::Nand,
-            4 => Op::Nor,
-            _ => Op::Xnor,
-        }
+        OPS.get(self.below(OPS.len())).copied().unwrap_or(Op::And)
     }
 }
 

@@ -1,7 +1,7 @@
 use Rattle.std.proofs.Common.{arith, sym, ◌≡◌, ◌+◌, map, take, max}
 use Rattle.net_bench.specs.Circuit.{greatest}
 use Rattle.gate_plan.specs.Building.{ranks_of}
-use Rattle.gate_plan.proofs.Planning.{greatest_next}
+use Rattle.net_bench.proofs.Greatest.{greatest_next}
 use Rattle.gate_plan.proofs.sides.last_rank.Goals as goal
 
 pub loop-i-preserved : goal.loop-i-preserved

@@ -1,7 +1,7 @@
 use Rattle.std.proofs.Common.{arith, sym, ◌≡◌, ◌+◌, map, take, max}
 use Rattle.net_bench.specs.Circuit.{greatest}
 use Rattle.gate_plan.specs.Building.{folds_at}
-use Rattle.gate_plan.proofs.Planning.{greatest_next}
+use Rattle.net_bench.proofs.Greatest.{greatest_next}
 use Rattle.gate_plan.proofs.sides.most_folds.Goals as goal
 
 pub folds-requires-clause-plan : goal.folds-requires-clause-plan

@@ -1,8 +1,8 @@
 use Rattle.std.proofs.Common.{arith, ◌≡◌, ◌-◌, ◌<◌, ◌≤◌, ◌∷◌, ◌++◌, [], length, map, take, get_or, set, sym, ap, ◌∙◌, subst}
 use Rattle.std.specs.Prelude.{Contains}
 use Rattle.std.proofs.lemmas.List.{take_more, take_all, length-set}
-use Rattle.net_bench.specs.Circuit.{greatest}
-use Rattle.gate_plan.specs.Plans.{rank_of, AddsGate, Plans, rank_at, no_steps}
+use Rattle.net_bench.specs.Circuit.{greatest, rank_of}
+use Rattle.gate_plan.specs.Plans.{AddsGate, Plans, rank_at, no_steps}
 use Rattle.gate_plan.proofs.Planning.{plans_next}
 use Rattle.gate_plan.proofs.Ranks.{above_none, rank_top, any_default}
 use Rattle.gate_plan.proofs.steps.Plan.new.Goals as goal

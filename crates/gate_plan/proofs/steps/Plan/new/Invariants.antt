@@ -1,6 +1,6 @@
 use Rattle.std.proofs.Common.{◌≡◌, length, map, take}
-use Rattle.net_bench.specs.Circuit.{greatest}
-use Rattle.gate_plan.specs.Plans.{rank_of, Plans}
+use Rattle.net_bench.specs.Circuit.{greatest, rank_of}
+use Rattle.gate_plan.specs.Plans.{Plans}
 use Rattle.gate_plan.proofs.steps.Plan.new.Given as goal
 
 abbrev pub invariant-loop-gate : goal.invariant-loop-gate
