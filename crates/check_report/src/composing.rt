@@ -24,7 +24,7 @@ use crate::deciding::decide;
 use crate::dumping::dump;
 use crate::explaining::{are_known, behind};
 use crate::fault::CheckFault;
-use crate::report::text_of;
+use crate::report::form_text;
 use crate::task::Task;
 use expand_work::{Monitor, WaveFault};
 use net_order::order::OrderFault;
@@ -66,7 +66,7 @@ fn whole_text<H>(
         Err(fault) => return Err(fault),
     };
     let list = listed(&causes);
-    let Ok(mut text) = text_of(task.alloc, task.settings, tried, given, list, verdicts) else {
+    let Ok(mut text) = form_text(task.alloc, task.settings, tried, given, list, verdicts) else {
         return Err(CheckFault::OutOfMemory);
     };
     let explanations = match behind(task, tried, verdicts) {

@@ -12,8 +12,8 @@
 //! **Only tests show** what attempts and workers tell meanwhile, and devices that fail at each byte (`report_tests`).
 //!
 //! **Begin** with `specs/Report` and `Conditions`, verdicts over functions alone; then `judging`, `deciding` (the
-//! whole, or cones), `attempts` (orders within budgets), `checking` (one order), and for single pairs `coning`,
-//! `turns`, `coned`.
+//! whole, or cones), `searching` and `attempts` (orders within budgets), `checking` (one order), and for single pairs
+//! `coning`, `turns`, `coned`.
 #![tactic(auto)]
 
 mod arranging;

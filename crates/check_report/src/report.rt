@@ -10,7 +10,7 @@ use report_text::{Cause, Heading, Verdicts, json_of, report_of};
 use std::alloc::{AllocError, Global};
 
 /// The report in the form that the settings ask for, which may tell causes.
-pub(crate) fn text_of(
+pub(crate) fn form_text(
     alloc: Global,
     settings: &Settings,
     tried: Option<Attempt>,

@@ -16,7 +16,7 @@ use Rattle.counter_walk.specs.contracts.least.PairPartialEq.TheImpl.{eq-value as
 use Rattle.counter_walk.specs.declared.least.Line.{Line}
 use Rattle.counter_walk.specs.declared.least.Line.TheVariants.{Terminal, Branch}
 use Rattle.counter_walk.specs.declared.least.Pair.{Pair}
-use Rattle.counter_walk.specs.declared.least.Table.{Table}
+use Rattle.counter_walk.specs.declared.least.LineTable.{LineTable}
 use Rattle.counter_walk.specs.Lines.{differs, IsFree, Stands, AreInOrder, AreOf, IsTable, AreAble, AreRead, line_can, either}
 use Rattle.counter_walk.specs.Lines.Stands.{terminal, branch}
 use Rattle.counter_walk.proofs.Choosing.{IsChoice}
@@ -68,12 +68,12 @@ named n lines h _ (for_choice v lw hg lo hi s t k) d low high e =
     (omega arith, omega arith, omega arith)
 
 -- a function has a line at a place, and what stood stands
-pub record IsAdded (S : Nodes) (order : List ℕ) (h : List Bool → Bool) (old new : Table) (at : ℕ) : Type 0 where
+pub record IsAdded (S : Nodes) (order : List ℕ) (h : List Bool → Bool) (old new : LineTable) (at : ℕ) : Type 0 where
   pub table : IsTable S order new
   pub keeps : (p : ℕ) (k : List Bool → Bool) → Stands S.levels old.lines.items p k → Stands S.levels new.lines.items p k
   pub place : Stands S.levels new.lines.items at h
 
-pub added : (S : Nodes) (order : List ℕ) (old new : Table) (k : Pair) (l : Line) → IsTable S order old
+pub added : (S : Nodes) (order : List ℕ) (old new : LineTable) (k : Pair) (l : Line) → IsTable S order old
     → IsLineFor S.levels old.lines.items (differs S order k.first k.second) l → new.lines.items ≡ old.lines.items ++ l ∷ []
     → Updates pair_eq.it old.places new.places k (Some (length old.lines.items))
     → IsAdded S order (differs S order k.first k.second) old new (length old.lines.items)
@@ -109,18 +109,18 @@ added S order old new k l t is grown u =
     }
 
 -- the line of a function, before it is put at the end
-pub record IsReady (S : Nodes) (order : List ℕ) (h : List Bool → Bool) (old t : Table) (l : Line) : Type 0 where
+pub record IsReady (S : Nodes) (order : List ℕ) (h : List Bool → Bool) (old t : LineTable) (l : Line) : Type 0 where
   pub table : IsTable S order t
   pub keeps : (p : ℕ) (k : List Bool → Bool) → Stands S.levels old.lines.items p k → Stands S.levels t.lines.items p k
   pub line : IsLineFor S.levels t.lines.items h l
 
-pub ready_constant : (S : Nodes) (order : List ℕ) (h : List Bool → Bool) (old t : Table) (l : Line) (b : Bool) → IsTable S order old
+pub ready_constant : (S : Nodes) (order : List ℕ) (h : List Bool → Bool) (old t : LineTable) (l : Line) (b : Bool) → IsTable S order old
     → Agree S.levels h (λ x. b) → t ≡ old → l ≡ Terminal b → IsReady S order h old t l
 ready_constant S order h old t l b i q e f =
     subst (λ x. IsReady S order h old x l) (sym e)
     (subst (λ x. IsReady S order h old old x) (sym f) (record { table = i; keeps = λ p z s. s; line = for_constant b q }))
 
-pub ready_choice : (S : Nodes) (order : List ℕ) (h lo hi : List Bool → Bool) (old first second t : Table) (l : Line) (d low high : ℕ)
+pub ready_choice : (S : Nodes) (order : List ℕ) (h lo hi : List Bool → Bool) (old first second t : LineTable) (l : Line) (d low high : ℕ)
     → IsChoice S.levels d h lo hi
     → ((q : ℕ) (z : List Bool → Bool) → Stands S.levels old.lines.items q z → Stands S.levels first.lines.items q z)
     → Stands S.levels first.lines.items low lo
@@ -136,7 +136,7 @@ ready_choice S order h lo hi old one two t l d low high k keep at_low i keep_on 
       line = for_choice d low high lo hi (keep_on low lo at_low) at_high k;
     }))
 
-pub placed : (S : Nodes) (order : List ℕ) (old t new : Table) (k : Pair) (l : Line) (answer : Result ℕ AllocError)
+pub placed : (S : Nodes) (order : List ℕ) (old t new : LineTable) (k : Pair) (l : Line) (answer : Result ℕ AllocError)
     → IsReady S order (differs S order k.first k.second) old t l
     → IfOk answer (λ p. p ≡ length t.lines.items) → OnOk answer (new.lines.items ≡ t.lines.items ++ l ∷ [])
     → IfOk answer (λ p. Updates pair_eq.it t.places new.places k (Some p))

@@ -9,7 +9,7 @@ use Rattle.dd_store.specs.View.{Has, top}
 use Rattle.counter_walk.specs.declared.least.Line.{Line}
 use Rattle.counter_walk.specs.declared.least.Line.TheVariants.{Terminal, Branch}
 use Rattle.counter_walk.specs.declared.least.Pair.{Pair}
-use Rattle.counter_walk.specs.declared.least.Table.{Table}
+use Rattle.counter_walk.specs.declared.least.LineTable.{LineTable}
 use Rattle.counter_walk.specs.contracts.least.PairPartialEq.TheImpl.{eq-value as pair_eq}
 use Rattle.counter_walk.specs.Arranged.{arranged}
 
@@ -49,7 +49,7 @@ abbrev pub AreOf : ℕ → List Line → Type 0
 AreOf n lines = (p d low high : ℕ) → slice_get lines p ≡ Some (Branch d low high) → d < n
 
 -- a table of lines over a store, which finds the lines of pairs
-pub record IsTable (S : Nodes) (order : List ℕ) (t : Table) : Type 0 where
+pub record IsTable (S : Nodes) (order : List ℕ) (t : LineTable) : Type 0 where
   pub in_order : AreInOrder t.lines.items
   pub variables : AreOf S.levels t.lines.items
   pub found : (k : Pair) (p : ℕ) → get pair_eq.it t.places k ≡ Some p

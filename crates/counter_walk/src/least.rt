@@ -35,7 +35,7 @@ enum Line {
 
 /// The lines of pairs, those of cofactors before those of their pairs, and the place of each pair.
 #[derive(Drop)]
-struct Table {
+struct LineTable {
     lines: Vec<Line>,
     places: HashMap<Pair, u32>,
 }
@@ -74,7 +74,7 @@ fn normal(f: Ref, g: Ref) -> Pair
 }
 
 /// Puts the line of a pair at the end.
-fn add_line(table: &mut Table, pair: Pair, line: Line) -> Result<u32, AllocError>
+fn add_line(table: &mut LineTable, pair: Pair, line: Line) -> Result<u32, AllocError>
     ensures place { IfOk result (λ p. p ≡ length table.old.lines.items) }
     ensures lines { OnOk result (table.new.lines.items ≡ table.old.lines.items ++ line ∷ []) }
     ensures places { IfOk result (λ p. Updates pair_eq.it table.old.places table.new.places pair (Some p)) }
@@ -93,7 +93,7 @@ fn add_line(table: &mut Table, pair: Pair, line: Line) -> Result<u32, AllocError
 fn place_of(
     store: &Store,
     order: &[u16],
-    table: &mut Table,
+    table: &mut LineTable,
     f: Ref,
     g: Ref,
 ) -> Result<u32, AllocError>
@@ -197,7 +197,7 @@ pub fn least_declared(
     if same(f, g) {
         return Ok(None);
     }
-    let mut table = Table {
+    let mut table = LineTable {
         lines: Vec::new(alloc),
         places: HashMap::new(alloc),
     };

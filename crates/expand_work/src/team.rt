@@ -66,7 +66,7 @@ fn join_all<'a, R: Threads>(
 }
 
 // What the threads come to, once all of them were joined: where one was not started that comes first.
-fn judge(started: bool, joined: Result<Vec<Part>, WaveFault>) -> Result<Vec<Part>, WaveFault>
+fn outcome_of(started: bool, joined: Result<Vec<Part>, WaveFault>) -> Result<Vec<Part>, WaveFault>
     ensures { result ≡ (if started then joined else Err WaveFault.NoWorker) }
 {
     if started {
@@ -214,7 +214,7 @@ fn work_all<'s, E, R: Threads + Wait + Sync, G: Monitor>(
     let last = work(rt, site, own, space, monitor);
     let others = join_all(rt, children, parts);
     let joined = with_last(others, last);
-    judge(started, joined)
+    outcome_of(started, joined)
 }
 
 /// The parts of all workers by number, once all threads have ended.

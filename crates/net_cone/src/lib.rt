@@ -9,7 +9,7 @@
 //! **Only tests show** that ample memory suffices (`netlist_tests`). That time and memory are linear in the netlist no
 //! clause says.
 //!
-//! **Begin** with `specs/Cones`; then `cone`, which seen what is below (`below`), numbers it (`numbering`) and names
+//! **Begin** with `specs/Cones`; then `cone`, which sees what is below (`below`), numbers it (`numbering`) and names
 //! it (`naming`).
 #![tactic(auto)]
 

@@ -13,7 +13,7 @@ pub returns-in-Ok-extend_from_slice-clause-text : goal.returns-in-Ok-extend_from
 returns-in-Ok-extend_from_slice-clause-text g c = λ told ga.
     let s = c.args.task.now.settings.now in
     let given = c.is_some-given.ensures ∙ sym (condition_told told.given (condition c.args.task.now.given) ga.condition ∙ condition_some c.args.task.now.given) in
-    let report = form_as s.json s.assignment s.matching (told_kind s.order c.args.tried) (share_of s.picked) c.args.verdicts.now c.in-Ok-text_of.text.items c.is_some-given.result (is_some told.given) _ (causes_in c.in-Ok.causes) c.in-Ok-text_of.ensures given c.listed-list.ensures in
+    let report = form_as s.json s.assignment s.matching (told_kind s.order c.args.tried) (share_of s.picked) c.args.verdicts.now c.in-Ok-form_text.text.items c.is_some-given.result (is_some told.given) _ (causes_in c.in-Ok.causes) c.in-Ok-form_text.ensures given c.listed-list.ensures in
     (causes_in c.in-Ok.causes, c.in-Ok.ensures.causes told ga, c.in-Ok-behind.explanations.items, c.in-Ok-behind.ensures.behind told ga, c.in-Ok-extend_from_slice.ensures.items ∙ ap₂ (λ (x : List ℕ) (y : List ℕ). x ++ y) report c.as_slice.ensures.value)
 
 -- ---- no memory

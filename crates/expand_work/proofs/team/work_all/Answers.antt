@@ -26,7 +26,7 @@ returns g c =
     let ports = c.args.ports.items in
     let rest = c.pop.new.self.items in
     let own = c.in-Some.own in
-    let parts = judged _ _ c.with_last-joined.result c.judge.result c.judge.ensures (λ t.
+    let parts = judged _ _ c.with_last-joined.result c.outcome_of.result c.outcome_of.ensures (λ t.
     let e = eqb-true c.len-2.result c.len-count.result t in
     let works = each_has_its l s r children rest c.in_ok-children.ensures (let p = c.len-2.ensures in let m = c.len-count.ensures in search rules) in
     IfOk-weaker c.with_last-joined.result _ _ (λ v j.
