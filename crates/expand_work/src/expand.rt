@@ -10,7 +10,7 @@ use crate::due::Due;
 use crate::{Spare, Splits};
 use dd_store::Store;
 use req_table::requests::{level_of, owner};
-use req_table::{Child, Key, Placed};
+use req_table::{Child, Key, Owned};
 use std::alloc::AllocError;
 
 // The request becomes due from the key's owner, which is answered.
@@ -39,7 +39,7 @@ fn push_child(
     spare: &mut Spare,
     child: Child,
     workers: u32,
-) -> Result<Placed, AllocError>
+) -> Result<Owned, AllocError>
     requires long { length due.old ≡ workers }
     requires some { 0 < workers }
     ensures lean { IfOk result (λ p. p ≡ lean workers child) }
@@ -48,10 +48,10 @@ fn push_child(
         → at due.new k ≡ at due.old k ++ filter (asked_of workers k) (due_by child)) }
 {
     match child {
-        Child::Done(answer) => Ok(Placed::done(answer)),
+        Child::Done(answer) => Ok(Owned::done(answer)),
         Child::Ask { level, key, mark } => {
             let owner = push_key(due, spare, level, key, workers)?;
-            Ok(Placed::ask(level, owner, mark))
+            Ok(Owned::ask(level, owner, mark))
         }
     }
 }
@@ -62,10 +62,10 @@ pub fn expand_row(
     store: &Store,
     keys: &[Key],
     workers: u32,
-    row: Vec<(Placed, Placed)>,
+    row: Vec<(Owned, Owned)>,
     due: Due,
     spare: &mut Spare,
-) -> Result<(Vec<(Placed, Placed)>, Due, usize), AllocError>
+) -> Result<(Vec<(Owned, Owned)>, Due, usize), AllocError>
     requires keys { All (IsKey store.now) keys.now }
     requires some { 0 < workers }
     requires empty { row.items ≡ [] }

@@ -4,7 +4,7 @@ ghost use Rattle.std.specs.List.{sum_by};
 ghost use Rattle.expand_work.specs.Noted.{EntersAt};
 ghost use Rattle.expand_work.specs.Work.{at};
 
-use req_table::{Key, Placed, Table};
+use req_table::{Key, Owned, Table};
 use std::alloc::{AllocError, Global};
 use std::marker::Model;
 use std::mem;
@@ -141,19 +141,19 @@ impl Tables {
 }
 
 // What a request takes in its row.
-const _: () = prove!(size_of::<(Placed, Placed)>() == 16);
+const _: () = prove!(size_of::<(Owned, Owned)>() == 16);
 
-/// One row for each level: the children of each request, low and high, where the number beside a level is the owner.
+/// One row for each level: the children of each request, low and high. One that is asked for is told by its owner.
 #[derive(Drop)]
 pub struct Rows {
-    rows: Vec<Vec<(Placed, Placed)>>,
+    rows: Vec<Vec<(Owned, Owned)>>,
 }
 
 impl Model for Rows {
     ghost use Rattle.std.specs.Prelude.{List, map};
-    ghost use Rattle.req_table.specs.declared.placed.Placed.{Placed};
+    ghost use Rattle.req_table.specs.declared.owned.Owned.{Owned};
 
-    ghost Value = { List (List (Placed × Placed)) };
+    ghost Value = { List (List (Owned × Owned)) };
 
     ghost view = { λ r. map (λ row. row.items) r.rows.items };
 }
@@ -183,7 +183,7 @@ impl Rows {
     }
 
     /// An empty row, in the memory of that of a level, which is taken out.
-    pub fn take(&mut self, alloc: Global, level: u16) -> Vec<(Placed, Placed)>
+    pub fn take(&mut self, alloc: Global, level: u16) -> Vec<(Owned, Owned)>
         requires { level < length self.old }
         ensures rows { self.new ≡ slice_set self.old level [] }
         ensures empty { result.items ≡ [] }
@@ -194,7 +194,7 @@ impl Rows {
     }
 
     /// Puts the row of a level in.
-    pub fn put(&mut self, level: u16, row: Vec<(Placed, Placed)>)
+    pub fn put(&mut self, level: u16, row: Vec<(Owned, Owned)>)
         requires { level < length self.old }
         ensures { self.new ≡ slice_set self.old level row.items }
     {
@@ -202,7 +202,7 @@ impl Rows {
     }
 
     /// The children of a level's requests, by place.
-    pub fn row(&self, level: u16) -> &[(Placed, Placed)]
+    pub fn row(&self, level: u16) -> &[(Owned, Owned)]
         requires { level < length self.now }
         ensures { result.now ≡ at self.now level }
     {

@@ -11,7 +11,7 @@ use crate::team::{Wave, run_workers};
 use crate::{Crew, Monitor, Part, Space, Spaces, WaveFault};
 use dd_store::Store;
 use lane_queue::{Lanes, Port};
-use req_table::{Key, Placed};
+use req_table::{Key, Owned};
 use std::alloc::{AllocError, Global};
 use std::marker::Model;
 use std::snapshot::Snapshot;
@@ -41,7 +41,7 @@ impl Model for Parts {
 impl Parts {
     /// The children of a worker's requests of a level, low and high, by place. Of one that is asked for this tells the level, the
     /// owner and the mark.
-    pub fn children(&self, worker: u32, level: u16) -> &[(Placed, Placed)]
+    pub fn children(&self, worker: u32, level: u16) -> &[(Owned, Owned)]
         requires worker { worker < length self.now.rows }
         requires level { level < length (slice_index_or self.now.rows worker []) }
         ensures { result.now ≡ lean_row (length self.now.rows) (row_of self.now.rows worker level) }

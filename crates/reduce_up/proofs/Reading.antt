@@ -18,8 +18,8 @@ use Rattle.req_table.specs.declared.Key.{Key}
 use Rattle.req_table.specs.declared.Child.{Child}
 use Rattle.req_table.specs.declared.Child.TheVariants.{Done, Ask}
 use Rattle.req_table.specs.declared.Record.{Record}
-use Rattle.req_table.specs.declared.placed.Placed.{Placed}
-use Rattle.req_table.specs.declared.placed.PlacedChild.TheVariants as placed
+use Rattle.req_table.specs.declared.owned.Owned.{Owned}
+use Rattle.req_table.specs.declared.owned.OwnedChild.TheVariants as by_owner
 use Rattle.expand_work.specs.Lean.{lean, lean_row}
 use Rattle.req_table.specs.Keys.{level_of, owner}
 use Rattle.req_table.specs.Settled.{key_of, asked, asked_by, asked_below, dealt_from, level_of_rows}
@@ -326,16 +326,16 @@ module _ (n : ℕ) (p : PartsView) (a : AnswersView) (s : ℕ) (left : List ℕ)
       (subst (λ (z : ℕ × ℕ). slice_get (answers_at a l z.0) z.1 ≡ Some r) (λ i. (k-is i, place-is i)) e)
 
 -- ---- a child in eight bytes
-pub asked_child : (n : ℕ) (e : Placed) (c : Child) (level k : ℕ) (m : Bool) → e ≡ placed.Ask level k m → e ≡ lean n c → (x : Key) × (c ≡ Ask level x m) × (k ≡ owner n x)
+pub asked_child : (n : ℕ) (e : Owned) (c : Child) (level k : ℕ) (m : Bool) → e ≡ by_owner.Ask level k m → e ≡ lean n c → (x : Key) × (c ≡ Ask level x m) × (k ≡ owner n x)
 asked_child n e (Done r) level k m is f = absurd (let z = sym is ∙ f in cc)
 asked_child n e (Ask l x b) level k m is f =
-    let z : placed.Ask level k m ≡ placed.Ask l (owner n x) b = sym is ∙ f in
+    let z : by_owner.Ask level k m ≡ by_owner.Ask l (owner n x) b = sym is ∙ f in
     let at : level ≡ l = cc in let own : k ≡ owner n x = cc in let mark : m ≡ b = cc in
     (x, (λ i. Ask (sym at i) x (sym mark i)), own)
 
-pub done_child : (n : ℕ) (e : Placed) (c : Child) (r : Ref) → e ≡ placed.Done r → e ≡ lean n c → c ≡ Done r
+pub done_child : (n : ℕ) (e : Owned) (c : Child) (r : Ref) → e ≡ by_owner.Done r → e ≡ lean n c → c ≡ Done r
 done_child n e (Done q) r is f =
-    let z : placed.Done r ≡ placed.Done q = sym is ∙ f in
+    let z : by_owner.Done r ≡ by_owner.Done q = sym is ∙ f in
     let a : r ≡ q = cc in ap (λ u. Done u) (sym a)
 done_child n e (Ask l x b) r is f = absurd (let z = sym is ∙ f in cc)
 
@@ -347,7 +347,7 @@ some_record [] i l = absurd (omega (arith, l))
 some_record (r ∷ records) i l = r
 
 -- the record whose children were read
-pub row_read : (n : ℕ) (p : PartsView) (s v : ℕ) (row : List (Placed × Placed)) → row ≡ lean_row (length p.rows) (row_of p.rows s v) → length p.rows ≡ n → (i : ℕ) → i < length (row_of p.rows s v) → (e : Placed × Placed) → e ≡ get_or row i e
+pub row_read : (n : ℕ) (p : PartsView) (s v : ℕ) (row : List (Owned × Owned)) → row ≡ lean_row (length p.rows) (row_of p.rows s v) → length p.rows ≡ n → (i : ℕ) → i < length (row_of p.rows s v) → (e : Owned × Owned) → e ≡ get_or row i e
     → (r : Record) × (r ≡ get_or (row_of p.rows s v) i r) × (e.0 ≡ lean n r.low) × (e.1 ≡ lean n r.high)
 row_read n p s v row is many i l e e-is =
     let own = row_of p.rows s v in

@@ -15,7 +15,7 @@ use Rattle.req_table.specs.declared.Key.{Key}
 use Rattle.req_table.specs.declared.Child.{Child}
 use Rattle.req_table.specs.declared.Child.TheVariants.{Done, Ask}
 use Rattle.req_table.specs.declared.Record.{Record}
-use Rattle.req_table.specs.declared.placed.Placed.{Placed}
+use Rattle.req_table.specs.declared.owned.Owned.{Owned}
 use Rattle.expand_work.specs.Lean.{lean}
 use Rattle.req_table.specs.Keys.{owner}
 use Rattle.req_table.specs.Settled.{key_of, asked, asked_below, dealt_from, level_of_rows}
@@ -103,7 +103,7 @@ IsFound n p a (Done r) = Unit {0}
 IsFound n p a (Ask l x m) = (l < length a.found) × IsLevelDone n p l a
 
 -- e is a child that worker s asked for as the last of what is still to be read, and its diagram is known
-abbrev pub IsNext : ℕ → PartsView → AnswersView → ℕ → List ℕ → Placed → Child → Type 0
+abbrev pub IsNext : ℕ → PartsView → AnswersView → ℕ → List ℕ → Owned → Child → Type 0
 IsNext n p a s left e c = (e ≡ lean n c) × IsLast n p s left c × IsFound n p a c
 
 -- the parts of a wave over some store, of which the diagrams of the levels from v on are known, and no others

@@ -17,7 +17,7 @@ use crate::spare::Spare;
 use crate::wide::share_level;
 use dd_store::{Ref, Store, StoreFault};
 use expand_work::{Crew, Monitor, Parts, WaveFault};
-use req_table::{Key, Placed, PlacedChild};
+use req_table::{Key, Owned, OwnedChild};
 use std::alloc::{AllocError, Global};
 use std::thread::Threads;
 
@@ -32,7 +32,7 @@ pub(crate) struct Team<'a> {
 }
 
 /// The diagram of a child of a sender's record: of what the sender asked of the child's owner it is the last that is still to be read.
-pub(crate) fn resolve(team: Team<'_>, sender: u32, left: &mut Vec<usize>, child: Placed) -> Ref
+pub(crate) fn resolve(team: Team<'_>, sender: u32, left: &mut Vec<usize>, child: Owned) -> Ref
     requires some { 0 < team.workers }
     requires long { length left.old.items ≡ team.workers }
     requires many { length team.parts.now.noted ≡ team.workers }
@@ -44,12 +44,8 @@ pub(crate) fn resolve(team: Team<'_>, sender: u32, left: &mut Vec<usize>, child:
         c → IsResolved (told team.entry.workers team.entry.parts.now team.entry.answers.now) c result }
 {
     match child.view() {
-        PlacedChild::Done(answer) => answer,
-        PlacedChild::Ask {
-            level,
-            place: owner,
-            mark,
-        } => {
+        OwnedChild::Done(answer) => answer,
+        OwnedChild::Ask { level, owner, mark } => {
             let number = left[owner as usize] - 1;
             left[owner as usize] = number;
             let place = team.parts.noted(owner, sender)[number];

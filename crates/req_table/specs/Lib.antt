@@ -12,5 +12,6 @@ pub mod Tables
 pub mod ComputedTables
 pub mod Words
 pub mod WordLaws
-pub mod PlacedWords
-pub mod PlacedLaws
+pub mod PackedWords
+pub mod PackedLaws
+pub mod Unpacked

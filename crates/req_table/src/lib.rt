@@ -4,7 +4,8 @@
 //! mean the operation on the operands' functions (`means`, `low`, `high`). A `Key` is a request, in sixteen bytes
 //! (`Key::op`: `request`). A `Table` is a list of requests, each once (`Table::admit`: `offers`, `stands`, `refused`).
 //! A `ComputedTable` is a list of keys with answers (`ComputedTable::peek`: `value`, `once`, `few`); `keep` puts a pair first and drops
-//! the key's old one, or the last of a full computed table, or changes nothing.
+//! the key's old one, or the last of a full computed table, or changes nothing. `Placed` and `Owned` tell a child in eight bytes, its
+//! request by its place or its owner.
 //!
 //! **Only tests show** that ample memory suffices, that then a pair is kept, and that a full store answers what is held
 //! (`wave_tests`).
@@ -19,12 +20,15 @@ ghost use Rattle.req_table.specs.TerminalCase.{op_number};
 ghost use Rattle.req_table.specs.Words.{op_of};
 
 mod computed;
+mod owned;
+mod packed;
 mod placed;
 pub mod requests;
 mod table;
 
 pub use computed::ComputedTable;
 use dd_store::Ref;
+pub use owned::{Owned, OwnedChild};
 pub use placed::{Placed, PlacedChild};
 use std::collections::LinkedList;
 use std::fmt;

@@ -1,11 +1,12 @@
-//! What a child comes to, in eight bytes.
+//! What a child comes to, in eight bytes: its request is told by its place.
 ghost use Rattle.std.specs.Prelude.{◌≡◌};
 
+use crate::packed::{Packed, PackedChild};
 use dd_store::Ref;
 use std::marker::Model;
 
-/// What a child comes to: its answer, or the level of its request with a number that stands for the request there, as its place or
-/// its owner; `mark` says that it is the complement of what the request asks for.
+/// What a child comes to: its answer, or the level of its request with its place there; `mark` says that it is the complement of
+/// what the request asks for.
 #[derive(Clone, Copy, Debug)]
 pub enum PlacedChild {
     Done(Ref),
@@ -15,34 +16,23 @@ pub enum PlacedChild {
 /// What a child comes to, in eight bytes.
 #[derive(Clone, Copy)]
 pub struct Placed {
-    /// The word of an answer, or 1 in bit 63, with the mark in bit 62, the level from bit 32 on and the place below.
-    word: u64,
+    packed: Packed,
 }
 
 const _: () = prove!(size_of::<Placed>() == 8);
-
-/// The bit that tells a request from an answer, the bit of a request's mark, and the lowest bit of its level.
-const ASK_BIT: u64 = 1 << 63;
-
-const MARK_BIT: u64 = 1 << 62;
-
-const LEVEL_BIT: u64 = 1 << 32;
 
 impl Model for Placed {
     ghost use Rattle.req_table.specs.declared.placed.PlacedChild.{PlacedChild};
 
     ghost Value = { PlacedChild };
 
-    ghost use Rattle.req_table.specs.PlacedWords.{placed_word, placed_of, IsPlacedWord};
-    ghost use Rattle.req_table.specs.PlacedLaws.{placed_word-placed_of};
+    ghost use Rattle.req_table.specs.Unpacked.{placed_of, packed_placed, packed_placed-placed_of};
 
-    ghost view = { λ p. placed_of p.word };
+    ghost view = { λ p. placed_of p.packed };
 
-    ghost inverse = { λ p. record { word = placed_word p } };
+    ghost inverse = { λ p. record { packed = packed_placed p } };
 
-    ghost inverse_ok = { λ p h i. record { word = placed_word-placed_of p.word h i } };
-
-    ghost invariant = { λ p. IsPlacedWord p.word };
+    ghost inverse_ok = { λ p _ i. record { packed = packed_placed-placed_of p.packed i } };
 }
 
 impl Placed {
@@ -51,17 +41,16 @@ impl Placed {
         ensures { result ≡ PlacedChild.Done answer }
     {
         Placed {
-            word: answer.word(),
+            packed: Packed::done(answer),
         }
     }
 
-    /// A request, told by a number at its level.
+    /// A request, told by its place.
     pub fn ask(level: u16, place: u32, mark: bool) -> Placed
         ensures { result ≡ PlacedChild.Ask level place mark }
     {
-        let mark_bit = if mark { MARK_BIT } else { 0 };
         Placed {
-            word: ASK_BIT + mark_bit + level as u64 * LEVEL_BIT + place as u64,
+            packed: Packed::ask(level, place, mark),
         }
     }
 
@@ -69,13 +58,13 @@ impl Placed {
     pub fn view(self) -> PlacedChild
         ensures { result ≡ self }
     {
-        if self.word < ASK_BIT {
-            return PlacedChild::Done(Ref::of_word(self.word));
-        }
-        PlacedChild::Ask {
-            level: (self.word % MARK_BIT / LEVEL_BIT) as u16,
-            place: (self.word % LEVEL_BIT) as u32,
-            mark: self.word / MARK_BIT == 3,
+        match self.packed.view() {
+            PackedChild::Done(answer) => PlacedChild::Done(answer),
+            PackedChild::Ask {
+                level,
+                number: place,
+                mark,
+            } => PlacedChild::Ask { level, place, mark },
         }
     }
 }

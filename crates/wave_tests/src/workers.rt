@@ -11,7 +11,7 @@ use crate::requests::{either, make_either, request, request_for, store_of, varia
 use dd_store::{Ref, Store, Watch};
 use expand_work::{Free, Monitor, Part, Site, Space, WorkFault, work};
 use lane_queue::{Lanes, Port};
-use req_table::{Key, Op, Placed, PlacedChild};
+use req_table::{Key, Op, Owned, OwnedChild};
 use std::alloc::Global;
 use std::process::Abort;
 use std::sync::Wait;
@@ -49,10 +49,10 @@ impl<'a> Monitor for Watcher<'a> {
 }
 
 /// What a child says, to be compared: its answer, or its level and owner, and whether it is the complement of what is asked for.
-fn tell(child: Placed) -> Result<Ref, (u16, u32, bool)> {
+fn tell(child: Owned) -> Result<Ref, (u16, u32, bool)> {
     match child.view() {
-        PlacedChild::Done(answer) => Ok(answer),
-        PlacedChild::Ask { level, place, mark } => Err((level, place, mark)),
+        OwnedChild::Done(answer) => Ok(answer),
+        OwnedChild::Ask { level, owner, mark } => Err((level, owner, mark)),
     }
 }
 
@@ -104,7 +104,7 @@ fn work_alone<R: Wait + Abort, G: Monitor>(
 /// Whether a level has this one request with these children.
 fn is_row(
     keys: &[Key],
-    row: &[(Placed, Placed)],
+    row: &[(Owned, Owned)],
     key: Key,
     low: Result<Ref, (u16, u32, bool)>,
     high: Result<Ref, (u16, u32, bool)>,
