@@ -22,7 +22,7 @@ use Rattle.report_text.specs.declared.assignment.Assignment.{Assignment}
 use Rattle.report_text.specs.Causes.{Caused}
 use Rattle.report_text.specs.Json.{form_text}
 use Rattle.report_text.specs.Lines.{Found}
-use Rattle.net_bench.specs.declared.netlist.BenchFault.{BenchFault}
+use Rattle.net_bench.specs.declared.fault.BenchFault.{BenchFault}
 use Rattle.check_report.specs.declared.settings.Settings.{Settings}
 use Rattle.check_report.specs.Deciding.{HasCause, IsFoundBy}
 use Rattle.check_report.specs.Deciding.IsFoundBy.{by_cones, in_order}

@@ -16,7 +16,7 @@ use crate::subject::Subject;
 use crate::telling::{Asked, Telling};
 use counter_walk::{by_level, least_declared, least_difference, value};
 use dd_store::{Ref, Store};
-use net_bench::reader::Netlist;
+use net_bench::netlist::Netlist;
 use net_order::pairing::Pairing;
 use report_text::{Bits, Name, Verdict};
 use std::alloc::{AllocError, Global};

@@ -24,7 +24,7 @@ use crate::subject::Subject;
 use crate::task::Task;
 use crate::turns::judge_all;
 use expand_work::Monitor;
-use net_bench::reader::Netlist;
+use net_bench::netlist::Netlist;
 use net_cone::{Cone, cone_of, gate_signals};
 use net_order::naming::Naming;
 use net_order::order::Match;

@@ -26,7 +26,7 @@ use crate::picking::{has_name, registers_of};
 use crate::subject::Subject;
 use crate::task::Task;
 use crate::trials::{is_same, named, named_in};
-use net_bench::reader::Netlist;
+use net_bench::netlist::Netlist;
 use net_explain::{explain, explanation_of};
 use net_order::naming::Naming;
 use net_order::order::{Order, OrderFault};

@@ -3,7 +3,7 @@ ghost use Rattle.std.specs.Prelude.{Some};
 ghost use Rattle.check_report.specs.Texts.{check_fault_text};
 
 use expand_work::WaveFault;
-use net_bench::netlist::BenchFault;
+use net_bench::fault::BenchFault;
 use net_order::order::OrderFault;
 use std::fmt;
 use thiserror::Error;

@@ -4,8 +4,7 @@ ghost use Rattle.net_bench.specs.Circuit.{circuit};
 ghost use Rattle.net_order.specs.Order.{names_of};
 ghost use Rattle.check_report.specs.Report.{lone_side};
 
-use net_bench::netlist::Signal;
-use net_bench::reader::Netlist;
+use net_bench::netlist::{Netlist, Signal};
 use net_order::naming::Naming;
 use report_text::{Name, PairKind, Side, Verdict};
 use std::alloc::{AllocError, Global};

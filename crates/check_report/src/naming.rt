@@ -4,8 +4,7 @@ ghost use Rattle.net_bench.specs.Circuit.{circuit, variables_of};
 ghost use Rattle.check_report.specs.Cones.{AreNamed};
 ghost use Rattle.check_report.specs.Coning.{levels_in, texts};
 
-use net_bench::netlist::Signal;
-use net_bench::reader::Netlist;
+use net_bench::netlist::{Netlist, Signal};
 use net_order::naming::Naming;
 use std::alloc::{AllocError, Global};
 

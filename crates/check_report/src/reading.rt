@@ -9,7 +9,8 @@ ghost use Rattle.check_report.specs.Devices.{HasFailedIn, told_by, told_of};
 
 use crate::fault::CheckFault;
 use net_bench::device::Source;
-use net_bench::reader::{Netlist, read_bench};
+use net_bench::netlist::Netlist;
+use net_bench::reader::read_bench;
 use std::alloc::Global;
 
 /// Two netlists, and a condition where there is one.

@@ -8,8 +8,7 @@ ghost use Rattle.check_report.specs.Comparing.{IsInside};
 ghost use Rattle.check_report.specs.Picking.{AreShares, ComesBefore, HasWeight, dealt};
 
 use crate::subject::Subject;
-use net_bench::netlist::Signal;
-use net_bench::reader::Netlist;
+use net_bench::netlist::{Netlist, Signal};
 use net_cone::gates_below;
 use std::alloc::{AllocError, Global};
 use std::cmp::Reverse;

@@ -4,7 +4,7 @@ ghost use Rattle.net_order.specs.Order.{condition};
 ghost use Rattle.check_report.specs.Conditions.{HasOneOutput, one_output-prop};
 
 use crate::settings::Settings;
-use net_bench::reader::Netlist;
+use net_bench::netlist::Netlist;
 use std::alloc::Global;
 
 /// What a comparison stands in: the threads and the memory that it may use, how it is done, and who bounds and watches its waves.

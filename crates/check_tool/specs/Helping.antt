@@ -2,10 +2,10 @@
 use Rattle.std.specs.Prelude.{◌≡◌, ◌⊎◌, ◌||◌, ◌==◌, ℕ, Bool, true, false, if◌then◌else◌, List, [], ◌∷◌, ◌++◌, Option, Some, None, codes}
 use Rattle.std.specs.Prelude.{decimal}
 use Rattle.std.specs.Borrow.{Bor}
-use Rattle.net_bench.specs.declared.netlist.BenchFault.{BenchFault}
-use Rattle.net_bench.specs.declared.netlist.BenchFault.TheVariants.{TooLong as LongText, BadByte, BadStatement, UnknownGate, WrongOperands}
-use Rattle.net_bench.specs.declared.netlist.BenchFault.TheVariants.{Redefined, TooMany, Undefined, Cycle, Read as ReadFailed}
-use Rattle.net_bench.specs.declared.netlist.BenchFault.TheVariants.{OutOfMemory as NoTextMemory}
+use Rattle.net_bench.specs.declared.fault.BenchFault.{BenchFault}
+use Rattle.net_bench.specs.declared.fault.BenchFault.TheVariants.{TooLong as LongText, BadByte, BadStatement, UnknownGate, WrongOperands}
+use Rattle.net_bench.specs.declared.fault.BenchFault.TheVariants.{Redefined, TooMany, Undefined, Cycle, Read as ReadFailed}
+use Rattle.net_bench.specs.declared.fault.BenchFault.TheVariants.{OutOfMemory as NoTextMemory}
 use Rattle.net_order.specs.declared.order.OrderFault.{OrderFault}
 use Rattle.net_order.specs.declared.order.OrderFault.TheVariants.{CountsDiffer, NotAPermutation, TooManyInputs}
 use Rattle.net_order.specs.declared.order.OrderFault.TheVariants.{OutOfMemory as NoOrderMemory, BadName, TooLong as LongOrder}

@@ -9,7 +9,7 @@ ghost use Rattle.check_tool.specs.Faults.{place_text, tool_fault_text, words_tex
 use crate::folder::Obstacle;
 use check_report::CheckFault;
 use expand_work::WaveFault;
-use net_bench::netlist::BenchFault;
+use net_bench::fault::BenchFault;
 use net_order::order::OrderFault;
 
 /// What a file is.

@@ -9,7 +9,7 @@ use crate::fault::{Place, ToolFault};
 use crate::remedy::{help_against, help_shown};
 use check_report::CheckFault;
 use command_line::{Options, OrderChoice, Texts};
-use net_bench::netlist::BenchFault;
+use net_bench::fault::BenchFault;
 use net_order::order::OrderFault;
 use std::alloc::{AllocError, Global};
 

@@ -8,7 +8,7 @@ use crate::folder::Obstacle;
 use check_report::CheckFault;
 use command_line::OrderChoice;
 use expand_work::WaveFault;
-use net_bench::netlist::BenchFault;
+use net_bench::fault::BenchFault;
 use net_order::order::OrderFault;
 
 /// What helps where a text is refused.

@@ -4,8 +4,8 @@ ghost use Rattle.clap.specs.Words.{app_of};
 ghost use Rattle.command_line.specs.Words.{bare_app, IsTool};
 
 use crate::arguments::{
-    assignment, causes, explain, extend, first, format, given, limit, matching, memory, only, order,
-    order_file, print_order, second, share, sizes, vcd, verbose, workers,
+    assignment, causes, explain, extend, first, format, given, limit, matching, memory, only,
+    order, order_file, print_order, second, share, sizes, vcd, verbose, workers,
 };
 use crate::help::{ABOUT, MORE};
 use clap::Command;

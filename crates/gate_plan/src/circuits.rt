@@ -1,5 +1,5 @@
 //! The netlists that are built together.
-use net_bench::reader::Netlist;
+use net_bench::netlist::Netlist;
 use net_order::pairing::Pairing;
 
 /// Two netlists, a condition where there is one, and the variables that their pairing gives them.

@@ -10,8 +10,7 @@ ghost use Rattle.gate_plan.specs.Building.{level_in, AreVariables, AreInputs, wa
 
 use dd_store::{Ref, Store, StoreFault};
 use expand_work::WaveFault;
-use net_bench::netlist::Signal;
-use net_bench::reader::Netlist;
+use net_bench::netlist::{Netlist, Signal};
 use net_order::pairing::Pairing;
 use std::alloc::{AllocError, Global};
 

@@ -10,7 +10,7 @@ use crate::folds::{add_entries, copy_all, take_answers};
 use crate::inputs::{Which, input_references};
 use crate::steps::{Copied, Plan, Step};
 use dd_store::Ref;
-use net_bench::reader::Netlist;
+use net_bench::netlist::Netlist;
 use net_order::pairing::Pairing;
 use req_table::Op;
 use std::alloc::{AllocError, Global};

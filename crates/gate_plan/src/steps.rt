@@ -4,8 +4,7 @@ ghost use Rattle.net_bench.specs.Labels.{is_complemented};
 ghost use Rattle.gate_plan.specs.Plans.{IsPlan, rank_at, steps_at, plain_op, last_op, folds_of, step_of, copy_of, AddsAt, AddsSteps};
 ghost use Rattle.gate_plan.specs.Plans.{AddsGate, no_steps};
 
-use net_bench::netlist::{GateLine, Kind, Signal};
-use net_bench::reader::Netlist;
+use net_bench::netlist::{GateLine, Kind, Netlist, Signal};
 use req_table::Op;
 use std::alloc::{AllocError, Global};
 use std::marker::Model;

@@ -1,8 +1,8 @@
 -- What the judge's answer and the netlist say of the text.
 use Rattle.std.proofs.Common.{◌≡◌, ◌⊎◌, inl, inr, ℕ, ◌≤◌, List, [], refl, sym, subst, length}
 use Rattle.std.specs.Prelude.{Ok, Err}
-use Rattle.net_bench.specs.declared.netlist.BenchFault.{BenchFault}
-use Rattle.net_bench.specs.declared.netlist.BenchFault.TheVariants.{OutOfMemory}
+use Rattle.net_bench.specs.declared.fault.BenchFault.{BenchFault}
+use Rattle.net_bench.specs.declared.fault.BenchFault.TheVariants.{OutOfMemory}
 use Rattle.net_bench.specs.Pieces.{tokens_at}
 use Rattle.net_bench.specs.Statement.{Statement}
 use Rattle.net_bench.specs.Machine.{Between, Finished}

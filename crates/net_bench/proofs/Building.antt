@@ -13,7 +13,7 @@ use Rattle.std.proofs.lemmas.List.Folds.{list_any-append}
 use Rattle.net_bench.specs.declared.symbols.SymbolTable.{SymbolTable}
 use Rattle.net_bench.specs.Machine.{Between}
 use Rattle.net_bench.specs.Symbols.{AreFound, AreParts, IsSymbol, IsTold, is_defined_role, is_driven_role, is_input_role, known_symbol, undefined_use, AreRoles, IsPlacedAt}
-use Rattle.net_bench.specs.declared.netlist.BenchFault.TheVariants.{Undefined}
+use Rattle.net_bench.specs.declared.fault.BenchFault.TheVariants.{Undefined}
 use Rattle.net_bench.specs.Text.{Word}
 use Rattle.net_bench.specs.Statement.{Statement, input_name, gate_name, defined, uses, counted}
 use Rattle.net_bench.specs.Circuit.{Net, names_of, find, is_name_in, HasRole, distinct, number_of}

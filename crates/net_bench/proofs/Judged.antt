@@ -4,8 +4,8 @@ use Rattle.std.specs.Prelude.{Option, Some, None, Ok, Err, slice_get}
 use Rattle.net_bench.specs.declared.symbols.SymbolTable.{SymbolTable}
 use Rattle.net_bench.specs.declared.syntax.Pending.{Pending}
 use Rattle.net_bench.specs.declared.syntax.Pending.TheVariants.{Nothing as nothing, First as first_name, Opened as opened, Named as named, Defining as defining, AtWord as at_word, Operands as operands_open, AfterOperand as after_operand, AfterComma as comma_behind}
-use Rattle.net_bench.specs.declared.netlist.BenchFault.{BenchFault}
-use Rattle.net_bench.specs.declared.netlist.BenchFault.TheVariants.{BadStatement, OutOfMemory}
+use Rattle.net_bench.specs.declared.fault.BenchFault.{BenchFault}
+use Rattle.net_bench.specs.declared.fault.BenchFault.TheVariants.{BadStatement, OutOfMemory}
 use Rattle.net_bench.specs.declared.scan.Token.{Token as Scanned}
 use Rattle.net_bench.specs.declared.scan.Token.TheVariants.{Open as open_paren, Close as close_paren, Comma as comma, Equals as equals, Name as name, Unknown as unknown, End as end}
 use Rattle.net_bench.specs.Scan.{seen, Takes}

@@ -6,8 +6,8 @@ use Rattle.net_bench.specs.declared.symbols.SymbolTable.{SymbolTable}
 use Rattle.net_bench.specs.declared.syntax.Pending.{Pending}
 use Rattle.net_bench.specs.declared.syntax.Pending.TheVariants.{Nothing as nothing}
 use Rattle.net_bench.specs.declared.netlist.GateLine.{GateLine}
-use Rattle.net_bench.specs.declared.netlist.BenchFault.{BenchFault}
-use Rattle.net_bench.specs.declared.netlist.BenchFault.TheVariants.{BadStatement, TooMany}
+use Rattle.net_bench.specs.declared.fault.BenchFault.{BenchFault}
+use Rattle.net_bench.specs.declared.fault.BenchFault.TheVariants.{BadStatement, TooMany}
 use Rattle.net_bench.specs.Statement.{Statement, counted, uses, operands, line_of}
 use Rattle.net_bench.specs.declared.symbols.Use.{Use}
 use Rattle.net_bench.specs.declared.symbols.Symbol.{Symbol}

@@ -4,9 +4,9 @@ use Rattle.std.specs.Prelude.{slice_get, Option, Some, None, Contains}
 use Rattle.std.specs.List.{list_any, list_all}
 use Rattle.net_bench.specs.declared.netlist.Kind.{Kind}
 use Rattle.net_bench.specs.declared.netlist.GateLine.{GateLine}
-use Rattle.net_bench.specs.declared.netlist.BenchFault.{BenchFault}
-use Rattle.net_bench.specs.declared.netlist.BenchFault.TheVariants.{TooLong, BadByte, BadStatement, UnknownGate, WrongOperands, Redefined}
-use Rattle.net_bench.specs.declared.netlist.BenchFault.TheVariants.{TooMany, Undefined, Cycle, Read, OutOfMemory}
+use Rattle.net_bench.specs.declared.fault.BenchFault.{BenchFault}
+use Rattle.net_bench.specs.declared.fault.BenchFault.TheVariants.{TooLong, BadByte, BadStatement, UnknownGate, WrongOperands, Redefined}
+use Rattle.net_bench.specs.declared.fault.BenchFault.TheVariants.{TooMany, Undefined, Cycle, Read, OutOfMemory}
 use Rattle.net_bench.specs.Text.{Word, Token, Open, Comma, Equals, Name, Unknown, HasTokens}
 use Rattle.net_bench.specs.Statement.{Statement, Input, Output, Gate, spelled, IsSpelledRight, AreSpelledRight, spelling, token_of, Reads}
 use Rattle.net_bench.specs.Statement.{kind_of, takes_one, line_of, input_name, gate_name, uses, defined}

@@ -1,8 +1,8 @@
 -- How the faults of a netlist text are printed.
 use Rattle.std.specs.Prelude.{ℕ, List, ◌++◌, codes, decimal}
-use Rattle.net_bench.specs.declared.netlist.BenchFault.{BenchFault}
-use Rattle.net_bench.specs.declared.netlist.BenchFault.TheVariants.{TooLong, BadByte, BadStatement, UnknownGate, WrongOperands, Redefined}
-use Rattle.net_bench.specs.declared.netlist.BenchFault.TheVariants.{TooMany, Undefined, Cycle, Read, OutOfMemory}
+use Rattle.net_bench.specs.declared.fault.BenchFault.{BenchFault}
+use Rattle.net_bench.specs.declared.fault.BenchFault.TheVariants.{TooLong, BadByte, BadStatement, UnknownGate, WrongOperands, Redefined}
+use Rattle.net_bench.specs.declared.fault.BenchFault.TheVariants.{TooMany, Undefined, Cycle, Read, OutOfMemory}
 
 -- what is wrong, behind the line on which it stands
 abbrev pub on_line : ℕ → List ℕ → List ℕ

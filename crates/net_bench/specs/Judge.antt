@@ -5,8 +5,8 @@ use Rattle.std.specs.Prelude.{fold, Option, Some, None, Result, Ok, Err}
 use Rattle.std.specs.List.{list_all, list_any}
 use Rattle.net_bench.specs.declared.netlist.Kind.{Kind}
 use Rattle.net_bench.specs.declared.netlist.GateLine.{GateLine}
-use Rattle.net_bench.specs.declared.netlist.BenchFault.{BenchFault}
-use Rattle.net_bench.specs.declared.netlist.BenchFault.TheVariants.{Undefined, Cycle}
+use Rattle.net_bench.specs.declared.fault.BenchFault.{BenchFault}
+use Rattle.net_bench.specs.declared.fault.BenchFault.TheVariants.{Undefined, Cycle}
 use Rattle.net_bench.specs.Text.{Word, Token, Close, Name, Unknown, Tokens}
 use Rattle.net_bench.specs.Pieces.{tokens_at}
 use Rattle.net_bench.specs.Statement.{Statement, Gate, kind_of, line_of, uses}

@@ -4,8 +4,8 @@ use Rattle.std.specs.List.{list_all}
 use Rattle.net_bench.specs.Statement.{Statement, Input, Output, Gate, kind_of, uses}
 use Rattle.net_bench.specs.Circuit.{names_of, Net, circuit_of}
 use Rattle.net_bench.specs.Fault.{has_wrong_operands, redefines, is_defined, max_signals, FirstUndefined, FirstEndless}
-use Rattle.net_bench.specs.declared.netlist.BenchFault.{BenchFault}
-use Rattle.net_bench.specs.declared.netlist.BenchFault.TheVariants.{Undefined, Cycle, OutOfMemory}
+use Rattle.net_bench.specs.declared.fault.BenchFault.{BenchFault}
+use Rattle.net_bench.specs.declared.fault.BenchFault.TheVariants.{Undefined, Cycle, OutOfMemory}
 
 -- a gate's word is the word of a kind
 abbrev pub has_kind : Statement → Bool

@@ -10,8 +10,8 @@ use Rattle.net_bench.specs.declared.symbols.Use.{Use}
 use Rattle.net_bench.specs.declared.symbols.SymbolTable.{SymbolTable}
 use Rattle.net_bench.specs.declared.netlist.Kind.{Kind}
 use Rattle.net_bench.specs.declared.netlist.GateLine.{GateLine}
-use Rattle.net_bench.specs.declared.netlist.BenchFault.{BenchFault}
-use Rattle.net_bench.specs.declared.netlist.BenchFault.TheVariants.{TooMany, OutOfMemory}
+use Rattle.net_bench.specs.declared.fault.BenchFault.{BenchFault}
+use Rattle.net_bench.specs.declared.fault.BenchFault.TheVariants.{TooMany, OutOfMemory}
 use Rattle.net_bench.specs.Text.{Word, Token, Name}
 use Rattle.net_bench.specs.Statement.{Statement, Input, Output, Gate, counted, operands, uses, input_name, output_name, gate_name, kind_of}
 use Rattle.net_bench.specs.Statement.{line_of}

@@ -10,8 +10,8 @@ ghost use Rattle.net_bench.specs.Pieces.{tokens_at};
 ghost use Rattle.net_bench.specs.Judge.{Found, gate_word, judge, lexical, statements_in, told};
 ghost use Rattle.net_bench.specs.Symbols.{GoesOn, IsClosed, IsTold, KnowsSubject, Tells, statement_fault};
 
+use crate::fault::BenchFault;
 use crate::kinds::kind_of;
-use crate::netlist::BenchFault;
 use crate::scan::{Scanner, Token};
 use crate::symbols::SymbolTable;
 use crate::syntax::{Next, Pending, Said, next_part};

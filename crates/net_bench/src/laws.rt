@@ -6,7 +6,7 @@ ghost use Rattle.net_bench.specs.Machine.{State, Between, Failed, run};
 ghost use Rattle.net_bench.specs.Circuit.{Circuit, Net, IsNet, circuit, circuit_of, AreRanks, IsEndless};
 ghost use Rattle.net_bench.specs.Labels.{IsLabelling, bit_of};
 ghost use Rattle.net_bench.specs.Fault.{Begins, IsFirst, IsFaultless, IsRefused, IsNetlistText, ReadsWell};
-ghost use Rattle.net_bench.specs.declared.netlist.BenchFault.{BenchFault};
+ghost use Rattle.net_bench.specs.declared.fault.BenchFault.{BenchFault};
 ghost use Rattle.net_bench.specs.Judge.{Found, judge};
 ghost use Rattle.net_bench.specs.Sound.{IsSound, net_of, AreDefined};
 

@@ -18,6 +18,7 @@
 pub mod assembly;
 mod build;
 pub mod device;
+pub mod fault;
 mod judge;
 mod kinds;
 pub mod laws;

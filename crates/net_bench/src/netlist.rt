@@ -1,13 +1,10 @@
-//! The parts of a netlist, and why a text is none.
-ghost use Rattle.std.specs.Prelude.{◌≡◌, Some};
-ghost use Rattle.net_bench.specs.Circuit.{is_register_kind};
-ghost use Rattle.net_bench.specs.FaultText.{fault_text};
-ghost use Rattle.net_bench.specs.declared.netlist.BenchFault.TheVariants.{OutOfMemory};
+//! A netlist and its parts.
+ghost use Rattle.std.specs.Prelude.{◌≡◌, ◌<◌, length, map, IfSome, slice_index, slice_get};
+ghost use Rattle.net_bench.specs.Circuit.{circuit, find, variables_of, HasRole, gate_by, gate_of, is_register_kind, IsNet, rank_of};
 
-use std::alloc::AllocError;
-use std::fmt;
+use crate::name_table::NameTable;
+use crate::symbols::{Symbol, symbol_of};
 use std::marker::Model;
-use thiserror::Error;
 
 /// What a gate computes of its operands; `Dff` is a register, whose signal is a variable and whose operand is its next state.
 #[derive(Clone, Copy, Debug, PartialEq, Eq)]
@@ -29,67 +26,6 @@ impl Kind {
         ensures { result ≡ is_register_kind self }
     {
         matches!(self, Kind::Dff)
-    }
-}
-
-/// Why a text is no netlist. Lines are counted from 1. The faults are numbered from 1 to 12 in this order; number 8 is not used.
-#[derive(Clone, Copy, Debug, PartialEq, Eq, Error)]
-pub enum BenchFault {
-    /// The text has more than 67,108,864 bytes.
-    TooLong,
-    /// A byte outside comments that is no blank and not printable.
-    BadByte { line: u32 },
-    /// A token that no statement has there, or the text ends in a statement.
-    BadStatement { line: u32 },
-    /// The word of a gate is none of the gate words.
-    UnknownGate { line: u32 },
-    /// NOT, BUFF or DFF with two operands or more.
-    WrongOperands { line: u32 },
-    /// The signal has a gate or register already, or an INPUT and one of these.
-    Redefined { line: u32 },
-    /// A name over 255 bytes, the 1,000,001st signal, or the 4,000,001st operand.
-    TooMany { line: u32 },
-    /// An operand or an OUTPUT name without INPUT, gate and register.
-    Undefined { line: u32 },
-    /// An endless chain of operands starts at the gate.
-    Cycle { line: u32 },
-    /// The device failed.
-    Read,
-    /// A growth was refused.
-    OutOfMemory,
-}
-
-impl fmt::Display for BenchFault {
-    ghost output = { λ f. Some (fault_text f) };
-
-    fn fmt<W: fmt::Write>(&self, f: &mut fmt::Formatter<W>) -> fmt::Result {
-        match self {
-            BenchFault::TooLong => write!(f, "longer than 67108864 bytes"),
-            BenchFault::BadByte { line } => write!(f, "line {line}: a byte that no statement has"),
-            BenchFault::BadStatement { line } => write!(f, "line {line}: broken statement"),
-            BenchFault::UnknownGate { line } => write!(f, "line {line}: unknown gate"),
-            BenchFault::WrongOperands { line } => write!(
-                f,
-                "line {line}: wrong number of operands"
-            ),
-            BenchFault::Redefined { line } => write!(f, "line {line}: signal defined twice"),
-            BenchFault::TooMany { line } => write!(
-                f,
-                "line {line}: too many signals or operands, or a name too long"
-            ),
-            BenchFault::Undefined { line } => write!(f, "line {line}: signal without definition"),
-            BenchFault::Cycle { line } => write!(f, "line {line}: gate that depends on a cycle"),
-            BenchFault::Read => write!(f, "cannot be read"),
-            BenchFault::OutOfMemory => write!(f, "out of memory"),
-        }
-    }
-}
-
-impl From<AllocError> for BenchFault {
-    ghost from_gives = { λ _ fault. fault ≡ OutOfMemory };
-
-    fn from(_fault: AllocError) -> BenchFault {
-        BenchFault::OutOfMemory
     }
 }
 
@@ -171,4 +107,140 @@ pub struct GateLine {
     pub kind: Kind,
     pub operands: Operands,
     pub line: u32,
+}
+
+/// A netlist. Its signals are numbered in the order in which the text counts them.
+#[derive(Drop)]
+pub struct Netlist {
+    pub(crate) names: NameTable,
+    pub(crate) symbols: Vec<Symbol>,
+    pub(crate) inputs: Vec<Signal>,
+    pub(crate) outputs: Vec<Signal>,
+    pub(crate) gates: Vec<GateLine>,
+    pub(crate) registers: Vec<GateLine>,
+    pub(crate) variables: Vec<Signal>,
+    pub(crate) ranks: Vec<u32>,
+}
+
+impl Model for Netlist {
+    ghost use Rattle.std.specs.Prelude.{◌≡◌, ◌++◌, map};
+    ghost use Rattle.net_bench.specs.Circuit.{Net, IsNet};
+    ghost use Rattle.net_bench.specs.Symbols.{AreRoles};
+
+    ghost Value = { Net };
+
+    ghost view = { λ a. record {
+      names = a.names;
+      inputs = a.inputs.items;
+      outputs = a.outputs.items;
+      gates = a.gates.items;
+      registers = a.registers.items;
+      ranks = a.ranks.items;
+    } };
+
+    ghost invariant = { λ a. IsNet (record {
+      names = a.names;
+      inputs = a.inputs.items;
+      outputs = a.outputs.items;
+      gates = a.gates.items;
+      registers = a.registers.items;
+      ranks = a.ranks.items;
+    }) × (a.variables.items ≡ a.inputs.items ++ map (λ g. g.out) a.registers.items) × AreRoles (record {
+      names = a.names;
+      inputs = a.inputs.items;
+      outputs = a.outputs.items;
+      gates = a.gates.items;
+      registers = a.registers.items;
+      ranks = a.ranks.items;
+    }) a.symbols.items };
+}
+
+impl Netlist {
+    /// The inputs, in the order of their first INPUT.
+    pub fn inputs(&self) -> &[Signal]
+        ensures value { result.now ≡ self.now.inputs }
+        ensures sound { IsNet self.now }
+    {
+        self.inputs.as_slice()
+    }
+
+    /// The outputs, in the order of their first OUTPUT.
+    pub fn outputs(&self) -> &[Signal]
+        ensures value { result.now ≡ self.now.outputs }
+        ensures sound { IsNet self.now }
+    {
+        self.outputs.as_slice()
+    }
+
+    /// The registers, in text order, each with its next state as its operand. Their signals are variables.
+    pub fn registers(&self) -> &[GateLine]
+        ensures value { result.now ≡ self.now.registers }
+        ensures sound { IsNet self.now }
+    {
+        self.registers.as_slice()
+    }
+
+    /// The variables: the inputs, then the registers' signals, each in its order.
+    pub fn variables(&self) -> &[Signal]
+        ensures value { result.now ≡ variables_of (circuit self.now) }
+        ensures sound { IsNet self.now }
+    {
+        self.variables.as_slice()
+    }
+
+    /// The gates that are no registers, in text order.
+    pub fn gates(&self) -> &[GateLine]
+        ensures value { result.now ≡ self.now.gates }
+        ensures sound { IsNet self.now }
+    {
+        self.gates.as_slice()
+    }
+
+    /// How many signals the netlist has: their numbers are those below.
+    pub fn count(&self) -> usize
+        ensures value { result ≡ length self.now.names }
+        ensures sound { IsNet self.now }
+    {
+        self.names.len()
+    }
+
+    /// The signal of this name.
+    pub fn find(&self, name: &[u8]) -> Option<Signal>
+        ensures value { result ≡ find self.now.names name.now }
+        ensures sound { IsNet self.now }
+    {
+        match self.names.find(name) {
+            Some(number) => Some(Signal::of(number)),
+            None => None,
+        }
+    }
+
+    /// The name of a signal.
+    pub fn name(&self, signal: Signal) -> &[u8]
+        requires { signal < length self.now.names }
+        ensures value { slice_get self.now.names signal ≡ Some result.now }
+        ensures sound { IsNet self.now }
+    {
+        self.names.name(signal.number())
+    }
+
+    /// What gives the signal its value. It is never undefined.
+    pub fn role(&self, signal: Signal) -> Role
+        requires { signal < length self.now.names }
+        ensures value { HasRole self.now signal result }
+        // The gate at its place is the signal's only one, and where the role is no gate, the signal has none.
+        ensures gate { gate_of self.now.gates signal ≡ gate_by self.now.gates result }
+        ensures sound { IsNet self.now }
+    {
+        symbol_of(self.symbols.as_slice(), signal).role
+    }
+
+    /// 0 for a variable, 1 more than the greatest of its operands for a gate.
+    pub fn rank(&self, signal: Signal) -> u32
+        requires { signal < length self.now.names }
+        ensures value { result ≡ slice_index self.now.ranks signal }
+        ensures sound { IsNet self.now }
+    {
+        self.ranks[signal.number() as usize]
+    }
 }

@@ -3,11 +3,11 @@ ghost use Rattle.std.specs.Prelude.{◌≡◌, ◌≢◌, ◌⊎◌, ℕ, ◌+�
 ghost use Rattle.net_bench.specs.declared.netlist.GateLine.{GateLine};
 ghost use Rattle.net_bench.specs.Circuit.{Circuit, AreRanks, highest_rank, variables_of};
 ghost use Rattle.net_bench.specs.Fault.{FirstEndless};
-ghost use Rattle.net_bench.specs.declared.netlist.BenchFault.TheVariants.{Cycle};
+ghost use Rattle.net_bench.specs.declared.fault.BenchFault.TheVariants.{Cycle};
 ghost use Rattle.net_bench.specs.Heights.{unranked, unranked_line, HasOneGateEach, IsDriven};
 
-use crate::netlist::{BenchFault, GateLine, Signal};
-use crate::reader::Netlist;
+use crate::fault::BenchFault;
+use crate::netlist::{GateLine, Netlist, Signal};
 use crate::symbols::Symbol;
 use crate::walk::{height_of, settle};
 use std::alloc::Global;

@@ -1,7 +1,7 @@
 //! The netlist of a text.
 ghost use Rattle.std.specs.Prelude.{◌≡◌, ◌+◌, ◌<◌, ◌⊎◌, ℕ, length, Contains, IfOk, IfErr, IfSome, OnOk, IsTrue, slice_index, slice_get};
 ghost use Rattle.std.specs.Prelude.{Some, Err};
-ghost use Rattle.net_bench.specs.Circuit.{circuit, circuit_of, find, variables_of, HasRole, gate_by, gate_of, IsNet, AreRanks};
+ghost use Rattle.net_bench.specs.Circuit.{circuit, circuit_of, variables_of, IsNet, AreRanks};
 ghost use Rattle.net_bench.specs.Fault.{IsRefused, MakesNetlist, max_text};
 ghost use Rattle.net_bench.specs.Devices.{TakesAtMost};
 ghost use Rattle.net_bench.specs.Judge.{statements_in};
@@ -14,152 +14,15 @@ ghost use Rattle.net_bench.specs.Symbols.{IsTold};
 use crate::assembly::{Assembly, symbols_of};
 use crate::build::variables_of;
 use crate::device::{Source, TextFault, read_text};
+use crate::fault::BenchFault;
 use crate::judge::judge_text;
-use crate::name_table::NameTable;
-use crate::netlist::{BenchFault, GateLine, Role, Signal};
+use crate::netlist::{GateLine, Netlist, Signal};
 use crate::ranks::ranks_of;
-use crate::symbols::{Symbol, SymbolTable, first_undefined, symbol_of};
+use crate::symbols::{Symbol, SymbolTable, first_undefined};
 use std::alloc::{AllocError, Global};
-use std::marker::Model;
 
 /// The most bytes of a text, and of an order file.
 pub const MAX_TEXT: usize = 67_108_864;
-
-/// A netlist. Its signals are numbered in the order in which the text counts them.
-#[derive(Drop)]
-pub struct Netlist {
-    names: NameTable,
-    symbols: Vec<Symbol>,
-    inputs: Vec<Signal>,
-    outputs: Vec<Signal>,
-    gates: Vec<GateLine>,
-    registers: Vec<GateLine>,
-    variables: Vec<Signal>,
-    ranks: Vec<u32>,
-}
-
-impl Model for Netlist {
-    ghost use Rattle.std.specs.Prelude.{◌≡◌, ◌++◌, map};
-    ghost use Rattle.net_bench.specs.Circuit.{Net, IsNet};
-    ghost use Rattle.net_bench.specs.Symbols.{AreRoles};
-
-    ghost Value = { Net };
-
-    ghost view = { λ a. record {
-      names = a.names;
-      inputs = a.inputs.items;
-      outputs = a.outputs.items;
-      gates = a.gates.items;
-      registers = a.registers.items;
-      ranks = a.ranks.items;
-    } };
-
-    ghost invariant = { λ a. IsNet (record {
-      names = a.names;
-      inputs = a.inputs.items;
-      outputs = a.outputs.items;
-      gates = a.gates.items;
-      registers = a.registers.items;
-      ranks = a.ranks.items;
-    }) × (a.variables.items ≡ a.inputs.items ++ map (λ g. g.out) a.registers.items) × AreRoles (record {
-      names = a.names;
-      inputs = a.inputs.items;
-      outputs = a.outputs.items;
-      gates = a.gates.items;
-      registers = a.registers.items;
-      ranks = a.ranks.items;
-    }) a.symbols.items };
-}
-
-impl Netlist {
-    /// The inputs, in the order of their first INPUT.
-    pub fn inputs(&self) -> &[Signal]
-        ensures value { result.now ≡ self.now.inputs }
-        ensures sound { IsNet self.now }
-    {
-        self.inputs.as_slice()
-    }
-
-    /// The outputs, in the order of their first OUTPUT.
-    pub fn outputs(&self) -> &[Signal]
-        ensures value { result.now ≡ self.now.outputs }
-        ensures sound { IsNet self.now }
-    {
-        self.outputs.as_slice()
-    }
-
-    /// The registers, in text order, each with its next state as its operand. Their signals are variables.
-    pub fn registers(&self) -> &[GateLine]
-        ensures value { result.now ≡ self.now.registers }
-        ensures sound { IsNet self.now }
-    {
-        self.registers.as_slice()
-    }
-
-    /// The variables: the inputs, then the registers' signals, each in its order.
-    pub fn variables(&self) -> &[Signal]
-        ensures value { result.now ≡ variables_of (circuit self.now) }
-        ensures sound { IsNet self.now }
-    {
-        self.variables.as_slice()
-    }
-
-    /// The gates that are no registers, in text order.
-    pub fn gates(&self) -> &[GateLine]
-        ensures value { result.now ≡ self.now.gates }
-        ensures sound { IsNet self.now }
-    {
-        self.gates.as_slice()
-    }
-
-    /// How many signals the netlist has: their numbers are those below.
-    pub fn count(&self) -> usize
-        ensures value { result ≡ length self.now.names }
-        ensures sound { IsNet self.now }
-    {
-        self.names.len()
-    }
-
-    /// The signal of this name.
-    pub fn find(&self, name: &[u8]) -> Option<Signal>
-        ensures value { result ≡ find self.now.names name.now }
-        ensures sound { IsNet self.now }
-    {
-        match self.names.find(name) {
-            Some(number) => Some(Signal::of(number)),
-            None => None,
-        }
-    }
-
-    /// The name of a signal.
-    pub fn name(&self, signal: Signal) -> &[u8]
-        requires { signal < length self.now.names }
-        ensures value { slice_get self.now.names signal ≡ Some result.now }
-        ensures sound { IsNet self.now }
-    {
-        self.names.name(signal.number())
-    }
-
-    /// What gives the signal its value. It is never undefined.
-    pub fn role(&self, signal: Signal) -> Role
-        requires { signal < length self.now.names }
-        ensures value { HasRole self.now signal result }
-        // The gate at its place is the signal's only one, and where the role is no gate, the signal has none.
-        ensures gate { gate_of self.now.gates signal ≡ gate_by self.now.gates result }
-        ensures sound { IsNet self.now }
-    {
-        symbol_of(self.symbols.as_slice(), signal).role
-    }
-
-    /// 0 for a variable, 1 more than the greatest of its operands for a gate.
-    pub fn rank(&self, signal: Signal) -> u32
-        requires { signal < length self.now.names }
-        ensures value { result ≡ slice_index self.now.ranks signal }
-        ensures sound { IsNet self.now }
-    {
-        self.ranks[signal.number() as usize]
-    }
-}
 
 /// The ranks of the circuit of a text's statements.
 fn ranks_for(

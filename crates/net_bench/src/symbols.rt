@@ -10,9 +10,10 @@ ghost use Rattle.net_bench.specs.Symbols.{CountsMore, IsClosed, IsCrowding, IsSy
 ghost use Rattle.net_bench.specs.Symbols.{is_driven_role, known_symbol, newest, newest_operands, statement_fault, subject, undefined_use};
 
 use crate::build::{add_driven, add_input, add_output, add_uses, next_symbol};
+use crate::fault::BenchFault;
 use crate::kinds::kind_of;
 use crate::name_table::NameTable;
-use crate::netlist::{BenchFault, GateLine, Kind, Role, Signal};
+use crate::netlist::{GateLine, Kind, Role, Signal};
 use crate::scan::Token;
 use crate::syntax::{Pending, Said, Word};
 use std::alloc::{AllocError, Global};

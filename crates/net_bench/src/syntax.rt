@@ -6,9 +6,9 @@ ghost use Rattle.net_bench.specs.Scan.{seen};
 ghost use Rattle.net_bench.specs.Statement.{Statement, line_of};
 ghost use Rattle.net_bench.specs.Machine.{Failed, is_input_word, is_output_word, port, step};
 ghost use Rattle.net_bench.specs.Judge.{closed};
-ghost use Rattle.net_bench.specs.declared.netlist.BenchFault.TheVariants.{BadStatement};
+ghost use Rattle.net_bench.specs.declared.fault.BenchFault.TheVariants.{BadStatement};
 
-use crate::netlist::BenchFault;
+use crate::fault::BenchFault;
 use crate::scan::Token;
 use std::alloc::{AllocError, Global};
 

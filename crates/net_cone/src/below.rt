@@ -4,8 +4,7 @@ ghost use Rattle.net_bench.specs.declared.netlist.GateLine.{GateLine};
 ghost use Rattle.net_bench.specs.Circuit.{IsNet, circuit};
 ghost use Rattle.net_cone.specs.Walk.{AreBelow, IsVisited, IsWalking, KeepsVisited, unvisited};
 
-use net_bench::netlist::{Role, Signal};
-use net_bench::reader::Netlist;
+use net_bench::netlist::{Netlist, Role, Signal};
 use std::alloc::{AllocError, Global};
 
 /// Notes a signal that was not visited as visited, and lets it wait.

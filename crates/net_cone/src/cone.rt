@@ -10,8 +10,8 @@ use crate::naming::{count_gates, count_variables};
 use crate::numbering::{first_numbers, last_gate, number_visited, ranks_of, renamed_gates};
 use net_bench::assembly::Assembly;
 use net_bench::name_table::{NameTable, narrow};
-use net_bench::netlist::Signal;
-use net_bench::reader::{Netlist, netlist_of_parts};
+use net_bench::netlist::{Netlist, Signal};
+use net_bench::reader::netlist_of_parts;
 use std::alloc::{AllocError, Global};
 
 /// The most signals of a netlist.

@@ -6,8 +6,7 @@ ghost use Rattle.net_cone.specs.Cones.{HasGates};
 ghost use Rattle.net_cone.specs.Walk.{IsVisited, gates_visited};
 
 use crate::below::visit_below;
-use net_bench::netlist::{Role, Signal};
-use net_bench::reader::Netlist;
+use net_bench::netlist::{Netlist, Role, Signal};
 use std::alloc::{AllocError, Global};
 
 /// Makes a signal one that was not visited: 1 where it was and is a gate's, else 0.

@@ -4,8 +4,7 @@ ghost use Rattle.net_bench.specs.Circuit.{IsNet, with_name};
 ghost use Rattle.net_cone.specs.Cones.{AreNames, gate_name, variable_name};
 
 use net_bench::name_table::{NameTable, narrow};
-use net_bench::netlist::Signal;
-use net_bench::reader::Netlist;
+use net_bench::netlist::{Netlist, Signal};
 use std::alloc::{AllocError, Global};
 
 /// Puts a name behind a byte to the names.

@@ -6,8 +6,7 @@ ghost use Rattle.net_cone.specs.Cones.{gate_signals, last_gate};
 ghost use Rattle.net_cone.specs.Walk.{IsNumbering, gates_of, is_visited, renamed};
 
 use net_bench::name_table::narrow;
-use net_bench::netlist::{GateLine, Kind, Operands, Role, Signal};
-use net_bench::reader::Netlist;
+use net_bench::netlist::{GateLine, Kind, Netlist, Operands, Role, Signal};
 use std::alloc::{AllocError, Global};
 
 /// Gives a signal the next number.

@@ -4,8 +4,7 @@ ghost use Rattle.net_bench.specs.Circuit.{circuit};
 ghost use Rattle.net_bench.specs.Labels.{bit_of};
 ghost use Rattle.net_explain.specs.Explaining.{AreBelow};
 
-use net_bench::netlist::Signal;
-use net_bench::reader::Netlist;
+use net_bench::netlist::{Netlist, Signal};
 use net_cone::{cone_of, gate_signals, own_names};
 use std::alloc::{AllocError, Global};
 

@@ -5,8 +5,7 @@ ghost use Rattle.net_explain.specs.Explaining.{differ, differing, inner_at, is_i
 
 use crate::ranked::rows_of;
 use crate::view::Simulation;
-use net_bench::netlist::{Role, Signal};
-use net_bench::reader::Netlist;
+use net_bench::netlist::{Netlist, Role, Signal};
 use std::alloc::{AllocError, Global};
 
 /// A signal of the first netlist and the one of its name in the second. Each is the signal of a gate, whose line is told.

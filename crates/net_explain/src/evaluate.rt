@@ -8,8 +8,7 @@ ghost use Rattle.net_explain.specs.Values.{AreSet, KeepsVariables, level_in};
 
 use crate::gates::{bit_at, value_of};
 use crate::ranked::rows_of;
-use net_bench::netlist::{Role, Signal};
-use net_bench::reader::Netlist;
+use net_bench::netlist::{Netlist, Role, Signal};
 use net_order::naming::Naming;
 use std::alloc::{AllocError, Global};
 

@@ -5,7 +5,7 @@ ghost use Rattle.net_explain.specs.Text.{parts_text};
 
 use crate::differing::{Inner, name_of};
 use crate::explaining::{Explanation, GateCount};
-use net_bench::reader::Netlist;
+use net_bench::netlist::Netlist;
 use std::alloc::{AllocError, Global};
 
 /// The digit of a bit.

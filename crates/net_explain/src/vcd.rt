@@ -3,8 +3,7 @@ ghost use Rattle.std.specs.Prelude.{◌≡◌, ◌<◌, ◌≤◌, ◌+◌, ◌+
 ghost use Rattle.net_explain.specs.Vcd.{change_text, changes_text, code, scope_text, var_text, vars_text, vcd_text};
 
 use crate::differing::name_of;
-use net_bench::netlist::Signal;
-use net_bench::reader::Netlist;
+use net_bench::netlist::{Netlist, Signal};
 use std::alloc::{AllocError, Global};
 
 /// How many bytes identifiers are made of, from '!' to '~'.

@@ -1,6 +1,6 @@
 -- Worked orders, computed.
 use Rattle.std.specs.Prelude.{◌≡◌, ℕ, List, [], ◌∷◌, codes, refl, map, Result, Ok, Err, Some, None}
-use Rattle.net_bench.specs.declared.netlist.BenchFault.{BenchFault}
+use Rattle.net_bench.specs.declared.fault.BenchFault.{BenchFault}
 use Rattle.net_bench.specs.Pieces.{pieces_in, tokens_in}
 use Rattle.net_bench.specs.Statement.{Statement}
 use Rattle.net_bench.specs.Circuit.{Circuit, circuit_of}

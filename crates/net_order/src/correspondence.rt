@@ -4,8 +4,7 @@ ghost use Rattle.net_bench.specs.Circuit.{circuit};
 ghost use Rattle.net_order.specs.Order.{AreAsMany, correspondence, is_member, name_of, pairs_by_name, signal_named, unmatched};
 
 use crate::order::Match;
-use net_bench::netlist::Signal;
-use net_bench::reader::Netlist;
+use net_bench::netlist::{Netlist, Signal};
 use std::alloc::{AllocError, Global};
 use std::marker::Model;
 

@@ -8,8 +8,7 @@ use crate::edge::Edge;
 use crate::ranked::rank_at;
 use crate::side::NamedNetlist;
 use net_bench::name_table::NameTable;
-use net_bench::netlist::{GateLine, Signal};
-use net_bench::reader::Netlist;
+use net_bench::netlist::{GateLine, Netlist, Signal};
 use std::alloc::{AllocError, Global};
 use std::marker::Model;
 

@@ -13,8 +13,7 @@ use crate::side::NamedNetlist;
 use crate::variables::{MAX_VARIABLES, add_all};
 use crate::walk::{Way, met_below, none_seen, paths_of, walk_below};
 use net_bench::name_table::NameTable;
-use net_bench::netlist::Signal;
-use net_bench::reader::Netlist;
+use net_bench::netlist::{Netlist, Signal};
 use std::alloc::{AllocError, Global};
 
 /// The place right behind a variable, or the end where it is not there.

@@ -5,8 +5,7 @@ ghost use Rattle.net_order.specs.Order.{is_member, registers_of, roots};
 ghost use Rattle.net_order.specs.Tables.{listed_of};
 
 use crate::walk::met;
-use net_bench::netlist::Signal;
-use net_bench::reader::Netlist;
+use net_bench::netlist::{Netlist, Signal};
 use std::alloc::{AllocError, Global};
 
 /// Variables of a netlist that are put into an order together.

@@ -13,8 +13,7 @@ use crate::order::{Match, OrderFault};
 use crate::side::{NamedNetlist, sides_of};
 use crate::variables::all_variables;
 use net_bench::name_table::NameTable;
-use net_bench::netlist::Signal;
-use net_bench::reader::Netlist;
+use net_bench::netlist::{Netlist, Signal};
 use std::alloc::{AllocError, Global};
 use std::marker::Model;
 

@@ -15,7 +15,7 @@ use crate::order::{Match, Order, OrderFault};
 use crate::side::{NamedNetlist, sides_of};
 use crate::variables::{MAX_VARIABLES, declared_table, depth_table};
 use net_bench::name_table::NameTable;
-use net_bench::reader::Netlist;
+use net_bench::netlist::Netlist;
 use std::alloc::Global;
 use std::marker::Model;
 

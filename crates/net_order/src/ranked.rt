@@ -3,8 +3,7 @@ ghost use Rattle.std.specs.Prelude.{◌≡◌, ◌<◌, length, All, IfOk, slice
 ghost use Rattle.net_bench.specs.Circuit.{circuit, IsNet};
 ghost use Rattle.net_order.specs.Order.{falling, rank_of};
 
-use net_bench::netlist::Signal;
-use net_bench::reader::Netlist;
+use net_bench::netlist::{Netlist, Signal};
 use std::alloc::{AllocError, Global};
 use std::cmp::Reverse;
 

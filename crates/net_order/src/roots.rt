@@ -3,8 +3,7 @@ ghost use Rattle.std.specs.Prelude.{◌≡◌, ◌<◌, length, All, IfOk};
 ghost use Rattle.net_bench.specs.Circuit.{circuit};
 ghost use Rattle.net_order.specs.Order.{roots};
 
-use net_bench::netlist::Signal;
-use net_bench::reader::Netlist;
+use net_bench::netlist::{Netlist, Signal};
 use std::alloc::{AllocError, Global};
 
 /// Where walks begin: at the outputs, then at the next states of the registers.

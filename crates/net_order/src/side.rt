@@ -5,8 +5,7 @@ ghost use Rattle.net_order.specs.Order.{AreCounted, Sided, both, condition, give
 ghost use Rattle.net_order.specs.Tables.{AreMatched};
 
 use crate::order::Match;
-use net_bench::netlist::Signal;
-use net_bench::reader::Netlist;
+use net_bench::netlist::{Netlist, Signal};
 use std::alloc::{AllocError, Global};
 use std::marker::Model;
 

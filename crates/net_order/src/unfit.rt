@@ -10,7 +10,7 @@ use crate::order::{Match, Order, OrderFault};
 use crate::side::sides_of;
 use crate::variables::declared_table;
 use net_bench::name_table::NameTable;
-use net_bench::reader::Netlist;
+use net_bench::netlist::Netlist;
 use std::alloc::{AllocError, Global};
 use std::marker::Model;
 

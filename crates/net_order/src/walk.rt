@@ -7,8 +7,7 @@ ghost use Rattle.net_order.specs.Walk.{ArePaths, IsGoing, IsSettled, IsStepsOf, 
 
 use crate::ranked::by_rank;
 use crate::roots::roots_of;
-use net_bench::netlist::{Role, Signal};
-use net_bench::reader::Netlist;
+use net_bench::netlist::{Netlist, Role, Signal};
 use std::alloc::{AllocError, Global};
 
 /// How a walk takes the operands of a gate.

@@ -1,7 +1,7 @@
 // Of cones, what no contract says: that they are made with ample memory. And their signals by name, for a few netlists.
 use crate::netlists::C17;
-use net_bench::netlist::Signal;
-use net_bench::reader::{Netlist, parse_bench};
+use net_bench::netlist::{Netlist, Signal};
+use net_bench::reader::parse_bench;
 use net_cone::{Cone, cone_of, gate_signals, gates_below, own_names};
 use std::alloc::{AllocError, Global};
 use std::test::Fail;

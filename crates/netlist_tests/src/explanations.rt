@@ -1,6 +1,6 @@
 // Explanations of a difference, and the values as a VCD: texts for a few netlists, with ample memory.
-use net_bench::netlist::Signal;
-use net_bench::reader::{Netlist, parse_bench};
+use net_bench::netlist::{Netlist, Signal};
+use net_bench::reader::parse_bench;
 use net_explain::{Half, explain, explanation_of, values, vcd_of};
 use net_order::naming::{Naming, naming_of};
 use net_order::order::Match;

@@ -1,9 +1,10 @@
 // Of the reader, what no contract says: that each call succeeds with ample memory, and what devices that drip, fail or never end come to.
 use crate::devices::{Endless, OneByte, Refusing};
 use net_bench::device::{Failed, InMemory, Sink, TextFault, Through, read_text};
+use net_bench::fault::BenchFault;
 use net_bench::name_table::NameTable;
-use net_bench::netlist::{BenchFault, Signal};
-use net_bench::reader::{Netlist, parse_bench, read_bench};
+use net_bench::netlist::{Netlist, Signal};
+use net_bench::reader::{parse_bench, read_bench};
 use std::alloc::{AllocError, Global};
 use std::test::Fail;
 

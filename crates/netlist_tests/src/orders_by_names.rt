@@ -1,6 +1,7 @@
 // Orders by the numbers at the end of names, and FORCE, which begins by them. The expected orders of FORCE are those that another program
 // finds by its definition.
-use net_bench::reader::{Netlist, parse_bench};
+use net_bench::netlist::Netlist;
+use net_bench::reader::parse_bench;
 use net_order::order::{Match, Order};
 use net_order::pairing::pair;
 use std::alloc::Global;

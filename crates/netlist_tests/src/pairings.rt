@@ -2,8 +2,8 @@
 use crate::devices::{Endless, OneByte};
 use crate::netlists::C17;
 use net_bench::device::Through;
-use net_bench::netlist::Signal;
-use net_bench::reader::{Netlist, parse_bench};
+use net_bench::netlist::{Netlist, Signal};
+use net_bench::reader::parse_bench;
 use net_order::order::{Match, Order, OrderFault};
 use net_order::order_file::{order_text, read_order};
 use net_order::pairing::{Pairing, pair};

@@ -3,7 +3,7 @@ use crate::devices::{Dripping, End, Endless, Page, drip, new_page};
 use check_report::{CheckFault, Choice, Context, Picked, Settings, check};
 use expand_work::{Free, Monitor};
 use net_bench::device::Source;
-use net_bench::netlist::BenchFault;
+use net_bench::fault::BenchFault;
 use net_order::order::{Match, Order};
 use std::sync::Wait;
 use std::test::Fail;

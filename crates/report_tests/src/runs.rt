@@ -9,7 +9,7 @@ use check_tool::process::{NoWords, status_of};
 use check_tool::progress::Meter;
 use check_tool::tool::{refuse, run_tool};
 use expand_work::WaveFault;
-use net_bench::netlist::BenchFault;
+use net_bench::fault::BenchFault;
 use net_order::order::OrderFault;
 use std::alloc::{AllocError, Global};
 use std::process::Abort;

@@ -1,7 +1,7 @@
 use Rattle.std.proofs.Common.{◌≡◌, slice_get, Some, subst}
 use Rattle.net_bench.specs.Circuit.{Net, HasRole, gate_by, gate_of}
 use Rattle.net_bench.proofs.Built.{role_gate}
-use Rattle.net_bench.proofs.reader.Netlist.role.Goals as goal
+use Rattle.net_bench.proofs.netlist.Netlist.role.Goals as goal
 
 pub returns-clause-value : goal.returns-clause-value
 returns-clause-value c = subst (λ (m : Net). HasRole m c.args.signal c.symbol_of.result.role) c.self.view_is (c.self.invariant.2.right c.args.signal c.symbol_of.result (subst (λ ss. slice_get ss c.args.signal ≡ Some c.symbol_of.result) c.as_slice.ensures.value c.symbol_of.ensures))

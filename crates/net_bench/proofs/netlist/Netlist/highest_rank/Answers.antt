@@ -1,8 +1,8 @@
 use Rattle.std.proofs.Common.{arith, ◌≡◌, ◌+◌, map, take, max, sym, ◌∙◌}
 use Rattle.net_bench.specs.Circuit.{greatest, rank_of}
 use Rattle.net_bench.proofs.Greatest.{greatest_next}
-use Rattle.net_bench.proofs.reader.Netlist.highest_rank.Goals as goal
-use Rattle.net_bench.proofs.reader.Netlist.highest_rank.Goals.{then-rank-highest, else-rank-highest}
+use Rattle.net_bench.proofs.netlist.Netlist.highest_rank.Goals as goal
+use Rattle.net_bench.proofs.netlist.Netlist.highest_rank.Goals.{then-rank-highest, else-rank-highest}
 
 pub loop-gate-preserved : goal.loop-gate-preserved
 loop-gate-preserved c =
