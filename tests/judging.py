@@ -209,10 +209,10 @@ def variable_tables(count):
     tables = []
     for level in range(count):
         run = 1 << (count - 1 - level)
-        block = ((1 << run) - 1) << run
-        table = 0
-        for start in range(0, size, 2 * run):
-            table |= block << start
+        table, width = ((1 << run) - 1) << run, 2 * run
+        while width < size:
+            table |= table << width
+            width *= 2
         tables.append(table)
     return tables
 
