@@ -17,7 +17,6 @@
 ghost use Rattle.std.specs.Prelude.{◌≡◌, None};
 ghost use Rattle.req_table.specs.Operation.{IsRequest};
 ghost use Rattle.req_table.specs.TerminalCase.{op_number};
-ghost use Rattle.req_table.specs.Words.{op_of};
 
 mod computed;
 mod owned;
@@ -69,6 +68,9 @@ const _: () = prove!(size_of::<Key>() == 16);
 /// The lowest bit of an operation's number in a word.
 const OP_BIT: u64 = 1 << 58;
 
+/// The number of Xor.
+const XOR: u64 = 2;
+
 /// The lowest bit of the second operand's word in the number of a request's sixteen bytes.
 const SECOND_BIT: u128 = 1 << 64;
 
@@ -105,20 +107,6 @@ fn number(op: Op) -> u64
     }
 }
 
-/// The operation of a number below 6.
-fn numbered(number: u64) -> Op
-    ensures { result ≡ op_of number }
-{
-    match number {
-        0 => Op::And,
-        1 => Op::Or,
-        2 => Op::Xor,
-        3 => Op::Nand,
-        4 => Op::Nor,
-        _ => Op::Xnor,
-    }
-}
-
 impl Key {
     /// The request for an operation.
     fn of(op: Op, f: Ref, g: Ref) -> Key
@@ -136,7 +124,12 @@ impl Key {
         ensures value { result ≡ self.op }
         ensures request { IsRequest self }
     {
-        numbered(self.first / OP_BIT)
+        // A request is by Xor or else by And.
+        if self.first / OP_BIT == XOR {
+            Op::Xor
+        } else {
+            Op::And
+        }
     }
 
     /// The first operand.

@@ -48,13 +48,16 @@ fn form(op: Op, f: Ref, g: Ref) -> (Op, Ref, Ref, bool)
 fn terminal_and(f: Ref, g: Ref) -> Option<Ref>
     ensures { result ≡ terminal_and f g }
 {
-    if f == g || g == Ref::TRUE {
+    if f.is_terminal() {
+        return Some(if f == Ref::TRUE { g } else { Ref::FALSE });
+    }
+    if g.is_terminal() {
+        return Some(if g == Ref::TRUE { f } else { Ref::FALSE });
+    }
+    if f == g {
         return Some(f);
     }
-    if f == Ref::TRUE {
-        return Some(g);
-    }
-    if f == Ref::FALSE || g == Ref::FALSE || f == g.negate() {
+    if f == g.negate() {
         return Some(Ref::FALSE);
     }
     None
