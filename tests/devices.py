@@ -50,6 +50,10 @@ class Devices:
         """What --verbose tells while the diagrams are built: lines on standard error alone, no more than one a second."""
         one, chain = self.file("one", products(21)), self.file("chain", products(21, "chain"))
         silent = self.run("--sizes", one, chain, seconds=240)
+        alone = self.run("--sizes", "--workers", "1", one, chain, seconds=240)
+        equal = Run(0, lines("EQUAL o size 4194302", "1 equal, 0 different, 0 unmatched"), b"")
+        self.check("levels of a million requests, by several workers", silent, equal)
+        self.check("levels of a million requests, by one", alone, equal)
         begun = time.monotonic()
         seen = self.run("--sizes", "--verbose", one, chain, seconds=240)
         seconds = time.monotonic() - begun

@@ -102,15 +102,18 @@ module _ (s : Nodes) (entries : List Entry) (T : List (List Key)) (admitted : Ar
     more = let l = long in let m = c.sum b in omega (arith, e, lt, l, m);
   }
 
--- what was split before level v was split before level u, where no request stands between
-pub split_passed : (s : Nodes) (entries : List Entry) (T : List (List Key)) (v u before after : ℕ) → HaveSplit s entries T v before after → v ≤ u → AreNone T v u → HaveSplit s entries T u before after
-split_passed s entries T v u before after c le none = record {
-  requests = c.requests;
-  once = c.once;
-  reached = c.reached;
-  above = λ k h. let m = c.above k h in omega (arith, m, le);
-  whole = λ w q k lt h. elim (cases_lt w v) [ inl l ↦ c.whole w q k l h | inr from ↦ absurd (none w q k from lt h) ];
-  count = c.count;
+-- what was counted before level v was counted before level u, where no request stands between
+pub counted_passed : (s : Nodes) (entries : List Entry) (T : List (List Key)) (bound left before after v u : ℕ) → IsCounted s entries T bound left before after v → v ≤ u → AreNone T v u → IsCounted s entries T bound left before after u
+counted_passed s entries T bound left before after v u c le none = record {
+  split = record {
+    requests = c.split.requests;
+    once = c.split.once;
+    reached = c.split.reached;
+    above = λ k h. let m = c.split.above k h in omega (arith, m, le);
+    whole = λ w q k lt h. elim (cases_lt w v) [ inl l ↦ c.split.whole w q k l h | inr from ↦ absurd (none w q k from lt h) ];
+    count = c.split.count;
+  };
+  sum = c.sum;
 }
 
 -- Of tables whose levels before v are expanded, and what holds of each request that stands further down, and of its children.
@@ -130,7 +133,7 @@ module _ (s : Nodes) (entries : List Entry) (roots : List Placed) (T : List (Lis
   children_sorted k (w, q, lt, h) b l c m asks = by b asks
     where
       pair : (d : Placed × Placed) × StandsAt rows w q d
-      pair = stands_some (row rows w) q (let n : length (row rows w) ≡ length (row T w) = x.counts w q k lt h in let fit : q < length (row T w) = slice_get_within (row T w) q k h in omega (arith, n, fit))
+      pair = stands_some (row rows w) q (let n : length (row rows w) ≡ length (row T w) = x.counts w lt in let fit : q < length (row T w) = slice_get_within (row T w) q k h in omega (arith, n, fit))
 
       split : IsSplitAt s T k pair.0
       split = x.split w q k pair.0 lt h pair.1

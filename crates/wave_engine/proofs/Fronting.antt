@@ -22,7 +22,7 @@ use Rattle.wave_engine.specs.Places.{row, StandsAt, AreEmpty, AreNone}
 use Rattle.wave_engine.specs.Down.{AreAdmitted}
 use Rattle.wave_engine.specs.Up.{AreReducedBelow, IsWithinBelow}
 use Rattle.wave_engine.specs.Front.{joined, keys_from, count_before, IsCopied, ArePut}
-use Rattle.wave_engine.proofs.Placing.{same_level, stands_none, in_lists, row_own, row_other}
+use Rattle.wave_engine.proofs.Placing.{same_level, stands_none, row_none, in_lists, row_own, row_other}
 use Rattle.wave_engine.proofs.Wanted.{AreReachedBy, diagram_answer, adds_through, lacks_through, has_request_of}
 
 -- empty lists
@@ -34,25 +34,21 @@ row_replicate (suc n) (suc w) = row_replicate n w
 pub made_empty : {X : Type 0} (n : ℕ) (lists : List (List X)) → lists ≡ replicate n [] → AreEmpty lists n
 made_empty {X} n lists e = subst (λ (z : List (List X)). AreEmpty z n) (sym e) (record { levels = length-replicate n []; empty = λ w. row_replicate n w })
 
--- levels from which the requests are taken, one after the other
-pub taken_more : (T : List (List Key)) (v u : ℕ) → u < length T → AreNone T 0 v → AreNone T v u → AreNone (set T u []) 0 (u + 1)
-taken_more T v u lt before between w q k le l h =
+-- levels that are emptied, one after the other
+pub taken_more : {X : Type 0} (T : List (List X)) (v u : ℕ) → u < length T → AreNone T 0 v → AreNone T v u → AreNone (set T u []) 0 (u + 1)
+taken_more {X} T v u lt before between w q k le l h =
     elim (same_level w u) [
       | inl d ↦ stands_none (row (set T u []) w) q k (ap (row (set T u [])) d ∙ row_own T u [] lt) h
       | inr d ↦
-          let at : StandsAt T w q k = subst (λ (z : List Key). slice_get z q ≡ Some k) (row_other T u [] w d) h in
+          let at : StandsAt T w q k = subst (λ (z : List X). slice_get z q ≡ Some k) (row_other T u [] w d) h in
           elim (cases_lt w v) [ inl a ↦ before w q k le a at | inr b ↦ between w q k b (grind (arith, l, d)) at ]
     ]
 
-pub taken_all : (T : List (List Key)) (n v : ℕ) → length T ≡ n → AreNone T 0 v → ((w q : ℕ) (k : Key) → v ≤ w → StandsAt T w q k → ⊥) → AreEmpty T n
-taken_all T n v len before later = record { levels = len; empty = λ w. by w (row T w) refl }
-  where
-    none : (w q : ℕ) (k : Key) → StandsAt T w q k → ⊥
-    none w q k h = elim (cases_lt w v) [ inl lt ↦ before w q k (omega arith) lt h | inr le ↦ later w q k le h ]
-
-    by : (w : ℕ) (ks : List Key) → row T w ≡ ks → row T w ≡ []
-    by w [] e = e
-    by w (k ∷ ks) e = absurd (none w 0 k (ap (λ z. slice_get z 0) e))
+pub taken_all : {X : Type 0} (T : List (List X)) (n v : ℕ) → length T ≡ n → AreNone T 0 v → ((w q : ℕ) (x : X) → v ≤ w → StandsAt T w q x → ⊥) → AreEmpty T n
+taken_all T n v len before later = record {
+  levels = len;
+  empty = λ w. row_none T w (λ q x h. elim (cases_lt w v) [ inl lt ↦ before w q x (omega arith) lt h | inr le ↦ later w q x le h ]);
+}
 
 -- lists one after the other
 joined-append : {X : Type 0} (a b : List (List X)) → joined (a ++ b) ≡ joined a ++ joined b

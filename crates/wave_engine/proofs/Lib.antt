@@ -1,6 +1,7 @@
 pub mod LevelSets
 pub mod Placing
 pub mod Members
+pub mod Waiting
 pub mod Wanted
 pub mod Raising
 pub mod Fronting

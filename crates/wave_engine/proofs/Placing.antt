@@ -200,7 +200,7 @@ start_expanded S es roots T rows a z l = record {
   admitted = a;
   rooted = z;
   levels = l;
-  counts = λ w q k lt h. absurd (omega arith);
+  counts = λ w lt. absurd (omega arith);
   split = λ w q k d lt. absurd (omega arith);
 }
 
@@ -211,20 +211,20 @@ level_more S es roots v T rows lt e U pairs r = record {
   admitted = r.admitted;
   rooted = all_placed_kept S T U r.grown es roots e.rooted;
   levels = length-set rows v pairs ∙ e.levels;
-  counts = λ w q k l h. counts w q k l h (same_level w v);
+  counts = λ w l. counts w l (same_level w v);
   split = λ w q k d l h g. split w q k d l h g (same_level w v);
 }
   where
     here : v < length rows
     here = let m : length rows ≡ S.levels = e.levels in omega (arith, m, lt)
 
-    counts : (w q : ℕ) (k : Key) → w < v + 1 → StandsAt U w q k → (w ≡ v) ⊎ (w ≢ v) → length (row (set rows v pairs) w) ≡ length (row U w)
-    counts w q k l h (inl d) =
+    counts : (w : ℕ) → w < v + 1 → (w ≡ v) ⊎ (w ≢ v) → length (row (set rows v pairs) w) ≡ length (row U w)
+    counts w l (inl d) =
         subst (λ z. length (row (set rows v pairs) z) ≡ length (row U z)) (sym d)
         (ap length (row_own rows v pairs here) ∙ r.count ∙ sym (ap length (r.above v (let le : v ≤ v = omega arith in le))))
-    counts w q k l h (inr d) =
+    counts w l (inr d) =
         let le : w < v = grind (arith, l, d) in
-        ap length (row_other rows v pairs w d) ∙ e.counts w q k le (subst (λ (z : List Key). slice_get z q ≡ Some k) (r.above w (omega (arith, le))) h) ∙ sym (ap length (r.above w (omega (arith, le))))
+        ap length (row_other rows v pairs w d) ∙ e.counts w le ∙ sym (ap length (r.above w (omega (arith, le))))
 
     split : (w q : ℕ) (k : Key) (d : Placed × Placed) → w < v + 1 → StandsAt U w q k → StandsAt (set rows v pairs) w q d → (w ≡ v) ⊎ (w ≢ v) → IsSplitAt S U k d
     split w q k d l h g (inl m) =
@@ -236,13 +236,25 @@ level_more S es roots v T rows lt e U pairs r = record {
         (subst (λ (z : List (Placed × Placed)). slice_get z q ≡ Some d) (row_other rows v pairs w m) g) in
         (placed_kept T U r.grown d.0 (child_of S k false) s.0, placed_kept T U r.grown d.1 (child_of S k true) s.1)
 
+-- a level where nothing stands is empty
+pub row_none : {X : Type 0} (lists : List (List X)) (w : ℕ) → ((q : ℕ) (x : X) → StandsAt lists w q x → ⊥) → row lists w ≡ []
+row_none {X} lists w none = by (row lists w) refl
+  where
+    by : (xs : List X) → row lists w ≡ xs → row lists w ≡ []
+    by [] e = e
+    by (x ∷ xs) e = absurd (none 0 x (ap (λ z. slice_get z 0) e))
+
 -- levels without requests are passed over
-pub levels_passed : (S : Nodes) (es : List Entry) (roots : List Placed) (v u : ℕ) (T : List (List Key)) (rows : List (List (Placed × Placed))) → AreExpanded S es roots v T rows → AreNone T v u → AreExpanded S es roots u T rows
-levels_passed S es roots v u T rows e none = record {
+pub levels_passed : (S : Nodes) (es : List Entry) (roots : List Placed) (v u : ℕ) (T : List (List Key)) (rows : List (List (Placed × Placed))) → AreExpanded S es roots v T rows → AreNone T v u → ((w : ℕ) → v ≤ w → row rows w ≡ [])
+    → AreExpanded S es roots u T rows
+levels_passed S es roots v u T rows e none later = record {
   admitted = e.admitted;
   rooted = e.rooted;
   levels = e.levels;
-  counts = λ w q k lt h. elim (cases_lt w v) [ inl l ↦ e.counts w q k l h | inr le ↦ absurd (none w q k le lt h) ];
+  counts = λ w lt. elim (cases_lt w v) [
+    | inl l ↦ e.counts w l
+    | inr le ↦ ap length (later w le) ∙ sym (ap length (row_none T w (λ q k h. none w q k le lt h)))
+  ];
   split = λ w q k d lt h g. elim (cases_lt w v) [ inl l ↦ e.split w q k d l h g | inr le ↦ absurd (none w q k le lt h) ];
 }
 

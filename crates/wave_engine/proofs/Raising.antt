@@ -1,5 +1,5 @@
 -- Reduction by place: one request, one level, and one level after the other.
-use Rattle.std.proofs.Common.{◌≡◌, ℕ, ◌+◌, ◌<◌, ◌≤◌, ◌⊎◌, inl, inr, true, false, Bool, List, [], ◌∷◌, ◌++◌, length, Some, slice_get, refl, sym, ◌∙◌, ap, subst, arith, Contains, All}
+use Rattle.std.proofs.Common.{◌≡◌, ℕ, ◌+◌, ◌<◌, ◌≤◌, ◌⊎◌, inl, inr, true, false, Bool, List, [], ◌∷◌, ◌++◌, length, Option, Some, None, slice_get, refl, sym, ◌∙◌, ap, subst, arith, Contains, All}
 use Rattle.std.proofs.Math.Nat.{eq-or-lt_of_le}
 use Rattle.std.proofs.lemmas.Bool.{cases_lt}
 use Rattle.std.proofs.lemmas.List.{length-append}
@@ -33,7 +33,7 @@ use Rattle.reduce_up.proofs.Opposite.{either_more, either_kept}
 use Rattle.reduce_up.proofs.Rooted.{of_entry, requests_good}
 use Rattle.req_table.specs.declared.placed.Placed.{Placed}
 use Rattle.req_table.specs.declared.placed.PlacedChild.TheVariants.{Done, Ask}
-use Rattle.wave_engine.specs.Places.{row, StandsAt, IsPlaced, AreNone}
+use Rattle.wave_engine.specs.Places.{row, StandsAt, IsPlaced, AreNone, IsLastLevel}
 use Rattle.wave_engine.specs.Down.{IsAdmitted, AreExpanded}
 use Rattle.wave_engine.specs.Up.{ComesTo, IsBelow, IsKnown, AskedAt, IsReadyAt, IsLevelReduced, IsLevelFault, AreReducedBelow}
 use Rattle.wave_engine.proofs.Placing.{some_same, stands_none, stands_some}
@@ -162,6 +162,15 @@ known s T A v k b (Ask l p m) c h i counts answered =
     ] in
     (j.0, (mark_by m a.0, (a.0, a.1, refl), resolved s v k b (child.Ask l x m) ((x, a.0) ∷ []) (mark_by m a.0) j only (a.0, (0, omega arith, refl), refl)))
 
+-- the last level of lists that are the same before a level is the last of the others
+pub last_left : {X : Type 0} (old new : List (List X)) (u : ℕ) → ((w : ℕ) → w < u → row new w ≡ row old w) → (found : Option ℕ) → IsLastLevel new u found → IsLastLevel old u found
+last_left {X} old new u same None h = λ w q x ge lt at. h w q x ge lt (subst (λ (z : List X). slice_get z q ≡ Some x) (sym (same w lt)) at)
+last_left {X} old new u same (Some v) h = (
+  h.0,
+  subst (λ (z : List X). 0 < length z) (same v h.0) h.1,
+  λ w q x ge lt at. h.2 w q x ge lt (subst (λ (z : List X). slice_get z q ≡ Some x) (sym (same w lt)) at),
+)
+
 -- Of a wave over the store S.
 module _ (S : Nodes) (w : IsSound S) (entries : List Entry) (good : All (IsEntry S) entries) (roots : List Placed) (T : List (List Key)) (rows : List (List (Placed × Placed))) (from : ℕ) (E : AreExpanded S entries roots from T rows) where
   splits : (v : ℕ) (k : Key) → IsAdmitted S entries v k → IsRecordAt S v (record_of S k)
@@ -171,14 +180,22 @@ module _ (S : Nodes) (w : IsSound S) (entries : List Entry) (good : All (IsEntry
     high = right S w 1 (requests_of entries) (requests_good S entries good) k true (child_of S k true) a.key refl;
   })
 
-  all_split : (v : ℕ) → v < from → 0 < length (row T v) → length (row rows v) ≡ length (row T v)
-  all_split v lt some = let k = stands_some (row T v) 0 some in E.counts v 0 k.0 lt k.1
+  -- nothing stands where no children stand
+  pub none_split : (v u : ℕ) → u ≤ from → AreNone rows v u → AreNone T v u
+  none_split v u le none w q k ge lt h =
+      let c : length (row rows w) ≡ length (row T w) = E.counts w (omega (arith, lt, le)) in
+      let within : q < length (row T w) = slice_get_within (row T w) q k h in
+      let d = stands_some (row rows w) q (omega (arith, c, within)) in
+      none w q d.0 ge lt d.1
+
+  pub some_split : (v : ℕ) → v < from → 0 < length (row rows v) → 0 < length (row T v)
+  some_split v lt some = let c : length (row rows v) ≡ length (row T v) = E.counts v lt in omega (arith, c, some)
 
   -- an expanded level whose deeper levels have their answers can be reduced
-  pub level_ready : (v : ℕ) (s : Nodes) (A : List (List Ref)) → v < from → v < S.levels → 0 < length (row T v) → AreReducedBelow S entries T (v + 1) s A → IsReadyAt s T (row rows v) A v
-  level_ready v s A lt fit some d = record {
+  pub level_ready : (v : ℕ) (s : Nodes) (A : List (List Ref)) → v < from → v < S.levels → AreReducedBelow S entries T (v + 1) s A → IsReadyAt s T (row rows v) A v
+  level_ready v s A lt fit d = record {
     bounded = let e : s.levels ≡ S.levels = d.adds.keeps.levels in omega (arith, e, fit);
-    counts = all_split v lt some;
+    counts = E.counts v lt;
     keys = λ q k h. (at q k h).key;
     low = λ q k p h g. known s T A v k false p.0 (child_of S k false) (E.split v q k p lt h g).0 (at q k h).low (λ u x y le. d.counts u x y (omega (arith, le))) (λ u x y r le. d.answered u x y r (omega (arith, le)));
     high = λ q k p h g. known s T A v k true p.1 (child_of S k true) (E.split v q k p lt h g).1 (at q k h).high (λ u x y le. d.counts u x y (omega (arith, le))) (λ u x y r le. d.answered u x y r (omega (arith, le)));
@@ -188,14 +205,14 @@ module _ (S : Nodes) (w : IsSound S) (entries : List Entry) (good : All (IsEntry
       at q k h = record_kept S s w d.adds.keeps v (record_of S k) (splits v k (E.admitted.keys v q k h))
 
   -- one level more is reduced
-  pub level_next : (v : ℕ) (s : Nodes) (A : List (List Ref)) → v < from → 0 < length (row T v) → AreReducedBelow S entries T (v + 1) s A → (u : Nodes) (own : List Ref) → IsLevelReduced s T v (length (row rows v)) u own → count_of u ≤ u.limit →
+  pub level_next : (v : ℕ) (s : Nodes) (A : List (List Ref)) → v < from → AreReducedBelow S entries T (v + 1) s A → (u : Nodes) (own : List Ref) → IsLevelReduced s T v (length (row rows v)) u own → count_of u ≤ u.limit →
       (B : List (List Ref)) → length B ≡ length A → row B v ≡ own → ((w : ℕ) → (w ≡ v → ⊥) → row B w ≡ row A w) → AreReducedBelow S entries T v u B
-  level_next v s A lt some d u own so within B len here others = record {
+  level_next v s A lt d u own so within B len here others = record {
     held = so.held;
     adds = level_adds S w entries good T v s u E.admitted d.held so.held d.adds so.adds;
     levels = len ∙ d.levels;
     counts = λ x q k le h. elim (eq-or-lt_of_le le) [
-      | inl e ↦ subst (λ z. length (row B z) ≡ length (row T z)) e (ap length here ∙ so.count ∙ all_split v lt some)
+      | inl e ↦ subst (λ z. length (row B z) ≡ length (row T z)) e (ap length here ∙ so.count ∙ E.counts v lt)
       | inr l ↦ ap length (others x (λ e. omega (arith, e, l))) ∙ d.counts x q k (omega (arith, l)) h
     ];
     answered = λ x q k r le h g. elim (eq-or-lt_of_le le) [

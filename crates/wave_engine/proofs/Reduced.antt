@@ -1,9 +1,10 @@
 -- How many requests are reduced on the way up, and that none is missed.
-use Rattle.std.proofs.Common.{◌≡◌, ℕ, ◌+◌, ◌<◌, ◌≤◌, inl, inr, List, [], ◌++◌, length, sym, subst, arith}
+use Rattle.std.proofs.Common.{◌≡◌, ℕ, ◌+◌, ◌%◌, ◌^◌, ◌<◌, ◌≤◌, inl, inr, List, [], ◌++◌, length, sym, subst, arith}
 use Rattle.std.proofs.Math.Nat.{eq-or-lt_of_le}
 use Rattle.std.proofs.lemmas.Bool.{cases_lt}
 use Rattle.std.proofs.lemmas.List.{length-append}
 use Rattle.std.proofs.lemmas.Option.{slice_get_within}
+use Rattle.slot_table.specs.Lists.{IsOnce}
 use Rattle.dd_store.specs.Nodes.{Nodes}
 use Rattle.dd_store.proofs.Places.{slice_get-append}
 use Rattle.req_table.specs.declared.Key.{Key}
@@ -12,7 +13,7 @@ use Rattle.expand_work.proofs.Once.{append_cases, once_append}
 use Rattle.reduce_up.specs.Waves.{Entry}
 use Rattle.wave_engine.specs.Down.{AreAdmitted}
 use Rattle.wave_engine.specs.Places.{row, StandsAt, AreNone}
-use Rattle.wave_engine.specs.Up.{IsLevelCounted, AreCounted}
+use Rattle.wave_engine.specs.Up.{AreCounted}
 use Rattle.wave_engine.proofs.Counting.{in_back}
 
 -- before the last level nothing is reduced
@@ -27,10 +28,10 @@ none_reduced T v count = record {
 
 -- the requests of a level are reduced too, where none stands between it and those that were
 pub level_reduced : (s : Nodes) (entries : List Entry) (T : List (List Key)) → AreAdmitted s entries T → (u end v before after later : ℕ) →
-    AreCounted T end v before after → u < end → end ≤ v → AreNone T (u + 1) end → IsLevelCounted T u after later → AreCounted T u v before later
-level_reduced s entries T admitted u end v before after later m lt le none own = record {
+    AreCounted T end v before after → u < end → end ≤ v → AreNone T (u + 1) end → IsOnce (row T u) → later % 2 ^ 64 ≡ (after + length (row T u)) % 2 ^ 64 → AreCounted T u v before later
+level_reduced s entries T admitted u end v before after later m lt le none own b = record {
   requests = row T u ++ m.requests;
-  once = once_append (row T u) m.requests own.once m.once (λ k a b.
+  once = once_append (row T u) m.requests own m.once (λ k a b.
       let x = m.stands k b in
       let here : level_of s k ≡ u = (admitted.keys u a.0 k a.1).level in
       let there : level_of s k ≡ x.0 = (admitted.keys x.0 x.1 k x.4).level in
@@ -48,7 +49,7 @@ level_reduced s entries T admitted u end v before after later m lt le none own =
     ]
   ];
   count = let l : length (row T u ++ m.requests) ≡ length (row T u) + length m.requests = length-append (row T u) m.requests in
-      let a = m.count in let b = own.count in omega (arith, l, a, b);
+      let a = m.count in omega (arith, l, a, b);
 }
 
 -- levels without requests are passed over

@@ -39,9 +39,10 @@ use Rattle.reduce_up.proofs.Rooted.{all_of, requests_good}
 use Rattle.req_table.specs.declared.placed.Placed.{Placed}
 use Rattle.req_table.specs.declared.placed.PlacedChild.TheVariants.{Done, Ask}
 use Rattle.wave_engine.specs.Places.{row, StandsAt, IsPlaced}
-use Rattle.wave_engine.specs.Down.{IsAdmitted, AreAdmitted, AreExpanded}
-use Rattle.wave_engine.specs.Up.{ComesTo, IsWithinBelow}
+use Rattle.wave_engine.specs.Down.{IsAdmitted, AreAdmitted, AreExpanded, IsDown}
+use Rattle.wave_engine.specs.Up.{ComesTo, IsWithinBelow, AreReducedBelow, AreReady}
 use Rattle.wave_engine.proofs.Placing.{stands_some, root_for}
+use Rattle.wave_engine.proofs.Waiting.{waiting_reduced}
 
 -- Of a store S and a later one, U.
 module _ (S : Nodes) (w : IsSound S) (entries : List Entry) (good : All (IsEntry S) entries) (U : Nodes) (K : Keeps S U) where
@@ -117,6 +118,16 @@ module _ (S : Nodes) (w : IsSound S) (entries : List Entry) (good : All (IsEntry
       all [] (p ∷ ps) z = z
       all (e ∷ es) [] z = z
       all (e ∷ es) (p ∷ ps) z = (subst (IsPlaced T p) (sym (child_same e.0 e.1 e.2)) z.0, all es ps z.1)
+
+  -- what was handed over has its answers, so the levels above can be reduced
+  pub down_ready : (v : ℕ) (W : List (List Key)) (rows : List (List (Placed × Placed))) (roots : List Placed) (before after : ℕ) (d : IsDown S entries v W rows roots before after) (A : List (List Ref)) →
+      AreReducedBelow U entries W v U A → AreReady U entries v rows A d.tables
+  down_ready v W rows roots before after d A r = record {
+    roots = roots;
+    expanded = expanded_kept roots v d.tables rows d.expanded;
+    once = d.once;
+    reduced = waiting_reduced d.tables v W d.waits U entries U A r;
+  }
 
   -- what the entries want of the one, they want of the other
   pub wanted_back : (v : ℕ) (f : List Bool → Bool) → IsWanted U entries v f → IsWanted S entries v f

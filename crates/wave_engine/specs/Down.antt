@@ -1,8 +1,7 @@
 -- The expansion of requests by place, from the first level down.
-use Rattle.std.specs.Prelude.{◌≡◌, ℕ, ◌+◌, ◌%◌, ◌^◌, ◌<◌, ◌≤◌, true, false, List, length, slice_get, Some}
+use Rattle.std.specs.Prelude.{◌≡◌, ℕ, ◌+◌, ◌%◌, ◌^◌, ◌<◌, ◌≤◌, true, false, List, [], length, slice_get, Some}
 use Rattle.std.specs.List.{AllZip}
 use Rattle.slot_table.specs.Lists.{IsIn, IsOnce}
-use Rattle.dd_store.specs.declared.reference.Ref.{Ref}
 use Rattle.req_table.specs.declared.Key.{Key}
 use Rattle.dd_store.specs.Nodes.{Nodes}
 use Rattle.req_table.specs.Keys.{IsKey, level_of, child, child_of, wave_of}
@@ -43,13 +42,13 @@ pub record IsRowExpanded (s : Nodes) (entries : List Entry) (start : List (List 
   pub count : length pairs ≡ i
   pub split : (q : ℕ) (k : Key) (d : Placed × Placed) → StandsAt tables v q k → slice_get pairs q ≡ Some d → IsSplitAt s tables k d
 
--- the levels before v are expanded. A level without requests may have any pairs
+-- the levels before v are expanded
 pub record AreExpanded (s : Nodes) (entries : List Entry) (roots : List Placed) (v : ℕ) (tables : List (List Key))
     (rows : List (List (Placed × Placed))) : Type 0 where
   pub admitted : AreAdmitted s entries tables
   pub rooted : AllZip (λ e p. IsPlaced tables p (child s e.0 e.1 e.2)) entries roots
   pub levels : length rows ≡ s.levels
-  pub counts : (w q : ℕ) (k : Key) → w < v → StandsAt tables w q k → length (row rows w) ≡ length (row tables w)
+  pub counts : (w : ℕ) → w < v → length (row rows w) ≡ length (row tables w)
   pub split : (w q : ℕ) (k : Key) (d : Placed × Placed) → w < v → StandsAt tables w q k → StandsAt rows w q d → IsSplitAt s tables k d
 
 -- between two counts modulo 2^64 exactly the requests that stand before level v were split, each once
@@ -61,9 +60,19 @@ pub record HaveSplit (s : Nodes) (entries : List Entry) (tables : List (List Key
   pub whole : (w q : ℕ) (k : Key) → w < v → StandsAt tables w q k → IsIn requests k
   pub count : after % 2 ^ 64 ≡ (before + length requests) % 2 ^ 64
 
--- all levels before v are expanded, from the roots down, and there is a list of answers for each level
-pub record IsDown (s : Nodes) (entries : List Entry) (v : ℕ) (tables : List (List Key)) (rows : List (List (Placed × Placed)))
-    (roots : List Placed) (answers : List (List Ref)) : Type 0 where
+-- of all tables those from level v on, which wait; the others are empty
+pub record AreWaiting (tables : List (List Key)) (v : ℕ) (waiting : List (List Key)) : Type 0 where
+  pub levels : length waiting ≡ length tables
+  pub gone : (w : ℕ) → w < v → row waiting w ≡ []
+  pub same : (w : ℕ) → v ≤ w → row waiting w ≡ row tables w
+
+-- all levels before v are expanded, from the roots down, and each of their requests was split once, as the counts say; what they were is
+-- kept no longer, but what waits further down
+pub record IsDown (s : Nodes) (entries : List Entry) (v : ℕ) (waiting : List (List Key)) (rows : List (List (Placed × Placed)))
+    (roots : List Placed) (before after : ℕ) : Type 0 where
+  pub tables : List (List Key)
   pub bound : v ≤ s.levels
   pub expanded : AreExpanded s entries roots v tables rows
-  pub levels : length answers ≡ s.levels
+  pub once : (w : ℕ) → w < v → IsOnce (row tables w)
+  pub split : HaveSplit s entries tables v before after
+  pub waits : AreWaiting tables v waiting

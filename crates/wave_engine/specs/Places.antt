@@ -41,23 +41,23 @@ pub record AreEmpty {X : Type 0} (lists : List (List X)) (n : ℕ) : Type 0 wher
   pub levels : length lists ≡ n
   pub empty : (w : ℕ) → row lists w ≡ []
 
--- no request stands in the levels from v on that are before u
-abbrev pub AreNone : List (List Key) → ℕ → ℕ → Type 0
-AreNone tables v u = (w q : ℕ) (k : Key) → v ≤ w → w < u → StandsAt tables w q k → ⊥
+-- nothing stands in the levels from v on that are before u
+abbrev pub AreNone : {X : Type 0} → List (List X) → ℕ → ℕ → Type 0
+AreNone {X} lists v u = (w q : ℕ) (x : X) → v ≤ w → w < u → StandsAt lists w q x → ⊥
 
--- the first level from v on that has requests, if there is one
-abbrev pub IsNextLevel : List (List Key) → ℕ → Option ℕ → Type 0
-IsNextLevel tables v None = (w q : ℕ) (k : Key) → v ≤ w → StandsAt tables w q k → ⊥
-IsNextLevel tables v (Some u) = (v ≤ u) × (u < length tables) × (0 < length (row tables u)) × AreNone tables v u
+-- the first level from v on that has something, if there is one
+abbrev pub IsNextLevel : {X : Type 0} → List (List X) → ℕ → Option ℕ → Type 0
+IsNextLevel {X} lists v None = (w q : ℕ) (x : X) → v ≤ w → StandsAt lists w q x → ⊥
+IsNextLevel lists v (Some u) = (v ≤ u) × (u < length lists) × (0 < length (row lists u)) × AreNone lists v u
 
--- the last level before u that has requests, if there is one
-abbrev pub IsLastLevel : List (List Key) → ℕ → Option ℕ → Type 0
-IsLastLevel tables u None = AreNone tables 0 u
-IsLastLevel tables u (Some v) = (v < u) × (0 < length (row tables v)) × AreNone tables (v + 1) u
+-- the last level before u that has something, if there is one
+abbrev pub IsLastLevel : {X : Type 0} → List (List X) → ℕ → Option ℕ → Type 0
+IsLastLevel lists u None = AreNone lists 0 u
+IsLastLevel lists u (Some v) = (v < u) × (0 < length (row lists v)) × AreNone lists (v + 1) u
 
--- the levels that have requests are in the set, and no others
-pub record AreMembers (asked : List ℕ) (tables : List (List Key)) : Type 0 where
-  pub room : length tables ≤ 64 * length asked
-  pub few : length tables < 2 ^ 16
-  pub held : (w : ℕ) → IsMember asked w → 0 < length (row tables w)
-  pub members : (w q : ℕ) (k : Key) → StandsAt tables w q k → IsMember asked w
+-- the levels that have something are in the set, and no others
+pub record AreMembers {X : Type 0} (levels : List ℕ) (lists : List (List X)) : Type 0 where
+  pub room : length lists ≤ 64 * length levels
+  pub few : length lists < 2 ^ 16
+  pub held : (w : ℕ) → IsMember levels w → 0 < length (row lists w)
+  pub members : (w q : ℕ) (x : X) → StandsAt lists w q x → IsMember levels w

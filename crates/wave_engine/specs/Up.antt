@@ -14,6 +14,7 @@ use Rattle.reduce_up.specs.Waves.{Entry, IsWanted}
 use Rattle.req_table.specs.declared.placed.Placed.{Placed}
 use Rattle.req_table.specs.declared.placed.PlacedChild.TheVariants.{Done, Ask}
 use Rattle.wave_engine.specs.Places.{row, StandsAt}
+use Rattle.wave_engine.specs.Down.{AreExpanded}
 
 -- what a placed child comes to by the answers
 abbrev pub ComesTo : List (List Ref) → Placed → Ref → Type 0
@@ -79,11 +80,6 @@ pub record AreReducedBelow (start : Nodes) (entries : List Entry) (tables : List
   pub within : IsWithinBelow start tables v s
 
 -- ---- how many requests are reduced
--- of level v, in which no request stands twice, each was reduced once, between two counts modulo 2^64
-pub record IsLevelCounted (tables : List (List Key)) (v : ℕ) (before after : ℕ) : Type 0 where
-  pub once : IsOnce (row tables v)
-  pub count : after % 2 ^ 64 ≡ (before + length (row tables v)) % 2 ^ 64
-
 -- between two counts modulo 2^64 exactly the requests from level u on that stand before level v were reduced, each once
 pub record AreCounted (tables : List (List Key)) (u v : ℕ) (before after : ℕ) : Type 0 where
   pub requests : List Key
@@ -91,3 +87,12 @@ pub record AreCounted (tables : List (List Key)) (u v : ℕ) (before after : ℕ
   pub stands : (k : Key) → IsIn requests k → (w : ℕ) × (q : ℕ) × (u ≤ w) × (w < v) × StandsAt tables w q k
   pub whole : (w q : ℕ) (k : Key) → u ≤ w → w < v → StandsAt tables w q k → IsIn requests k
   pub count : after % 2 ^ 64 ≡ (before + length requests) % 2 ^ 64
+
+-- ---- what a reduction begins with
+-- the levels before v are expanded, none has a request twice, and those from v on have their answers
+pub record AreReady (s : Nodes) (entries : List Entry) (v : ℕ) (rows : List (List (Placed × Placed))) (answers : List (List Ref))
+    (tables : List (List Key)) : Type 0 where
+  pub roots : List Placed
+  pub expanded : AreExpanded s entries roots v tables rows
+  pub once : (w : ℕ) → w < v → IsOnce (row tables w)
+  pub reduced : AreReducedBelow s entries tables v s answers

@@ -3,9 +3,9 @@ ghost use Rattle.std.specs.Prelude.{◌≡◌, ◌≢◌, ◌<◌, ◌≤◌, �
 ghost use Rattle.std.specs.List.{AllZip};
 ghost use Rattle.req_table.specs.Keys.{IsChildIn, child as child_spec};
 ghost use Rattle.reduce_up.specs.Waves.{IsEntry};
-ghost use Rattle.wave_engine.specs.Places.{row, IsPlaced, Admits};
+ghost use Rattle.wave_engine.specs.Places.{row, IsPlaced, Admits, AreEmpty};
 ghost use Rattle.wave_engine.specs.Bounds.{AreMoreThan, AreAtMost};
-ghost use Rattle.wave_engine.specs.Down.{AreAdmitted, IsRowExpanded, AreExpanded, HaveSplit};
+ghost use Rattle.wave_engine.specs.Down.{AreAdmitted, IsRowExpanded, AreExpanded, IsDown};
 
 use crate::lists::Row;
 use crate::requests::Requests;
@@ -69,6 +69,7 @@ fn expand_level(
 ) -> Result<(), AllocError>
     requires admitted { AreAdmitted store.now entries.now requests.old }
     requires level { level < store.now.levels }
+    requires empty { pairs.old ≡ [] }
     ensures levels { length requests.new ≡ length requests.old }
     ensures expanded { OnOk result (IsRowExpanded store.now entries.now requests.old level
         (length (row requests.old level)) requests.new pairs.new) }
@@ -77,7 +78,7 @@ fn expand_level(
     let _ = store.levels();
     let _ = entries.len();
     let count = requests.count(level);
-    pairs.restart(count)?;
+    pairs.reserve(count)?;
     for place in 0..count {
         let key = requests.key_at(level, place);
         let record = splits.split(store, key);
@@ -116,18 +117,18 @@ fn most_at(limits: Limits, requests: &Requests, level: u16, count: usize) -> usi
 }
 
 /// Expands level after level, of those that have requests, and stops before the first with more than its limit, where the levels from
-/// there on are wide on average: all levels before the one that is answered are expanded. Where the levels that it comes to have more
-/// than the wave's limit together, it refuses.
+/// there on are wide on average: all levels before the one that is answered are expanded, and their requests are not kept. Where the
+/// levels that it comes to have more than the wave's limit together, it refuses.
 pub(crate) fn expand(
     store: &Store,
     entries: &[(Op, Ref, Ref)],
     down: &mut Down,
     limits: Limits,
 ) -> Result<u16, WaveFault>
-    requires start { AreExpanded store.now entries.now down.old.roots.items 0 down.old.requests down.old.rows.items }
-    ensures bound { IfOk result (λ v. v ≤ store.now.levels) }
-    ensures expanded { IfOk result (λ v. AreExpanded store.now entries.now down.new.roots.items v down.new.requests down.new.rows.items) }
-    ensures split { IfOk result (λ v. HaveSplit store.now entries.now down.new.requests v down.old.splits down.new.splits) }
+    requires start { AreExpanded store.now entries.now down.old.roots.items 0 down.old.requests down.old.rows }
+    requires rows { AreEmpty down.old.rows store.now.levels }
+    ensures down { IfOk result (λ v. IsDown store.now entries.now v down.new.requests down.new.rows down.new.roots.items
+        down.old.splits down.new.splits) }
     ensures wide { IfOk result (λ v. v < store.now.levels → limits.level < length (row down.new.requests v)) }
     ensures alone { limits.level ≡ 2 ^ 64 - 1 → IfOk result (λ v. v ≡ store.now.levels) }
     ensures refused { IfErr result (λ e. e ≢ WaveFault.Full) }
@@ -151,14 +152,17 @@ pub(crate) fn expand(
             return Ok(next);
         }
         left = left.saturating_sub(count);
+        let mut pairs = down.rows.take(next);
         expand_level(
             store,
             entries,
             &mut down.requests,
-            &mut down.rows[next as usize],
+            &mut pairs,
             &mut down.splits,
             next,
         )?;
+        down.rows.put(next, pairs);
+        down.requests.empty_level(next)?;
         level = next + 1;
     }
     Ok(levels)

@@ -23,6 +23,7 @@ mod level_set;
 mod lists;
 mod reductions;
 mod requests;
+mod rows;
 mod sizes;
 mod up;
 mod waves;

@@ -46,11 +46,17 @@ impl Row {
         self.pairs.as_slice()
     }
 
-    /// Removes all pairs, keeps the memory, and has room for so many.
-    pub(crate) fn restart(&mut self, count: usize) -> Result<(), AllocError>
+    /// Removes all pairs, and keeps the memory.
+    pub(crate) fn clear(&mut self)
         ensures { self.new ≡ [] }
     {
         self.pairs.clear();
+    }
+
+    /// Has room for so many pairs more.
+    pub(crate) fn reserve(&mut self, count: usize) -> Result<(), AllocError>
+        ensures { self.new ≡ self.old }
+    {
         self.pairs.reserve_exact(count)?;
         Ok(())
     }

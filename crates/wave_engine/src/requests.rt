@@ -1,18 +1,25 @@
 //! The requests of a wave, by level.
-ghost use Rattle.std.specs.Prelude.{◌≡◌, ◌<◌, ◌≤◌, [], ℕ, Bool, length, set, IfOk, OnOk, MatchOption};
+ghost use Rattle.std.specs.Prelude.{◌≡◌, ◌<◌, [], Bool, length, set, IfOk, OnOk};
 ghost use Rattle.slot_table.specs.Lists.{IsOnce};
 ghost use Rattle.req_table.specs.declared.Child.TheVariants as child;
-ghost use Rattle.wave_engine.specs.Places.{row, StandsAt, Admits, AreEmpty, IsNextLevel, IsLastLevel};
+ghost use Rattle.wave_engine.specs.Places.{row, StandsAt, Admits, AreEmpty, IsNextLevel};
 
 use crate::level_set::LevelSet;
 use req_table::{Key, Table};
 use std::alloc::{AllocError, Global};
 use std::marker::Model;
+use std::mem;
 
-/// The requests of each level, each once. Those that have some are known, so that levels without are passed over.
+/// A table of more requests than these serves no other level: it gives its memory back, some megabytes, which the children need.
+const MOST_LENT: usize = 1 << 16;
+
+/// The requests that wait at each level, each once. The levels that have some are known, so that those without are passed over.
 #[derive(Drop)]
 pub(crate) struct Requests {
     tables: Vec<Table>,
+    /// Tables of levels that were expanded. The next level that is asked for something takes the last of them, so a wave has as many
+    /// tables as levels that wait at once.
+    spare: Vec<Table>,
     asked: LevelSet,
 }
 
@@ -47,6 +54,7 @@ impl Requests {
     {
         Requests {
             tables: Vec::new(alloc),
+            spare: Vec::new(alloc),
             asked: LevelSet::new(alloc),
         }
     }
@@ -57,17 +65,23 @@ impl Requests {
     {
         Ok(Requests {
             tables: empty_tables(alloc, levels)?,
+            spare: Vec::new(alloc),
             asked: LevelSet::with_room(alloc, levels)?,
         })
     }
 
-    /// Takes the requests from a level, and keeps their memory.
-    fn empty_level(&mut self, level: u16)
+    /// Takes the requests from a level. Its table serves another one, unless it is large.
+    pub(crate) fn empty_level(&mut self, level: u16) -> Result<(), AllocError>
         requires { level < length self.old }
-        ensures { self.new ≡ set self.old level [] }
+        ensures { OnOk result (self.new ≡ set self.old level []) }
     {
-        self.tables[level as usize].clear();
+        let fresh = Table::new(*self.tables.allocator());
+        let used = mem::replace(&mut self.tables[level as usize], fresh);
         self.asked.remove(level);
+        if used.len() <= MOST_LENT {
+            self.spare.push(used)?;
+        }
+        Ok(())
     }
 
     /// Leaves so many levels without requests. Only levels that had some are come to.
@@ -80,23 +94,52 @@ impl Requests {
         }
         let mut from = 0;
         while let Some(level) = self.next_level(from) {
-            self.empty_level(level);
+            self.empty_level(level)?;
             from = level + 1;
         }
         Ok(())
     }
 
+    /// A table without requests.
+    fn spare_table(&mut self) -> Table
+        ensures empty { result ≡ [] }
+        ensures same { self.new ≡ self.old }
+    {
+        match self.spare.pop() {
+            Some(mut table) => {
+                table.clear();
+                table
+            }
+            None => Table::new(*self.tables.allocator()),
+        }
+    }
+
+    /// Admits the first request of a level.
+    #[inline(never)]
+    fn admit_first(&mut self, level: u16, key: Key) -> Result<u32, AllocError>
+        requires bound { level < length self.old }
+        requires first { row self.old level ≡ [] }
+        ensures stands { IfOk result (λ p. StandsAt self.new level p key) }
+        ensures admits { (mark : Bool) → Admits self.old (child.Ask level key mark) self.new }
+    {
+        let mut table = self.spare_table();
+        let (place, _) = table.admit(key)?;
+        self.tables[level as usize] = table;
+        self.asked.insert(level);
+        Ok(place)
+    }
+
     /// The place of a request among those of its level, to which it is admitted if it was not there.
+    #[inline(always)]
     pub(crate) fn admit(&mut self, level: u16, key: Key) -> Result<u32, AllocError>
         requires { level < length self.old }
         ensures stands { IfOk result (λ p. StandsAt self.new level p key) }
         ensures admits { (mark : Bool) → Admits self.old (child.Ask level key mark) self.new }
     {
-        let count = self.count(level);
-        let (place, _) = self.tables[level as usize].admit(key)?;
-        if count == 0 {
-            self.asked.insert(level);
+        if self.count(level) == 0 {
+            return self.admit_first(level, key);
         }
+        let (place, _) = self.tables[level as usize].admit(key)?;
         Ok(place)
     }
 
@@ -147,17 +190,6 @@ impl Requests {
         ensures { IsNextLevel self.now from result }
     {
         match self.asked.next(from as usize) {
-            Some(level) => Some(level as u16),
-            None => None,
-        }
-    }
-
-    /// The last level before one that has requests.
-    pub(crate) fn last_level(&self, end: u16) -> Option<u16>
-        requires { end ≤ length self.now }
-        ensures { IsLastLevel self.now end result }
-    {
-        match self.asked.last(end as usize) {
             Some(level) => Some(level as u16),
             None => None,
         }

@@ -1,17 +1,16 @@
 //! Reduction, from the last level up: each request's answer is made of its children's, which are read by place.
-ghost use Rattle.std.specs.Prelude.{◌≡◌, ◌≢◌, ◌<◌, ◌≤◌, ℕ, length, All, Err, IfErr, OnOk};
+ghost use Rattle.std.specs.Prelude.{◌≡◌, ◌≢◌, ◌<◌, ◌≤◌, ◌+◌, ◌%◌, ◌^◌, ℕ, List, length, All, Err, IfErr, OnOk};
 ghost use Rattle.dd_store.specs.declared.reference.Ref.{Ref as RefValue};
 ghost use Rattle.dd_store.specs.Nodes.{IsSound, count_of};
 ghost use Rattle.reduce_up.specs.Reducing.{AddsDescribed};
 ghost use Rattle.reduce_up.specs.Waves.{IsWanted, IsWaveFault, IsEntry};
-ghost use Rattle.wave_engine.specs.Down.{AreExpanded};
-ghost use Rattle.wave_engine.specs.Up.{ComesTo, IsReadyAt, AskedAt, IsLevelReduced, IsLevelCounted, IsLevelFault, AreReducedBelow};
-ghost use Rattle.wave_engine.specs.Up.{AreCounted};
+ghost use Rattle.req_table.specs.declared.Key.{Key};
+ghost use Rattle.wave_engine.specs.Up.{ComesTo, IsReadyAt, AskedAt, IsLevelReduced, IsLevelFault, AreReducedBelow, AreCounted, AreReady};
 
 use crate::lists::Answers;
 use crate::reductions::Reductions;
-use crate::requests::Requests;
-use crate::workspace::{Down, Up};
+use crate::rows::Rows;
+use crate::workspace::Up;
 use dd_store::{Ref, Store};
 use expand_work::WaveFault;
 use reduce_up::first_fault;
@@ -31,16 +30,15 @@ pub(crate) fn resolve(answers: &[Answers], child: Placed) -> Ref
     }
 }
 
-/// A level that is to be reduced: the requests of all levels, the children of its own, and the answers that are known.
+/// A level that is to be reduced: the children of its requests, and the answers that are known.
 #[derive(Drop)]
 struct Level<'a> {
-    requests: &'a Requests,
     pairs: &'a [(Placed, Placed)],
     answers: &'a [Answers],
     number: u16,
 }
 
-/// Adds the answers of a level's requests.
+/// Adds the answers of a level's requests. They are kept no longer: what is said holds of all of which these are the children.
 fn reduce_level(
     store: &mut Store,
     level: &Level<'_>,
@@ -48,17 +46,18 @@ fn reduce_level(
     reductions: &mut Reductions,
 ) -> Result<(), WaveFault>
     requires held { IsSound store.old }
-    requires bound { level.now.number < length level.now.requests.now }
-    requires ready { IsReadyAt store.old level.now.requests.now level.now.pairs.now level.now.answers.now level.now.number }
+    requires ready { (tables : List (List Key))
+        × IsReadyAt store.old tables level.now.pairs.now level.now.answers.now level.now.number }
     ensures sound { IsSound store.new }
-    ensures adds { AddsDescribed store.old store.new (AskedAt store.old level.now.requests.now level.now.number) }
-    ensures whole { OnOk result (IsLevelReduced store.old level.now.requests.now level.now.number
-        (length level.now.pairs.now) store.new own.new) }
-    ensures counted { OnOk result (IsLevelCounted level.now.requests.now level.now.number reductions.old reductions.new) }
-    ensures fault { IfErr result (λ e. IsLevelFault store.new level.now.requests.now level.now.number e) }
+    ensures adds { (tables : List (List Key)) → IsReadyAt store.old tables level.now.pairs.now level.now.answers.now level.now.number
+        → AddsDescribed store.old store.new (AskedAt store.old tables level.now.number) }
+    ensures whole { (tables : List (List Key)) → IsReadyAt store.old tables level.now.pairs.now level.now.answers.now level.now.number
+        → OnOk result (IsLevelReduced store.old tables level.now.number (length level.now.pairs.now) store.new own.new) }
+    ensures counted { OnOk result (reductions.new % 2 ^ 64 ≡ (reductions.old + length level.now.pairs.now) % 2 ^ 64) }
+    ensures fault { (tables : List (List Key)) → IsReadyAt store.old tables level.now.pairs.now level.now.answers.now level.now.number
+        → IfErr result (λ e. IsLevelFault store.new tables level.now.number e) }
 {
-    let count = level.requests.count(level.number);
-    if own.restart(count).is_err() {
+    if own.restart(level.pairs.len()).is_err() {
         return Err(WaveFault::OutOfMemory);
     }
     for pair in level.pairs {
@@ -75,23 +74,25 @@ fn reduce_level(
     Ok(())
 }
 
-/// Adds the answers of the levels before `from` that have requests, and sees after each that the store is within its limit.
+/// Adds the answers of the levels before `from` that have children, and sees after each that the store is within its limit. The children
+/// of a level that has its answers are kept no longer. What is said holds of all requests of which these are the children.
 pub(crate) fn reduce(
     store: &mut Store,
     entries: &[(Op, Ref, Ref)],
-    down: &Down,
+    rows: &mut Rows,
     up: &mut Up,
     from: u16,
 ) -> Result<(), WaveFault>
     requires held { IsSound store.old }
     requires operands { All (IsEntry store.old) entries.now }
     requires bound { from ≤ store.old.levels }
-    requires expanded { AreExpanded store.old entries.now down.now.roots.items from down.now.requests down.now.rows.items }
-    requires reduced { AreReducedBelow store.old entries.now down.now.requests from store.old up.old.answers.items }
+    requires ready { (tables : List (List Key)) × AreReady store.old entries.now from rows.old up.old.answers.items tables }
     ensures sound { IsSound store.new }
     ensures adds { AddsDescribed store.old store.new (IsWanted store.old entries.now) }
-    ensures reduced { OnOk result (AreReducedBelow store.old entries.now down.now.requests 0 store.new up.new.answers.items) }
-    ensures counted { OnOk result (AreCounted down.now.requests 0 from up.old.reductions up.new.reductions) }
+    ensures reduced { (tables : List (List Key)) → AreReady store.old entries.now from rows.old up.old.answers.items tables
+        → OnOk result (AreReducedBelow store.old entries.now tables 0 store.new up.new.answers.items) }
+    ensures counted { (tables : List (List Key)) → AreReady store.old entries.now from rows.old up.old.answers.items tables
+        → OnOk result (AreCounted tables 0 from up.old.reductions up.new.reductions) }
     ensures fault { IfErr result (λ e. IsWaveFault store.old entries.now store.new e) }
     ensures served { IfErr result (λ e. e ≢ WaveFault.NoWorker) }
     ensures unbounded { IfErr result (λ e. e ≢ WaveFault.TooManyRequests) }
@@ -100,12 +101,12 @@ pub(crate) fn reduce(
     let _ = entries.len();
     let alloc = *up.answers.allocator();
     let mut end = from;
-    while let Some(number) = down.requests.last_level(end) {
+    while let Some(number) = rows.last_level(end) {
+        let children = rows.take(number);
         // the level's own list is taken out, since the lists below it are read meanwhile
         let mut own = mem::replace(&mut up.answers[number as usize], Answers::new(alloc));
         let level = Level {
-            requests: &down.requests,
-            pairs: down.rows[number as usize].pairs(),
+            pairs: children.pairs(),
             answers: up.answers.as_slice(),
             number,
         };
@@ -114,6 +115,7 @@ pub(crate) fn reduce(
             Err(fault) => return Err(first_fault(store, fault)),
         }
         up.answers[number as usize] = own;
+        rows.give_back(number, children);
         if store.count() > store.limit() {
             return Err(WaveFault::Full);
         }

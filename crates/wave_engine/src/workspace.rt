@@ -7,15 +7,16 @@ ghost use Rattle.reduce_up.specs.Waves.{IsEntry, AnswersWave, requests_of};
 ghost use Rattle.expand_work.specs.Bounds.{most_of};
 ghost use Rattle.expand_work.specs.Gathered.{HaveExpanded};
 ghost use Rattle.wave_engine.specs.Bounds.{AreMoreThan, AreAtMost, ArePast};
-ghost use Rattle.wave_engine.specs.Down.{IsDown, HaveSplit};
+ghost use Rattle.wave_engine.specs.Down.{IsDown};
 ghost use Rattle.wave_engine.specs.Resting.{HaveReduced};
 ghost use Rattle.wave_engine.specs.Up.{ComesTo};
 
 use crate::down::{Limits, expand, place_roots};
 use crate::front::{Frontier, hand_over};
-use crate::lists::{Answers, Row};
+use crate::lists::Answers;
 use crate::reductions::Reductions;
 use crate::requests::Requests;
+use crate::rows::Rows;
 use crate::sizes::Sizes;
 use crate::up::{reduce, resolve};
 use dd_store::{Ref, Store};
@@ -26,12 +27,12 @@ use std::alloc::{AllocError, Global};
 use std::sync::Wait;
 use std::thread::Threads;
 
-/// What a wave's expansion leaves: the requests by level, the children of each by place, and what the entries come to. A level
-/// without requests may have old children. All that are ever split for it are counted.
+/// What a wave's expansion leaves: the requests that wait, the children of those that do not, and what the entries come to. All that are
+/// ever split for it are counted.
 #[derive(Drop)]
 pub(crate) struct Down {
     pub(crate) requests: Requests,
-    pub(crate) rows: Vec<Row>,
+    pub(crate) rows: Rows,
     pub(crate) roots: Vec<Placed>,
     pub(crate) splits: Splits,
 }
@@ -41,21 +42,6 @@ pub(crate) struct Down {
 pub(crate) struct Up {
     pub(crate) answers: Vec<Answers>,
     pub(crate) reductions: Reductions,
-}
-
-/// Makes a row for each level.
-fn fit_rows(alloc: Global, rows: &mut Vec<Row>, levels: u16) -> Result<(), AllocError>
-    ensures { OnOk result (length rows.new.items ≡ levels) }
-{
-    if rows.len() == levels as usize {
-        return Ok(());
-    }
-    let mut fresh = Vec::new(alloc);
-    for made in 0..levels {
-        fresh.push(Row::new(alloc))?;
-    }
-    *rows = fresh;
-    Ok(())
 }
 
 /// Makes a list of answers for each level.
@@ -84,9 +70,9 @@ fn go_down(
     limits: Limits,
 ) -> Result<u16, WaveFault>
     requires operands { All (IsEntry store.now) entries.now }
-    ensures down { IfOk result (λ v. IsDown store.now entries.now v down.new.requests down.new.rows.items down.new.roots.items
-        answers.new.items) }
-    ensures split { IfOk result (λ v. HaveSplit store.now entries.now down.new.requests v down.old.splits down.new.splits) }
+    ensures down { IfOk result (λ v. IsDown store.now entries.now v down.new.requests down.new.rows down.new.roots.items
+        down.old.splits down.new.splits) }
+    ensures answers { OnOk result (length answers.new.items ≡ store.now.levels) }
     ensures alone { limits.level ≡ 2 ^ 64 - 1 → IfOk result (λ v. v ≡ store.now.levels) }
     ensures refused { IfErr result (λ e. e ≢ WaveFault.Full) }
     ensures served { IfErr result (λ e. e ≢ WaveFault.NoWorker) }
@@ -97,7 +83,7 @@ fn go_down(
 {
     let levels = store.levels();
     down.requests.restart(alloc, levels)?;
-    fit_rows(alloc, &mut down.rows, levels)?;
+    down.rows.restart(alloc, levels)?;
     fit_answers(alloc, answers, levels)?;
     down.roots.clear();
     place_roots(store, entries, &mut down.requests, &mut down.roots)?;
@@ -143,7 +129,7 @@ impl<'a, R: Threads + Wait + Sync, G: Monitor> Workspace<'a, R, G> {
             crew,
             down: Down {
                 requests: Requests::new(alloc),
-                rows: Vec::new(alloc),
+                rows: Rows::new(alloc),
                 roots: Vec::new(alloc),
                 splits: Splits::new(),
             },
@@ -233,7 +219,7 @@ impl<'a, R: Threads + Wait + Sync, G: Monitor> Workspace<'a, R, G> {
             &mut self.up.answers,
         )?;
         self.sizes = self.sizes.then(alone.saturating_add(shared));
-        reduce(store, entries, &self.down, &mut self.up, from)?;
+        reduce(store, entries, &mut self.down.rows, &mut self.up, from)?;
         let answers = self.up.answers.as_slice();
         match root_answers(alloc, self.down.roots.as_slice(), answers) {
             Ok(answers) => Ok(answers),

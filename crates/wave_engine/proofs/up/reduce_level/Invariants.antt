@@ -1,9 +1,12 @@
-use Rattle.std.proofs.Common.{◌≡◌, ◌+◌, ◌%◌, ◌^◌}
-use Rattle.wave_engine.specs.Up.{IsLevelReduced}
+use Rattle.std.proofs.Common.{◌≡◌, ◌+◌, ◌%◌, ◌^◌, List}
+use Rattle.dd_store.specs.Nodes.{IsSound}
+use Rattle.req_table.specs.declared.Key.{Key}
+use Rattle.wave_engine.specs.Up.{IsReadyAt, IsLevelReduced}
 use Rattle.wave_engine.proofs.up.reduce_level.Given as goal
 
 abbrev pub invariant-loop-pair : goal.invariant-loop-pair
 invariant-loop-pair l = record {
-  reduced : IsLevelReduced l.fn.store l.level.requests.now l.level.number l.pair-index l.store l.own;
+  held : IsSound l.store;
+  reduced : (T : List (List Key)) → IsReadyAt l.fn.store T l.level.pairs.now l.level.answers.now l.level.number → IsLevelReduced l.fn.store T l.level.number l.pair-index l.store l.own;
   counted : l.reductions % 2 ^ 64 ≡ (l.fn.reductions + l.pair-index) % 2 ^ 64;
 }

@@ -7,21 +7,31 @@ use Rattle.reduce_up.specs.Waves.{IsWanted, AnswersEach, IsWaveFault, requests_o
 use Rattle.reduce_up.proofs.Waving.{not_full, wave_unchanged, wave_given_up, wave_done, within_still}
 use Rattle.std.proofs.lemmas.Result.{err_from_is_err_and}
 use Rattle.req_table.specs.declared.placed.Placed.{Placed}
-use Rattle.wave_engine.specs.Down.{AreExpanded, IsDown}
+use Rattle.expand_work.specs.Gathered.{HaveExpanded}
+use Rattle.wave_engine.specs.Down.{IsDown}
 use Rattle.wave_engine.specs.Resting.{HaveReduced}
-use Rattle.wave_engine.specs.Up.{ComesTo, AreReducedBelow, IsWithinBelow}
+use Rattle.wave_engine.specs.Up.{ComesTo, AreReducedBelow, IsWithinBelow, AreReady}
 use Rattle.wave_engine.proofs.Both.{have_both, have_reduced}
-use Rattle.wave_engine.proofs.Whole.{expanded_kept, adds_both, fault_back, roots_come, roots_answered, within_both}
+use Rattle.wave_engine.proofs.Whole.{down_ready, adds_both, fault_back, roots_come, roots_answered, within_both}
+use Rattle.wave_engine.proofs.Waiting.{waiting_admitted, waiting_within, waiting_keys}
 use Rattle.wave_engine.proofs.workspace.Workspace.wave.Goals as goal
 
-pub reduce-requires-clause-expanded : goal.reduce-requires-clause-expanded
-reduce-requires-clause-expanded g c =
-    let T : List (List Key) = c.go_down.new.down.requests in
-    let rows : List (List (Placed × Placed)) = c.go_down.new.down.rows.items in
+pub reduce-requires-clause-ready : goal.reduce-requires-clause-ready
+reduce-requires-clause-ready g c =
+    let rows : List (List (Placed × Placed)) = c.go_down.new.down.rows in
     let ps : List Placed = c.go_down.new.down.roots.items in
-    let D : IsDown c.args.store.now c.args.entries.now c.in_ok-from.from T rows ps c.go_down.new.answers.items = c.in_ok-from.ensures.down in
-    let E : AreExpanded c.hand_over.new.store c.args.entries.now ps c.in_ok-from.from T rows = expanded_kept c.args.store.now c.levels-levels.ensures.sound c.args.entries.now c.requires.operands c.hand_over.new.store c.hand_over.ensures.adds.keeps ps c.in_ok-from.from T rows D.expanded in
-    E
+    let D : IsDown c.args.store.now c.args.entries.now c.in_ok-from.from c.go_down.new.down.requests rows ps c.args.self.now.down.splits c.go_down.new.down.splits = c.in_ok-from.ensures.down in
+    let T : List (List Key) = D.tables in
+    let Y : AreReady c.hand_over.new.store c.args.entries.now c.in_ok-from.from rows c.hand_over.new.answers.items T =
+    down_ready c.args.store.now c.levels-levels.ensures.sound c.args.entries.now c.requires.operands c.hand_over.new.store c.hand_over.ensures.adds.keeps c.in_ok-from.from c.go_down.new.down.requests rows ps c.args.self.now.down.splits c.go_down.new.down.splits D
+    c.hand_over.new.answers.items c.in_ok-shared.ensures.reduced in
+    (T, Y)
+
+pub hand_over-requires-clause-admitted : goal.hand_over-requires-clause-admitted
+hand_over-requires-clause-admitted g c κs within =
+    let ps : List Placed = c.go_down.new.down.roots.items in
+    let D : IsDown c.args.store.now c.args.entries.now c.in_ok-from.from c.go_down.new.down.requests c.go_down.new.down.rows ps c.args.self.now.down.splits c.go_down.new.down.splits = c.in_ok-from.ensures.down in
+    waiting_admitted D.tables c.in_ok-from.from c.go_down.new.down.requests D.waits c.args.store.now c.args.entries.now D.expanded.admitted
 
 pub returns-in_err-from-clause-wave : goal.returns-in_err-from-clause-wave
 returns-in_err-from-clause-wave g c =
@@ -45,29 +55,36 @@ returns-in_err-reduce-clause-wave g c =
 
 pub root_answers-requires : goal.root_answers-requires
 root_answers-requires g c =
-    let T : List (List Key) = c.go_down.new.down.requests in
-    let rows : List (List (Placed × Placed)) = c.go_down.new.down.rows.items in
+    let rows : List (List (Placed × Placed)) = c.go_down.new.down.rows in
     let ps : List Placed = c.go_down.new.down.roots.items in
-    let D : IsDown c.args.store.now c.args.entries.now c.in_ok-from.from T rows ps c.go_down.new.answers.items = c.in_ok-from.ensures.down in
-    let R : AreReducedBelow c.hand_over.new.store c.args.entries.now T 0 c.reduce.new.store c.reduce.new.up.answers.items = c.in_ok-reduce.ensures.reduced in
+    let D : IsDown c.args.store.now c.args.entries.now c.in_ok-from.from c.go_down.new.down.requests rows ps c.args.self.now.down.splits c.go_down.new.down.splits = c.in_ok-from.ensures.down in
+    let T : List (List Key) = D.tables in
+    let Y : AreReady c.hand_over.new.store c.args.entries.now c.in_ok-from.from rows c.hand_over.new.answers.items T =
+    down_ready c.args.store.now c.levels-levels.ensures.sound c.args.entries.now c.requires.operands c.hand_over.new.store c.hand_over.ensures.adds.keeps c.in_ok-from.from c.go_down.new.down.requests rows ps c.args.self.now.down.splits c.go_down.new.down.splits D
+    c.hand_over.new.answers.items c.in_ok-shared.ensures.reduced in
+    let R : AreReducedBelow c.hand_over.new.store c.args.entries.now T 0 c.reduce.new.store c.reduce.new.up.answers.items = c.in_ok-reduce.ensures.reduced T Y in
     subst (λ (z : List Placed). All (λ p. (r : Ref) × ComesTo c.as_slice-answers.result.now p r) z) (sym c.as_slice.ensures.value)
     (subst (λ (z : List (List Ref)). All (λ p. (r : Ref) × ComesTo z p r) ps) (sym c.as_slice-answers.ensures.value)
     (roots_come c.args.store.now c.levels-levels.ensures.sound c.args.entries.now c.requires.operands T c.reduce.new.up.answers.items (λ v q k h. R.counts v q k (omega arith) h) ps D.expanded.rooted))
 
 pub returns-in-Ok-clause-wave : goal.returns-in-Ok-clause-wave
 returns-in-Ok-clause-wave g c =
-    let T : List (List Key) = c.go_down.new.down.requests in
-    let rows : List (List (Placed × Placed)) = c.go_down.new.down.rows.items in
+    let rows : List (List (Placed × Placed)) = c.go_down.new.down.rows in
     let ps : List Placed = c.go_down.new.down.roots.items in
-    let D : IsDown c.args.store.now c.args.entries.now c.in_ok-from.from T rows ps c.go_down.new.answers.items = c.in_ok-from.ensures.down in
-    let R : AreReducedBelow c.hand_over.new.store c.args.entries.now T 0 c.reduce.new.store c.reduce.new.up.answers.items = c.in_ok-reduce.ensures.reduced in
+    let D : IsDown c.args.store.now c.args.entries.now c.in_ok-from.from c.go_down.new.down.requests rows ps c.args.self.now.down.splits c.go_down.new.down.splits = c.in_ok-from.ensures.down in
+    let T : List (List Key) = D.tables in
+    let Y : AreReady c.hand_over.new.store c.args.entries.now c.in_ok-from.from rows c.hand_over.new.answers.items T =
+    down_ready c.args.store.now c.levels-levels.ensures.sound c.args.entries.now c.requires.operands c.hand_over.new.store c.hand_over.ensures.adds.keeps c.in_ok-from.from c.go_down.new.down.requests rows ps c.args.self.now.down.splits c.go_down.new.down.splits D
+    c.hand_over.new.answers.items c.in_ok-shared.ensures.reduced in
+    let R : AreReducedBelow c.hand_over.new.store c.args.entries.now T 0 c.reduce.new.store c.reduce.new.up.answers.items = c.in_ok-reduce.ensures.reduced T Y in
     let come : AllZip (ComesTo c.reduce.new.up.answers.items) ps c.in-Ok.answers.items =
     subst (λ (z : List Placed). AllZip (ComesTo c.reduce.new.up.answers.items) z c.in-Ok.answers.items) c.as_slice.ensures.value
     (subst (λ (z : List (List Ref)). AllZip (ComesTo z) c.as_slice.result.now c.in-Ok.answers.items) c.as_slice-answers.ensures.value c.in-Ok.ensures) in
     let adds : AddsDescribed c.args.store.now c.reduce.new.store (IsWanted c.args.store.now c.args.entries.now) = adds_both c.args.store.now c.levels-levels.ensures.sound c.args.entries.now c.requires.operands c.hand_over.new.store c.hand_over.ensures.adds.keeps c.hand_over.ensures.sound c.reduce.new.store c.hand_over.ensures.adds c.reduce.ensures.adds in
     let answers : AnswersEach c.args.store.now c.args.entries.now c.reduce.new.store c.in-Ok.answers.items =
     roots_answered c.args.store.now c.levels-levels.ensures.sound c.args.entries.now c.requires.operands T c.reduce.new.up.answers.items c.reduce.new.store D.expanded.admitted adds.keeps (λ v q k r h g. R.answered v q k r (omega arith) h g) c.args.entries.now c.requires.operands ps D.expanded.rooted c.in-Ok.answers.items come in
-    let first : IsWithinBelow c.args.store.now T c.in_ok-from.from c.hand_over.new.store = c.in_ok-shared.ensures.within in
+    let first : IsWithinBelow c.args.store.now T c.in_ok-from.from c.hand_over.new.store =
+    waiting_within T c.in_ok-from.from c.go_down.new.down.requests D.waits c.args.store.now c.hand_over.new.store c.in_ok-shared.ensures.within in
     wave_done c.args.store.now c.args.entries.now c.args.entries.now c.reduce.new.store c.in-Ok.answers c.reduce.ensures.sound adds answers
     (within_both c.args.store.now c.levels-levels.ensures.sound c.args.entries.now c.requires.operands T ps D.expanded.rooted c.in_ok-from.from c.hand_over.new.store c.reduce.new.store first R.within)
 
@@ -79,37 +96,49 @@ returns-in-Err-clause-wave g c =
 
 pub returns-in-Ok-clause-expanded : goal.returns-in-Ok-clause-expanded
 returns-in-Ok-clause-expanded g c =
-    let T : List (List Key) = c.go_down.new.down.requests in
-    let rows : List (List (Placed × Placed)) = c.go_down.new.down.rows.items in
+    let rows : List (List (Placed × Placed)) = c.go_down.new.down.rows in
     let ps : List Placed = c.go_down.new.down.roots.items in
-    let D : IsDown c.args.store.now c.args.entries.now c.in_ok-from.from T rows ps c.go_down.new.answers.items = c.in_ok-from.ensures.down in
+    let D : IsDown c.args.store.now c.args.entries.now c.in_ok-from.from c.go_down.new.down.requests rows ps c.args.self.now.down.splits c.go_down.new.down.splits = c.in_ok-from.ensures.down in
+    let T : List (List Key) = D.tables in
     have_both c.args.store.now c.levels-levels.ensures.sound c.args.entries.now c.requires.operands T rows ps c.in_ok-from.from D.expanded c.args.self.now.crew.now.workers.count c.args.self.now.down.splits c.go_down.new.down.splits
-    c.args.self.now.rooms c.hand_over.new.rooms c.in_ok-from.ensures.split c.in_ok-shared.ensures.expanded
+    c.args.self.now.rooms c.hand_over.new.rooms D.split
+    (subst (λ z. HaveExpanded c.args.store.now c.args.self.now.crew.now.workers.count z c.args.self.now.rooms c.hand_over.new.rooms) (waiting_keys T c.in_ok-from.from c.go_down.new.down.requests D.waits) c.in_ok-shared.ensures.expanded)
 
 pub returns-in-Err-clause-memory : goal.returns-in-Err-clause-memory
 returns-in-Err-clause-memory g c = λ old _.
-    let T : List (List Key) = c.go_down.new.down.requests in
+    let rows : List (List (Placed × Placed)) = c.go_down.new.down.rows in
     let ps : List Placed = c.go_down.new.down.roots.items in
-    let D : IsDown c.args.store.now c.args.entries.now c.in_ok-from.from T c.go_down.new.down.rows.items ps c.go_down.new.answers.items = c.in_ok-from.ensures.down in
-    let R : AreReducedBelow c.hand_over.new.store c.args.entries.now T 0 c.reduce.new.store c.reduce.new.up.answers.items = c.in_ok-reduce.ensures.reduced in
-    let first : IsWithinBelow c.args.store.now T c.in_ok-from.from c.hand_over.new.store = c.in_ok-shared.ensures.within in
+    let D : IsDown c.args.store.now c.args.entries.now c.in_ok-from.from c.go_down.new.down.requests rows ps c.args.self.now.down.splits c.go_down.new.down.splits = c.in_ok-from.ensures.down in
+    let T : List (List Key) = D.tables in
+    let Y : AreReady c.hand_over.new.store c.args.entries.now c.in_ok-from.from rows c.hand_over.new.answers.items T =
+    down_ready c.args.store.now c.levels-levels.ensures.sound c.args.entries.now c.requires.operands c.hand_over.new.store c.hand_over.ensures.adds.keeps c.in_ok-from.from c.go_down.new.down.requests rows ps c.args.self.now.down.splits c.go_down.new.down.splits D
+    c.hand_over.new.answers.items c.in_ok-shared.ensures.reduced in
+    let R : AreReducedBelow c.hand_over.new.store c.args.entries.now T 0 c.reduce.new.store c.reduce.new.up.answers.items = c.in_ok-reduce.ensures.reduced T Y in
+    let first : IsWithinBelow c.args.store.now T c.in_ok-from.from c.hand_over.new.store =
+    waiting_within T c.in_ok-from.from c.go_down.new.down.requests D.waits c.args.store.now c.hand_over.new.store c.in_ok-shared.ensures.within in
     within_still c.args.store.now c.args.entries.now c.reduce.new.store
     (within_both c.args.store.now c.levels-levels.ensures.sound c.args.entries.now c.requires.operands T ps D.expanded.rooted c.in_ok-from.from c.hand_over.new.store c.reduce.new.store first R.within) old
 
 pub returns-in-Ok-clause-reduced : goal.returns-in-Ok-clause-reduced
 returns-in-Ok-clause-reduced g c =
-    let T : List (List Key) = c.go_down.new.down.requests in
-    let rows : List (List (Placed × Placed)) = c.go_down.new.down.rows.items in
+    let rows : List (List (Placed × Placed)) = c.go_down.new.down.rows in
     let ps : List Placed = c.go_down.new.down.roots.items in
-    let D : IsDown c.args.store.now c.args.entries.now c.in_ok-from.from T rows ps c.go_down.new.answers.items = c.in_ok-from.ensures.down in
-    (c.in_ok-from.from, have_reduced c.args.store.now c.levels-levels.ensures.sound c.args.entries.now c.requires.operands T rows ps c.in_ok-from.from D.expanded 1 c.args.self.now.up.reductions c.reduce.new.up.reductions c.in_ok-reduce.ensures.counted)
+    let D : IsDown c.args.store.now c.args.entries.now c.in_ok-from.from c.go_down.new.down.requests rows ps c.args.self.now.down.splits c.go_down.new.down.splits = c.in_ok-from.ensures.down in
+    let T : List (List Key) = D.tables in
+    let Y : AreReady c.hand_over.new.store c.args.entries.now c.in_ok-from.from rows c.hand_over.new.answers.items T =
+    down_ready c.args.store.now c.levels-levels.ensures.sound c.args.entries.now c.requires.operands c.hand_over.new.store c.hand_over.ensures.adds.keeps c.in_ok-from.from c.go_down.new.down.requests rows ps c.args.self.now.down.splits c.go_down.new.down.splits D
+    c.hand_over.new.answers.items c.in_ok-shared.ensures.reduced in
+    (c.in_ok-from.from, have_reduced c.args.store.now c.levels-levels.ensures.sound c.args.entries.now c.requires.operands T rows ps c.in_ok-from.from D.expanded 1 c.args.self.now.up.reductions c.reduce.new.up.reductions (c.in_ok-reduce.ensures.counted T Y))
 
 pub returns-in-Ok-clause-all_reduced : goal.returns-in-Ok-clause-all_reduced
 returns-in-Ok-clause-all_reduced g c = λ bounded.
-    let T : List (List Key) = c.go_down.new.down.requests in
-    let rows : List (List (Placed × Placed)) = c.go_down.new.down.rows.items in
+    let rows : List (List (Placed × Placed)) = c.go_down.new.down.rows in
     let ps : List Placed = c.go_down.new.down.roots.items in
-    let D : IsDown c.args.store.now c.args.entries.now c.in_ok-from.from T rows ps c.go_down.new.answers.items = c.in_ok-from.ensures.down in
+    let D : IsDown c.args.store.now c.args.entries.now c.in_ok-from.from c.go_down.new.down.requests rows ps c.args.self.now.down.splits c.go_down.new.down.splits = c.in_ok-from.ensures.down in
+    let T : List (List Key) = D.tables in
+    let Y : AreReady c.hand_over.new.store c.args.entries.now c.in_ok-from.from rows c.hand_over.new.answers.items T =
+    down_ready c.args.store.now c.levels-levels.ensures.sound c.args.entries.now c.requires.operands c.hand_over.new.store c.hand_over.ensures.adds.keeps c.in_ok-from.from c.go_down.new.down.requests rows ps c.args.self.now.down.splits c.go_down.new.down.splits D
+    c.hand_over.new.answers.items c.in_ok-shared.ensures.reduced in
     let whole : c.in_ok-from.from ≡ c.args.store.now.levels = c.in_ok-from.ensures.alone (c.most_alone.ensures.bounded bounded) in
     subst (λ z. HaveReduced c.args.store.now (requests_of c.args.entries.now) z c.args.self.now.up.reductions c.reduce.new.up.reductions) whole
-    (have_reduced c.args.store.now c.levels-levels.ensures.sound c.args.entries.now c.requires.operands T rows ps c.in_ok-from.from D.expanded 1 c.args.self.now.up.reductions c.reduce.new.up.reductions c.in_ok-reduce.ensures.counted)
+    (have_reduced c.args.store.now c.levels-levels.ensures.sound c.args.entries.now c.requires.operands T rows ps c.in_ok-from.from D.expanded 1 c.args.self.now.up.reductions c.reduce.new.up.reductions (c.in_ok-reduce.ensures.counted T Y))
