@@ -10,8 +10,9 @@ use std::alloc::{AllocError, Global};
 use std::marker::Model;
 use std::mem;
 
-/// A table of more requests than these serves no other level: it gives its memory back, some megabytes, which the children need.
-const MOST_LENT: usize = 1 << 16;
+/// A table of more requests than these serves no other level: it gives its memory back, a megabyte or more, which the
+/// children need.
+const MOST_LENT: usize = 1 << 14;
 
 /// The requests that wait at each level, each once. The levels that have some are known, so that those without are passed over.
 #[derive(Drop)]
@@ -76,9 +77,10 @@ impl Requests {
         ensures { OnOk result (self.new ≡ set self.old level []) }
     {
         let fresh = Table::new(*self.tables.allocator());
-        let used = mem::replace(&mut self.tables[level as usize], fresh);
+        let mut used = mem::replace(&mut self.tables[level as usize], fresh);
         self.asked.remove(level);
         if used.len() <= MOST_LENT {
+            used.clear();
             self.spare.push(used)?;
         }
         Ok(())
@@ -107,6 +109,7 @@ impl Requests {
     {
         match self.spare.pop() {
             Some(mut table) => {
+                // It is empty since it was given back.
                 table.clear();
                 table
             }

@@ -9,8 +9,8 @@ use std::alloc::{AllocError, Global};
 use std::marker::Model;
 use std::mem;
 
-/// A row of more requests than these gives its memory back, some megabytes.
-const MOST_KEPT: usize = 1 << 16;
+/// A row of more requests than these gives its memory back, 16 KB or more. To ask for smaller ones anew costs more than they take.
+const MOST_KEPT: usize = 1 << 10;
 
 /// The children of each expanded level's requests, by place. The levels that have some are known.
 #[derive(Drop)]
