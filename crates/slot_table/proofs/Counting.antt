@@ -1,5 +1,5 @@
 -- How many slots there are.
-use Rattle.std.proofs.Common.{◌≡◌, ℕ, suc, ◌+◌, ◌*◌, ◌/◌, ◌<◌, ◌≤◌, sym, ◌∙◌, ap, arith, ◌⊎◌, inl, inr}
+use Rattle.std.proofs.Common.{◌≡◌, ℕ, zero, suc, ◌+◌, ◌*◌, ◌/◌, ◌^◌, ◌<◌, ◌≤◌, sym, ◌∙◌, ap, arith, ◌⊎◌, inl, inr}
 use Rattle.std.proofs.Math.Nat.{pow-succ'}
 use Rattle.slot_table.specs.Probes.{IsSlotCount}
 use Rattle.slot_table.specs.Stamps.{IsPower}
@@ -8,48 +8,58 @@ use Rattle.slot_table.specs.Stamps.{IsPower}
 pub slots-some : (len n : ℕ) → IsSlotCount len n → 0 < n → (len < n) × IsPower n
 slots-some len n count some = elim count [
   | inl none ↦ absurd (omega arith)
-  | inr table ↦ (let half = table.half in omega arith, table.power)
+  | inr table ↦ (let filled = table.filled in omega arith, table.power)
 ]
 
 -- slots for one item more have room for it and for another
 pub slots-room : (len n : ℕ) → IsSlotCount (len + 1) n → (len + 1 < n) × IsPower n
 slots-room len n count = elim count [
   | inl none ↦ absurd (omega arith)
-  | inr table ↦ (let half = table.half in omega arith, table.power)
+  | inr table ↦ (let filled = table.filled in omega arith, table.power)
 ]
 
 -- the slots serve one pair more
-pub slots-same : (len n : ℕ) → IsSlotCount len n → len < n / 2 → IsSlotCount (len + 1) n
+pub slots-same : (len n : ℕ) → IsSlotCount len n → len < n / 4 * 3 → IsSlotCount (len + 1) n
 slots-same len n count lt = elim count [
   | inl none ↦ absurd (omega arith)
   | inr table ↦ inr (record {
     some = omega arith;
     power = table.power;
     eight = table.eight;
-    half = omega arith;
+    filled = omega arith;
     least = elim table.least [ inl e ↦ inl e | inr few ↦ inr (omega arith) ];
   })
 ]
 
+-- a power of two that is at least 8 has a quarter
+quarter_of : (k n : ℕ) → n ≡ 2 ^ k → 8 ≤ n → (q : ℕ) × (n ≡ 4 * q)
+quarter_of zero n is eight = absurd (omega arith)
+quarter_of (suc zero) n is eight = absurd (omega arith)
+quarter_of (suc (suc k)) n is eight =
+    let outer = pow-succ' 2 (suc k) in
+    let inner = pow-succ' 2 k in
+    (2 ^ k, omega arith)
+
 -- twice as many slots serve one pair more
-pub slots-more : (len n more : ℕ) → IsSlotCount len n → n / 2 ≤ len
+pub slots-more : (len n more : ℕ) → IsSlotCount len n → n / 4 * 3 ≤ len
     → ((n ≡ 0) × (more ≡ 8)) ⊎ ((n ≡ 0 → ⊥) × (more ≡ 2 * n)) → IsSlotCount (len + 1) more
 slots-more len n more count full by = elim count [
   | inl none ↦ elim by [
-    | inl first ↦ inr (record { some = omega arith; power = (3, first.1); eight = omega arith; half = omega arith; least = inl first.1 })
+    | inl first ↦ inr (record { some = omega arith; power = (3, first.1); eight = omega arith; filled = omega arith; least = inl first.1 })
     | inr twice ↦ absurd (twice.0 none.1)
   ]
   | inr table ↦
       let eight = table.eight in
-      let half = table.half in
+      let filled = table.filled in
+      let quarter = quarter_of table.power.0 n table.power.1 eight in
       elim by [
         | inl first ↦ absurd (omega arith)
         | inr twice ↦ inr (record {
           some = omega arith;
           power = (suc table.power.0, twice.1 ∙ ap (λ k. 2 * k) table.power.1 ∙ sym (pow-succ' 2 table.power.0));
           eight = omega arith;
-          half = omega arith;
-          least = inr (omega arith);
+          filled = omega arith;
+          least = inr (let whole = quarter.1 in omega arith);
         })
       ]
 ]

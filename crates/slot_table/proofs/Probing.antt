@@ -1,5 +1,5 @@
 -- What a search of the slots says, and what one more item leaves.
-use Rattle.std.proofs.Common.{◌≡◌, ℕ, suc, ◌+◌, ◌*◌, ◌<◌, ◌≤◌, List, [], ◌∷◌, ◌++◌, length, slice_get, set, replicate, Some, sym, ◌∙◌, ap, subst, arith, inl, inr}
+use Rattle.std.proofs.Common.{◌≡◌, ℕ, suc, ◌+◌, ◌<◌, ◌≤◌, List, [], ◌∷◌, ◌++◌, length, slice_get, set, replicate, Some, sym, ◌∙◌, ap, subst, arith, inl, inr}
 use Rattle.std.proofs.lemmas.Bool.{cases_lt, cases_eq}
 use Rattle.std.proofs.lemmas.List.{length-set, length_push, length-replicate}
 use Rattle.std.proofs.lemmas.Option.{slice_get_within}
@@ -111,8 +111,3 @@ module _ {X : Type 0} (spread : X → ℕ) where
     once = λ j k i h g. absurd (slice_get-replicate n j i h);
     reach = λ i p e. absurd (none_some p e);
   }
-
-  -- there is no pair where there are no slots
-  pub none_sought : (ps : List X) (ts : List ℕ) (p : X) → 2 * length ps ≤ length ts → length ts ≡ 0
-      → (i : ℕ) × (slice_get ps i ≡ Some p) → ⊥
-  none_sought ps ts p half empty at = let lt = slice_get_within ps at.0 p at.1 in omega arith

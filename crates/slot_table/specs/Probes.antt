@@ -38,13 +38,14 @@ pub record Probes {X : Type 0} (spread : X → ℕ) (n : ℕ) (xs : List X) (ts 
   pub reach : (i : ℕ) (x : X) → slice_get xs i ≡ Some x
       → (d : ℕ) × (d < n) × Holds ts (slot_of n (home_of spread n x) d) i × IsTaken n (home_of spread n x) ts d
 
--- n slots for some items: the least power of two that is at least 8 and at least twice their number
+-- n slots for some items: the least power of two that is at least 8 and of which the items fill at most three quarters
 pub record IsTableFor (items n : ℕ) : Type 0 where
   pub some : 0 < items
   pub power : (k : ℕ) × (n ≡ 2 ^ k)
   pub eight : 8 ≤ n
-  pub half : 2 * items ≤ n
-  pub least : (n ≡ 8) ⊎ (n < 4 * items)
+  pub filled : 4 * items ≤ 3 * n
+  -- of half as many slots they would fill more
+  pub least : (n ≡ 8) ⊎ (3 * n < 8 * items)
 
 -- how many slots there are for so many items: none for none
 abbrev pub IsSlotCount : ℕ → ℕ → Type 0

@@ -3,8 +3,8 @@
 //!
 //! **Promises.** A `SlotTable` is a list of items without double ones (`SlotTable::as_slice`: `all`, `once`). `find`
 //! answers an item's place, or that it is not there; `find_or_add` finds it, adds it last, or refuses and changes
-//! nothing (`IsPlaced`); `slots` is the least power of two that is at least 8 and twice the items, and none for none
-//! (`IsSlotCount`); `clear` leaves no items. All this holds whatever numbers spread the items.
+//! nothing (`IsPlaced`); `slots` is the least power of two that is at least 8 and of which the items fill at most three
+//! quarters, and none for none (`IsSlotCount`); `clear` leaves no items. All this holds whatever numbers spread the items.
 //!
 //! **Only tests show** that ample memory suffices (`wave_tests`). How far a search goes nothing shows.
 //!
@@ -52,6 +52,16 @@ impl Spread for u64 {
 
     fn spread(&self) -> u64 {
         *self
+    }
+
+    ghost same = { eqb-true };
+}
+
+impl Spread for u32 {
+    ghost spread_of = { λ x. x };
+
+    fn spread(&self) -> u64 {
+        *self as u64
     }
 
     ghost same = { eqb-true };

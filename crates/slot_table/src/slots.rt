@@ -121,8 +121,8 @@ fn refill<T: Spread>(items: &[T], slots: &mut Vec<u32>, count: usize) -> Result<
     Ok(())
 }
 
-/// The slot that a new item takes: the one at which its search ended, or, where one item more would take over half of
-/// the slots, the first empty one of twice as many. After an error the slots are as before.
+/// The slot that a new item takes: the one at which its search ended, or, where one item more would fill over three
+/// quarters of the slots, the first empty one of twice as many. After an error the slots are as before.
 fn slot_for<T: Spread>(
     items: &[T],
     slots: &mut Vec<u32>,
@@ -140,7 +140,7 @@ fn slot_for<T: Spread>(
     ensures refused { OnErr result (slots.new.items ≡ slots.old.items) }
 {
     let count = slots.len();
-    if items.len() < count / 2 {
+    if items.len() < count / 4 * 3 {
         return Ok(slot);
     }
     let more = if count == 0 { FIRST_SLOTS } else { 2 * count };
@@ -227,7 +227,7 @@ pub(crate) fn add_at<T: Spread>(
     ensures added { OnOk result (items.new.items ≡ items.old.items ++ item ∷ []) }
     ensures refused { OnErr result (items.new.items ≡ items.old.items) }
 {
-    if items.len() < slots.len() / 2 && items.len() < items.capacity() {
+    if items.len() < slots.len() / 4 * 3 && items.len() < items.capacity() {
         push_at(items, slots, item, slot);
         return Ok(());
     }
