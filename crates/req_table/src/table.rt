@@ -39,6 +39,7 @@ impl Table {
     }
 
     /// The place of a request, and whether it is new: then it is admitted, behind all others.
+    #[inline(always)]
     pub fn admit(&mut self, key: Key) -> Result<(u32, bool), AllocError>
         ensures offers { IfOk result (λ r. Offers self.old key r.1 self.new) }
         ensures stands { IfOk result (λ r. slice_get self.new r.0 ≡ Some key) }
