@@ -1,11 +1,12 @@
 #!/usr/bin/env python3
 """Tells which functions asked for the memory that bddcheck has at its peak, by node and by request.
 
-usage: bench/bytes.py PROGRAM [--waves N,N ..] [--threshold PERCENT]
+usage: bench/bytes.py PROGRAM [FOLDER ..] [--waves N,N ..] [--threshold PERCENT]
 
-For each N (14,18) the netlist of turns.py --waves N, whose run is nearly one wave of 2^(N + 1) requests, is compared with itself by one
-worker. The number of nodes is the least limit that is not refused. The table in Markdown has each function that asked for PERCENT (1) of
-the heap or more: its bytes, also by node and by request, and behind a function of the library who calls it.
+Each FOLDER has a pair, a.bench and b.bench, and their order. For each N (14,18 where no folder is named) the netlist of
+turns.py --waves N, whose run is nearly one wave of 2^(N + 1) requests, is compared with itself. Both are run by one worker.
+The number of nodes is the least limit that is not refused. The table in Markdown has each function that asked for PERCENT (1)
+of the heap or more: its bytes, also by node and, of a wave, by request, and behind a function of the library who calls it.
 
 It needs valgrind and objdump (Debian: valgrind, binutils); the product needs neither.
 """
@@ -67,26 +68,39 @@ def holders(words, note, threshold):
     return found
 
 
-def rows_of(program, room, size, callers, threshold):
-    pair = write_wave(room / f"wave{size}", size)
-    netlist = str(pair / "a.bench")
-    nodes, requests = needed_nodes(program, [netlist, netlist], SECONDS), 2 << size
-    words = [program, "--order", "declared", "--workers", "1", netlist, netlist]
-    for name, held in holders(words, room / f"note{size}", threshold).most_common():
+def wave(room, size):
+    """The netlist of one wave as words of a run, and how many requests it has."""
+    netlist = str(write_wave(room / f"wave{size}", size) / "a.bench")
+    return ["--order", "declared", netlist, netlist], 2 << size
+
+
+def pair(folder):
+    """A pair's words, and no number of requests."""
+    return ["--order-file", *(str(folder / name) for name in ("order", "a.bench", "b.bench"))], None
+
+
+def rows_of(program, room, words, requests, callers, threshold):
+    nodes = needed_nodes(program, words, SECONDS)
+    run = f"{nodes} nodes" + (f", {requests} requests" if requests else "")
+    for name, held in holders([program, "--workers", "1", *words], room / "note", threshold).most_common():
         users = ", ".join(sorted({plain(user) for user in users_of(name, callers)} - {plain(name)}))
-        yield [f"{nodes} nodes, {requests} requests", plain(name), users, str(held), shown(held / nodes, 1), shown(held / requests, 1)]
+        yield [run, plain(name), users, str(held), shown(held / nodes, 1), shown(held / requests, 1) if requests else "-"]
 
 
 def main():
     parser = argparse.ArgumentParser(description=__doc__, formatter_class=argparse.RawDescriptionHelpFormatter)
     parser.add_argument("program")
-    parser.add_argument("--waves", type=lambda words: list(map(int, words.split(","))), default=[14, 18])
+    parser.add_argument("folders", nargs="*", type=pathlib.Path)
+    parser.add_argument("--waves", type=lambda words: list(map(int, words.split(","))))
     parser.add_argument("--threshold", type=float, default=1.0)
     settings = parser.parse_args()
     callers = callers_in(settings.program)
     with tempfile.TemporaryDirectory() as name:
-        rows = [row for size in settings.waves for row in rows_of(settings.program, pathlib.Path(name), size, callers, settings.threshold)]
-    print(table(["wave", "function", "called by", "bytes", "by node", "by request"], rows))
+        room = pathlib.Path(name)
+        waves = settings.waves or ([] if settings.folders else [14, 18])
+        runs = [*map(pair, settings.folders), *(wave(room, size) for size in waves)]
+        rows = [row for words, requests in runs for row in rows_of(settings.program, room, words, requests, callers, settings.threshold)]
+    print(table(["run", "function", "called by", "bytes", "by node", "by request"], rows))
 
 
 if __name__ == "__main__":

@@ -62,6 +62,15 @@ class Devices:
         self.check("a long run, and what is told of it", Run(seen.status, seen.out, b""), silent)
         self.tally.check("lines of progress", is_told and len(told) <= seconds, seen)
 
+    def padded(self):
+        """With 4,096 variables a number of four bytes has few bits for a place: shards that pass 16,384 nodes have parents in eight."""
+        pad = netlist(";".join(f"INPUT(z{i})" for i in range(4096 - 2 * 19)))
+        one, chain = (self.file(f"padded {join}", pad + products(19, join)) for join in ("one", "chain"))
+        equal = Run(0, lines("EQUAL o size 1048574", "1 equal, 0 different, 0 unmatched"), b"")
+        for workers in "1", "4":
+            seen = self.run("--sizes", "--workers", workers, one, chain, seconds=240)
+            self.check(f"wide levels of 4,096 variables by {workers}", seen, equal)
+
     def terminal(self):
         """On a terminal one line is written in place where a rank begins over a second after the start, and gone at the end."""
         late = self.fifo("slow", C17, len(C17), wait=1.2)
@@ -373,6 +382,7 @@ def main():
     with kit.folder() as place:
         devices = Devices(sys.argv[1], place, tally)
         devices.progress()
+        devices.padded()
         devices.terminal()
         devices.late_progress()
         devices.later_attempts()

@@ -7,6 +7,7 @@ pub mod Laws
 pub mod LevelFacts
 pub mod LevelGrown
 pub mod Marks
+pub mod Narrowing
 pub mod Noting
 pub mod OneSize
 pub mod Order

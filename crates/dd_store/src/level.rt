@@ -11,8 +11,9 @@ ghost use Rattle.dd_store.specs.declared.level.Shard.{Shard as ShardValue};
 ghost use Rattle.slot_table.specs.Placing.{IsPlaced};
 
 use crate::StoreFault;
+use crate::pairs::PairTable;
 use crate::reference::{NodeId, Ref, marked_pair};
-use slot_table::{Admission, Refusal, SlotTable};
+use slot_table::{Admission, Refusal};
 use std::alloc::Global;
 use std::thread::Threads;
 use std::{mem, thread};
@@ -23,27 +24,20 @@ pub trait Watch {
     fn at_shard(&self, shard: u8, level: u16);
 }
 
-// A node takes 16 bytes in its shard's vector, which keeps room to grow, and 8 to 16 in the slots.
-const _: () = prove!(size_of::<(Ref, Ref)>() == 16);
-
 /// A shard, the children of its nodes by place, why the last list was not added whole, and the references that a thread has noted
 /// for its pairs, which are taken out before a call ends.
 #[derive(Drop)]
 pub(crate) struct Shard {
-    pub(crate) shard: SlotTable<(Ref, Ref)>,
+    pub(crate) shard: PairTable,
     pub(crate) fault: Option<StoreFault>,
     pub(crate) found: Vec<Ref>,
 }
 
-// A third of it is the list of references.
-const _: () = prove!(size_of::<Shard>() == 80);
+// A quarter of it is the list of references.
+const _: () = prove!(size_of::<Shard>() == 88);
 
 /// Finds a pair in a shard, or adds it where the shard alone holds fewer than `limit` pairs.
-fn place(
-    shard: &mut SlotTable<(Ref, Ref)>,
-    pair: (Ref, Ref),
-    limit: u64,
-) -> Result<Admission, Refusal>
+fn place(shard: &mut PairTable, pair: (Ref, Ref), limit: u64) -> Result<Admission, Refusal>
     requires { limit < 2 ^ 32 }
     ensures { IsPlaced (limit - length shard.old) pair shard.old result shard.new }
 {

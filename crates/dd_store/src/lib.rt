@@ -24,6 +24,7 @@ use thiserror::Error;
 
 mod level;
 mod makers;
+mod pairs;
 mod reference;
 mod size;
 mod store;

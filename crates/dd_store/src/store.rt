@@ -11,8 +11,9 @@ mod reading;
 
 use crate::StoreFault;
 use crate::level::Shard;
+use crate::pairs::PairTable;
 use crate::reference::{NodeId, Ref, Reference, SHARDS, marked_pair, shard_of_plain};
-use slot_table::{Admission, SlotTable};
+use slot_table::Admission;
 use std::alloc::{AllocError, Global};
 use std::marker::Model;
 
@@ -49,7 +50,7 @@ impl Store {
         let mut shards = Vec::new(alloc);
         for _ in 0..SHARDS * levels as usize {
             shards.push(Shard {
-                shard: SlotTable::new(alloc),
+                shard: PairTable::new(alloc, levels),
                 fault: None,
                 found: Vec::new(alloc),
             })?;
@@ -126,6 +127,7 @@ impl Store {
     /// children answer the child (Bryant 1986), a pair that is there its node, and neither is refused. No node has a mark on its
     /// second child: where `hi` has one, the node is that of both complements, and the answer has the mark (Brace, Rudell and Bryant
     /// 1990).
+    #[inline(always)]
     pub fn make(&mut self, level: u16, lo: Ref, hi: Ref) -> Result<Ref, StoreFault>
         requires level { level < self.old.levels }
         requires lo_here { IsRef (node self.old) lo }

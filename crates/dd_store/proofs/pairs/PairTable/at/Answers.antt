@@ -1,0 +1,8 @@
+use Rattle.dd_store.proofs.Narrowing.{read}
+use Rattle.dd_store.proofs.pairs.PairTable.at.Goals as goal
+
+pub returns-in-Narrow : goal.returns-in-Narrow
+returns-in-Narrow c =
+    let held = rw c.in-Narrow.is at c.self.invariant in
+    rw (← c.self.view_is, c.in-Narrow.is, c.references.ensures)
+    (read c.in-Narrow.bits c.in-Narrow.table held.1 c.args.place c.at.result c.at.ensures)
