@@ -1,10 +1,10 @@
 -- References and their numbers of four bytes, and lists of pairs of them.
-use Rattle.std.proofs.Common.{◌≡◌, ℕ, zero, suc, ◌+◌, ◌*◌, ◌/◌, ◌%◌, ◌^◌, ◌<◌, ◌≤◌, List, [], ◌∷◌, ◌++◌, length, get_or, take, map, slice_get, Some, Ok, Err, Result, Option, None, MatchOption, refl, sym, ◌∙◌, ap, subst, arith, inl, inr}
+use Rattle.std.proofs.Common.{◌≡◌, ℕ, suc, ◌+◌, ◌*◌, ◌/◌, ◌%◌, ◌^◌, ◌<◌, ◌≤◌, List, [], ◌∷◌, ◌++◌, length, get_or, take, map, slice_get, Some, Ok, Err, Result, Option, None, MatchOption, refl, sym, ◌∙◌, ap, subst, arith, inl, inr}
 use Rattle.std.proofs.lemmas.Nat.{shr_high, mod_low, shl_whole, shl_below}
 use Rattle.std.proofs.Math.Pow.{pow_mono}
-use Rattle.std.proofs.lemmas.Option.{slice_get-map, slice_get_within, slice_get-get_or}
+use Rattle.std.proofs.lemmas.Option.{slice_get-map, slice_get_within, slice_get-get_or, get_or_from_slice_get}
 use Rattle.std.specs.Option.{option_map}
-use Rattle.std.proofs.lemmas.List.{length-map, length-take-le, map-append}
+use Rattle.std.proofs.lemmas.List.{length-map, length-take-le, get_or-take, map-append}
 use Rattle.std.proofs.Math.Seq.{take-suc}
 use Rattle.slot_table.specs.declared.Admission.{Admission}
 use Rattle.slot_table.specs.declared.Admission.TheVariants.{Found, Added}
@@ -16,12 +16,8 @@ use Rattle.dd_store.specs.declared.reference.Reference.{Reference}
 use Rattle.dd_store.specs.Graph.{Pair}
 use Rattle.dd_store.specs.Words.{word_of, reference_of, IsWord}
 use Rattle.dd_store.specs.WordLaws.{word_of-reference_of}
-use Rattle.dd_store.specs.Narrow.{number_of, IsNarrow, word_at, IsNumber, AreNumbers, AllNumbers, AreTheirs, pair_at}
-use Rattle.dd_store.proofs.Places.{none_some, slice_get_cases-push}
-
--- what stands above the place
-abbrev pub name_of : ℕ → ℕ
-name_of w = w / 2 ^ 41 * 16 + w / 2 ^ 33 % 256
+use Rattle.dd_store.specs.Narrow.{name_of, number_of, IsNarrow, word_at, IsNumber, AreNumbers, AllNumbers, AreTheirs, pair_at}
+use Rattle.dd_store.proofs.Places.{mapped, slice_get_cases-push}
 
 name_small : (w : ℕ) → IsWord w → name_of w < 2 ^ 21
 name_small w (inl small) = omega arith
@@ -81,27 +77,6 @@ pub not_numbered : (bits w : ℕ) (r : Reference) → w ≡ word_of r → (IsNar
     → reference_of (word_at bits n) ≡ r → ⊥
 not_numbered bits w r is lacks n k e =
     lacks (subst (λ (z : ℕ). IsNarrow bits z) (sym (word_same bits n k) ∙ ap word_of e ∙ sym is) k.2)
-
--- an element of a list that was mapped
-pub mapped : {X Y : Type 0} (f : X → Y) (xs : List X) (i : ℕ) (y : Y) → slice_get (map f xs) i ≡ Some y
-    → (x : X) × (slice_get xs i ≡ Some x) × (f x ≡ y)
-mapped f [] zero y e = absurd (none_some y e)
-mapped f [] (suc i) y e = absurd (none_some y e)
-mapped f (x ∷ xs) zero y e = let same : f x ≡ y = cc in (x, refl, same)
-mapped f (x ∷ xs) (suc i) y e = mapped f xs i y e
-
--- an element before a place
-take_get : {X : Type 0} (i : ℕ) (xs : List X) (j : ℕ) → j < i → slice_get (take i xs) j ≡ slice_get xs j
-take_get zero xs j lt = absurd (omega arith)
-take_get (suc i) [] j lt = refl
-take_get (suc i) (x ∷ xs) zero lt = refl
-take_get (suc i) (x ∷ xs) (suc j) lt = take_get i xs j (omega arith)
-
--- an element of a list, whatever stands for one past its end
-pub get_or_same : {X : Type 0} (xs : List X) (i : ℕ) (d : X) → i < length xs → get_or xs i d ≡ get_or xs i (get_or xs i d)
-get_or_same [] i d lt = absurd (omega arith)
-get_or_same (x ∷ xs) zero d lt = refl
-get_or_same (x ∷ xs) (suc i) d lt = get_or_same xs i d (omega arith)
 
 module _ (bits : ℕ) (ns : List (ℕ × ℕ)) (all : AllNumbers bits ns) where
   pub read : (i : ℕ) (m : ℕ × ℕ) → slice_get ns i ≡ Some m → slice_get (map (pair_at bits) ns) i ≡ Some (pair_at bits m)
@@ -163,7 +138,8 @@ module _ (bits : ℕ) (ns : List (ℕ × ℕ)) (all : AllNumbers bits ns) where
       let k = slice_get_within (take i ns) j w.0 w.1 in
       let len = length-take-le i ns (omega arith) in
       omega arith) in
-      let old : slice_get ns j ≡ Some w.0 = sym (take_get i ns j below) ∙ w.1 in
+      let same_there : get_or ns j w.0 ≡ w.0 = sym (get_or-take i ns j w.0 below) ∙ get_or_from_slice_get (take i ns) j w.0 w.0 w.1 in
+      let old : slice_get ns j ≡ Some w.0 = slice_get-get_or ns j w.0 (omega arith) ∙ ap (λ z. Some z) same_there in
       let new : slice_get ns i ≡ Some n = slice_get-get_or ns i n lt ∙ ap (λ z. Some z) (sym is) in
       let one : w.0 ≡ n = same_numbers bits w.0 n (all j w.0 old) (all i n new) w.2 in
       let twice : j ≡ i = once j i n (old ∙ ap (λ z. Some z) one) new in

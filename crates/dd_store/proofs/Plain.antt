@@ -1,5 +1,5 @@
 -- Lists of pairs, and the lists of what nodes have of them.
-use Rattle.std.proofs.Common.{◌≡◌, ℕ, ◌<◌, List, [], ◌∷◌, zero, suc, length, get_or, refl, sym, ◌∙◌, ap, subst}
+use Rattle.std.proofs.Common.{◌≡◌, ℕ, ◌<◌, List, length, get_or, sym, ◌∙◌, ap, subst}
 use Rattle.std.proofs.lemmas.List.{get_or-map, length-map}
 use Rattle.std.proofs.lemmas.Option.{slice_get-map}
 use Rattle.std.specs.Option.{option_map}
@@ -7,7 +7,7 @@ use Rattle.dd_store.specs.Graph.{Pair}
 use Rattle.dd_store.specs.Marks.{plain_pair}
 use Rattle.dd_store.specs.Growing.{IsIn}
 use Rattle.dd_store.specs.Levels.{plain_list}
-use Rattle.dd_store.proofs.Places.{none_some}
+use Rattle.dd_store.proofs.Places.{mapped}
 
 pub length-plain : (list : List Pair) → length (plain_list list) ≡ length list
 length-plain list = length-map list (λ (p : Pair). plain_pair p.0 p.1)
@@ -24,9 +24,7 @@ in_plain list p h = (h.0, slice_get-map (λ (q : Pair). plain_pair q.0 q.1) list
 
 -- and nothing else
 pub of_plain : (list : List Pair) (q : Pair) → IsIn (plain_list list) q → (p : Pair) × IsIn list p × (plain_pair p.0 p.1 ≡ q)
-of_plain [] q (i, e) = absurd (none_some q e)
-of_plain (p ∷ ps) q (zero, e) = (p, (zero, refl), cc)
-of_plain (p ∷ ps) q (suc i, e) = let w = of_plain ps q (i, e) in (w.0, (suc w.1.0, w.1.1), w.2)
+of_plain list q h = let w = mapped (λ (p : Pair). plain_pair p.0 p.1) list h.0 q h.1 in (w.0, (h.0, w.1), w.2)
 
 -- what holds of each pair of a list as a node has it
 pub each_plain : (P : Pair → Type 0) (list : List Pair) → ((p : Pair) → IsIn list p → P (plain_pair p.0 p.1)) → (q : Pair) → IsIn (plain_list list) q → P q

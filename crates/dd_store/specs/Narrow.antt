@@ -7,9 +7,13 @@ use Rattle.dd_store.specs.Graph.{Pair}
 use Rattle.slot_table.specs.Lists.{IsIn}
 use Rattle.dd_store.specs.Words.{reference_of, IsWord}
 
+-- the level and 1 with the shard, by its word, of a reference
+abbrev pub name_of : ℕ → ℕ
+name_of w = w / 2 ^ 41 * 16 + w / 2 ^ 33 % 256
+
 -- the number, by its word, of a reference
 abbrev pub number_of : ℕ → ℕ → ℕ
-number_of bits w = (w / 2 ^ 41 * 16 + w / 2 ^ 33 % 256) * 2 ^ bits + w % 2 ^ 33
+number_of bits w = name_of w * 2 ^ bits + w % 2 ^ 33
 
 -- the reference fits: its shard, its place with the mark, and its number
 abbrev pub IsNarrow : ℕ → ℕ → Type 0

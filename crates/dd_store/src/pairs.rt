@@ -8,17 +8,13 @@ ghost use Rattle.slot_table.specs.Lists.{IsIn};
 ghost use Rattle.slot_table.specs.Placing.{IsPlaced};
 ghost use Rattle.slot_table.specs.Probes.{IsSlotCount};
 
-use crate::reference::Ref;
+use crate::reference::{self, LEVEL_BIT, Ref, SHARD_BIT};
 use slot_table::{Admission, Refusal, SlotTable};
 use std::alloc::Global;
 use std::marker::Model;
 
-/// The lowest bits of a level and of a shard in eight bytes, and how many shards four bytes tell apart.
-const LEVEL_BIT: u64 = 1 << 41;
-
-const SHARD_BIT: u64 = 1 << 33;
-
-const SHARDS: u64 = 16;
+/// How many shards four bytes tell apart.
+const SHARDS: u64 = reference::SHARDS as u64;
 
 // A node takes these bytes in its shard's vector, which keeps room to grow, and 5 to 11 in the slots.
 const _: () = prove!(size_of::<(u32, u32)>() == 8);

@@ -28,9 +28,9 @@ const BLOCK: u64 = 4096;
 const APART: u64 = 5;
 
 /// The lowest bits of a level, of a shard and of a place in a word. Bit 0 is the mark.
-const LEVEL_BIT: u64 = 1 << 41;
+pub(crate) const LEVEL_BIT: u64 = 1 << 41;
 
-const SHARD_BIT: u64 = 1 << 33;
+pub(crate) const SHARD_BIT: u64 = 1 << 33;
 
 const INDEX_BIT: u64 = 2;
 

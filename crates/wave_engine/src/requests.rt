@@ -10,8 +10,8 @@ use std::alloc::{AllocError, Global};
 use std::marker::Model;
 use std::mem;
 
-/// A table of more requests than these serves no other level: it gives its memory back, a megabyte or more, which the
-/// children need.
+/// A table of more requests than these serves no other level: it gives its memory back, half a megabyte or more, which
+/// the children need.
 const MOST_LENT: usize = 1 << 14;
 
 /// The requests that wait at each level, each once. The levels that have some are known, so that those without are passed over.

@@ -1,5 +1,5 @@
-use Rattle.std.proofs.Common.{◌≡◌, ◌+◌, ◌%◌, ◌^◌, Fits, w64, arith, sym, subst}
-use Rattle.dd_store.proofs.Narrowing.{name_of, name_whole, number_small}
+use Rattle.std.proofs.Common.{arith}
+use Rattle.dd_store.proofs.Narrowing.{name_whole, number_small}
 use Rattle.dd_store.proofs.pairs.number.Goals as goal
 
 pub overflow_add-result-2 : goal.overflow_add-result-2

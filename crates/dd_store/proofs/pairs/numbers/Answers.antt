@@ -1,4 +1,4 @@
-use Rattle.std.proofs.Common.{◌≡◌, sym, ◌∙◌, ap, true≢false}
+use Rattle.std.proofs.Common.{sym, ◌∙◌, ap, true≢false}
 use Rattle.dd_store.specs.Graph.{Pair}
 use Rattle.dd_store.proofs.Narrowing.{numbered, not_numbered}
 use Rattle.dd_store.proofs.pairs.numbers.Goals as goal

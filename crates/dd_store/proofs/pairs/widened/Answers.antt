@@ -1,8 +1,9 @@
-use Rattle.std.proofs.Common.{rules, ◌≡◌, ap, ◌∙◌, subst, Ok, get_or}
+use Rattle.std.proofs.Common.{rules, ap, ◌∙◌, subst, Ok, get_or}
+use Rattle.std.proofs.lemmas.List.{get_or_default}
 use Rattle.std.proofs.lemmas.Option.{slice_get-get_or}
 use Rattle.dd_store.specs.Graph.{Pair}
 use Rattle.dd_store.specs.Narrow.{pair_at}
-use Rattle.dd_store.proofs.Narrowing.{widened_more, get_or_same}
+use Rattle.dd_store.proofs.Narrowing.{widened_more}
 use Rattle.slot_table.specs.Placing.{IsPlaced}
 use Rattle.dd_store.proofs.pairs.widened.Goals as goal
 
@@ -21,4 +22,4 @@ loop-numbers-preserved c =
     let item = c.references.ensures ∙ ap (λ z. pair_at c.args.bits (get_or z i (0, 0))) c.as_slice-numbers-items.ensures.all in
     let placed = subst (λ (z : Pair). IsPlaced 1 z wide (Ok admission) c.find_or_add.new.self) item c.in_ok-find_or_add.ensures in
     widened_more c.args.bits ns c.requires.numbers c.as_slice-numbers-items.ensures.once i (get_or ns i (0, 0)) wide
-    c.find_or_add.new.self admission (search rules) (get_or_same ns i (0, 0) (search rules)) c.loop-numbers.invariant placed
+    c.find_or_add.new.self admission (search rules) (get_or_default ns i (0, 0) (get_or ns i (0, 0)) (search rules)) c.loop-numbers.invariant placed
