@@ -22,3 +22,5 @@ pub mod Storing
 pub mod View
 pub mod Visiting
 pub mod Widening
+pub mod WordFacts
+pub mod WordOrder

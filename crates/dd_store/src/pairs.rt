@@ -1,98 +1,54 @@
 //! The children of a shard's nodes, in eight bytes a node where the references fit in four each, else in sixteen.
 ghost use Rattle.std.specs.Prelude.{◌≡◌, ◌<◌, ◌+◌, ◌^◌, [], true, length, map, slice_get, Some, MatchOption, MatchResult};
-ghost use Rattle.std.specs.Prelude.{◌↔◌};
-ghost use Rattle.dd_store.specs.Narrow.{number_of, IsNarrow, IsNumber, AreNumbers, AllNumbers, AreTheirs, word_at, pair_at};
-ghost use Rattle.dd_store.specs.Narrow.{pairs_in, AreHeld, AreFour, IsLeftOut};
-ghost use Rattle.dd_store.specs.Words.{word_of, reference_of, IsWord};
+ghost use Rattle.dd_store.specs.Narrow.{AreWords, AllWords, AreTheirs, pair_at, pairs_in, AreHeld, AreFour, IsLeftOut};
 ghost use Rattle.slot_table.specs.Lists.{IsIn};
 ghost use Rattle.slot_table.specs.Placing.{IsPlaced};
 ghost use Rattle.slot_table.specs.Probes.{IsSlotCount};
 
-use crate::reference::{self, LEVEL_BIT, Ref, SHARD_BIT};
+use crate::reference::Ref;
 use slot_table::{Admission, Refusal, SlotTable};
 use std::alloc::Global;
 use std::marker::Model;
-
-/// How many shards four bytes tell apart.
-const SHARDS: u64 = reference::SHARDS as u64;
 
 // A node takes these bytes in its shard's vector, which keeps room to grow, and 5 to 11 in the slots.
 const _: () = prove!(size_of::<(u32, u32)>() == 8);
 
 const _: () = prove!(size_of::<(Ref, Ref)>() == 16);
 
-/// The number of the reference with this word, of which so many bits have the place and the mark.
-#[inline(always)]
-fn number(word: u64, bits: u32) -> u64
-    requires word { IsWord word }
-    requires bits { bits < 32 }
-    ensures { result ≡ number_of bits word }
-{
-    ((word / LEVEL_BIT * SHARDS + word / SHARD_BIT % 256) << bits) + word % SHARD_BIT
-}
+/// Words below have four bytes.
+const FOUR_BYTES: u64 = 1 << 32;
 
-/// Whether the number has four bytes and tells all of the word.
+/// The words of two references in four bytes each, if both fit.
 #[inline(always)]
-fn is_narrow(word: u64, bits: u32) -> bool
-    requires word { IsWord word }
-    requires bits { bits < 32 }
-    ensures { (result ≡ true) ↔ IsNarrow bits word }
-{
-    let shard = word / SHARD_BIT % 256;
-    let place = word % SHARD_BIT;
-    shard < SHARDS && place < 1u64 << bits && number(word, bits) >> 32 == 0
-}
-
-/// The numbers of two references, if both fit.
-#[inline(always)]
-fn numbers(pair: (Ref, Ref), bits: u32) -> Option<(u32, u32)>
-    requires { bits < 32 }
-    ensures { AreTheirs bits pair result }
+fn words(pair: (Ref, Ref)) -> Option<(u32, u32)>
+    ensures { AreTheirs pair result }
 {
     let low = pair.0.word();
     let high = pair.1.word();
-    if is_narrow(low, bits) && is_narrow(high, bits) {
-        return Some((number(low, bits) as u32, number(high, bits) as u32));
+    if low < FOUR_BYTES && high < FOUR_BYTES {
+        return Some((low as u32, high as u32));
     }
     None
 }
 
-/// The reference that has a number.
+/// Both references that have these words.
 #[inline(always)]
-fn reference(number: u32, bits: u32) -> Ref
-    requires number { IsNumber bits number }
-    requires bits { bits < 32 }
-    ensures { result ≡ reference_of (word_at bits number) }
+fn references(words: (u32, u32)) -> (Ref, Ref)
+    requires { AreWords words }
+    ensures { result ≡ pair_at words }
 {
-    let name = number as u64 >> bits;
-    let place = number as u64 % (1u64 << bits);
-    Ref::of_word(name / SHARDS * LEVEL_BIT + name % SHARDS * SHARD_BIT + place)
-}
-
-/// Both references that have these numbers.
-#[inline(always)]
-fn references(numbers: (u32, u32), bits: u32) -> (Ref, Ref)
-    requires numbers { AreNumbers bits numbers }
-    requires bits { bits < 32 }
-    ensures { result ≡ pair_at bits numbers }
-{
-    (reference(numbers.0, bits), reference(numbers.1, bits))
+    (Ref::of_word(words.0 as u64), Ref::of_word(words.1 as u64))
 }
 
 /// The pairs of a table in sixteen bytes each.
-fn widened(
-    alloc: Global,
-    table: &SlotTable<(u32, u32)>,
-    bits: u32,
-) -> Result<SlotTable<(Ref, Ref)>, Refusal>
-    requires bits { bits < 32 }
-    requires numbers { AllNumbers bits table.now }
+fn widened(alloc: Global, table: &SlotTable<(u32, u32)>) -> Result<SlotTable<(Ref, Ref)>, Refusal>
+    requires words { AllWords table.now }
     requires few { length table.now + 1 < 2 ^ 32 }
-    ensures { MatchResult result (λ wide. wide ≡ map (pair_at bits) table.now) (λ e. e ≡ Refusal.OutOfMemory) }
+    ensures { MatchResult result (λ wide. wide ≡ map pair_at table.now) (λ e. e ≡ Refusal.OutOfMemory) }
 {
     let mut wide = SlotTable::new(alloc);
-    for numbers in table.as_slice() {
-        wide.find_or_add(references(*numbers, bits), 1)?;
+    for words in table.as_slice() {
+        wide.find_or_add(references(*words), 1)?;
     }
     Ok(wide)
 }
@@ -113,8 +69,8 @@ fn place_wide(
 /// Pairs of references, each once.
 #[derive(Drop)]
 enum Pairs {
-    /// All fit: four bytes for each reference, of which so many bits have the place and the mark.
-    Narrow(u32, SlotTable<(u32, u32)>),
+    /// All fit: the words of their references in four bytes each.
+    Narrow(SlotTable<(u32, u32)>),
     /// Some do not.
     Wide(SlotTable<(Ref, Ref)>),
 }
@@ -130,8 +86,8 @@ impl Pairs {
             (λ r. IsPlaced room pair (pairs_in self.old) r (pairs_in self.new)) }
     {
         match self {
-            Pairs::Narrow(bits, table) => match numbers(pair, *bits) {
-                Some(numbers) => Some(table.find_or_add(numbers, room)),
+            Pairs::Narrow(table) => match words(pair) {
+                Some(words) => Some(table.find_or_add(words, room)),
                 None => None,
             },
             Pairs::Wide(table) => Some(place_wide(table, pair, room)),
@@ -157,7 +113,7 @@ impl Pairs {
             return Err(Refusal::Full);
         }
         let mut wide = match self {
-            Pairs::Narrow(bits, table) => widened(alloc, table, *bits)?,
+            Pairs::Narrow(table) => widened(alloc, table)?,
             Pairs::Wide(_) => unreachable!(),
         };
         let placed = wide.find_or_add(pair, room)?;
@@ -187,15 +143,13 @@ impl Model for PairTable {
 }
 
 impl PairTable {
-    /// A table without pairs, for a store of so many levels. It takes no memory yet.
-    pub(crate) fn new(alloc: Global, levels: u16) -> PairTable
+    /// A table without pairs. It takes no memory yet.
+    pub(crate) fn new(alloc: Global) -> PairTable
         ensures { result ≡ [] }
     {
-        // The greatest level and 1, which is `levels`, has 16 - leading_zeros bits, and a shard four.
-        let bits = 12 + levels.leading_zeros();
         PairTable {
             alloc,
-            pairs: Pairs::Narrow(bits, SlotTable::new(alloc)),
+            pairs: Pairs::Narrow(SlotTable::new(alloc)),
         }
     }
 
@@ -204,7 +158,7 @@ impl PairTable {
         ensures { result ≡ length self.now }
     {
         match &self.pairs {
-            Pairs::Narrow(_, table) => table.len(),
+            Pairs::Narrow(table) => table.len(),
             Pairs::Wide(table) => table.len(),
         }
     }
@@ -214,7 +168,7 @@ impl PairTable {
         ensures { IsSlotCount (length self.now) result }
     {
         match &self.pairs {
-            Pairs::Narrow(_, table) => table.slots(),
+            Pairs::Narrow(table) => table.slots(),
             Pairs::Wide(table) => table.slots(),
         }
     }
@@ -226,7 +180,7 @@ impl PairTable {
         ensures { slice_get self.now place ≡ Some result }
     {
         match &self.pairs {
-            Pairs::Narrow(bits, table) => references(table.at(place), *bits),
+            Pairs::Narrow(table) => references(table.at(place)),
             Pairs::Wide(table) => table.at(place),
         }
     }
@@ -236,8 +190,8 @@ impl PairTable {
         ensures { MatchOption result (IsIn self.now pair → ⊥) (λ i. slice_get self.now i ≡ Some pair) }
     {
         match &self.pairs {
-            Pairs::Narrow(bits, table) => match numbers(pair, *bits) {
-                Some(numbers) => table.find(numbers),
+            Pairs::Narrow(table) => match words(pair) {
+                Some(words) => table.find(words),
                 None => None,
             },
             Pairs::Wide(table) => table.find(pair),

@@ -1,9 +1,9 @@
 //! References to nodes, the number that spreads them over workers, and the shard in which a node lies.
-ghost use Rattle.std.specs.Prelude.{◌≡◌, Some, Bool, List, false, not};
+ghost use Rattle.std.specs.Prelude.{◌≡◌, ◌^◌, ◌<◌, ◌≤◌, Some, Bool, List, false, not};
 ghost use Rattle.dd_store.specs.Codes.{block_of, code_of, shard_of_pair};
 ghost use Rattle.dd_store.specs.Marks.{is_marked, mark_by, mark_both, negate_of};
 ghost use Rattle.dd_store.specs.Nodes.{Nodes, den};
-ghost use Rattle.dd_store.specs.Words.{word_of, reference_of, IsWord, is_terminal};
+ghost use Rattle.dd_store.specs.Words.{is_near, is_far, node_word, node_of, word_of, reference_of, IsWord, IsNodeWord, is_terminal};
 
 use slot_table::Spread;
 use std::cmp::Ordering;
@@ -27,11 +27,32 @@ const BLOCK: u64 = 4096;
 /// How far apart the numbers of neighbouring blocks are.
 const APART: u64 = 5;
 
-/// The lowest bits of a level, of a shard and of a place in a word. Bit 0 is the mark.
-pub(crate) const LEVEL_BIT: u64 = 1 << 41;
+/// A node of a level below this one, whose place is below `NEAR_PLACES`, is near: its shard begins at this bit of its word.
+const NEAR_LEVELS: u16 = 255;
 
-pub(crate) const SHARD_BIT: u64 = 1 << 33;
+const NEAR_PLACES: u32 = 1 << 17;
 
+const NEAR_SHARD: u64 = 1 << 18;
+
+/// A node of a level from there on and below this one, whose place is below `FAR_PLACES`, is far: its shard begins at this bit of its
+/// word, which has the bit `FAR`.
+const FAR_LEVELS: u16 = 4095;
+
+const FAR_PLACES: u32 = 1 << 13;
+
+const FAR_SHARD: u64 = 1 << 14;
+
+const FAR: u64 = 1 << 30;
+
+/// The words of all other nodes are greater.
+const LONG: u64 = 1 << 31;
+
+/// The lowest bits of a level and of a shard in the word of such a node.
+const LEVEL_BIT: u64 = 1 << 41;
+
+const SHARD_BIT: u64 = 1 << 33;
+
+/// The lowest bit of a place in each word. Bit 0 is the mark.
 const INDEX_BIT: u64 = 2;
 
 /// How many places a shard has.
@@ -56,11 +77,12 @@ pub enum Reference {
     Node { id: NodeId, mark: bool },
 }
 
-/// A terminal or a node of a store, perhaps with a mark, in eight bytes. The order of references is that of what they refer to.
+/// A terminal or a node of a store, perhaps with a mark, in eight bytes, of which four are enough for most. The order of references is
+/// that of what they refer to.
 #[derive(Clone, Copy)]
 pub struct Ref {
-    /// 0 for False, 1 for True; for a node its level and 1 from bit 41 on, its shard from bit 33 on, its place from bit 1 on, and
-    /// whether it has a mark in bit 0. So the complement differs in bit 0 alone.
+    /// 0 for False, 1 for True; for a node its level and 1, its shard, and its place from bit 1 on, as narrow as that fits, and whether
+    /// it has a mark in bit 0. So the complement differs in bit 0 alone.
     word: u64,
 }
 
@@ -83,6 +105,90 @@ impl Model for Ref {
     ghost invariant = { λ r. IsWord r.word };
 }
 
+/// Whether a node has a high level and a low place.
+#[inline(always)]
+fn is_near(id: NodeId) -> bool
+    ensures { result ≡ is_near id }
+{
+    id.level < NEAR_LEVELS && (id.shard as usize) < SHARDS && id.index < NEAR_PLACES
+}
+
+/// Whether a node has a deeper level and a lower place.
+#[inline(always)]
+fn is_far(id: NodeId) -> bool
+    ensures { result ≡ is_far id }
+{
+    id.level >= NEAR_LEVELS
+        && id.level < FAR_LEVELS
+        && (id.shard as usize) < SHARDS
+        && id.index < FAR_PLACES
+}
+
+/// The word of a node without a mark.
+#[inline(always)]
+fn node_word(id: NodeId) -> u64
+    ensures word { result ≡ node_word id }
+    ensures within { IsNodeWord result }
+    ensures node { reference_of result ≡ Reference.Node id false }
+{
+    let level = id.level as u64 + 1;
+    let name = level * SHARDS as u64 + id.shard as u64;
+    let place = id.index as u64 * INDEX_BIT;
+    if is_near(id) {
+        name * NEAR_SHARD + place
+    } else if is_far(id) {
+        FAR + name * FAR_SHARD + place
+    } else {
+        level * LEVEL_BIT + id.shard as u64 * SHARD_BIT + place
+    }
+}
+
+/// The name of the node that a word refers to.
+#[inline(always)]
+fn node_of(word: u64) -> NodeId
+    requires { IsNodeWord word }
+    ensures { result ≡ node_of word }
+{
+    let shards = SHARDS as u64;
+    if word < FAR {
+        return NodeId {
+            level: (word / (NEAR_SHARD * shards) - 1) as u16,
+            shard: (word / NEAR_SHARD % shards) as u8,
+            index: (word / INDEX_BIT) as u32 % NEAR_PLACES,
+        };
+    }
+    if word < LONG {
+        return NodeId {
+            level: ((word - FAR) / (FAR_SHARD * shards) - 1) as u16,
+            shard: (word / FAR_SHARD % shards) as u8,
+            index: (word / INDEX_BIT) as u32 % FAR_PLACES,
+        };
+    }
+    NodeId {
+        level: (word / LEVEL_BIT - 1) as u16,
+        shard: (word / SHARD_BIT % 256) as u8,
+        index: (word / INDEX_BIT % PLACES) as u32,
+    }
+}
+
+/// The place of the node that a word refers to, 0 for a terminal.
+#[inline(always)]
+fn place_of(word: u64) -> u64
+    requires { IsWord word }
+    ensures terminal { word < 2 → result ≡ 0 }
+    ensures node { IsNodeWord word → result ≡ (node_of word).index }
+    ensures small { result < 2 ^ 32 }
+{
+    let place = word / INDEX_BIT;
+    if word < FAR {
+        place % NEAR_PLACES as u64
+    } else if word < LONG {
+        place % FAR_PLACES as u64
+    } else {
+        place % PLACES
+    }
+}
+
 impl Ref {
     /// The terminal of the function that is 0 everywhere.
     pub const FALSE: Ref = Ref { word: 0 };
@@ -90,13 +196,12 @@ impl Ref {
     pub const TRUE: Ref = Ref { word: 1 };
 
     /// The reference to a node, without a mark.
+    #[inline(always)]
     pub fn node(id: NodeId) -> Ref
         ensures { result ≡ Reference.Node id false }
     {
         Ref {
-            word: (id.level as u64 + 1) * LEVEL_BIT
-                + id.shard as u64 * SHARD_BIT
-                + id.index as u64 * INDEX_BIT,
+            word: node_word(id),
         }
     }
 
@@ -132,11 +237,7 @@ impl Ref {
             0 => Reference::False,
             1 => Reference::True,
             word => Reference::Node {
-                id: NodeId {
-                    level: (word / LEVEL_BIT - 1) as u16,
-                    shard: (word / SHARD_BIT % 256) as u8,
-                    index: (word / INDEX_BIT % PLACES) as u32,
-                },
+                id: node_of(word),
                 mark: word % 2 == 1,
             },
         }
@@ -154,6 +255,7 @@ impl Ref {
         ensures word { result ≡ word_of self }
         ensures within { IsWord result }
         ensures back { reference_of result ≡ self }
+        ensures small { result < 2 ^ 58 }
     {
         self.word
     }
@@ -218,7 +320,11 @@ impl Ord for Ref {
     ghost matches_eq = { matches_eq-law };
 
     fn cmp(&self, other: &Ref) -> Ordering {
-        self.word.cmp(&other.word)
+        if self.word < LONG && other.word < LONG {
+            self.word.cmp(&other.word)
+        } else {
+            self.view().cmp(&other.view())
+        }
     }
 }
 
@@ -259,7 +365,8 @@ pub(crate) fn marked_pair(pair: (Ref, Ref), mark: bool) -> (Ref, Ref)
 
 /// A number that spreads references over workers. Two references may have the same number.
 pub fn code(reference: Ref) -> u64
-    ensures { result ≡ code_of reference }
+    ensures number { result ≡ code_of reference }
+    ensures small { result < 2 ^ 49 }
 {
     match reference.view() {
         Reference::False => 0,
@@ -276,10 +383,10 @@ pub fn code(reference: Ref) -> u64
 
 /// A number that neighbours in a shard share, so that their parents stand together too.
 fn block(reference: Ref) -> u64
-    ensures { result ≡ block_of reference }
+    ensures number { result ≡ block_of reference }
+    ensures small { result < 2 ^ 33 }
 {
-    let place = reference.word / INDEX_BIT % PLACES;
-    1 + (reference == Ref::TRUE) as u64 + APART * (place / BLOCK)
+    1 + (reference == Ref::TRUE) as u64 + APART * (place_of(reference.word) / BLOCK)
 }
 
 /// The shard, 0 to 15, in which the node with these children lies, the second without a mark.

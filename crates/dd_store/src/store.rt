@@ -50,7 +50,7 @@ impl Store {
         let mut shards = Vec::new(alloc);
         for _ in 0..SHARDS * levels as usize {
             shards.push(Shard {
-                shard: PairTable::new(alloc, levels),
+                shard: PairTable::new(alloc),
                 fault: None,
                 found: Vec::new(alloc),
             })?;

@@ -10,7 +10,7 @@ use crate::due::Due;
 use crate::{Spare, Splits};
 use dd_store::Store;
 use req_table::requests::{level_of, owner};
-use req_table::{Child, Key, Owned};
+use req_table::{Child, Key, Owned, Table};
 use std::alloc::AllocError;
 
 // The request becomes due from the key's owner, which is answered.
@@ -60,7 +60,7 @@ fn push_child(
 /// that is handed in.
 pub fn expand_row(
     store: &Store,
-    keys: &[Key],
+    keys: &Table,
     workers: u32,
     row: Vec<(Owned, Owned)>,
     due: Due,
@@ -79,9 +79,10 @@ pub fn expand_row(
     let mut row = row;
     let mut due = due;
     let mut splits = Splits::new();
-    row.reserve_exact(keys.len())?;
-    for key in keys {
-        let record = splits.split(store, *key);
+    let count = keys.len();
+    row.reserve_exact(count)?;
+    for place in 0..count {
+        let record = splits.split(store, keys.key_at(place));
         let low = push_child(&mut due, spare, record.low, workers)?;
         let high = push_child(&mut due, spare, record.high, workers)?;
         row.push((low, high))?;

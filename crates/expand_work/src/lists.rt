@@ -132,11 +132,11 @@ impl Tables {
     }
 
     /// The keys of the level's table, in order of admission.
-    pub fn keys(&self, level: u16) -> &[Key]
+    pub fn keys(&self, level: u16) -> &Table
         requires { level < length self.now }
         ensures { result.now ≡ at self.now level }
     {
-        self.tables[level as usize].keys()
+        &self.tables[level as usize]
     }
 }
 

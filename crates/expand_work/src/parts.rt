@@ -11,7 +11,7 @@ use crate::team::{Wave, run_workers};
 use crate::{Crew, Monitor, Part, Space, Spaces, WaveFault};
 use dd_store::Store;
 use lane_queue::{Lanes, Port};
-use req_table::{Key, Owned};
+use req_table::{Key, Owned, Table};
 use std::alloc::{AllocError, Global};
 use std::marker::Model;
 use std::snapshot::Snapshot;
@@ -59,7 +59,7 @@ impl Parts {
     }
 
     /// The keys of a worker's requests of a level, by place.
-    pub fn keys(&self, worker: u32, level: u16) -> &[Key]
+    pub fn keys(&self, worker: u32, level: u16) -> &Table
         requires worker { worker < length self.now.rows }
         requires level { level < length (slice_index_or self.now.rows worker []) }
         ensures { result.now ≡ map key_of (row_of self.now.rows worker level) }

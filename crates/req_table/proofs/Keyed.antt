@@ -1,13 +1,15 @@
 -- The derived `==` of keys is equality, and what that makes of a set of keys.
-use Rattle.std.proofs.Common.{if◌then◌else◌, ◌≡◌, ◌∙◌, ℕ, ◌<◌, ◌≤◌, Bool, true, false, not, List, [], ◌∷◌, ◌++◌, length, get_or, Option, None, Some, slice_get, position, Contains, AllPairs, ◌≢◌, true≢false, refl, sym, ap, subst, inl, inr, arith}
+use Rattle.std.proofs.Common.{if◌then◌else◌, ◌≡◌, ◌∙◌, ℕ, ◌<◌, ◌+◌, suc, Bool, true, false, not, List, [], ◌∷◌, ◌++◌, length, take, get_or, Option, None, Some, slice_get, position, Contains, true≢false, refl, sym, ap, subst, inl, inr, arith}
 use Rattle.std.specs.List.{list_any, IsDistinct}
 use Rattle.std.specs.Option.{MatchOption, is_some}
 use Rattle.std.specs.Cmp.{IsEquivalence}
 use Rattle.std.specs.Bool.{Decides}
 use Rattle.std.proofs.lemmas.Bool.{cases_lt}
+use Rattle.std.proofs.lemmas.List.{length-take-le, get_or-take}
 use Rattle.std.proofs.lemmas.List.Quantifiers.{position-Some}
 use Rattle.std.proofs.lemmas.Map.Made.{AllPairs-from_IsDistinct}
 use Rattle.std.proofs.lemmas.Map.Views.{Contains-from_any, list_any-from_Contains}
+use Rattle.std.proofs.Math.Seq.{take-suc}
 use Rattle.std.proofs.lemmas.Option.{slice_get-get_or, slice_get_within, get_or_from_slice_get}
 use Rattle.indexmap.specs.IndexSet.{insert_key}
 use Rattle.slot_table.specs.Lists.{IsOnce}
@@ -53,3 +55,29 @@ once keys distinct i j x a b = elim (cases_lt i j) [ inl lt ↦ absurd (apart i 
     apart u v p q lt =
         AllPairs-from_IsDistinct key_decides keys distinct u v x lt (slice_get_within keys v x q)
         (get_or_from_slice_get keys u x x p ∙ sym (get_or_from_slice_get keys v x x q))
+
+-- a key that stands behind so many others goes last among them
+module _ (keys : List Key) (i : ℕ) (k : Key) (distinct : IsOnce keys) (lt : i < length keys) (is : k ≡ get_or keys i k) where
+  absent_before : Contains (take i keys) k → ⊥
+  absent_before h =
+      let below : h.0 < i = (let some = h.1 in let len = length-take-le i keys (omega arith) in omega arith) in
+      let there : get_or keys h.0 k ≡ k = sym (get_or-take i keys h.0 k below) ∙ h.2 in
+      let first : slice_get keys h.0 ≡ Some k = slice_get-get_or keys h.0 k (omega arith) ∙ ap (λ z. Some z) there in
+      let again : slice_get keys i ≡ Some k = slice_get-get_or keys i k lt ∙ ap (λ z. Some z) (sym is) in
+      let twice : h.0 ≡ i = distinct h.0 i k first again in
+      absurd (omega arith)
+
+  pub goes_last : (old new : List Key) → old ≡ take i keys → new ≡ insert_key eq-value.it old k → new ≡ take (i + 1) keys
+  goes_last old new same e =
+      let last : List Key → Bool → Type 0 = λ new t. new ≡ (if t then old else old ++ k ∷ []) → new ≡ take (i + 1) keys in
+      elim (list_any (eq-value.it k) old) as (λ t. list_any (eq-value.it k) old ≡ t → last new t) [
+        | true ↦ (λ t f.
+            let there = Contains-from_any {eq = eq-value.it} key_same k old t in
+            absurd (absent_before (subst (λ (z : List Key). Contains z k) same there)))
+        | false ↦ (λ t f.
+            f
+            ∙ ap (λ z. z ++ k ∷ []) same
+            ∙ ap (λ z. take i keys ++ z ∷ []) is
+            ∙ sym (take-suc keys i k lt)
+            ∙ ap (λ z. take z keys) {x = suc i} {y = i + 1} (omega arith))
+      ] refl e

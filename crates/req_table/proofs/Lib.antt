@@ -12,3 +12,4 @@ pub mod Waved
 pub mod Sized
 pub mod AsksFor
 pub mod ComputedTables
+pub mod Forming

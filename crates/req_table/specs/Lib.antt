@@ -12,6 +12,9 @@ pub mod Tables
 pub mod ComputedTables
 pub mod Words
 pub mod WordLaws
+pub mod Short
+pub mod ShortLaws
+pub mod Forms
 pub mod PackedWords
 pub mod PackedLaws
 pub mod Unpacked

@@ -1,8 +1,9 @@
 -- What the eight bytes of a child say where the number beside the level stands for a place, and where it stands for an owner.
-use Rattle.std.specs.Prelude.{◌≡◌}
+use Rattle.std.specs.Prelude.{◌≡◌, ℕ}
 use Rattle.std.proofs.Common.{refl}
 use Rattle.req_table.specs.declared.packed.PackedChild.{PackedChild}
 use Rattle.req_table.specs.declared.packed.PackedChild.TheVariants as by_number
+use Rattle.req_table.specs.PackedWords.{packed_word, packed_of}
 use Rattle.req_table.specs.declared.placed.PlacedChild.{PlacedChild}
 use Rattle.req_table.specs.declared.placed.PlacedChild.TheVariants as by_place
 use Rattle.req_table.specs.declared.owned.OwnedChild.{OwnedChild}
@@ -20,6 +21,14 @@ packed_placed (by_place.Ask l p m) = by_number.Ask l p m
 pub packed_placed-placed_of : (c : PackedChild) → packed_placed (placed_of c) ≡ c
 packed_placed-placed_of (by_number.Done r) = refl
 packed_placed-placed_of (by_number.Ask l p m) = refl
+
+-- the word of what is told by its place
+abbrev pub placed_word : PlacedChild → ℕ
+placed_word c = packed_word (packed_placed c)
+
+-- what a word says, where the number is a place
+abbrev pub placed_at : ℕ → PlacedChild
+placed_at w = placed_of (packed_of w)
 
 -- ---- the number is an owner
 abbrev pub owned_of : PackedChild → OwnedChild

@@ -1,12 +1,16 @@
 -- The first word of a request gives back what it says.
-use Rattle.std.specs.Prelude.{◌≡◌, ℕ, ◌+◌, ◌*◌, ◌/◌, ◌%◌, ◌^◌, ◌<◌}
-use Rattle.std.proofs.Common.{◌∙◌, ap, arith, inl, inr, refl, sym, subst}
+use Rattle.std.specs.Prelude.{◌≡◌, ℕ, ◌+◌, ◌*◌, ◌/◌, ◌%◌, ◌^◌, ◌<◌, Bool, true, false}
+use Rattle.std.proofs.Common.{◌∙◌, ap, arith, refl, sym, subst}
 use Rattle.std.proofs.lemmas.Bool.Decides.{nat_tests}
 use Rattle.dd_store.specs.declared.reference.Ref.{Ref}
 use Rattle.dd_store.specs.Words.{word_of, reference_of, IsWord}
 use Rattle.dd_store.specs.WordLaws.{word_of-reference_of}
 use Rattle.req_table.specs.declared.Op.{Op}
+use Rattle.req_table.specs.declared.Operation.{Operation}
+use Rattle.req_table.specs.contracts.OperationPartialEq.TheImpl.{eq-value as operation_eq}
+use Rattle.req_table.specs.Equal.{key_same}
 use Rattle.req_table.specs.declared.Op.TheVariants.{And, Or, Xor, Nand, Nor, Xnor}
+use Rattle.dd_store.specs.WordLaws.{small_word}
 use Rattle.req_table.specs.TerminalCase.{op_number}
 use Rattle.req_table.specs.Words.{first_word, op_of, operation_of, IsFirstWord}
 
@@ -29,11 +33,6 @@ small_number Nand = omega arith
 small_number Nor = omega arith
 small_number Xnor = omega arith
 
--- the words of references are below the bit of an operation
-small_word : (w : ℕ) → IsWord w → w < 2 ^ 58
-small_word w (inl small) = omega arith
-small_word w (inr big) = omega arith
-
 -- a first word gives back what it says
 pub first_word-back : (w : ℕ) → IsFirstWord w → first_word (op_of (w / 2 ^ 58)) (reference_of (w % 2 ^ 58)) ≡ w
 first_word-back w h =
@@ -53,3 +52,12 @@ word_made op f g n w e h b =
       (subst (λ z. z < 6) (sym (upper ∙ e)) (small_number op), subst IsWord (sym lower) h),
       λ i. record { op = same i; f = first i; g = g },
     )
+
+-- requests whose first words differ differ
+pub first_differs : (a b : ℕ) (f g : Ref) (t : Bool) → IsFirstWord a → IsFirstWord b
+    → operation_eq.it (operation_of a f) (operation_of b g) ≡ t
+    → (a ≡ b → ⊥) → t ≡ false
+first_differs a b f g false h k e n = refl
+first_differs a b f g true h k e n =
+    let same = key_same (operation_of a f) (operation_of b g) e in
+    absurd (n (sym (first_word-back a h) ∙ ap (λ (o : Operation). first_word o.op o.f) same ∙ first_word-back b k))

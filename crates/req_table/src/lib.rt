@@ -2,7 +2,8 @@
 //!
 //! **Promises.** `requests::terminal_case`, `normal`, `child`, `split` and `known` follow their tables (`value`, `key`) and
 //! mean the operation on the operands' functions (`means`, `low`, `high`). A `Key` is a request, in sixteen bytes
-//! (`Key::op`: `request`). A `Table` is a list of requests, each once (`Table::admit`: `offers`, `stands`, `refused`).
+//! (`Key::op`: `request`). A `Table` is a list of requests, each once (`Table::admit`: `offers`, `stands`, `refused`); each has eight
+//! bytes where all fit.
 //! A `ComputedTable` is a list of keys with answers (`ComputedTable::peek`: `value`, `once`, `few`); `keep` puts a pair first and drops
 //! the key's old one, or the last of a full computed table, or changes nothing. `Placed` and `Owned` tell a child in eight bytes, its
 //! request by its place or its owner.
@@ -23,6 +24,7 @@ mod owned;
 mod packed;
 mod placed;
 pub mod requests;
+mod short;
 mod table;
 
 pub use computed::ComputedTable;
@@ -94,6 +96,7 @@ impl Model for Key {
 }
 
 /// The number of an operation.
+#[inline(always)]
 fn number(op: Op) -> u64
     ensures { result ≡ op_number op }
 {
@@ -109,6 +112,7 @@ fn number(op: Op) -> u64
 
 impl Key {
     /// The request for an operation.
+    #[inline(always)]
     fn of(op: Op, f: Ref, g: Ref) -> Key
         requires { IsRequest (record { op = op; f = f; g = g }) }
         ensures { result ≡ record { op = op; f = f; g = g } }

@@ -1,5 +1,6 @@
 //! The eight bytes of a child, whatever the number beside the level of its request stands for.
-ghost use Rattle.std.specs.Prelude.{◌≡◌};
+ghost use Rattle.std.specs.Prelude.{◌≡◌, ◌<◌, ◌≤◌, ◌^◌};
+ghost use Rattle.req_table.specs.PackedWords.{packed_word, packed_of, short_of, IsPackedWord};
 
 use dd_store::Ref;
 use std::marker::Model;
@@ -12,14 +13,37 @@ pub(crate) enum PackedChild {
     Ask { level: u16, number: u32, mark: bool },
 }
 
-/// What a child comes to, in eight bytes.
+/// What a child comes to, in eight bytes, of which the upper four are 0 where it fits in four.
 #[derive(Clone, Copy)]
 pub(crate) struct Packed {
-    /// The word of an answer, or 1 in bit 63, with the mark in bit 62, the level from bit 32 on and the number below.
+    /// The word of an answer, which is below 2^31 or from 2^41 on. Or a request that fits, near or far: 1 in bit 31, with the mark in
+    /// bit 0 and the number from bit 1 on; a near one has its level from bit 22 on, and a far one 1 in bit 30 and its level from bit
+    /// 18 on. Or another request: 1 in bit 63, with the mark in bit 62, the level from bit 32 on and the number below.
     word: u64,
 }
 
-/// The bit that tells a request from an answer, the bit of a request's mark, and the lowest bit of its level.
+/// The bit that tells a request that fits from an answer, the first bit of longer words, and the bit of a far request.
+const SHORT_BIT: u64 = 1 << 31;
+
+const SHORT_END: u64 = 1 << 32;
+
+const FAR_BIT: u64 = 1 << 30;
+
+/// The levels before which requests are near and far, and the numbers of theirs that fit.
+const NEAR_LEVELS: u16 = 1 << 8;
+
+const FAR_LEVELS: u16 = 1 << 12;
+
+const NEAR_NUMBERS: u32 = 1 << 21;
+
+const FAR_NUMBERS: u32 = 1 << 17;
+
+/// The lowest bit of a near request's level, and of a far one's.
+const NEAR_LEVEL_BIT: u64 = 1 << 22;
+
+const FAR_LEVEL_BIT: u64 = 1 << 18;
+
+/// The bit that tells another request from an answer, the bit of its mark, and the lowest bit of its level.
 const ASK_BIT: u64 = 1 << 63;
 
 const MARK_BIT: u64 = 1 << 62;
@@ -43,6 +67,28 @@ impl Model for Packed {
     ghost invariant = { λ p. IsPackedWord p.word };
 }
 
+/// The request with this word, of those that fit.
+#[inline(always)]
+fn short_request(word: u64) -> PackedChild
+    requires first { 2 ^ 31 ≤ word }
+    requires end { word < 2 ^ 32 }
+    ensures { result ≡ short_of word }
+{
+    let mark = word % 2 == 1;
+    if word < SHORT_BIT + FAR_BIT {
+        return PackedChild::Ask {
+            level: (word % FAR_BIT / NEAR_LEVEL_BIT) as u16,
+            number: (word % NEAR_LEVEL_BIT / 2) as u32,
+            mark,
+        };
+    }
+    PackedChild::Ask {
+        level: (word % FAR_BIT / FAR_LEVEL_BIT) as u16,
+        number: (word % FAR_LEVEL_BIT / 2) as u32,
+        mark,
+    }
+}
+
 impl Packed {
     /// An answer.
     #[inline(always)]
@@ -59,6 +105,17 @@ impl Packed {
     pub(crate) fn ask(level: u16, number: u32, mark: bool) -> Packed
         ensures { result ≡ PackedChild.Ask level number mark }
     {
+        let low = number as u64 * 2 + mark as u64;
+        if level < NEAR_LEVELS && number < NEAR_NUMBERS {
+            return Packed {
+                word: SHORT_BIT + level as u64 * NEAR_LEVEL_BIT + low,
+            };
+        }
+        if level >= NEAR_LEVELS && level < FAR_LEVELS && number < FAR_NUMBERS {
+            return Packed {
+                word: SHORT_BIT + FAR_BIT + level as u64 * FAR_LEVEL_BIT + low,
+            };
+        }
         let mark_bit = if mark { MARK_BIT } else { 0 };
         Packed {
             word: ASK_BIT + mark_bit + level as u64 * LEVEL_BIT + number as u64,
@@ -70,13 +127,39 @@ impl Packed {
     pub(crate) fn view(self) -> PackedChild
         ensures { result ≡ self }
     {
-        if self.word < ASK_BIT {
-            return PackedChild::Done(Ref::of_word(self.word));
+        let word = self.word;
+        if word < SHORT_BIT {
+            return PackedChild::Done(Ref::of_word(word));
+        }
+        if word < SHORT_END {
+            return short_request(word);
+        }
+        if word < ASK_BIT {
+            return PackedChild::Done(Ref::of_word(word));
         }
         PackedChild::Ask {
-            level: (self.word % MARK_BIT / LEVEL_BIT) as u16,
-            number: (self.word % LEVEL_BIT) as u32,
-            mark: self.word / MARK_BIT == 3,
+            level: (word % MARK_BIT / LEVEL_BIT) as u16,
+            number: (word % LEVEL_BIT) as u32,
+            mark: word / MARK_BIT == 3,
         }
+    }
+
+    /// Its eight bytes as a number, different for each.
+    #[inline(always)]
+    pub(crate) fn word(self) -> u64
+        ensures word { result ≡ packed_word self }
+        ensures within { IsPackedWord result }
+        ensures back { packed_of result ≡ self }
+    {
+        self.word
+    }
+
+    /// What has these eight bytes.
+    #[inline(always)]
+    pub(crate) fn of_word(word: u64) -> Packed
+        requires { IsPackedWord word }
+        ensures { result ≡ packed_of word }
+    {
+        Packed { word }
     }
 }

@@ -1,5 +1,7 @@
 //! What a child comes to, in eight bytes: its request is told by its place.
 ghost use Rattle.std.specs.Prelude.{◌≡◌};
+ghost use Rattle.req_table.specs.PackedWords.{IsPackedWord};
+ghost use Rattle.req_table.specs.Unpacked.{placed_word, placed_at};
 
 use crate::packed::{Packed, PackedChild};
 use dd_store::Ref;
@@ -37,6 +39,7 @@ impl Model for Placed {
 
 impl Placed {
     /// An answer.
+    #[inline(always)]
     pub fn done(answer: Ref) -> Placed
         ensures { result ≡ PlacedChild.Done answer }
     {
@@ -46,6 +49,7 @@ impl Placed {
     }
 
     /// A request, told by its place.
+    #[inline(always)]
     pub fn ask(level: u16, place: u32, mark: bool) -> Placed
         ensures { result ≡ PlacedChild.Ask level place mark }
     {
@@ -55,6 +59,7 @@ impl Placed {
     }
 
     /// Which of the two it is.
+    #[inline(always)]
     pub fn view(self) -> PlacedChild
         ensures { result ≡ self }
     {
@@ -65,6 +70,27 @@ impl Placed {
                 number: place,
                 mark,
             } => PlacedChild::Ask { level, place, mark },
+        }
+    }
+
+    /// Its eight bytes as a number, different for each.
+    #[inline(always)]
+    pub fn word(self) -> u64
+        ensures word { result ≡ placed_word self }
+        ensures within { IsPackedWord result }
+        ensures back { placed_at result ≡ self }
+    {
+        self.packed.word()
+    }
+
+    /// What has these eight bytes.
+    #[inline(always)]
+    pub fn of_word(word: u64) -> Placed
+        requires { IsPackedWord word }
+        ensures { result ≡ placed_at word }
+    {
+        Placed {
+            packed: Packed::of_word(word),
         }
     }
 }

@@ -1,9 +1,11 @@
-//! The requests of a level, each once, by place.
-ghost use Rattle.std.specs.Prelude.{◌≡◌, ◌<◌, [], length, slice_get, Some, Contains, MatchOption, IfOk, OnErr};
+//! The requests of a level, each once, by place: in eight bytes each where all fit, else in sixteen.
+ghost use Rattle.std.specs.Prelude.{◌≡◌, ◌<◌, ◌+◌, ◌^◌, [], length, slice_get, Some, Contains, MatchOption, IfOk, OnErr};
 ghost use Rattle.slot_table.specs.Lists.{IsOnce};
+ghost use Rattle.req_table.specs.Forms.{keys_in, AreFitting, AreShort, IsAdmitted, IsLeftOut};
 ghost use Rattle.req_table.specs.Tables.{Offers};
 
 use crate::Key;
+use crate::short::ShortKey;
 use indexmap::IndexSet;
 use std::alloc::{AllocError, Global};
 use std::marker::Model;
@@ -11,21 +13,103 @@ use std::marker::Model;
 /// A table that has room for more than so many times the requests that it holds gives its memory back when it is emptied.
 const MOST_ROOM: usize = 8;
 
-/// Requests, each once, in the order of their admission. A place is a number of 32 bits.
+/// Admits a request that fits.
+#[inline(always)]
+fn admit_short(short: &mut IndexSet<ShortKey>, key: ShortKey) -> Result<(u32, bool), AllocError>
+    requires { length short.old.keys + 1 < 2 ^ 32 }
+    ensures { IsAdmitted key short.old.keys result short.new.keys }
+{
+    let (place, new) = short.insert_full(key)?;
+    Ok((place as u32, new))
+}
+
+/// Admits a request. Its code stands apart from that of most requests, which fit.
+#[inline(never)]
+fn admit_long(long: &mut IndexSet<Key>, key: Key) -> Result<(u32, bool), AllocError>
+    requires { length long.old.keys + 1 < 2 ^ 32 }
+    ensures { IsAdmitted key long.old.keys result long.new.keys }
+{
+    let (place, new) = long.insert_full(key)?;
+    Ok((place as u32, new))
+}
+
+/// The same requests, in sixteen bytes each, with room for one more.
+fn widened(short: &IndexSet<ShortKey>) -> Result<IndexSet<Key>, AllocError>
+    ensures { IfOk result (λ long. long.keys ≡ short.now.keys) }
+{
+    let mut long = IndexSet::with_capacity(*short.allocator(), short.len() + 1)?;
+    for key in short.as_slice() {
+        long.insert_full(key.key())?;
+    }
+    Ok(long)
+}
+
+/// Requests, each once.
+#[derive(Drop)]
+enum Keys {
+    /// All fit in eight bytes.
+    Short(IndexSet<ShortKey>),
+    /// Some do not.
+    Long(IndexSet<Key>),
+}
+
+impl Keys {
+    /// Admits a request; none if it does not fit.
+    #[inline(always)]
+    fn admit(&mut self, key: Key) -> Option<Result<(u32, bool), AllocError>>
+        requires fitting { AreFitting self.old }
+        requires room { length (keys_in self.old) + 1 < 2 ^ 32 }
+        ensures fitting { AreFitting self.new }
+        ensures admitted { MatchOption result (IsLeftOut key self.old self.new)
+            (λ r. IsAdmitted key (keys_in self.old) r (keys_in self.new)) }
+    {
+        match self {
+            Keys::Short(short) => match ShortKey::of(key) {
+                Some(key) => Some(admit_short(short, key)),
+                None => None,
+            },
+            Keys::Long(long) => Some(admit_long(long, key)),
+        }
+    }
+
+    /// Admits a request that does not fit: each has sixteen bytes from now on.
+    #[inline(never)]
+    fn widen_and_admit(&mut self, key: Key) -> Result<(u32, bool), AllocError>
+        requires fitting { AreFitting self.old }
+        requires short { AreShort self.old }
+        requires absent { ¬ Contains (keys_in self.old) key }
+        requires room { length (keys_in self.old) + 1 < 2 ^ 32 }
+        ensures fitting { AreFitting self.new }
+        ensures admitted { IsAdmitted key (keys_in self.old) result (keys_in self.new) }
+    {
+        let mut long = match self {
+            Keys::Short(short) => widened(short)?,
+            Keys::Long(_) => unreachable!(),
+        };
+        let admitted = admit_long(&mut long, key)?;
+        *self = Keys::Long(long);
+        Ok(admitted)
+    }
+}
+
+/// Requests, each once, in the order of their admission. A place is a number of 32 bits. The first request that does not fit in eight
+/// bytes widens all.
 #[derive(Drop)]
 pub struct Table {
-    keys: IndexSet<Key>,
+    keys: Keys,
 }
 
 impl Model for Table {
-    ghost use Rattle.std.specs.Prelude.{◌<◌, ◌^◌, List, length};
+    ghost use Rattle.std.specs.Prelude.{List};
     ghost use Rattle.req_table.specs.declared.Operation.{Operation};
 
     ghost Value = { List Operation };
 
-    ghost view = { λ t. t.keys.keys };
+    ghost use Rattle.req_table.specs.Forms.{keys_in, AreHeld};
 
-    ghost invariant = { λ t. length t.keys.keys < 2 ^ 32 };
+    ghost view = { λ t. keys_in t.keys };
+
+    ghost invariant = { λ t. AreHeld t.keys };
 }
 
 impl Table {
@@ -34,7 +118,7 @@ impl Table {
         ensures { result ≡ [] }
     {
         Table {
-            keys: IndexSet::new(alloc),
+            keys: Keys::Short(IndexSet::new(alloc)),
         }
     }
 
@@ -52,45 +136,51 @@ impl Table {
                 None => Err(AllocError),
             };
         }
-        let (place, new) = self.keys.insert_full(key)?;
-        Ok((place as u32, new))
+        if let Some(admitted) = self.keys.admit(key) {
+            return admitted;
+        }
+        self.keys.widen_and_admit(key)
     }
 
     /// The place of a request.
     pub fn find(&self, key: Key) -> Option<u32>
         ensures { MatchOption result (¬ Contains self.now key) (λ p. slice_get self.now p ≡ Some key) }
     {
-        match self.keys.get_index_of(&key) {
+        let place = match &self.keys {
+            Keys::Short(short) => short.get_index_of(&ShortKey::of(key)?),
+            Keys::Long(long) => long.get_index_of(&key),
+        };
+        match place {
             Some(place) => Some(place as u32),
             None => None,
         }
     }
 
     /// The number of requests.
+    #[inline(always)]
     pub fn len(&self) -> usize
         ensures value { result ≡ length self.now }
         ensures once { IsOnce self.now }
     {
-        self.keys.len()
+        match &self.keys {
+            Keys::Short(short) => short.len(),
+            Keys::Long(long) => long.len(),
+        }
     }
 
     /// The request at a place.
+    #[inline(always)]
     pub fn key_at(&self, place: usize) -> Key
         requires { place < length self.now }
         ensures { slice_get self.now place ≡ Some result }
     {
-        self.keys()[place]
+        match &self.keys {
+            Keys::Short(short) => short.as_slice()[place].key(),
+            Keys::Long(long) => long.as_slice()[place],
+        }
     }
 
-    /// All requests, by place.
-    pub fn keys(&self) -> &[Key]
-        ensures value { result.now ≡ self.now }
-        ensures once { IsOnce self.now }
-    {
-        self.keys.as_slice()
-    }
-
-    /// Removes all requests. The memory serves on, unless it is much more than these requests needed.
+    /// Removes all requests. The memory serves on if each had eight bytes, unless it is much more than these requests needed.
     pub fn clear(&mut self)
         ensures { self.new ≡ [] }
     {
@@ -98,10 +188,18 @@ impl Table {
         if count == 0 {
             return;
         }
-        if self.keys.capacity() / MOST_ROOM > count {
-            self.keys = IndexSet::new(*self.keys.allocator());
-        } else {
-            self.keys.clear();
+        match &mut self.keys {
+            Keys::Short(short) => {
+                if short.capacity() / MOST_ROOM > count {
+                    *short = IndexSet::new(*short.allocator());
+                } else {
+                    short.clear();
+                }
+            }
+            Keys::Long(long) => {
+                let alloc = *long.allocator();
+                self.keys = Keys::Short(IndexSet::new(alloc));
+            }
         }
     }
 }

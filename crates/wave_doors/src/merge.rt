@@ -11,18 +11,19 @@ ghost use Rattle.wave_doors.specs.Merging.{MayMerge};
 use dd_store::Store;
 use expand_work::Parts;
 use req_table::requests::split;
-use req_table::{Key, Record};
+use req_table::{Key, Record, Table};
 use std::alloc::{AllocError, Global};
 use wave_core::Records;
 
 /// The records of the keys.
-fn split_all(alloc: Global, store: &Store, keys: &[Key]) -> Result<Vec<Record>, AllocError>
+fn split_all(alloc: Global, store: &Store, keys: &Table) -> Result<Vec<Record>, AllocError>
     requires { All (IsKey store.now) keys.now }
     ensures { IfOk result (λ records. records.items ≡ records_of store.now keys.now) }
 {
-    let mut records = Vec::with_capacity(alloc, keys.len())?;
-    for key in keys {
-        let Record { key, low, high } = split(store, *key);
+    let count = keys.len();
+    let mut records = Vec::with_capacity(alloc, count)?;
+    for place in 0..count {
+        let Record { key, low, high } = split(store, keys.key_at(place));
         records.push(Record { key, low, high })?;
     }
     Ok(records)

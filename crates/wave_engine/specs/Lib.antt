@@ -1,4 +1,5 @@
 pub mod LevelSet
+pub mod WordLists
 pub mod Places
 pub mod Down
 pub mod Up

@@ -13,7 +13,7 @@ use crate::requests::Requests;
 use dd_store::{Ref, Store};
 use expand_work::{Crew, Monitor, WaveFault};
 use reduce_up::{Rooms, shared_wave};
-use req_table::{Key, Op};
+use req_table::{Key, Op, Table};
 use std::alloc::{AllocError, Global};
 use std::sync::Wait;
 use std::thread::Threads;
@@ -25,6 +25,18 @@ pub(crate) struct Frontier<'a> {
     pub(crate) from: u16,
 }
 
+/// Puts the requests of a table behind others.
+fn push_all(front: &mut Vec<Key>, keys: &Table) -> Result<(), AllocError>
+    ensures { OnOk result (front.new.items ≡ front.old.items ++ keys.now) }
+{
+    let count = keys.len();
+    front.reserve(count)?;
+    for place in 0..count {
+        front.push(keys.key_at(place))?;
+    }
+    Ok(())
+}
+
 /// The requests from a level on, in one list.
 fn frontier_of(alloc: Global, requests: &Requests, from: u16) -> Result<Vec<Key>, AllocError>
     requires { from ≤ length requests.now }
@@ -32,7 +44,7 @@ fn frontier_of(alloc: Global, requests: &Requests, from: u16) -> Result<Vec<Key>
 {
     let mut front = Vec::new(alloc);
     for level in from as usize..requests.levels() {
-        front.extend_from_slice(requests.keys(level))?;
+        push_all(&mut front, requests.keys(level))?;
     }
     Ok(front)
 }

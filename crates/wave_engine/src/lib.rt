@@ -27,6 +27,7 @@ mod rows;
 mod sizes;
 mod up;
 mod waves;
+mod words;
 mod workspace;
 
 pub use engine::Engine;

@@ -1,15 +1,16 @@
 //! What a wave keeps of a level beside its requests: the children of each, and the answer of each, by place.
 ghost use Rattle.std.specs.Prelude.{◌≡◌, ◌<◌, ◌++◌, ◌∷◌, [], length, slice_get, Some, OnOk, OnErr};
 
+use crate::words::{WordPairs, Words};
 use dd_store::Ref;
 use req_table::Placed;
 use std::alloc::{AllocError, Global};
 use std::marker::Model;
 
-/// The children of a level's requests, low and high, by place.
+/// The children of a level's requests, low and high, by place: in eight bytes a request where all fit in four each, else in sixteen.
 #[derive(Drop)]
 pub(crate) struct Row {
-    pairs: Vec<(Placed, Placed)>,
+    pairs: WordPairs,
 }
 
 impl Model for Row {
@@ -18,7 +19,11 @@ impl Model for Row {
 
     ghost Value = { List (Placed × Placed) };
 
-    ghost view = { λ r. r.pairs.items };
+    ghost use Rattle.wave_engine.specs.WordLists.{pairs_in, children_of, AreChildren};
+
+    ghost view = { λ r. children_of (pairs_in r.pairs) };
+
+    ghost invariant = { λ r. AreChildren (pairs_in r.pairs) };
 }
 
 impl Row {
@@ -27,45 +32,56 @@ impl Row {
         ensures { result ≡ [] }
     {
         Row {
-            pairs: Vec::new(alloc),
+            pairs: WordPairs::new(alloc),
         }
     }
 
     /// Adds the children of the next place.
+    #[inline(always)]
     pub(crate) fn push(&mut self, pair: (Placed, Placed)) -> Result<(), AllocError>
         ensures { OnOk result (self.new ≡ self.old ++ pair ∷ []) }
     {
-        self.pairs.push(pair)?;
+        self.pairs.push((pair.0.word(), pair.1.word()))?;
         Ok(())
     }
 
-    /// All pairs, in order.
-    pub(crate) fn pairs(&self) -> &[(Placed, Placed)]
-        ensures { result.now ≡ self.now }
+    /// How many pairs there are.
+    pub(crate) fn len(&self) -> usize
+        ensures { result ≡ length self.now }
     {
-        self.pairs.as_slice()
+        self.pairs.len()
     }
 
-    /// Removes all pairs, and keeps the memory.
+    /// The children of a place.
+    #[inline(always)]
+    pub(crate) fn at(&self, place: usize) -> (Placed, Placed)
+        requires { place < length self.now }
+        ensures { slice_get self.now place ≡ Some result }
+    {
+        let (low, high) = self.pairs.at(place);
+        (Placed::of_word(low), Placed::of_word(high))
+    }
+
+    /// Removes all pairs, and keeps the memory where all fit.
     pub(crate) fn clear(&mut self)
         ensures { self.new ≡ [] }
     {
         self.pairs.clear();
     }
 
-    /// Has room for so many pairs more.
+    /// Has room for so many pairs more, if they fit or some before them do not.
     pub(crate) fn reserve(&mut self, count: usize) -> Result<(), AllocError>
         ensures { self.new ≡ self.old }
     {
-        self.pairs.reserve_exact(count)?;
+        self.pairs.reserve(count)?;
         Ok(())
     }
 }
 
-/// The answers of a level's requests, by place.
+/// The answers of a level's requests, by place: in four bytes each where all fit, else in eight.
 #[derive(Drop)]
 pub(crate) struct Answers {
-    refs: Vec<Ref>,
+    words: Words,
 }
 
 impl Model for Answers {
@@ -74,7 +90,11 @@ impl Model for Answers {
 
     ghost Value = { List Ref };
 
-    ghost view = { λ a. a.refs.items };
+    ghost use Rattle.wave_engine.specs.WordLists.{words_in, answers_of, AreAnswers};
+
+    ghost view = { λ a. answers_of (words_in a.words) };
+
+    ghost invariant = { λ a. AreAnswers (words_in a.words) };
 }
 
 impl Answers {
@@ -83,33 +103,35 @@ impl Answers {
         ensures { result ≡ [] }
     {
         Answers {
-            refs: Vec::new(alloc),
+            words: Words::new(alloc),
         }
     }
 
     /// Adds the answer of the next place.
+    #[inline(always)]
     pub(crate) fn push(&mut self, answer: Ref) -> Result<(), AllocError>
         ensures done { OnOk result (self.new ≡ self.old ++ answer ∷ []) }
         ensures refused { OnErr result (self.new ≡ self.old) }
     {
-        self.refs.push(answer)?;
+        self.words.push(answer.word())?;
         Ok(())
     }
 
     /// The answer of a place.
+    #[inline(always)]
     pub(crate) fn at(&self, place: usize) -> Ref
         requires { place < length self.now }
         ensures { slice_get self.now place ≡ Some result }
     {
-        self.refs[place]
+        Ref::of_word(self.words.at(place))
     }
 
-    /// Removes all answers, keeps the memory, and has room for so many.
+    /// Removes all answers, keeps the memory where all fit, and has room for so many that fit.
     pub(crate) fn restart(&mut self, count: usize) -> Result<(), AllocError>
         ensures { self.new ≡ [] }
     {
-        self.refs.clear();
-        self.refs.reserve_exact(count)?;
+        self.words.clear();
+        self.words.reserve(count)?;
         Ok(())
     }
 }

@@ -48,6 +48,17 @@ fn empty_tables(alloc: Global, levels: u16) -> Result<Vec<Table>, AllocError>
     Ok(tables)
 }
 
+/// Keeps a table for another level, without its requests, unless it is large.
+fn keep_spare(spare: &mut Vec<Table>, table: Table) -> Result<(), AllocError> {
+    if table.len() > MOST_LENT {
+        return Ok(());
+    }
+    let mut table = table;
+    table.clear();
+    spare.push(table)?;
+    Ok(())
+}
+
 impl Requests {
     /// No levels. It takes no memory yet.
     pub(crate) fn new(alloc: Global) -> Requests
@@ -77,13 +88,9 @@ impl Requests {
         ensures { OnOk result (self.new ≡ set self.old level []) }
     {
         let fresh = Table::new(*self.tables.allocator());
-        let mut used = mem::replace(&mut self.tables[level as usize], fresh);
+        let used = mem::replace(&mut self.tables[level as usize], fresh);
         self.asked.remove(level);
-        if used.len() <= MOST_LENT {
-            used.clear();
-            self.spare.push(used)?;
-        }
-        Ok(())
+        keep_spare(&mut self.spare, used)
     }
 
     /// Leaves so many levels without requests. Only levels that had some are come to.
@@ -181,11 +188,11 @@ impl Requests {
     }
 
     /// The requests of a level, by place.
-    pub(crate) fn keys(&self, level: usize) -> &[Key]
+    pub(crate) fn keys(&self, level: usize) -> &Table
         requires { level < length self.now }
         ensures { result.now ≡ row self.now level }
     {
-        self.tables[level].keys()
+        &self.tables[level]
     }
 
     /// The first level from one on that has requests.

@@ -9,7 +9,7 @@ use std::alloc::{AllocError, Global};
 use std::marker::Model;
 use std::mem;
 
-/// A row of more requests than these gives its memory back, 16 KB or more. To ask for smaller ones anew costs more than they take.
+/// A row of more requests than these gives its memory back, 8 KB or more. To ask for smaller ones anew costs more than they take.
 const MOST_KEPT: usize = 1 << 10;
 
 /// The children of each expanded level's requests, by place. The levels that have some are known.
@@ -82,7 +82,7 @@ impl Rows {
         ensures { self.new ≡ self.old }
     {
         let mut used = used;
-        if used.pairs().len() > MOST_KEPT {
+        if used.len() > MOST_KEPT {
             return;
         }
         used.clear();

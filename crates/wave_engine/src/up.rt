@@ -7,7 +7,7 @@ ghost use Rattle.reduce_up.specs.Waves.{IsWanted, IsWaveFault, IsEntry};
 ghost use Rattle.req_table.specs.declared.Key.{Key};
 ghost use Rattle.wave_engine.specs.Up.{ComesTo, IsReadyAt, AskedAt, IsLevelReduced, IsLevelFault, AreReducedBelow, AreCounted, AreReady};
 
-use crate::lists::Answers;
+use crate::lists::{Answers, Row};
 use crate::reductions::Reductions;
 use crate::rows::Rows;
 use crate::workspace::Up;
@@ -33,7 +33,7 @@ pub(crate) fn resolve(answers: &[Answers], child: Placed) -> Ref
 /// A level that is to be reduced: the children of its requests, and the answers that are known.
 #[derive(Drop)]
 struct Level<'a> {
-    pairs: &'a [(Placed, Placed)],
+    pairs: &'a Row,
     answers: &'a [Answers],
     number: u16,
 }
@@ -60,7 +60,8 @@ fn reduce_level(
     if own.restart(level.pairs.len()).is_err() {
         return Err(WaveFault::OutOfMemory);
     }
-    for pair in level.pairs {
+    for place in 0..level.pairs.len() {
+        let pair = level.pairs.at(place);
         let low = resolve(level.answers, pair.0);
         let high = resolve(level.answers, pair.1);
         let answer = match reductions.make(store, level.number, low, high) {
@@ -106,7 +107,7 @@ pub(crate) fn reduce(
         // the level's own list is taken out, since the lists below it are read meanwhile
         let mut own = mem::replace(&mut up.answers[number as usize], Answers::new(alloc));
         let level = Level {
-            pairs: children.pairs(),
+            pairs: &children,
             answers: up.answers.as_slice(),
             number,
         };

@@ -4,7 +4,7 @@ ghost use Rattle.dd_store.specs.View.{Has};
 ghost use Rattle.req_table.specs.Keys.{IsKey};
 ghost use Rattle.req_table.specs.Sizes.{sizes_of, IsKeyOf};
 
-use dd_store::{Ref, Store};
+use dd_store::{NodeId, Ref, Store};
 use req_table::requests::{level_of, normal, owner, terminal_case};
 use req_table::{ComputedTable, Key, Op, Table};
 use std::alloc::Global;
@@ -163,11 +163,43 @@ fn table_admits_once(rt: HostRuntime) -> Result<(), Fail> {
     assert!(rt; table.admit(first)? == (0, false));
     assert!(rt; table.len() == 1);
     assert!(rt; table.admit(second)? == (1, true));
-    assert!(rt; table.keys() == [first, second].as_slice());
+    assert!(rt; table.len() == 2 && table.key_at(0) == first && table.key_at(1) == second);
     assert!(rt; table.find(second) == Some(1));
     table.clear();
     assert!(rt; table.len() == 0 && table.find(first).is_none());
     assert!(rt; table.admit(second)? == (0, true));
+    Ok(())
+}
+
+/// The first node of a level.
+fn first_node(level: u16) -> Ref {
+    Ref::node(NodeId {
+        level,
+        shard: 0,
+        index: 0,
+    })
+}
+
+/// The request for the conjunction of the first nodes of two levels.
+fn conjunction(rt: &impl Abort, first: u16, second: u16) -> Key {
+    let f = first_node(first);
+    let g = first_node(second);
+    assert!(rt; terminal_case(Op::And, f, g).is_none());
+    normal(Op::And, f, g).0
+}
+
+// A request of the last level of 4,096 does not fit in eight bytes, so all of its table take sixteen, in the order of admission.
+#[test]
+fn table_is_widened(rt: HostRuntime) -> Result<(), Fail> {
+    let short = conjunction(&rt, 0, 1);
+    let long = conjunction(&rt, 0, 4_095);
+    let mut table = Table::new(rt.alloc());
+    assert!(rt; table.admit(short)? == (0, true) && table.find(long).is_none());
+    assert!(rt; table.admit(long)? == (1, true) && table.admit(short)? == (0, false));
+    assert!(rt; table.len() == 2 && table.key_at(0) == short && table.key_at(1) == long);
+    assert!(rt; table.find(short) == Some(0) && table.find(long) == Some(1));
+    table.clear();
+    assert!(rt; table.admit(long)? == (0, true) && table.find(short).is_none());
     Ok(())
 }
 

@@ -11,7 +11,7 @@ use crate::requests::{either, make_either, request, request_for, store_of, varia
 use dd_store::{Ref, Store, Watch};
 use expand_work::{Free, Monitor, Part, Site, Space, WorkFault, work};
 use lane_queue::{Lanes, Port};
-use req_table::{Key, Op, Owned, OwnedChild};
+use req_table::{Key, Op, Owned, OwnedChild, Table};
 use std::alloc::Global;
 use std::process::Abort;
 use std::sync::Wait;
@@ -103,14 +103,14 @@ fn work_alone<R: Wait + Abort, G: Monitor>(
 
 /// Whether a level has this one request with these children.
 fn is_row(
-    keys: &[Key],
+    keys: &Table,
     row: &[(Owned, Owned)],
     key: Key,
     low: Result<Ref, (u16, u32, bool)>,
     high: Result<Ref, (u16, u32, bool)>,
 ) -> bool {
     keys.len() == 1
-        && keys[0] == key
+        && keys.key_at(0) == key
         && row.len() == 1
         && tell(row[0].0) == low
         && tell(row[0].1) == high
@@ -138,7 +138,7 @@ fn one_worker_records_what_it_is_asked_for(rt: HostRuntime) -> Result<(), Fail> 
         )
     );
     assert!(rt; is_row(tables.keys(1), rows.row(1), child, Ok(Ref::FALSE), Ok(c)));
-    assert!(rt; tables.keys(2).is_empty() && rows.row(2).is_empty());
+    assert!(rt; tables.keys(2).len() == 0 && rows.row(2).is_empty());
     assert!(rt; port.number() == 0 && port.put() == 3);
     assert!(rt; !stop.load(Ordering::SeqCst));
     Ok(())

@@ -4,9 +4,9 @@ use Rattle.expand_work.specs.Lean.{lean_row, records_of}
 use Rattle.expand_work.specs.Work.{at, owned_by, with_levels}
 use Rattle.expand_work.proofs.expand.expand_row.Given as goal
 
-abbrev pub invariant-loop-key : goal.invariant-loop-key
-invariant-loop-key l =
-    ((l.row.items ≡ lean_row l.workers (records_of l.store (take l.key-index l.keys)))
+abbrev pub invariant-loop-place : goal.invariant-loop-place
+invariant-loop-place l =
+    ((l.row.items ≡ lean_row l.workers (records_of l.store (take l.place l.keys)))
     × (length l.due ≡ l.workers)
-    × ((k : ℕ) → k < l.workers → at l.due k ≡ with_levels l.store (filter (owned_by l.workers k) (asked_by (records_of l.store (take l.key-index l.keys))))))
-    × (l.splits ≡ l.key-index)
+    × ((k : ℕ) → k < l.workers → at l.due k ≡ with_levels l.store (filter (owned_by l.workers k) (asked_by (records_of l.store (take l.place l.keys))))))
+    × (l.splits ≡ l.place)

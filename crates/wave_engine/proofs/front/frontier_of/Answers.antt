@@ -8,7 +8,7 @@ loop-level-preserved c =
     let u : ℕ = c.loop-level.level in
     let fits : u < length c.args.requests.now = omega arith in
     record {
-      listed = front_more c.args.requests.now c.args.from u c.loop-level.front.items c.extend_from_slice.new.self.items c.loop-level.invariant.bound fits c.loop-level.invariant.listed
-          (c.in_ok-extend_from_slice.ensures.items ∙ ap (λ (z : List Key). c.loop-level.front.items ++ z) c.keys.ensures);
+      listed = front_more c.args.requests.now c.args.from u c.loop-level.front.items c.push_all.new.front.items c.loop-level.invariant.bound fits c.loop-level.invariant.listed
+          (c.in_ok-push_all.ensures ∙ ap (λ (z : List Key). c.loop-level.front.items ++ z) c.keys.ensures);
       bound = omega (arith, c.loop-level.invariant.bound);
     }

@@ -104,7 +104,7 @@ reduce_level-requires-clause-ready c =
     let some = some_split S c.requires.held es c.requires.operands ps T rows c.args.from Y.expanded v lt h.1 in
     let d : AreReducedBelow S es T (v + 1) s A =
     levels_left S c.requires.held es c.requires.operands ps T rows c.args.from Y.expanded (v + 1) c.loop-number.end s A none (c.loop-number.invariant.reduced T Y) in
-    let read : c.pairs.result.now ≡ row rows v = c.pairs.ensures ∙ c.take-children.ensures.children ∙ c.loop-number.invariant.left v h.0 in
+    let read : c.take-children.result ≡ row rows v = c.take-children.ensures.children ∙ c.loop-number.invariant.left v h.0 in
     let B : List (List Ref) = set A v c.replace-own.new.dest in
     let ready : IsReadyAt s T (row rows v) B v = ready_beside s T (row rows v) A B v (λ w ne. row_other A v c.replace-own.new.dest w ne)
     (level_ready S c.requires.held es c.requires.operands ps T rows c.args.from Y.expanded v s A lt fit d) in
@@ -128,9 +128,9 @@ returns-in-Err-clause-adds c =
     let some = some_split S c.requires.held es c.requires.operands ps T rows c.args.from Y.expanded v lt h.1 in
     let d : AreReducedBelow S es T (v + 1) s A =
     levels_left S c.requires.held es c.requires.operands ps T rows c.args.from Y.expanded (v + 1) c.loop-number.end s A none (c.loop-number.invariant.reduced T Y) in
-    let ready : IsReadyAt s T c.pairs.result.now c.as_slice.result.now v =
+    let ready : IsReadyAt s T c.take-children.result c.as_slice.result.now v =
     let B : List (List Ref) = set A v c.replace-own.new.dest in
-    subst (λ (z : List (Placed × Placed)). IsReadyAt s T z c.as_slice.result.now v) (sym (c.pairs.ensures ∙ c.take-children.ensures.children ∙ c.loop-number.invariant.left v h.0)) (subst (λ (z : List (List Ref)). IsReadyAt s T (row rows v) z v) (sym c.as_slice.ensures.value)
+    subst (λ (z : List (Placed × Placed)). IsReadyAt s T z c.as_slice.result.now v) (sym (c.take-children.ensures.children ∙ c.loop-number.invariant.left v h.0)) (subst (λ (z : List (List Ref)). IsReadyAt s T (row rows v) z v) (sym c.as_slice.ensures.value)
     (ready_beside s T (row rows v) A B v (λ w ne. row_other A v c.replace-own.new.dest w ne) (level_ready S c.requires.held es c.requires.operands ps T rows c.args.from Y.expanded v s A lt fit d))) in
     let u : Nodes = c.reduce_level.new.store in
     level_adds S c.requires.held es c.requires.operands T v s u Y.expanded.admitted d.held c.reduce_level.ensures.sound d.adds (c.reduce_level.ensures.adds T ready)
@@ -153,9 +153,9 @@ returns-in-Err-clause-fault c =
     let some = some_split S c.requires.held es c.requires.operands ps T rows c.args.from Y.expanded v lt h.1 in
     let d : AreReducedBelow S es T (v + 1) s A =
     levels_left S c.requires.held es c.requires.operands ps T rows c.args.from Y.expanded (v + 1) c.loop-number.end s A none (c.loop-number.invariant.reduced T Y) in
-    let ready : IsReadyAt s T c.pairs.result.now c.as_slice.result.now v =
+    let ready : IsReadyAt s T c.take-children.result c.as_slice.result.now v =
     let B : List (List Ref) = set A v c.replace-own.new.dest in
-    subst (λ (z : List (Placed × Placed)). IsReadyAt s T z c.as_slice.result.now v) (sym (c.pairs.ensures ∙ c.take-children.ensures.children ∙ c.loop-number.invariant.left v h.0)) (subst (λ (z : List (List Ref)). IsReadyAt s T (row rows v) z v) (sym c.as_slice.ensures.value)
+    subst (λ (z : List (Placed × Placed)). IsReadyAt s T z c.as_slice.result.now v) (sym (c.take-children.ensures.children ∙ c.loop-number.invariant.left v h.0)) (subst (λ (z : List (List Ref)). IsReadyAt s T (row rows v) z v) (sym c.as_slice.ensures.value)
     (ready_beside s T (row rows v) A B v (λ w ne. row_other A v c.replace-own.new.dest w ne) (level_ready S c.requires.held es c.requires.operands ps T rows c.args.from Y.expanded v s A lt fit d))) in
     let u : Nodes = c.reduce_level.new.store in
     elim (cases_lt u.limit (count_of u)) [
@@ -190,9 +190,9 @@ returns-then-count-limit-clause-adds c =
     let some = some_split S c.requires.held es c.requires.operands ps T rows c.args.from Y.expanded v lt h.1 in
     let d : AreReducedBelow S es T (v + 1) s A =
     levels_left S c.requires.held es c.requires.operands ps T rows c.args.from Y.expanded (v + 1) c.loop-number.end s A none (c.loop-number.invariant.reduced T Y) in
-    let ready : IsReadyAt s T c.pairs.result.now c.as_slice.result.now v =
+    let ready : IsReadyAt s T c.take-children.result c.as_slice.result.now v =
     let B : List (List Ref) = set A v c.replace-own.new.dest in
-    subst (λ (z : List (Placed × Placed)). IsReadyAt s T z c.as_slice.result.now v) (sym (c.pairs.ensures ∙ c.take-children.ensures.children ∙ c.loop-number.invariant.left v h.0)) (subst (λ (z : List (List Ref)). IsReadyAt s T (row rows v) z v) (sym c.as_slice.ensures.value)
+    subst (λ (z : List (Placed × Placed)). IsReadyAt s T z c.as_slice.result.now v) (sym (c.take-children.ensures.children ∙ c.loop-number.invariant.left v h.0)) (subst (λ (z : List (List Ref)). IsReadyAt s T (row rows v) z v) (sym c.as_slice.ensures.value)
     (ready_beside s T (row rows v) A B v (λ w ne. row_other A v c.replace-own.new.dest w ne) (level_ready S c.requires.held es c.requires.operands ps T rows c.args.from Y.expanded v s A lt fit d))) in
     let u : Nodes = c.reduce_level.new.store in
     level_adds S c.requires.held es c.requires.operands T v s u Y.expanded.admitted d.held c.reduce_level.ensures.sound d.adds (c.reduce_level.ensures.adds T ready)
@@ -243,16 +243,16 @@ loop-number-preserved c = record {
       let some = some_split S c.requires.held es c.requires.operands ps T rows c.args.from Y.expanded v lt h.1 in
       let d : AreReducedBelow S es T (v + 1) s A =
       levels_left S c.requires.held es c.requires.operands ps T rows c.args.from Y.expanded (v + 1) c.loop-number.end s A none (c.loop-number.invariant.reduced T Y) in
-      let ready : IsReadyAt s T c.pairs.result.now c.as_slice.result.now v =
+      let ready : IsReadyAt s T c.take-children.result c.as_slice.result.now v =
       let B : List (List Ref) = set A v c.replace-own.new.dest in
-      subst (λ (z : List (Placed × Placed)). IsReadyAt s T z c.as_slice.result.now v) (sym (c.pairs.ensures ∙ c.take-children.ensures.children ∙ c.loop-number.invariant.left v h.0)) (subst (λ (z : List (List Ref)). IsReadyAt s T (row rows v) z v) (sym c.as_slice.ensures.value)
+      subst (λ (z : List (Placed × Placed)). IsReadyAt s T z c.as_slice.result.now v) (sym (c.take-children.ensures.children ∙ c.loop-number.invariant.left v h.0)) (subst (λ (z : List (List Ref)). IsReadyAt s T (row rows v) z v) (sym c.as_slice.ensures.value)
       (ready_beside s T (row rows v) A B v (λ w ne. row_other A v c.replace-own.new.dest w ne) (level_ready S c.requires.held es c.requires.operands ps T rows c.args.from Y.expanded v s A lt fit d))) in
       let u : Nodes = c.reduce_level.new.store in
       let placed : v < length A = let len : length A ≡ S.levels = d.levels in omega (arith, len, fit) in
       let own : List Ref = c.reduce_level.new.own in
       let B : List (List Ref) = set A v c.replace-own.new.dest in
       let so : IsLevelReduced s T v (length (row rows v)) u own =
-      subst (λ (z : List (Placed × Placed)). IsLevelReduced s T v (length z) u own) (c.pairs.ensures ∙ c.take-children.ensures.children ∙ c.loop-number.invariant.left v h.0) (c.in-Ok.ensures.whole T ready) in
+      subst (λ (z : List (Placed × Placed)). IsLevelReduced s T v (length z) u own) (c.take-children.ensures.children ∙ c.loop-number.invariant.left v h.0) (c.in-Ok.ensures.whole T ready) in
       let within : count_of u ≤ u.limit = omega arith in
       let len : length B ≡ length A = length-set A v c.replace-own.new.dest in
       level_next S c.requires.held es c.requires.operands ps T rows c.args.from Y.expanded v s A lt d u own so within (set B v own) (length-set B v own ∙ len)
@@ -272,7 +272,7 @@ loop-number-preserved c = record {
       let some = some_split S c.requires.held es c.requires.operands ps T rows c.args.from Y.expanded v lt h.1 in
       let d : AreReducedBelow S es T (v + 1) s A =
       levels_left S c.requires.held es c.requires.operands ps T rows c.args.from Y.expanded (v + 1) c.loop-number.end s A none (c.loop-number.invariant.reduced T Y) in
-      let same : length c.pairs.result.now ≡ length (row T v) = ap length (c.pairs.ensures ∙ c.take-children.ensures.children ∙ c.loop-number.invariant.left v h.0) ∙ Y.expanded.counts v lt in
+      let same : length c.take-children.result ≡ length (row T v) = ap length (c.take-children.ensures.children ∙ c.loop-number.invariant.left v h.0) ∙ Y.expanded.counts v lt in
       let more = c.in-Ok.ensures.counted in
       level_reduced S es T Y.expanded.admitted v c.loop-number.end c.args.from c.args.up.now.reductions c.loop-number.up.reductions c.reduce_level.new.reductions (c.loop-number.invariant.counted T Y) h.0 c.loop-number.invariant.bound none
       (Y.once v lt) (omega (arith, same, more));
@@ -324,9 +324,9 @@ returns-in-Err-clause-served c = λ e.
     let some = some_split S c.requires.held es c.requires.operands ps T rows c.args.from Y.expanded v lt h.1 in
     let d : AreReducedBelow S es T (v + 1) s A =
     levels_left S c.requires.held es c.requires.operands ps T rows c.args.from Y.expanded (v + 1) c.loop-number.end s A none (c.loop-number.invariant.reduced T Y) in
-    let ready : IsReadyAt s T c.pairs.result.now c.as_slice.result.now v =
+    let ready : IsReadyAt s T c.take-children.result c.as_slice.result.now v =
     let B : List (List Ref) = set A v c.replace-own.new.dest in
-    subst (λ (z : List (Placed × Placed)). IsReadyAt s T z c.as_slice.result.now v) (sym (c.pairs.ensures ∙ c.take-children.ensures.children ∙ c.loop-number.invariant.left v h.0)) (subst (λ (z : List (List Ref)). IsReadyAt s T (row rows v) z v) (sym c.as_slice.ensures.value)
+    subst (λ (z : List (Placed × Placed)). IsReadyAt s T z c.as_slice.result.now v) (sym (c.take-children.ensures.children ∙ c.loop-number.invariant.left v h.0)) (subst (λ (z : List (List Ref)). IsReadyAt s T (row rows v) z v) (sym c.as_slice.ensures.value)
     (ready_beside s T (row rows v) A B v (λ w ne. row_other A v c.replace-own.new.dest w ne) (level_ready S c.requires.held es c.requires.operands ps T rows c.args.from Y.expanded v s A lt fit d))) in
     let u : Nodes = c.reduce_level.new.store in
     elim (cases_lt u.limit (count_of u)) [
@@ -352,9 +352,9 @@ returns-in-Err-clause-unbounded c = λ e.
     let some = some_split S c.requires.held es c.requires.operands ps T rows c.args.from Y.expanded v lt h.1 in
     let d : AreReducedBelow S es T (v + 1) s A =
     levels_left S c.requires.held es c.requires.operands ps T rows c.args.from Y.expanded (v + 1) c.loop-number.end s A none (c.loop-number.invariant.reduced T Y) in
-    let ready : IsReadyAt s T c.pairs.result.now c.as_slice.result.now v =
+    let ready : IsReadyAt s T c.take-children.result c.as_slice.result.now v =
     let B : List (List Ref) = set A v c.replace-own.new.dest in
-    subst (λ (z : List (Placed × Placed)). IsReadyAt s T z c.as_slice.result.now v) (sym (c.pairs.ensures ∙ c.take-children.ensures.children ∙ c.loop-number.invariant.left v h.0)) (subst (λ (z : List (List Ref)). IsReadyAt s T (row rows v) z v) (sym c.as_slice.ensures.value)
+    subst (λ (z : List (Placed × Placed)). IsReadyAt s T z c.as_slice.result.now v) (sym (c.take-children.ensures.children ∙ c.loop-number.invariant.left v h.0)) (subst (λ (z : List (List Ref)). IsReadyAt s T (row rows v) z v) (sym c.as_slice.ensures.value)
     (ready_beside s T (row rows v) A B v (λ w ne. row_other A v c.replace-own.new.dest w ne) (level_ready S c.requires.held es c.requires.operands ps T rows c.args.from Y.expanded v s A lt fit d))) in
     let u : Nodes = c.reduce_level.new.store in
     elim (cases_lt u.limit (count_of u)) [

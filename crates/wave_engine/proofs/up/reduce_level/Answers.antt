@@ -1,6 +1,6 @@
-use Rattle.std.proofs.Common.{rules, ◌≡◌, ℕ, ◌∙◌, refl, List, [], ◌∷◌, ◌++◌, slice_get, Some, sym, subst, ap, arith}
-use Rattle.std.specs.Prelude.{Ok, Err}
-use Rattle.std.proofs.lemmas.Option.{slice_get-get_or}
+use Rattle.std.proofs.Common.{◌≡◌, ℕ, true≢false, ◌∙◌, refl, List, [], ◌∷◌, ◌++◌, slice_get, Some, sym, subst, arith}
+use Rattle.std.specs.Prelude.{Result, Ok, Err, OnOk, false}
+use Rattle.std.specs.Result.{is_err}
 use Rattle.dd_store.specs.declared.reference.Ref.{Ref}
 use Rattle.req_table.specs.declared.Key.{Key}
 use Rattle.reduce_up.specs.Reducing.{IsRecordAt, IsAnswer, AddsDescribed, AskedBy}
@@ -11,12 +11,17 @@ use Rattle.wave_engine.specs.Up.{IsReadyAt, IsLevelFault, AskedAt, IsLevelReduce
 use Rattle.wave_engine.proofs.Raising.{rec, here, low_comes, high_comes, is_record, adds_one, one_more, one_fault, level_start}
 use Rattle.wave_engine.proofs.up.reduce_level.Goals as goal
 
+-- what is said of a value holds where there is one
+on_ok : {T E P : Type 0} (r : Result T E) → is_err r ≡ false → OnOk r P → P
+on_ok (Ok x) none h = h
+on_ok (Err e) none h = absurd (true≢false none)
+
 pub returns-then-is_err-clause-adds : goal.returns-then-is_err-clause-adds
 returns-then-is_err-clause-adds c = λ T R.
     adds_none c.args.store.now c.args.store.now (AskedAt c.args.store.now T c.args.level.now.number) refl
 
-pub loop-pair-init : goal.loop-pair-init
-loop-pair-init c = record {
+pub loop-place-init : goal.loop-place-init
+loop-place-init c = record {
   held = c.requires.held;
   reduced = λ T R. subst (λ (z : List Ref). IsLevelReduced c.args.store.now T c.args.level.now.number 0 c.args.store.now z) (sym c.restart.ensures)
       (level_start c.args.store.now T c.args.level.now.pairs.now c.args.level.now.answers.now c.args.level.now.number c.requires.held R);
@@ -27,34 +32,34 @@ pub resolve-low-requires : goal.resolve-low-requires
 resolve-low-requires c =
     let T : List (List Key) = c.requires.ready.0 in
     let R : IsReadyAt c.args.store.now T c.args.level.now.pairs.now c.args.level.now.answers.now c.args.level.now.number = c.requires.ready.1 in
-    let i : ℕ = c.loop-pair.pair-index in
+    let i : ℕ = c.loop-place.place in
     let v : ℕ = c.args.level.now.number in
-    let d : Placed × Placed = c.pair-item.result in
-    let at : slice_get c.args.level.now.pairs.now i ≡ Some d = slice_get-get_or c.args.level.now.pairs.now i d c.loop-pair-test.true ∙ ap (λ z. Some z) (sym c.pair-item.is) in
-    (low_comes c.args.store.now c.requires.held T c.args.level.now.pairs.now c.args.level.now.answers.now v R i c.loop-pair.store c.loop-pair.own (c.loop-pair.invariant.reduced T R) d at)
+    let d : Placed × Placed = c.at-pair.result in
+    let at : slice_get c.args.level.now.pairs.now i ≡ Some d = c.at-pair.ensures in
+    (low_comes c.args.store.now c.requires.held T c.args.level.now.pairs.now c.args.level.now.answers.now v R i c.loop-place.store c.loop-place.own (c.loop-place.invariant.reduced T R) d at)
 
 pub resolve-high-requires : goal.resolve-high-requires
 resolve-high-requires c =
     let T : List (List Key) = c.requires.ready.0 in
     let R : IsReadyAt c.args.store.now T c.args.level.now.pairs.now c.args.level.now.answers.now c.args.level.now.number = c.requires.ready.1 in
-    let i : ℕ = c.loop-pair.pair-index in
+    let i : ℕ = c.loop-place.place in
     let v : ℕ = c.args.level.now.number in
-    let d : Placed × Placed = c.pair-item.result in
-    let at : slice_get c.args.level.now.pairs.now i ≡ Some d = slice_get-get_or c.args.level.now.pairs.now i d c.loop-pair-test.true ∙ ap (λ z. Some z) (sym c.pair-item.is) in
-    (high_comes c.args.store.now c.requires.held T c.args.level.now.pairs.now c.args.level.now.answers.now v R i c.loop-pair.store c.loop-pair.own (c.loop-pair.invariant.reduced T R) d at)
+    let d : Placed × Placed = c.at-pair.result in
+    let at : slice_get c.args.level.now.pairs.now i ≡ Some d = c.at-pair.ensures in
+    (high_comes c.args.store.now c.requires.held T c.args.level.now.pairs.now c.args.level.now.answers.now v R i c.loop-place.store c.loop-place.own (c.loop-place.invariant.reduced T R) d at)
 
 pub make-requires-clause-lo_here : goal.make-requires-clause-lo_here
 make-requires-clause-lo_here c =
     let T : List (List Key) = c.requires.ready.0 in
     let R : IsReadyAt c.args.store.now T c.args.level.now.pairs.now c.args.level.now.answers.now c.args.level.now.number = c.requires.ready.1 in
-    let i : ℕ = c.loop-pair.pair-index in
+    let i : ℕ = c.loop-place.place in
     let v : ℕ = c.args.level.now.number in
-    let d : Placed × Placed = c.pair-item.result in
-    let at : slice_get c.args.level.now.pairs.now i ≡ Some d = slice_get-get_or c.args.level.now.pairs.now i d c.loop-pair-test.true ∙ ap (λ z. Some z) (sym c.pair-item.is) in
+    let d : Placed × Placed = c.at-pair.result in
+    let at : slice_get c.args.level.now.pairs.now i ≡ Some d = c.at-pair.ensures in
     let lo : Ref = c.resolve-low.result in
     let hi : Ref = c.resolve-high.result in
-    let k : Key = (here c.args.store.now c.requires.held T c.args.level.now.pairs.now c.args.level.now.answers.now v R i c.loop-pair.store c.loop-pair.own (c.loop-pair.invariant.reduced T R) d at).0 in
-    let r : IsRecordAt c.loop-pair.store v (rec k lo hi) = is_record c.args.store.now c.requires.held T c.args.level.now.pairs.now c.args.level.now.answers.now v R i c.loop-pair.store c.loop-pair.own (c.loop-pair.invariant.reduced T R) d at lo hi
+    let k : Key = (here c.args.store.now c.requires.held T c.args.level.now.pairs.now c.args.level.now.answers.now v R i c.loop-place.store c.loop-place.own (c.loop-place.invariant.reduced T R) d at).0 in
+    let r : IsRecordAt c.loop-place.store v (rec k lo hi) = is_record c.args.store.now c.requires.held T c.args.level.now.pairs.now c.args.level.now.answers.now v R i c.loop-place.store c.loop-place.own (c.loop-place.invariant.reduced T R) d at lo hi
     c.resolve-low.ensures c.resolve-high.ensures in
     r.low.has
 
@@ -62,14 +67,14 @@ pub make-requires-clause-hi_here : goal.make-requires-clause-hi_here
 make-requires-clause-hi_here c =
     let T : List (List Key) = c.requires.ready.0 in
     let R : IsReadyAt c.args.store.now T c.args.level.now.pairs.now c.args.level.now.answers.now c.args.level.now.number = c.requires.ready.1 in
-    let i : ℕ = c.loop-pair.pair-index in
+    let i : ℕ = c.loop-place.place in
     let v : ℕ = c.args.level.now.number in
-    let d : Placed × Placed = c.pair-item.result in
-    let at : slice_get c.args.level.now.pairs.now i ≡ Some d = slice_get-get_or c.args.level.now.pairs.now i d c.loop-pair-test.true ∙ ap (λ z. Some z) (sym c.pair-item.is) in
+    let d : Placed × Placed = c.at-pair.result in
+    let at : slice_get c.args.level.now.pairs.now i ≡ Some d = c.at-pair.ensures in
     let lo : Ref = c.resolve-low.result in
     let hi : Ref = c.resolve-high.result in
-    let k : Key = (here c.args.store.now c.requires.held T c.args.level.now.pairs.now c.args.level.now.answers.now v R i c.loop-pair.store c.loop-pair.own (c.loop-pair.invariant.reduced T R) d at).0 in
-    let r : IsRecordAt c.loop-pair.store v (rec k lo hi) = is_record c.args.store.now c.requires.held T c.args.level.now.pairs.now c.args.level.now.answers.now v R i c.loop-pair.store c.loop-pair.own (c.loop-pair.invariant.reduced T R) d at lo hi
+    let k : Key = (here c.args.store.now c.requires.held T c.args.level.now.pairs.now c.args.level.now.answers.now v R i c.loop-place.store c.loop-place.own (c.loop-place.invariant.reduced T R) d at).0 in
+    let r : IsRecordAt c.loop-place.store v (rec k lo hi) = is_record c.args.store.now c.requires.held T c.args.level.now.pairs.now c.args.level.now.answers.now v R i c.loop-place.store c.loop-place.own (c.loop-place.invariant.reduced T R) d at lo hi
     c.resolve-low.ensures c.resolve-high.ensures in
     r.high.has
 
@@ -77,14 +82,14 @@ pub make-requires-clause-above_lo : goal.make-requires-clause-above_lo
 make-requires-clause-above_lo c =
     let T : List (List Key) = c.requires.ready.0 in
     let R : IsReadyAt c.args.store.now T c.args.level.now.pairs.now c.args.level.now.answers.now c.args.level.now.number = c.requires.ready.1 in
-    let i : ℕ = c.loop-pair.pair-index in
+    let i : ℕ = c.loop-place.place in
     let v : ℕ = c.args.level.now.number in
-    let d : Placed × Placed = c.pair-item.result in
-    let at : slice_get c.args.level.now.pairs.now i ≡ Some d = slice_get-get_or c.args.level.now.pairs.now i d c.loop-pair-test.true ∙ ap (λ z. Some z) (sym c.pair-item.is) in
+    let d : Placed × Placed = c.at-pair.result in
+    let at : slice_get c.args.level.now.pairs.now i ≡ Some d = c.at-pair.ensures in
     let lo : Ref = c.resolve-low.result in
     let hi : Ref = c.resolve-high.result in
-    let k : Key = (here c.args.store.now c.requires.held T c.args.level.now.pairs.now c.args.level.now.answers.now v R i c.loop-pair.store c.loop-pair.own (c.loop-pair.invariant.reduced T R) d at).0 in
-    let r : IsRecordAt c.loop-pair.store v (rec k lo hi) = is_record c.args.store.now c.requires.held T c.args.level.now.pairs.now c.args.level.now.answers.now v R i c.loop-pair.store c.loop-pair.own (c.loop-pair.invariant.reduced T R) d at lo hi
+    let k : Key = (here c.args.store.now c.requires.held T c.args.level.now.pairs.now c.args.level.now.answers.now v R i c.loop-place.store c.loop-place.own (c.loop-place.invariant.reduced T R) d at).0 in
+    let r : IsRecordAt c.loop-place.store v (rec k lo hi) = is_record c.args.store.now c.requires.held T c.args.level.now.pairs.now c.args.level.now.answers.now v R i c.loop-place.store c.loop-place.own (c.loop-place.invariant.reduced T R) d at lo hi
     c.resolve-low.ensures c.resolve-high.ensures in
     r.low.below
 
@@ -92,64 +97,64 @@ pub make-requires-clause-above_hi : goal.make-requires-clause-above_hi
 make-requires-clause-above_hi c =
     let T : List (List Key) = c.requires.ready.0 in
     let R : IsReadyAt c.args.store.now T c.args.level.now.pairs.now c.args.level.now.answers.now c.args.level.now.number = c.requires.ready.1 in
-    let i : ℕ = c.loop-pair.pair-index in
+    let i : ℕ = c.loop-place.place in
     let v : ℕ = c.args.level.now.number in
-    let d : Placed × Placed = c.pair-item.result in
-    let at : slice_get c.args.level.now.pairs.now i ≡ Some d = slice_get-get_or c.args.level.now.pairs.now i d c.loop-pair-test.true ∙ ap (λ z. Some z) (sym c.pair-item.is) in
+    let d : Placed × Placed = c.at-pair.result in
+    let at : slice_get c.args.level.now.pairs.now i ≡ Some d = c.at-pair.ensures in
     let lo : Ref = c.resolve-low.result in
     let hi : Ref = c.resolve-high.result in
-    let k : Key = (here c.args.store.now c.requires.held T c.args.level.now.pairs.now c.args.level.now.answers.now v R i c.loop-pair.store c.loop-pair.own (c.loop-pair.invariant.reduced T R) d at).0 in
-    let r : IsRecordAt c.loop-pair.store v (rec k lo hi) = is_record c.args.store.now c.requires.held T c.args.level.now.pairs.now c.args.level.now.answers.now v R i c.loop-pair.store c.loop-pair.own (c.loop-pair.invariant.reduced T R) d at lo hi
+    let k : Key = (here c.args.store.now c.requires.held T c.args.level.now.pairs.now c.args.level.now.answers.now v R i c.loop-place.store c.loop-place.own (c.loop-place.invariant.reduced T R) d at).0 in
+    let r : IsRecordAt c.loop-place.store v (rec k lo hi) = is_record c.args.store.now c.requires.held T c.args.level.now.pairs.now c.args.level.now.answers.now v R i c.loop-place.store c.loop-place.own (c.loop-place.invariant.reduced T R) d at lo hi
     c.resolve-low.ensures c.resolve-high.ensures in
     r.high.below
 
 pub returns-in-Err-clause-fault : goal.returns-in-Err-clause-fault
 returns-in-Err-clause-fault c = λ T R.
-    let i : ℕ = c.loop-pair.pair-index in
+    let i : ℕ = c.loop-place.place in
     let v : ℕ = c.args.level.now.number in
-    let d : Placed × Placed = c.pair-item.result in
-    let at : slice_get c.args.level.now.pairs.now i ≡ Some d = slice_get-get_or c.args.level.now.pairs.now i d c.loop-pair-test.true ∙ ap (λ z. Some z) (sym c.pair-item.is) in
+    let d : Placed × Placed = c.at-pair.result in
+    let at : slice_get c.args.level.now.pairs.now i ≡ Some d = c.at-pair.ensures in
     let lo : Ref = c.resolve-low.result in
     let hi : Ref = c.resolve-high.result in
-    let k : Key = (here c.args.store.now c.requires.held T c.args.level.now.pairs.now c.args.level.now.answers.now v R i c.loop-pair.store c.loop-pair.own (c.loop-pair.invariant.reduced T R) d at).0 in
-    let r : IsRecordAt c.loop-pair.store v (rec k lo hi) = is_record c.args.store.now c.requires.held T c.args.level.now.pairs.now c.args.level.now.answers.now v R i c.loop-pair.store c.loop-pair.own (c.loop-pair.invariant.reduced T R) d at lo hi
+    let k : Key = (here c.args.store.now c.requires.held T c.args.level.now.pairs.now c.args.level.now.answers.now v R i c.loop-place.store c.loop-place.own (c.loop-place.invariant.reduced T R) d at).0 in
+    let r : IsRecordAt c.loop-place.store v (rec k lo hi) = is_record c.args.store.now c.requires.held T c.args.level.now.pairs.now c.args.level.now.answers.now v R i c.loop-place.store c.loop-place.own (c.loop-place.invariant.reduced T R) d at lo hi
     c.resolve-low.ensures c.resolve-high.ensures in
     subst (IsLevelFault c.make.new.store T v) (sym c.from.ensures)
-    (one_fault c.args.store.now c.requires.held T c.args.level.now.pairs.now c.args.level.now.answers.now v R i c.loop-pair.store c.loop-pair.own (c.loop-pair.invariant.reduced T R) d at c.make.new.store c.in-Err.fault
-    (record_fault c.loop-pair.store c.make.new.store v k lo hi (Err c.in-Err.fault) c.loop-pair.invariant.held r.key r.low r.high c.in-Err.ensures.refused c.in-Err.ensures.full))
+    (one_fault c.args.store.now c.requires.held T c.args.level.now.pairs.now c.args.level.now.answers.now v R i c.loop-place.store c.loop-place.own (c.loop-place.invariant.reduced T R) d at c.make.new.store c.in-Err.fault
+    (record_fault c.loop-place.store c.make.new.store v k lo hi (Err c.in-Err.fault) c.loop-place.invariant.held r.key r.low r.high c.in-Err.ensures.refused c.in-Err.ensures.full))
 
 pub returns-then-is_err-2-clause-adds : goal.returns-then-is_err-2-clause-adds
 returns-then-is_err-2-clause-adds c = λ T R.
-    let i : ℕ = c.loop-pair.pair-index in
+    let i : ℕ = c.loop-place.place in
     let v : ℕ = c.args.level.now.number in
-    let d : Placed × Placed = c.pair-item.result in
-    let at : slice_get c.args.level.now.pairs.now i ≡ Some d = slice_get-get_or c.args.level.now.pairs.now i d c.loop-pair-test.true ∙ ap (λ z. Some z) (sym c.pair-item.is) in
+    let d : Placed × Placed = c.at-pair.result in
+    let at : slice_get c.args.level.now.pairs.now i ≡ Some d = c.at-pair.ensures in
     let lo : Ref = c.resolve-low.result in
     let hi : Ref = c.resolve-high.result in
-    let k : Key = (here c.args.store.now c.requires.held T c.args.level.now.pairs.now c.args.level.now.answers.now v R i c.loop-pair.store c.loop-pair.own (c.loop-pair.invariant.reduced T R) d at).0 in
-    let r : IsRecordAt c.loop-pair.store v (rec k lo hi) = is_record c.args.store.now c.requires.held T c.args.level.now.pairs.now c.args.level.now.answers.now v R i c.loop-pair.store c.loop-pair.own (c.loop-pair.invariant.reduced T R) d at lo hi
+    let k : Key = (here c.args.store.now c.requires.held T c.args.level.now.pairs.now c.args.level.now.answers.now v R i c.loop-place.store c.loop-place.own (c.loop-place.invariant.reduced T R) d at).0 in
+    let r : IsRecordAt c.loop-place.store v (rec k lo hi) = is_record c.args.store.now c.requires.held T c.args.level.now.pairs.now c.args.level.now.answers.now v R i c.loop-place.store c.loop-place.own (c.loop-place.invariant.reduced T R) d at lo hi
     c.resolve-low.ensures c.resolve-high.ensures in
-    let done : IsAnswer c.make.new.store k c.in-Ok.answer × AddsDescribed c.loop-pair.store c.make.new.store (AskedBy c.loop-pair.store v (rec k lo hi ∷ [])) =
-    record_done c.loop-pair.store c.make.new.store v (rec k lo hi) lo hi (Ok c.in-Ok.answer) c.loop-pair.invariant.held c.make.ensures.sound r.key r.low r.high c.in-Ok.ensures.made tt in
-    adds_one c.args.store.now c.requires.held T c.args.level.now.pairs.now c.args.level.now.answers.now v R i c.loop-pair.store c.loop-pair.own (c.loop-pair.invariant.reduced T R) d at lo hi c.make.new.store done.1
+    let done : IsAnswer c.make.new.store k c.in-Ok.answer × AddsDescribed c.loop-place.store c.make.new.store (AskedBy c.loop-place.store v (rec k lo hi ∷ [])) =
+    record_done c.loop-place.store c.make.new.store v (rec k lo hi) lo hi (Ok c.in-Ok.answer) c.loop-place.invariant.held c.make.ensures.sound r.key r.low r.high c.in-Ok.ensures.made tt in
+    adds_one c.args.store.now c.requires.held T c.args.level.now.pairs.now c.args.level.now.answers.now v R i c.loop-place.store c.loop-place.own (c.loop-place.invariant.reduced T R) d at lo hi c.make.new.store done.1
 
-pub loop-pair-preserved : goal.loop-pair-preserved
-loop-pair-preserved c = record {
+pub loop-place-preserved : goal.loop-place-preserved
+loop-place-preserved c = record {
   held = c.make.ensures.sound;
   reduced = λ T R.
-      let i : ℕ = c.loop-pair.pair-index in
+      let i : ℕ = c.loop-place.place in
       let v : ℕ = c.args.level.now.number in
-      let d : Placed × Placed = c.pair-item.result in
-      let at : slice_get c.args.level.now.pairs.now i ≡ Some d = slice_get-get_or c.args.level.now.pairs.now i d c.loop-pair-test.true ∙ ap (λ z. Some z) (sym c.pair-item.is) in
+      let d : Placed × Placed = c.at-pair.result in
+      let at : slice_get c.args.level.now.pairs.now i ≡ Some d = c.at-pair.ensures in
       let lo : Ref = c.resolve-low.result in
       let hi : Ref = c.resolve-high.result in
-      let so : IsLevelReduced c.args.store.now T v i c.loop-pair.store c.loop-pair.own = c.loop-pair.invariant.reduced T R in
-      let k : Key = (here c.args.store.now c.requires.held T c.args.level.now.pairs.now c.args.level.now.answers.now v R i c.loop-pair.store c.loop-pair.own so d at).0 in
-      let r : IsRecordAt c.loop-pair.store v (rec k lo hi) = is_record c.args.store.now c.requires.held T c.args.level.now.pairs.now c.args.level.now.answers.now v R i c.loop-pair.store c.loop-pair.own so d at lo hi
+      let so : IsLevelReduced c.args.store.now T v i c.loop-place.store c.loop-place.own = c.loop-place.invariant.reduced T R in
+      let k : Key = (here c.args.store.now c.requires.held T c.args.level.now.pairs.now c.args.level.now.answers.now v R i c.loop-place.store c.loop-place.own so d at).0 in
+      let r : IsRecordAt c.loop-place.store v (rec k lo hi) = is_record c.args.store.now c.requires.held T c.args.level.now.pairs.now c.args.level.now.answers.now v R i c.loop-place.store c.loop-place.own so d at lo hi
       c.resolve-low.ensures c.resolve-high.ensures in
-      let done : IsAnswer c.make.new.store k c.in-Ok.answer × AddsDescribed c.loop-pair.store c.make.new.store (AskedBy c.loop-pair.store v (rec k lo hi ∷ [])) =
-      record_done c.loop-pair.store c.make.new.store v (rec k lo hi) lo hi (Ok c.in-Ok.answer) c.loop-pair.invariant.held c.make.ensures.sound r.key r.low r.high c.in-Ok.ensures.made tt in
-      let grown : c.push.new.self ≡ c.loop-pair.own ++ c.in-Ok.answer ∷ [] = search rules in
-      one_more c.args.store.now c.requires.held T c.args.level.now.pairs.now c.args.level.now.answers.now v R i c.loop-pair.store c.loop-pair.own so d at lo hi c.make.new.store c.make.ensures.sound done.1 c.in-Ok.answer done.0 c.push.new.self grown;
-  counted = let e = c.make.ensures.count in let h = c.loop-pair.invariant.counted in omega (arith, e, h);
+      let done : IsAnswer c.make.new.store k c.in-Ok.answer × AddsDescribed c.loop-place.store c.make.new.store (AskedBy c.loop-place.store v (rec k lo hi ∷ [])) =
+      record_done c.loop-place.store c.make.new.store v (rec k lo hi) lo hi (Ok c.in-Ok.answer) c.loop-place.invariant.held c.make.ensures.sound r.key r.low r.high c.in-Ok.ensures.made tt in
+      let grown : c.push.new.self ≡ c.loop-place.own ++ c.in-Ok.answer ∷ [] = on_ok c.push.result (sym c.is_err-in-loop-place.ensures.value ∙ c.if-is_err-2.false) c.push.ensures.done in
+      one_more c.args.store.now c.requires.held T c.args.level.now.pairs.now c.args.level.now.answers.now v R i c.loop-place.store c.loop-place.own so d at lo hi c.make.new.store c.make.ensures.sound done.1 c.in-Ok.answer done.0 c.push.new.self grown;
+  counted = let e = c.make.ensures.count in let h = c.loop-place.invariant.counted in omega (arith, e, h);
 }

@@ -5,9 +5,9 @@ pub returns-in-Some : goal.returns-in-Some
 returns-in-Some c =
     let held = rw c.in-Narrow.is at c.self.invariant in
     rw (← c.self.view_is, c.in-Narrow.is)
-    (found c.in-Narrow.bits c.in-Narrow.table held.1 c.args.pair c.in-Some.numbers c.find.result c.in-Some.ensures c.find.ensures)
+    (found c.in-Narrow.table held c.args.pair c.in-Some.words c.find.result c.in-Some.ensures c.find.ensures)
 
 pub returns-in-None : goal.returns-in-None
 returns-in-None c =
     let held = rw c.in-Narrow.is at c.self.invariant in
-    rw (← c.self.view_is, c.in-Narrow.is) (absent c.in-Narrow.bits c.in-Narrow.table held.1 c.args.pair c.in-None.ensures)
+    rw (← c.self.view_is, c.in-Narrow.is) (absent c.in-Narrow.table held c.args.pair c.in-None.ensures)

@@ -4,20 +4,18 @@ use Rattle.dd_store.proofs.pairs.Pairs.place.Goals as goal
 
 pub returns-in-Some-clause-held : goal.returns-in-Some-clause-held
 returns-in-Some-clause-held c =
-    let held = rw c.in-Narrow.is at c.requires.held in (
-      held.0,
-      kept c.in-Narrow.bits c.in-Narrow.table held.1 c.args.room c.in-Some.numbers c.find_or_add.result c.find_or_add.new.self
-          c.in-Some.ensures.0 c.find_or_add.ensures,
-    )
+    let held = rw c.in-Narrow.is at c.requires.held in
+    kept c.in-Narrow.table held c.args.room c.in-Some.words c.find_or_add.result c.find_or_add.new.self c.in-Some.ensures.0
+    c.find_or_add.ensures
 
 pub returns-in-Some-clause-placed : goal.returns-in-Some-clause-placed
 returns-in-Some-clause-placed c =
     let held = rw c.in-Narrow.is at c.requires.held in
     rw c.in-Narrow.is
-    (placed c.in-Narrow.bits c.in-Narrow.table held.1 c.args.room c.args.pair c.in-Some.numbers c.find_or_add.result
+    (placed c.in-Narrow.table held c.args.room c.args.pair c.in-Some.words c.find_or_add.result
     c.find_or_add.new.self c.in-Some.ensures c.find_or_add.ensures)
 
 pub returns-in-None-clause-placed : goal.returns-in-None-clause-placed
 returns-in-None-clause-placed c =
     let held = rw c.in-Narrow.is at c.requires.held in
-    rw c.in-Narrow.is (tt, refl, absent c.in-Narrow.bits c.in-Narrow.table held.1 c.args.pair c.in-None.ensures)
+    rw c.in-Narrow.is (tt, refl, absent c.in-Narrow.table held c.args.pair c.in-None.ensures)

@@ -1,0 +1,36 @@
+-- A table of requests in either of its forms.
+use Rattle.std.specs.Prelude.{◌≡◌, ℕ, ◌^◌, ◌<◌, Bool, List, length, slice_get, Some, All, Contains, Result, Ok, Err}
+use Rattle.std.specs.declared.alloc.AllocError.{AllocError}
+use Rattle.req_table.specs.declared.Key.{Key}
+use Rattle.req_table.specs.declared.table.Keys.{Keys}
+use Rattle.req_table.specs.declared.table.Keys.TheVariants.{Short, Long}
+use Rattle.req_table.specs.Short.{IsShort}
+use Rattle.req_table.specs.Tables.{Offers}
+
+-- the requests of a table
+abbrev pub keys_in : Keys → List Key
+keys_in (Short s) = s.keys
+keys_in (Long s) = s.keys
+
+-- its requests have eight bytes each
+abbrev pub AreShort : Keys → Type 0
+AreShort (Short s) = Unit {0}
+AreShort (Long s) = ⊥
+
+-- all fit in eight bytes where they have as many
+abbrev pub AreFitting : Keys → Type 0
+AreFitting (Short s) = All IsShort s.keys
+AreFitting (Long s) = Unit {0}
+
+-- what is true of a table
+abbrev pub AreHeld : Keys → Type 0
+AreHeld ks = (length (keys_in ks) < 2 ^ 32) × AreFitting ks
+
+-- the requests after one was offered: its place, and whether it is new, or all as before where memory was refused
+abbrev pub IsAdmitted : Key → List Key → Result (ℕ × Bool) AllocError → List Key → Type 0
+IsAdmitted k old (Ok r) new = Offers old k r.1 new × (slice_get new r.0 ≡ Some k)
+IsAdmitted k old (Err e) new = (new ≡ old) × (¬ Contains old k)
+
+-- the table is as before, and has no place for a request that does not fit
+abbrev pub IsLeftOut : Key → Keys → Keys → Type 0
+IsLeftOut k old new = AreShort old × (new ≡ old) × (¬ Contains (keys_in old) k)
