@@ -103,8 +103,8 @@ other_mark w v h same = elim (kind_of w h) [
   | kind_far k l ↦ (
     is_far_word v (omega arith) (omega arith),
     named_far v (omega arith) (omega arith)
-    ∙ named (far_node v) (far_node w) (omega arith) (omega arith) (omega arith)
-    ∙ sym (named_far w (omega arith) l),
+        ∙ named (far_node v) (far_node w) (omega arith) (omega arith) (omega arith)
+        ∙ sym (named_far w (omega arith) l),
   )
   | kind_long k l m ↦
       let one : long_node v ≡ long_node w = named (long_node v) (long_node w) (omega arith) (omega arith) (omega arith) in
