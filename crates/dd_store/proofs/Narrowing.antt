@@ -13,24 +13,20 @@ use Rattle.slot_table.specs.Placing.{IsPlaced}
 use Rattle.dd_store.specs.declared.reference.Reference.{Reference}
 use Rattle.dd_store.specs.Graph.{Pair}
 use Rattle.dd_store.specs.Words.{word_of, reference_of, IsWord}
-use Rattle.dd_store.specs.WordLaws.{word_of-reference_of}
+use Rattle.dd_store.specs.WordLaws.{word_is, one_word}
 use Rattle.dd_store.specs.Narrow.{AreWords, AllWords, AreTheirs, pair_at}
 use Rattle.dd_store.proofs.Places.{mapped, slice_get_cases-push}
 
--- a reference has one word
-same_one : (m n : ℕ) → IsWord m → IsWord n → reference_of m ≡ reference_of n → m ≡ n
-same_one m n j k e = sym (word_of-reference_of m j) ∙ ap word_of e ∙ word_of-reference_of n k
-
 same_words : (m n : ℕ × ℕ) → AreWords m → AreWords n → pair_at m ≡ pair_at n → m ≡ n
 same_words m n j k e =
-    let low : m.0 ≡ n.0 = same_one m.0 n.0 j.0.0 k.0.0 (ap (λ (p : Pair). p.0) e) in
-    let high : m.1 ≡ n.1 = same_one m.1 n.1 j.1.0 k.1.0 (ap (λ (p : Pair). p.1) e) in
+    let low : m.0 ≡ n.0 = one_word m.0 n.0 j.0.0 k.0.0 (ap (λ (p : Pair). p.0) e) in
+    let high : m.1 ≡ n.1 = one_word m.1 n.1 j.1.0 k.1.0 (ap (λ (p : Pair). p.1) e) in
     λ i. (low i, high i)
 
 -- a reference whose word is too long has none of four bytes
 pub no_word : (w : ℕ) (r : Reference) → w ≡ word_of r → 2 ^ 32 ≤ w → (n : ℕ) → IsWord n × (n < 2 ^ 32) → reference_of n ≡ r → ⊥
 no_word w r is long n k e =
-    let same : n ≡ w = sym (word_of-reference_of n k.0) ∙ ap word_of e ∙ sym is in
+    let same : n ≡ w = word_is n r k.0 e ∙ sym is in
     let short = k.1 in
     absurd (omega arith)
 
@@ -73,14 +69,14 @@ module _ (ns : List (ℕ × ℕ)) (all : AllWords ns) where
   -- all are still words
   pub kept : (room : ℕ) (n : ℕ × ℕ) (r : Result Admission Refusal) (new : List (ℕ × ℕ)) → AreWords n
       → IsPlaced room n ns r new → AllWords new
-  kept room n (Ok (Found i)) new k h = subst (AllWords) (sym h.1) all
+  kept room n (Ok (Found i)) new k h = subst AllWords (sym h.1) all
   kept room n (Ok (Added i)) new k h =
-      subst (AllWords) (sym h.3) (λ j m e. elim (slice_get_cases-push ns n j m e) [
+      subst AllWords (sym h.3) (λ j m e. elim (slice_get_cases-push ns n j m e) [
         | inl there ↦ all j m there
-        | inr last ↦ subst (AreWords) (sym last.1) k
+        | inr last ↦ subst AreWords (sym last.1) k
       ])
-  kept room n (Err Full) new k h = subst (AllWords) (sym h.2) all
-  kept room n (Err OutOfMemory) new k h = subst (AllWords) (sym h.2) all
+  kept room n (Err Full) new k h = subst AllWords (sym h.2) all
+  kept room n (Err OutOfMemory) new k h = subst AllWords (sym h.2) all
 
   -- one pair more in sixteen bytes
   pub widened_more : IsOnce ns → (i : ℕ) (n : ℕ × ℕ) (wide new : List Pair) (a : Admission) → i < length ns

@@ -4,14 +4,14 @@ use Rattle.std.proofs.lemmas.Bool.Decides.{nat_tests}
 use lib.Bits.{xor_add_and, and_mask, xor_zero_r}
 use mir.Val.{bool_byte}
 use Rattle.std.specs.Int.Bits.{bit_xor, bit_and}
-use Rattle.std.proofs.lemmas.Bool.{cases_eq, eq-eqb, ne_eqb}
+use Rattle.std.proofs.lemmas.Bool.{cases_eq}
 use Rattle.dd_store.specs.contracts.reference.ReferencePartialEq.TheImpl.{eq-value as ref_eq}
 use Rattle.dd_store.specs.Equal.{ref_same, ref_eq-itself}
 use Rattle.dd_store.specs.Marks.{mark_by, negate_of}
 use Rattle.dd_store.specs.declared.reference.NodeId.{NodeId}
 use Rattle.dd_store.specs.declared.reference.Reference.TheVariants.{Node}
 use Rattle.dd_store.specs.Words.{is_near, is_far, near_word, far_word, long_word, node_word, near_node, far_node, long_node, word_of, node_of, reference_of, IsWord, IsNodeWord, IsLongWord}
-use Rattle.dd_store.specs.WordLaws.{is_node, named_near, named_far, named_long, near, far, word_of_near, word_of_far, word_of_long, kind_of, past_terminals, word_of-reference_of}
+use Rattle.dd_store.specs.WordLaws.{is_node, named_near, named_far, named_long, near, far, word_of_near, word_of_far, word_of_long, kind_of, past_terminals, word_of-reference_of, compared}
 use Rattle.dd_store.specs.WordLaws.Kind.{kind_near, kind_far, kind_long}
 
 -- what is known of the word of a node that has a name
@@ -184,13 +184,5 @@ marked_word w true (inr h) = let k = flipped w in turned_node w (bit_xor w 1) h 
 
 -- two words are one where they refer to one thing
 pub same_words : (a b : ℕ) → IsWord a → IsWord b → nat_eq a b ≡ ref_eq.it (reference_of a) (reference_of b)
-same_words a b h k = elim (cases_eq a b) [
-  | inl e ↦ eq-eqb a b e ∙ sym (ref_eq-itself (reference_of a)) ∙ ap (λ z. ref_eq.it (reference_of a) (reference_of z)) e
-  | inr n ↦ ne_eqb a b n ∙ sym (differ (ref_eq.it (reference_of a) (reference_of b)) refl n)
-]
-  where
-    differ : (t : Bool) → ref_eq.it (reference_of a) (reference_of b) ≡ t → (a ≡ b → ⊥) → t ≡ false
-    differ false e n = refl
-    differ true e n =
-        let same = ref_same (reference_of a) (reference_of b) e in
-        absurd (n (sym (word_of-reference_of a h) ∙ ap word_of same ∙ word_of-reference_of b k))
+same_words a b h k =
+    compared ref_eq.it ref_same word_of ref_eq-itself reference_of a b (word_of-reference_of a h) (word_of-reference_of b k)

@@ -1,6 +1,6 @@
 -- A word gives back what it refers to, and a reference its word.
-use Rattle.std.proofs.Common.{◌≡◌, ℕ, ◌+◌, ◌*◌, ◌^◌, ◌<◌, ◌≤◌, ◌%◌, ◌==◌, ◌⊎◌, Bool, if◌then◌else◌, true, false, sym, ◌∙◌, ap, arith, inl, inr}
-use Rattle.std.proofs.lemmas.Bool.{cases_eq}
+use Rattle.std.proofs.Common.{◌≡◌, ℕ, ◌+◌, ◌*◌, ◌^◌, ◌<◌, ◌≤◌, ◌%◌, ◌==◌, ◌⊎◌, Bool, if◌then◌else◌, true, false, nat_eq, refl, sym, ◌∙◌, ap, arith, inl, inr}
+use Rattle.std.proofs.lemmas.Bool.{cases_eq, eq-eqb, ne_eqb}
 use Rattle.std.proofs.lemmas.Bool.Decides.{nat_tests}
 use Rattle.dd_store.specs.declared.reference.NodeId.{NodeId}
 use Rattle.dd_store.specs.declared.reference.Reference.{Reference}
@@ -123,6 +123,28 @@ small_word w (inr h) = elim (kind_of w h) [
   | kind_far k l ↦ omega arith
   | kind_long k l m ↦ omega arith
 ]
+
+-- the word of what a word refers to
+pub word_is : (w : ℕ) (r : Reference) → IsWord w → reference_of w ≡ r → w ≡ word_of r
+word_is w r h e = sym (word_of-reference_of w h) ∙ ap word_of e
+
+-- a reference has one word
+pub one_word : (m n : ℕ) → IsWord m → IsWord n → reference_of m ≡ reference_of n → m ≡ n
+one_word m n h k e = word_is m (reference_of n) h e ∙ word_of-reference_of n k
+
+-- ---- what has words of its own compares as its words do
+module _ {V : Type 0} (eq : V → V → Bool) (same : (x y : V) → eq x y ≡ true → x ≡ y) (word : V → ℕ) where
+  -- what has different words is different
+  pub told_apart : (x y : V) (t : Bool) → eq x y ≡ t → (word x ≡ word y → ⊥) → t ≡ false
+  told_apart x y false e n = refl
+  told_apart x y true e n = absurd (n (ap word (same x y e)))
+
+  pub compared : (itself : (x : V) → eq x x ≡ true) (of : ℕ → V) (a b : ℕ) → word (of a) ≡ a → word (of b) ≡ b
+      → nat_eq a b ≡ eq (of a) (of b)
+  compared itself of a b f g = elim (cases_eq a b) [
+    | inl e ↦ eq-eqb a b e ∙ sym (itself (of a)) ∙ ap (λ z. eq (of a) (of z)) e
+    | inr n ↦ ne_eqb a b n ∙ sym (told_apart (of a) (of b) (eq (of a) (of b)) refl (λ e. n (sym f ∙ e ∙ g)))
+  ]
 
 -- references that compare as equal have one word
 pub same_word : (x y : Reference) → ref_eq.it x y ≡ true → word_of x ≡ word_of y

@@ -3,10 +3,9 @@ use Rattle.std.specs.Prelude.{◌≡◌, ℕ, ◌-◌, ◌*◌, ◌/◌, ◌%◌
 use Rattle.std.proofs.Common.{◌∙◌, ap, arith, inl, inr}
 use Rattle.std.proofs.lemmas.Bool.Decides.{nat_tests}
 use Rattle.dd_store.specs.Words.{reference_of, IsWord}
-use Rattle.dd_store.specs.WordLaws.{low_bit, word_of-reference_of}
+use Rattle.dd_store.specs.WordLaws.{low_bit, word_of-reference_of, short_or_long, small_word}
 use Rattle.req_table.specs.declared.packed.PackedChild.TheVariants.{Done, Ask}
 use Rattle.req_table.specs.PackedWords.{short_numbers, near_word, far_word, long_word, ask_word, packed_word, long_of, packed_of, IsNearWord, IsFarWord, IsPackedWord}
-use Rattle.dd_store.specs.WordLaws.{short_or_long, small_word}
 
 -- ---- what the words of each kind say
 short_answer : (w : ℕ) → w < 2 ^ 31 → packed_of w ≡ Done (reference_of w)

@@ -2,11 +2,10 @@
 use Rattle.std.specs.Prelude.{◌≡◌, ℕ, ◌+◌, ◌*◌, ◌/◌, ◌%◌, ◌^◌, ◌<◌, ◌==◌, ◌⊎◌, Bool, true, false, nat_eq, cond, if◌then◌else◌}
 use Rattle.std.proofs.Common.{◌∙◌, ap, sym, subst, refl, inl, inr, arith}
 use Rattle.std.specs.Cmp.{IsEquivalence}
-use Rattle.std.proofs.lemmas.Bool.{cases_eq, eq-eqb, ne_eqb}
 use Rattle.std.proofs.lemmas.Bool.Decides.{nat_tests}
 use Rattle.dd_store.specs.declared.reference.Ref.{Ref}
 use Rattle.dd_store.specs.Words.{reference_of, IsWord}
-use Rattle.dd_store.specs.WordLaws.{word_of-reference_of}
+use Rattle.dd_store.specs.WordLaws.{word_of-reference_of, compared}
 use Rattle.req_table.specs.declared.Op.{Op}
 use Rattle.req_table.specs.declared.Op.TheVariants.{And, Or, Xor, Nand, Nor, Xnor}
 use Rattle.req_table.specs.Operation.{Operation, IsRequest}
@@ -89,13 +88,5 @@ operation_laws = laws-law
 
 -- bytes are the same where they say the same
 pub same_short : (a b : ℕ) → IsShortWord a → IsShortWord b → nat_eq a b ≡ operation_eq.it (short_of a) (short_of b)
-same_short a b h k = elim (cases_eq a b) [
-  | inl e ↦ eq-eqb a b e ∙ sym (operation_laws.refl (short_of a)) ∙ ap (λ z. operation_eq.it (short_of a) (short_of z)) e
-  | inr n ↦ ne_eqb a b n ∙ sym (differ (operation_eq.it (short_of a) (short_of b)) refl n)
-]
-  where
-    differ : (t : Bool) → operation_eq.it (short_of a) (short_of b) ≡ t → (a ≡ b → ⊥) → t ≡ false
-    differ false e n = refl
-    differ true e n =
-        let same = key_same (short_of a) (short_of b) e in
-        absurd (n (sym (short_word-short_of a h) ∙ ap short_word same ∙ short_word-short_of b k))
+same_short a b h k =
+    compared operation_eq.it key_same short_word operation_laws.refl short_of a b (short_word-short_of a h) (short_word-short_of b k)

@@ -1,16 +1,14 @@
 -- The first word of a request gives back what it says.
-use Rattle.std.specs.Prelude.{◌≡◌, ℕ, ◌+◌, ◌*◌, ◌/◌, ◌%◌, ◌^◌, ◌<◌, Bool, true, false}
+use Rattle.std.specs.Prelude.{◌≡◌, ℕ, ◌+◌, ◌*◌, ◌/◌, ◌%◌, ◌^◌, ◌<◌, Bool, false}
 use Rattle.std.proofs.Common.{◌∙◌, ap, arith, refl, sym, subst}
 use Rattle.std.proofs.lemmas.Bool.Decides.{nat_tests}
 use Rattle.dd_store.specs.declared.reference.Ref.{Ref}
 use Rattle.dd_store.specs.Words.{word_of, reference_of, IsWord}
-use Rattle.dd_store.specs.WordLaws.{word_of-reference_of}
+use Rattle.dd_store.specs.WordLaws.{word_of-reference_of, small_word, told_apart}
 use Rattle.req_table.specs.declared.Op.{Op}
-use Rattle.req_table.specs.declared.Operation.{Operation}
 use Rattle.req_table.specs.contracts.OperationPartialEq.TheImpl.{eq-value as operation_eq}
 use Rattle.req_table.specs.Equal.{key_same}
 use Rattle.req_table.specs.declared.Op.TheVariants.{And, Or, Xor, Nand, Nor, Xnor}
-use Rattle.dd_store.specs.WordLaws.{small_word}
 use Rattle.req_table.specs.TerminalCase.{op_number}
 use Rattle.req_table.specs.Words.{first_word, op_of, operation_of, IsFirstWord}
 
@@ -55,9 +53,7 @@ word_made op f g n w e h b =
 
 -- requests whose first words differ differ
 pub first_differs : (a b : ℕ) (f g : Ref) (t : Bool) → IsFirstWord a → IsFirstWord b
-    → operation_eq.it (operation_of a f) (operation_of b g) ≡ t
-    → (a ≡ b → ⊥) → t ≡ false
-first_differs a b f g false h k e n = refl
-first_differs a b f g true h k e n =
-    let same = key_same (operation_of a f) (operation_of b g) e in
-    absurd (n (sym (first_word-back a h) ∙ ap (λ (o : Operation). first_word o.op o.f) same ∙ first_word-back b k))
+    → operation_eq.it (operation_of a f) (operation_of b g) ≡ t → (a ≡ b → ⊥) → t ≡ false
+first_differs a b f g t h k e n =
+    told_apart operation_eq.it key_same (λ o. first_word o.op o.f) (operation_of a f) (operation_of b g) t e
+    (λ same. n (sym (first_word-back a h) ∙ same ∙ first_word-back b k))

@@ -51,4 +51,6 @@ mod wide;
 #[cfg(test)]
 mod widths;
 #[cfg(test)]
+mod words;
+#[cfg(test)]
 mod workers;

@@ -1,0 +1,50 @@
+//! The words of references and of children, by hand.
+
+use dd_store::{NodeId, Ref};
+use req_table::{Placed, PlacedChild};
+use std::process::Abort;
+
+/// The node of this name.
+fn node(level: u16, shard: u8, index: u32) -> Ref {
+    Ref::node(NodeId {
+        level,
+        shard,
+        index,
+    })
+}
+
+// A near node, a far one at the last place that fits, and one that is neither: its word is greater than the far one's, though its level is
+// above.
+#[test]
+fn words_of_references(rt: HostRuntime) {
+    let near = node(0, 3, 5);
+    let far = node(255, 15, 8_191);
+    let long = node(3, 0, 131_072);
+    assert!(rt; near.word() == 4_980_746 && near.negate().word() == 4_980_747);
+    assert!(rt; far.word() == 1_141_112_830 && far.negate().word() == 1_141_112_831);
+    assert!(rt; long.word() == 8_796_093_284_352 && Ref::of_word(long.word()) == long);
+    assert!(rt; Ref::of_word(far.word()) == far && Ref::of_word(near.word()) == near);
+    assert!(rt; near < long && long < far && !(far < long));
+}
+
+/// Ends the test where a child is not asked for so.
+fn assert_asked(rt: &impl Abort, child: Placed, wanted: (u16, u32, bool)) {
+    match child.view() {
+        PlacedChild::Ask { level, place, mark } => assert!(rt; (level, place, mark) == wanted),
+        PlacedChild::Done(_) => assert!(rt; false, "it is answered"),
+    }
+}
+
+// A request of a near level, of a far one and of one that is neither.
+#[test]
+fn words_of_children(rt: HostRuntime) {
+    let near = Placed::ask(255, 1, true);
+    let far = Placed::ask(256, 1, false);
+    let long = Placed::ask(4_096, 1, false);
+    assert!(rt; Placed::done(Ref::TRUE).word() == 1);
+    assert!(rt; near.word() == 3_217_031_171 && far.word() == 3_288_334_338);
+    assert!(rt; long.word() == 9_223_389_629_040_820_225);
+    assert_asked(&rt, Placed::of_word(near.word()), (255, 1, true));
+    assert_asked(&rt, Placed::of_word(far.word()), (256, 1, false));
+    assert_asked(&rt, Placed::of_word(long.word()), (4_096, 1, false));
+}
