@@ -3,6 +3,7 @@ ghost use Rattle.std.specs.Prelude.{◌≡◌, ◌^◌, ◌<◌, ◌≤◌, Some
 ghost use Rattle.dd_store.specs.Codes.{block_of, code_of, shard_of_pair};
 ghost use Rattle.dd_store.specs.Marks.{is_marked, mark_by, mark_both, negate_of};
 ghost use Rattle.dd_store.specs.Nodes.{Nodes, den};
+ghost use Rattle.dd_store.specs.Order.{ref_cmp};
 ghost use Rattle.dd_store.specs.Words.{is_near, is_far, node_word, node_of, word_of, reference_of, IsWord, IsNodeWord, is_terminal};
 
 use slot_table::Spread;
@@ -319,13 +320,22 @@ impl Ord for Ref {
 
     ghost matches_eq = { matches_eq-law };
 
+    #[inline(always)]
     fn cmp(&self, other: &Ref) -> Ordering {
         if self.word < LONG && other.word < LONG {
             self.word.cmp(&other.word)
         } else {
-            self.view().cmp(&other.view())
+            view_cmp(*self, *other)
         }
     }
+}
+
+/// The order of two references by what they refer to, whatever their words.
+#[inline(never)]
+fn view_cmp(first: Ref, second: Ref) -> Ordering
+    ensures { result ≡ ref_cmp first second }
+{
+    first.view().cmp(&second.view())
 }
 
 impl PartialOrd for Ref {
@@ -336,6 +346,7 @@ impl PartialOrd for Ref {
 
     ghost laws = { laws-law };
 
+    #[inline(always)]
     fn partial_cmp(&self, other: &Ref) -> Option<Ordering> {
         Some(self.cmp(other))
     }
