@@ -1,54 +1,74 @@
 -- The first word of a request gives back what it says.
-use Rattle.std.specs.Prelude.{◌≡◌, ℕ, ◌+◌, ◌*◌, ◌/◌, ◌%◌, ◌^◌, ◌<◌, Bool, false}
-use Rattle.std.proofs.Common.{◌∙◌, ap, arith, refl, sym, subst}
+use Rattle.std.specs.Prelude.{◌≡◌, ℕ, ◌+◌, ◌*◌, ◌/◌, ◌%◌, ◌^◌, ◌<◌, ◌⊎◌, Bool, true, false, cond}
+use Rattle.std.proofs.Common.{◌∙◌, ap, arith, refl, sym, subst, inl, inr}
 use Rattle.std.proofs.lemmas.Bool.Decides.{nat_tests}
 use Rattle.dd_store.specs.declared.reference.Ref.{Ref}
-use Rattle.dd_store.specs.Words.{word_of, reference_of, IsWord}
+use Rattle.dd_store.specs.Words.{reference_of, IsWord}
 use Rattle.dd_store.specs.WordLaws.{word_of-reference_of, small_word, told_apart}
 use Rattle.req_table.specs.declared.Op.{Op}
+use Rattle.req_table.specs.declared.Op.TheVariants.{And, Or, Xor, Nand, Nor, Xnor}
 use Rattle.req_table.specs.contracts.OperationPartialEq.TheImpl.{eq-value as operation_eq}
 use Rattle.req_table.specs.Equal.{key_same}
-use Rattle.req_table.specs.declared.Op.TheVariants.{And, Or, Xor, Nand, Nor, Xnor}
-use Rattle.req_table.specs.TerminalCase.{op_number}
-use Rattle.req_table.specs.Words.{first_word, op_of, operation_of, IsFirstWord}
+use Rattle.req_table.specs.Operation.{Operation, IsRequest}
+use Rattle.req_table.specs.TerminalCase.{key, form_of, in_order, ref_lt}
+use Rattle.req_table.specs.Words.{xor_bit, op_in, first_word, operation_of, IsFirstWord}
 
-op_number-op_of : (n : ℕ) → n < 6 → op_number (op_of n) ≡ n
-op_number-op_of n small = grind (arith, nat_tests)
-
-op_of-op_number : (op : Op) → op_of (op_number op) ≡ op
-op_of-op_number And = refl
-op_of-op_number Or = refl
-op_of-op_number Xor = refl
-op_of-op_number Nand = refl
-op_of-op_number Nor = refl
-op_of-op_number Xnor = refl
-
-small_number : (op : Op) → op_number op < 6
-small_number And = omega arith
-small_number Or = omega arith
-small_number Xor = omega arith
-small_number Nand = omega arith
-small_number Nor = omega arith
-small_number Xnor = omega arith
+-- the bit of the operation of a word is bit 63
+pub bit_back : (w : ℕ) → w < 2 ^ 64 → xor_bit (op_in w) ≡ w / 2 ^ 63 * 2 ^ 63
+bit_back w small = grind (arith, nat_tests)
 
 -- a first word gives back what it says
-pub first_word-back : (w : ℕ) → IsFirstWord w → first_word (op_of (w / 2 ^ 58)) (reference_of (w % 2 ^ 58)) ≡ w
+pub first_word-back : (w : ℕ) → IsFirstWord w → first_word (op_in w) (reference_of (w % 2 ^ 63)) ≡ w
 first_word-back w h =
-    let n : op_number (op_of (w / 2 ^ 58)) ≡ w / 2 ^ 58 = op_number-op_of (w / 2 ^ 58) h.0 in
-    let f : word_of (reference_of (w % 2 ^ 58)) ≡ w % 2 ^ 58 = word_of-reference_of (w % 2 ^ 58) h.1 in
-    ap (λ z. z * 2 ^ 58 + word_of (reference_of (w % 2 ^ 58))) n ∙ ap (λ z. w / 2 ^ 58 * 2 ^ 58 + z) f ∙ omega arith
+    let op = bit_back w h.0 in
+    let f = word_of-reference_of (w % 2 ^ 63) h.1 in
+    omega arith
 
--- and says what it was made of
-pub word_made : (op : Op) (f g : Ref) (n w : ℕ) → n ≡ op_number op → IsWord w → reference_of w ≡ f
-    → IsFirstWord (n * 2 ^ 58 + w) × (operation_of (n * 2 ^ 58 + w) g ≡ record { op = op; f = f; g = g })
-word_made op f g n w e h b =
-    let small : w < 2 ^ 58 = small_word w h in
-    let upper : (n * 2 ^ 58 + w) / 2 ^ 58 ≡ n = omega arith in
-    let lower : (n * 2 ^ 58 + w) % 2 ^ 58 ≡ w = omega arith in
-    let same : op_of ((n * 2 ^ 58 + w) / 2 ^ 58) ≡ op = ap op_of (upper ∙ e) ∙ op_of-op_number op in
-    let first : reference_of ((n * 2 ^ 58 + w) % 2 ^ 58) ≡ f = ap reference_of lower ∙ b in (
-      (subst (λ z. z < 6) (sym (upper ∙ e)) (small_number op), subst IsWord (sym lower) h),
-      λ i. record { op = same i; f = first i; g = g },
+-- ---- a request is And or Xor
+IsForm : Op → Type 0
+IsForm op = (op ≡ And) ⊎ (op ≡ Xor)
+
+form_op : (op : Op) (f g : Ref) → IsForm (form_of op f g).0.op
+unfolding IsForm
+form_op And f g = inl refl
+form_op Or f g = inl refl
+form_op Xor f g = inr refl
+form_op Nand f g = inl refl
+form_op Nor f g = inl refl
+form_op Xnor f g = inr refl
+
+op_in_order : (k : Operation) → (in_order k).op ≡ k.op
+op_in_order k = elim (ref_lt k.g k.f) as (λ (t : Bool). (cond t (key k.op k.g k.f) k).op ≡ k.op) [ true ↦ refl | false ↦ refl ]
+
+request_op : (k : Operation) → IsRequest k → IsForm k.op
+request_op k i =
+    let same : (form_of k.op k.f k.g).0.op ≡ k.op = sym (op_in_order (form_of k.op k.f k.g).0) ∙ ap (λ n. n.0.op) i.ordered in
+    subst IsForm same (form_op k.op k.f k.g)
+
+-- ---- its first word says what it was made of
+and_made : (n : ℕ) → n < 2 ^ 63 → op_in (0 + n) ≡ And
+and_made n small = grind (arith, nat_tests)
+
+xor_made : (n : ℕ) → op_in (2 ^ 63 + n) ≡ Xor
+xor_made n = grind (arith, nat_tests)
+
+abbrev IsMade : Op → ℕ → Type 0
+IsMade op n = (op_in (xor_bit op + n) ≡ op) × (xor_bit op + n < 2 ^ 64) × ((xor_bit op + n) % 2 ^ 63 ≡ n)
+
+op_made : (op : Op) (n : ℕ) → IsForm op → n < 2 ^ 63 → IsMade op n
+unfolding IsForm
+op_made op n (inl e) small = subst (λ (o : Op). IsMade o n) (sym e) (and_made n small, omega arith, omega arith)
+op_made op n (inr e) small = subst (λ (o : Op). IsMade o n) (sym e) (xor_made n, omega arith, omega arith)
+
+pub word_made : (k : Operation) (n : ℕ) → IsRequest k → IsWord n → reference_of n ≡ k.f
+    → IsFirstWord (xor_bit k.op + n) × (operation_of (xor_bit k.op + n) k.g ≡ k)
+word_made k n i h b =
+    let small : n < 2 ^ 58 = small_word n h in
+    let made = op_made k.op n (request_op k i) (omega arith) in
+    let op = made.0 in
+    let first : reference_of ((xor_bit k.op + n) % 2 ^ 63) ≡ k.f = ap reference_of made.2 ∙ b in (
+      (made.1, subst IsWord (sym made.2) h),
+      λ j. record { op = op j; f = first j; g = k.g },
     )
 
 -- requests whose first words differ differ

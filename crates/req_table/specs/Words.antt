@@ -1,20 +1,26 @@
--- The bytes of a request as numbers: the first eight are the word of its first operand, with the number of the operation from bit 58
--- on.
-use Rattle.std.specs.Prelude.{ℕ, ◌+◌, ◌*◌, ◌/◌, ◌%◌, ◌^◌, ◌<◌, ◌==◌, if◌then◌else◌}
+-- The bytes of a request as numbers: the first eight are the word of its first operand, with bit 63 set for Xor.
+use Rattle.std.specs.Prelude.{ℕ, ◌+◌, ◌*◌, ◌%◌, ◌^◌, ◌<◌, nat_lt, if◌then◌else◌}
 use Rattle.dd_store.specs.declared.reference.Ref.{Ref}
 use Rattle.dd_store.specs.Words.{word_of, reference_of, IsWord}
 use Rattle.req_table.specs.declared.Op.{Op}
 use Rattle.req_table.specs.declared.Op.TheVariants.{And, Or, Xor, Nand, Nor, Xnor}
 use Rattle.req_table.specs.declared.Operation.{Operation}
-use Rattle.req_table.specs.TerminalCase.{op_number}
+
+-- the bit that tells Xor from And
+abbrev pub xor_bit : Op → ℕ
+xor_bit And = 0
+xor_bit Or = 0
+xor_bit Xor = 2 ^ 63
+xor_bit Nand = 0
+xor_bit Nor = 0
+xor_bit Xnor = 0
+
+-- the operation of a word with that bit
+abbrev pub op_in : ℕ → Op
+op_in w = if nat_lt w (2 ^ 63) then And else Xor
 
 abbrev pub first_word : Op → Ref → ℕ
-first_word op f = op_number op * 2 ^ 58 + word_of f
-
--- the operation of a number below 6
-abbrev pub op_of : ℕ → Op
-op_of n = if n == 0 then And else (if n == 1 then Or else (if n == 2 then Xor else
-    (if n == 3 then Nand else (if n == 4 then Nor else Xnor))))
+first_word op f = xor_bit op + word_of f
 
 -- all sixteen bytes as a number: the word of the second operand above the first word
 abbrev pub key_word : Operation → ℕ
@@ -22,8 +28,8 @@ key_word k = word_of k.g * 2 ^ 64 + first_word k.op k.f
 
 -- what a first word says, with the second operand
 abbrev pub operation_of : ℕ → Ref → Operation
-operation_of w g = record { op = op_of (w / 2 ^ 58); f = reference_of (w % 2 ^ 58); g = g }
+operation_of w g = record { op = op_in w; f = reference_of (w % 2 ^ 63); g = g }
 
--- the words that first_word makes
+-- the words that first_word makes of And and Xor
 abbrev pub IsFirstWord : ℕ → Type 0
-IsFirstWord w = (w / 2 ^ 58 < 6) × IsWord (w % 2 ^ 58)
+IsFirstWord w = (w < 2 ^ 64) × IsWord (w % 2 ^ 63)

@@ -18,6 +18,7 @@
 ghost use Rattle.std.specs.Prelude.{◌≡◌, None};
 ghost use Rattle.req_table.specs.Operation.{IsRequest};
 ghost use Rattle.req_table.specs.TerminalCase.{op_number};
+ghost use Rattle.req_table.specs.Words.{xor_bit, first_word, operation_of, IsFirstWord};
 
 mod computed;
 mod owned;
@@ -60,18 +61,15 @@ pub struct Operation {
 /// order.
 #[derive(Clone, Copy)]
 pub struct Key {
-    /// The word of the first operand, with the number of the operation from bit 58 on.
+    /// The word of the first operand, with bit 63 set for Xor.
     first: u64,
     second: Ref,
 }
 
 const _: () = prove!(size_of::<Key>() == 16);
 
-/// The lowest bit of an operation's number in a word.
-const OP_BIT: u64 = 1 << 58;
-
-/// The number of Xor.
-const XOR: u64 = 2;
+/// The bit that tells Xor from And.
+const XOR_BIT: u64 = 1 << 63;
 
 /// The lowest bit of the second operand's word in the number of a request's sixteen bytes.
 const SECOND_BIT: u128 = 1 << 64;
@@ -110,6 +108,14 @@ fn number(op: Op) -> u64
     }
 }
 
+/// The bit of an operation, set for Xor.
+#[inline(always)]
+fn xor_bit(op: Op) -> u64
+    ensures { result ≡ xor_bit op }
+{
+    (op == Op::Xor) as u64 * XOR_BIT
+}
+
 impl Key {
     /// The request for an operation.
     #[inline(always)]
@@ -117,10 +123,27 @@ impl Key {
         requires { IsRequest (record { op = op; f = f; g = g }) }
         ensures { result ≡ record { op = op; f = f; g = g } }
     {
-        Key {
-            first: number(op) * OP_BIT + f.word(),
-            second: g,
-        }
+        Key::of_words(xor_bit(op) + f.word(), g)
+    }
+
+    /// The request with this first word and this second operand.
+    #[inline(always)]
+    fn of_words(first: u64, second: Ref) -> Key
+        requires word { IsFirstWord first }
+        requires request { IsRequest (operation_of first second) }
+        ensures { result ≡ operation_of first second }
+    {
+        Key { first, second }
+    }
+
+    /// The word of the first operand, with the bit of the operation.
+    #[inline(always)]
+    fn first_word(self) -> u64
+        ensures word { result ≡ first_word self.op self.f }
+        ensures within { IsFirstWord result }
+        ensures back { operation_of result self.g ≡ self }
+    {
+        self.first
     }
 
     /// The operation.
@@ -129,10 +152,10 @@ impl Key {
         ensures request { IsRequest self }
     {
         // A request is by Xor or else by And.
-        if self.first / OP_BIT == XOR {
-            Op::Xor
-        } else {
+        if self.first < XOR_BIT {
             Op::And
+        } else {
+            Op::Xor
         }
     }
 
@@ -141,7 +164,7 @@ impl Key {
         ensures value { result ≡ self.f }
         ensures request { IsRequest self }
     {
-        Ref::of_word(self.first % OP_BIT)
+        Ref::of_word(self.first % XOR_BIT)
     }
 
     /// The second operand.

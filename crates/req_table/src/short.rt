@@ -2,7 +2,7 @@
 ghost use Rattle.std.specs.Prelude.{◌≡◌, MatchOption};
 ghost use Rattle.req_table.specs.Short.{IsShort};
 
-use crate::{Key, Op};
+use crate::{Key, XOR_BIT};
 use dd_store::Ref;
 use std::hash::{Hash, Hasher};
 use std::marker::Model;
@@ -10,7 +10,7 @@ use std::marker::Model;
 /// A request whose operands' words have at most 31 bits each, in eight bytes.
 #[derive(Clone, Copy)]
 pub(crate) struct ShortKey {
-    /// The word of the first operand, with that of the second from bit 31 on, and bit 62 set for Xor.
+    /// The word of the first operand, with that of the second from bit 31 on, and bit 63 set for Xor.
     word: u64,
 }
 
@@ -19,8 +19,8 @@ const _: () = prove!(size_of::<ShortKey>() == 8);
 /// The lowest bit of the second operand's word, and what both operands' words are below.
 const SECOND_BIT: u64 = 1 << 31;
 
-/// The bit that tells Xor from And.
-const XOR_BIT: u64 = 1 << 62;
+/// The bits of the first operand's word and of the operation.
+const FIRST_BITS: u64 = XOR_BIT + SECOND_BIT - 1;
 
 impl Model for ShortKey {
     ghost use Rattle.req_table.specs.declared.Operation.{Operation};
@@ -46,14 +46,13 @@ impl ShortKey {
     pub(crate) fn of(key: Key) -> Option<ShortKey>
         ensures { MatchOption result (IsShort key → ⊥) (λ s. IsShort key × (s ≡ key)) }
     {
-        let first = key.f().word();
+        let first = key.first_word();
         let second = key.g().word();
-        if first >= SECOND_BIT || second >= SECOND_BIT {
+        if first % XOR_BIT >= SECOND_BIT || second >= SECOND_BIT {
             return None;
         }
-        let xor_bit = if key.op() == Op::Xor { XOR_BIT } else { 0 };
         Some(ShortKey {
-            word: xor_bit + second * SECOND_BIT + first,
+            word: first + second * SECOND_BIT,
         })
     }
 
@@ -62,14 +61,8 @@ impl ShortKey {
     pub(crate) fn key(self) -> Key
         ensures { result ≡ self }
     {
-        let op = if self.word / XOR_BIT == 1 {
-            Op::Xor
-        } else {
-            Op::And
-        };
-        let first = Ref::of_word(self.word % SECOND_BIT);
         let second = Ref::of_word(self.word / SECOND_BIT % SECOND_BIT);
-        Key::of(op, first, second)
+        Key::of_words(self.word & FIRST_BITS, second)
     }
 }
 
