@@ -48,16 +48,13 @@ pub trait Monitor: Watch + Sync {
 }
 
 /// A wave of more requests is large. This and the numbers below are a choice between what was measured, which docs/PERFORMANCE.md has.
-const LARGE: usize = 1 << 14;
+const LARGE: usize = 1 << 16;
 
 /// Up to so many requests a level is the caller's where the wave is expected to be large.
-const WIDE_IN_LARGE: usize = 1 << 10;
+const WIDE_IN_LARGE: usize = 1 << 12;
 
 /// Up to so many requests a level of any other wave is the caller's.
-const WIDE: usize = 1 << 14;
-
-/// So many times these numbers hold for fewer than four workers, which gain less by a wave.
-const FOR_FEW: usize = 4;
+const WIDE: usize = 1 << 16;
 
 /// A monitor that does nothing. A wave is the caller's alone as long as that is known to be faster.
 #[derive(Clone, Copy, Drop, Debug, PartialEq, Eq)]
@@ -71,13 +68,12 @@ impl Monitor for Free {
     fn at_level(&self, _worker: u32, _level: u16) {}
 
     fn most_alone(&self, workers: u32, expected: usize) -> usize {
-        let times = if workers < 4 { FOR_FEW } else { 1 };
         if workers <= 1 {
             usize::MAX
-        } else if expected > LARGE * times {
-            WIDE_IN_LARGE * times
+        } else if expected > LARGE {
+            WIDE_IN_LARGE
         } else {
-            WIDE * times
+            WIDE
         }
     }
 

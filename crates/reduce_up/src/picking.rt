@@ -14,6 +14,7 @@ use crate::spare::{empty, next_room};
 use dd_store::{Ref, SHARDS};
 use rayon::prelude::*;
 use std::alloc::{AllocError, Global};
+use std::thread;
 use std::thread::Threads;
 
 /// A part's share of a level: the diagrams of its records, and whether there was memory to pick these.
@@ -150,7 +151,19 @@ fn pick_shares(parts: usize, rooms: Vec<Vec<Ref>>) -> Result<Vec<PickShare>, All
     Ok(shares)
 }
 
-/// Picks the diagrams of all parts, each in the part's share and by a thread of its own.
+/// The diagrams of fewer records are picked on the caller's thread: to start the threads takes as long.
+const FEWEST_PICKED: usize = 1 << 16;
+
+/// How many records there are, or as many as can be counted.
+fn record_count(homes: &[Homes]) -> usize {
+    let mut total: usize = 0;
+    for part in homes {
+        total = total.saturating_add(part.numbers.len());
+    }
+    total
+}
+
+/// Picks the diagrams of all parts, each in the part's share, and where there are many by a thread of its own.
 fn pick_each<R: Threads + Sync>(
     rt: &R,
     parts: &[Vec<Vec<(Ref, Ref)>>],
@@ -166,7 +179,11 @@ fn pick_each<R: Threads + Sync>(
         requires { (part < length homes.now) × MayPick parts.now homes.now refs.now }
         ensures { IsSharePicked parts.entry.now homes.entry.now refs.entry.now part share.exit.now }
     { share.pick(parts, homes, refs, part) };
-    par_for_each_mut(rt, shares, pick);
+    if record_count(homes) < FEWEST_PICKED {
+        thread::for_each_mut(rt, shares, 1, &pick);
+    } else {
+        par_for_each_mut(rt, shares, pick);
+    }
 }
 
 /// The answers of all parts, where each had memory.
@@ -192,7 +209,7 @@ fn join_picked(
     Ok(answers)
 }
 
-/// The diagrams of all parts' records, each part's by a thread of its own. They are put in the memory of the lists that are handed in, as
+/// The diagrams of all parts' records, where there are many each part's by a thread of its own. They are put in the memory of the lists that are handed in, as
 /// far as there are some.
 pub(crate) fn pick_all<R: Threads + Sync>(
     rt: &R,

@@ -71,7 +71,7 @@ impl LevelSet {
         Ok(LevelSet { words })
     }
 
-    /// LevelSet a level.
+    /// Adds a level.
     pub(crate) fn insert(&mut self, level: u16)
         requires { level < 64 * length self.old }
         ensures room { length self.new ≡ length self.old }

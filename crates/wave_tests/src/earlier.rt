@@ -43,22 +43,19 @@ impl Monitor for Heard {
 const SUMS: usize = 133;
 
 /// Waves that ask, at one level, for the difference of each two of so many sums, the first so many places behind the first sum; and
-/// whether four workers are called in. 45 sums have 990 differences, 46 have 1,035, 128 have 8,128, 140 have 9,730, 190 have 17,955 and
-/// 450 have 101,025. Each comes to two requests at least. So those of 128 come to over 16,384, and those of 450 with all before to over
-/// 262,144. 66 levels with 128 requests each have 8,448.
-const WAVES: [(u16, u16, bool); 12] = [
-    (0, 46, false),
-    (50, 128, false),
-    (200, 46, false),
-    (300, 190, true),
-    (500, 46, false),
-    (600, 450, true),
-    (1300, 140, true),
-    (1400, 45, false),
-    (1500, 46, false),
-    (1600, 128, false),
-    (1800, 140, true),
-    (1900, 45, false),
+/// whether four workers are called in. 92 sums have 4,186 differences, 140 have 9,730, 300 have 44,850, 362 have 65,341 and 370 have
+/// 68,265. Each comes to two requests at least. So those of 300 come to over 65,536, and those of 370 with all before to over 262,144.
+/// 66 levels with 128 requests each have 8,448.
+const WAVES: [(u16, u16, bool); 9] = [
+    (0, 362, false),
+    (362, 140, false),
+    (502, 370, true),
+    (872, 140, true),
+    (1012, 92, false),
+    (1104, 92, false),
+    (1196, 300, false),
+    (1496, 140, true),
+    (1636, 92, false),
 ];
 
 /// Does the waves by an engine that has so many workers, and compares whether any are called in.
@@ -94,18 +91,19 @@ fn call_in<R: Threads + Wait + Abort + Sync>(
     Ok(())
 }
 
-// Four workers are called in at a level of more than 16,384 requests, and at one of more than 1,024 where the engine has done 262,144
-// requests and one of its last two waves had more than 16,384, where the levels from there on have 128 on average: 1,035 at one level
-// never do it here. Two are not called in by 17,955, and one never is.
+// Four workers are called in at a level of more than 65,536 requests, and at one of more than 4,096 where the engine has done 262,144
+// requests and one of its last two waves had more than 65,536, where the levels from there on have 128 on average: 4,186 at one level
+// never do it here. So are two, and one never is.
 #[test]
 fn workers_after_large_waves(rt: HostRuntime) -> Result<(), Fail> {
     call_in(&rt, rt.alloc(), 4, &WAVES)?;
     for workers in [1, 2] {
+        let called = workers > 1;
         call_in(
             &rt,
             rt.alloc(),
             workers,
-            &[(300, 190, false), (500, 46, false)],
+            &[(0, 362, false), (362, 370, called), (732, 140, called)],
         )?;
     }
     Ok(())
