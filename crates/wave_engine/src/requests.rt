@@ -14,13 +14,18 @@ use std::mem;
 /// the children need.
 const MOST_LENT: usize = 1 << 14;
 
+/// A table of no more requests than these stays with its level: to hand it on takes as long as they do.
+const MOST_LEFT: usize = 64;
+
 /// The requests that wait at each level, each once. The levels that have some are known, so that those without are passed over.
 #[derive(Drop)]
 pub(crate) struct Requests {
     tables: Vec<Table>,
     /// Tables of levels that were expanded. The next level that is asked for something takes the last of them, so a wave has as many
-    /// tables as levels that wait at once.
+    /// tables as levels that wait at once, but for small ones.
     spare: Vec<Table>,
+    /// Whether a level has the memory of a small table.
+    left: Vec<bool>,
     asked: LevelSet,
 }
 
@@ -67,6 +72,7 @@ impl Requests {
         Requests {
             tables: Vec::new(alloc),
             spare: Vec::new(alloc),
+            left: Vec::new(alloc),
             asked: LevelSet::new(alloc),
         }
     }
@@ -75,21 +81,39 @@ impl Requests {
     fn with_levels(alloc: Global, levels: u16) -> Result<Requests, AllocError>
         ensures { IfOk result (λ r. AreEmpty r levels) }
     {
+        let mut left = Vec::new(alloc);
+        left.resize(levels as usize, false)?;
         Ok(Requests {
             tables: empty_tables(alloc, levels)?,
             spare: Vec::new(alloc),
+            left,
             asked: LevelSet::with_room(alloc, levels)?,
         })
     }
 
-    /// Takes the requests from a level. Its table serves another one, unless it is large.
+    /// Notes whether a level has the memory of a small table.
+    fn note_left(&mut self, level: u16, has: bool)
+        ensures { self.new ≡ self.old }
+    {
+        if let Some(left) = self.left.get_mut(level as usize) {
+            *left = has;
+        }
+    }
+
+    /// Takes the requests from a level. Its table stays where it is small; else it serves another level, unless it is large.
     pub(crate) fn empty_level(&mut self, level: u16) -> Result<(), AllocError>
         requires { level < length self.old }
         ensures { OnOk result (self.new ≡ set self.old level []) }
     {
+        let small = self.count(level) <= MOST_LEFT;
+        self.note_left(level, small);
+        self.asked.remove(level);
+        if small {
+            self.tables[level as usize].clear();
+            return Ok(());
+        }
         let fresh = Table::new(*self.tables.allocator());
         let used = mem::replace(&mut self.tables[level as usize], fresh);
-        self.asked.remove(level);
         keep_spare(&mut self.spare, used)
     }
 
@@ -124,6 +148,22 @@ impl Requests {
         }
     }
 
+    /// Gives a level without requests a spare table, unless it has the memory of a small one.
+    fn fit_table(&mut self, level: u16)
+        requires bound { level < length self.old }
+        requires first { row self.old level ≡ [] }
+        ensures { self.new ≡ self.old }
+    {
+        let left = match self.left.get(level as usize) {
+            Some(left) => *left,
+            None => false,
+        };
+        if !left && !self.spare.is_empty() {
+            let table = self.spare_table();
+            self.tables[level as usize] = table;
+        }
+    }
+
     /// Admits the first request of a level.
     #[inline(never)]
     fn admit_first(&mut self, level: u16, key: Key) -> Result<u32, AllocError>
@@ -132,9 +172,9 @@ impl Requests {
         ensures stands { IfOk result (λ p. StandsAt self.new level p key) }
         ensures admits { (mark : Bool) → Admits self.old (child.Ask level key mark) self.new }
     {
-        let mut table = self.spare_table();
+        self.fit_table(level);
+        let table = &mut self.tables[level as usize];
         let (place, _) = table.admit(key)?;
-        self.tables[level as usize] = table;
         self.asked.insert(level);
         Ok(place)
     }
