@@ -209,8 +209,8 @@ fn join_picked(
     Ok(answers)
 }
 
-/// The diagrams of all parts' records, where there are many each part's by a thread of its own. They are put in the memory of the lists that are handed in, as
-/// far as there are some.
+/// The diagrams of all parts' records, where there are many each part's by a thread of its own. They are put in the memory of the lists
+/// that are handed in, as far as there are some.
 pub(crate) fn pick_all<R: Threads + Sync>(
     rt: &R,
     parts: &[Vec<Vec<(Ref, Ref)>>],
