@@ -14,7 +14,7 @@ use crate::pairs::judge_pair;
 use crate::searching::{FIRST_BUDGET, GROWTH};
 use crate::subject::Subject;
 use expand_work::{AttemptEnd, Monitor};
-use rayon::prelude::*;
+use reduce_up::fork_each;
 use report_text::Verdict;
 use std::alloc::{AllocError, Global};
 use std::collections::VecDeque;
@@ -99,7 +99,7 @@ fn take_hands<H: Threads + Wait + Sync, G: Monitor>(
         requires { (budget < 2 ^ 32) × IsReady whole.now × All (λ (t : TurnValue). IsOf whole.now t.subject) hand.now.items }
         ensures { AllZip (IsTurned whole.entry.now budget (G.bound monitor.entry.now)) hand.entry.now.items hand.exit.now.items }
     { take_hand(whole, hand, budget, monitor) };
-    par_for_each_mut(whole.task.rt, hands, take);
+    fork_each(whole.task.rt, hands, &take);
 }
 
 /// Judges the pairs, some at once, each on one thread: as many hands have turns as pairs are judged at once.

@@ -1,5 +1,5 @@
 -- A list of pairs for each shard of a level.
-use Rattle.std.specs.Prelude.{◌≡◌, ◌≤◌, ℕ, List, [], ◌∷◌, ◌++◌, length, slice_index_or, slice_get, map, Option, Some, None}
+use Rattle.std.specs.Prelude.{◌<◌, ◌+◌, ◌≡◌, ◌≤◌, ℕ, List, [], ◌∷◌, ◌++◌, length, slice_index_or, slice_get, map, Option, Some, None}
 use Rattle.std.specs.List.{AllZip}
 use Rattle.std.specs.declared.vec.Vec.{Vec}
 use Rattle.std.specs.declared.alloc.Global.{Global}
@@ -59,6 +59,11 @@ AreNoted limit v s list new found (Some f) = IsHalted limit (plain_list list) ne
 -- what making a list leaves of a shard
 abbrev pub IsNoted : ℕ → ℕ → ℕ → List Pair → Shard → Shard → Type 0
 IsNoted limit v s list old new = IsGrown limit (plain_list list) old new × AreNoted limit v s list new.shard new.found.items new.fault
+
+-- what making the parts' lists leaves of neighbouring shards, of which `first` is the first
+abbrev pub AreMadeFrom : ℕ → ℕ → List (Vec (Vec Pair Global) Global) → ℕ → List Shard → List Shard → Type 0
+AreMadeFrom limit v parts first old new = (i : ℕ) (d : Shard) → i < length old
+    → IsNoted limit v (first + i) (all_at parts (first + i)) (slice_index_or old i d) (slice_index_or new i d)
 
 -- the pairs of each shard
 abbrev pub pairs_of : List Shard → List (List Pair)

@@ -1,11 +1,11 @@
 //! Threads that share the shards of a level, where each makes nodes in some neighbouring shards of its own.
 ghost use Rattle.std.specs.Prelude.{◌≡◌, ◌+◌, ◌^◌, ◌<◌, ◌≤◌, ℕ, length, slice_index_or, All};
+ghost use Rattle.std.specs.Thread.{IsSync};
 ghost use Rattle.dd_store.specs.declared.level.Shard.{Shard as ShardValue};
-ghost use Rattle.dd_store.specs.Levels.{IsNoted, all_at};
+ghost use Rattle.dd_store.specs.Levels.{IsNoted, AreMadeFrom, all_at};
 
 use crate::level::{Shard, Watch};
 use crate::reference::{Ref, SHARDS};
-use rayon::prelude::*;
 use std::thread::Threads;
 
 /// Who makes the nodes of a level.
@@ -19,51 +19,141 @@ pub struct Makers<'a, R, H> {
     pub count: u32,
 }
 
-impl<'a, R, H> Makers<'a, R, H> {
-    /// How many neighbouring shards of a level each thread has; the last may have fewer.
-    fn share(&self) -> usize
-        ensures { 0 < result }
-    {
-        SHARDS.div_ceil(self.count.max(1) as usize)
-    }
+/// What the shards of a level are to have: lists of pairs by part and shard, within a limit of nodes for each shard.
+#[derive(Drop)]
+struct Lists<'a, H> {
+    parts: &'a [Vec<Vec<(Ref, Ref)>>],
+    limit: u64,
+    level: u16,
+    watch: &'a H,
 }
 
 /// Adds list i of each part to shard i, and notes the references of its pairs.
-fn note_lists(
-    held: &mut Shard,
-    parts: &[Vec<Vec<(Ref, Ref)>>],
-    limit: u64,
-    level: u16,
-    shard: usize,
-)
-    requires limit { limit < 2 ^ 32 }
-    requires lists { All (λ part. length part.items ≡ 16) parts.now }
+fn note_lists<H>(held: &mut Shard, lists: &Lists<'_, H>, shard: usize)
+    requires limit { lists.now.limit < 2 ^ 32 }
+    requires lists { All (λ part. length part.items ≡ 16) lists.now.parts.now }
     requires shard { shard < 16 }
-    ensures { IsNoted limit level shard (all_at parts.now shard) held.old held.new }
+    ensures { IsNoted lists.now.limit lists.now.level shard (all_at lists.now.parts.now shard) held.old held.new }
 {
-    held.fault = held.make_lists(parts, limit, level, shard as u8).err();
+    held.fault = held
+        .make_lists(lists.parts, lists.limit, lists.level, shard as u8)
+        .err();
 }
 
 /// Adds the lists of neighbouring shards, of which `first` is the first, to them, and notes the references of the pairs.
-fn make_shards<H: Watch>(
-    shards: &mut [Shard],
-    parts: &[Vec<Vec<(Ref, Ref)>>],
-    limit: u64,
-    level: u16,
-    first: usize,
-    watch: &H,
-)
-    requires limit { limit < 2 ^ 32 }
-    requires lists { All (λ part. length part.items ≡ 16) parts.now }
+fn make_shards<H: Watch>(shards: &mut [Shard], lists: &Lists<'_, H>, first: usize)
+    requires limit { lists.now.limit < 2 ^ 32 }
+    requires lists { All (λ part. length part.items ≡ 16) lists.now.parts.now }
     requires shards { first + length shards.old ≤ 16 }
-    ensures { (i : ℕ) (d : ShardValue) → i < length shards.old
-        → IsNoted limit level (first + i) (all_at parts.now (first + i)) (slice_index_or shards.old i d) (slice_index_or shards.new i d) }
+    ensures { AreMadeFrom lists.now.limit lists.now.level lists.now.parts.now first shards.old shards.new }
 {
     for place in 0..shards.len() {
         let shard = first + place;
-        watch.at_shard(shard as u8, level);
-        note_lists(&mut shards[place], parts, limit, level, shard);
+        lists.watch.at_shard(shard as u8, lists.level);
+        note_lists(&mut shards[place], lists, shard);
     }
+}
+
+/// How many pairs all parts have for a shard, or as many as can be counted.
+fn pairs_for(parts: &[Vec<Vec<(Ref, Ref)>>], shard: usize) -> usize
+    requires lists { All (λ part. length part.items ≡ 16) parts.now }
+    requires shard { shard < 16 }
+{
+    let mut total: usize = 0;
+    for part in parts {
+        total = total.saturating_add(part[shard].len());
+    }
+    total
+}
+
+/// How many pairs all parts have for so many neighbouring shards.
+fn pairs_from(parts: &[Vec<Vec<(Ref, Ref)>>], first: usize, count: usize) -> usize
+    requires lists { All (λ part. length part.items ≡ 16) parts.now }
+    requires shards { first + count ≤ 16 }
+{
+    let mut total: usize = 0;
+    for place in 0..count {
+        total = total.saturating_add(pairs_for(parts, first + place));
+    }
+    total
+}
+
+/// How many of `count` neighbouring shards the first of so many threads has: as nearly as may be its share of the pairs, and at least one,
+/// and at least one is left for each other thread.
+fn first_share(parts: &[Vec<Vec<(Ref, Ref)>>], first: usize, count: usize, threads: usize) -> usize
+    requires lists { All (λ part. length part.items ≡ 16) parts.now }
+    requires shards { first + count ≤ 16 }
+    requires threads { (1 < threads) × (threads ≤ count) }
+    ensures { (0 < result) × (result + threads ≤ count + 1) }
+{
+    let wanted = pairs_from(parts, first, count) / threads;
+    let most = count - (threads - 1);
+    let mut held = pairs_for(parts, first);
+    for share in 1..most {
+        let next = pairs_for(parts, first + share);
+        if held.saturating_add(next / 2) > wanted {
+            return share;
+        }
+        held = held.saturating_add(next);
+    }
+    most
+}
+
+/// Adds the lists of neighbouring shards by so many threads.
+#[cycle(forks)]
+fn make_apart<R: Threads + Sync, H: Watch + Sync>(
+    rt: &R,
+    lists: &Lists<'_, H>,
+    first: usize,
+    threads: usize,
+    shards: &mut [Shard],
+)
+    requires limit { lists.now.limit < 2 ^ 32 }
+    requires lists { All (λ part. length part.items ≡ 16) lists.now.parts.now }
+    requires shards { first + length shards.old ≤ 16 }
+    requires threads { threads ≤ length shards.old }
+    ensures { AreMadeFrom lists.now.limit lists.now.level lists.now.parts.now first shards.old shards.new }
+{
+    if threads < 2 {
+        make_shards(shards, lists, first);
+        return;
+    }
+    let share = first_share(lists.parts, first, shards.len(), threads);
+    let (own, rest) = shards.split_at_mut(share);
+    share_and_rest(rt, lists, threads - 1, first, own, rest);
+}
+
+/// Adds the lists of neighbouring shards: those of the first share in a thread that the caller's starts, and meanwhile the rest by so many
+/// threads. So each thread is started by the caller's: one that has just begun to run, and starts another, keeps that waiting for its
+/// processor.
+#[cycle(forks)]
+fn share_and_rest<R: Threads + Sync, H: Watch + Sync>(
+    rt: &R,
+    lists: &Lists<'_, H>,
+    threads: usize,
+    first: usize,
+    own: &mut [Shard],
+    rest: &mut [Shard],
+)
+    requires limit { lists.now.limit < 2 ^ 32 }
+    requires lists { All (λ part. length part.items ≡ 16) lists.now.parts.now }
+    requires shards { first + length own.old + length rest.old ≤ 16 }
+    requires threads { threads ≤ length rest.old }
+    ensures own { AreMadeFrom lists.now.limit lists.now.level lists.now.parts.now first own.old own.new }
+    ensures rest { AreMadeFrom lists.now.limit lists.now.level lists.now.parts.now (first + length own.old) rest.old rest.new }
+{
+    let next = first + own.len();
+    let mut front = ||
+        requires { IsSync H.row × (lists.now.limit < 2 ^ 32) × All (λ part. length part.items ≡ 16) lists.now.parts.now
+            × (first + length own.now ≤ 16) }
+        ensures { AreMadeFrom lists.entry.now.limit lists.entry.now.level lists.entry.now.parts.now first own.entry.now own.exit.now }
+    { make_shards(own, lists, first) };
+    let mut back = ||
+        requires { IsSync R.row × IsSync H.row × (lists.now.limit < 2 ^ 32) × All (λ part. length part.items ≡ 16) lists.now.parts.now
+            × (next + length rest.now ≤ 16) × (threads ≤ length rest.now) }
+        ensures { AreMadeFrom lists.entry.now.limit lists.entry.now.level lists.entry.now.parts.now next rest.entry.now rest.exit.now }
+    { make_apart(rt, lists, next, threads, rest) };
+    rayon::join_mut(rt, &mut front, &mut back);
 }
 
 /// Adds list i of each part to shard i, for the sixteen shards of a level, and notes the references of its pairs.
@@ -80,12 +170,12 @@ pub(crate) fn make_level<R: Threads + Sync, H: Watch + Sync>(
     ensures { (s : ℕ) (d : ShardValue) → s < 16 → IsNoted limit level s (all_at parts.now s) (slice_index_or shards.old s d)
         (slice_index_or shards.new s d) }
 {
-    let watch = makers.watch;
-    let make = |first: usize, share: &mut [Shard]|
-        requires { (first + length share.now ≤ 16) × All (λ part. length part.items ≡ 16) parts.now × (limit < 2 ^ 32) }
-        ensures { (i : ℕ) (d : ShardValue) → i < length share.entry.now
-            → IsNoted limit level (first + i) (all_at parts.entry.now (first + i)) (slice_index_or share.entry.now i d)
-            (slice_index_or share.exit.now i d) }
-    { make_shards(share, parts, limit, level, first, watch) };
-    par_chunks_mut_for_each(makers.rt, shards, makers.share(), make);
+    let lists = Lists {
+        parts,
+        limit,
+        level,
+        watch: makers.watch,
+    };
+    let threads = SHARDS.min(makers.count as usize);
+    make_apart(makers.rt, &lists, 0, threads, shards);
 }

@@ -21,3 +21,4 @@ pub mod Making
 pub mod Picked
 pub mod Joined
 pub mod Stepping
+pub mod Forking

@@ -7,3 +7,4 @@ pub mod Division
 pub mod Known
 pub mod Placed
 pub mod Steps
+pub mod Forks

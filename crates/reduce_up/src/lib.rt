@@ -11,12 +11,14 @@
 //! what the workers on one thread do (`wave_tests`).
 //!
 //! **Begin** with `waves`; a level goes to `narrow`, or by threads to `wide` with `reads`, `division` and `picking`.
+//! `forks` starts the threads of `reads` and `picking`.
 //! What a wave comes to is in `specs/Waves`, what threads share in `specs/Team`.
 #![tactic(auto)]
 
 mod answers;
 mod division;
 mod faults;
+mod forks;
 mod lists;
 mod narrow;
 mod picking;
@@ -29,6 +31,7 @@ mod waves;
 mod wide;
 
 pub use faults::first_fault;
+pub use forks::fork_each;
 pub use lists::empty_lists;
 pub use seeking::Sought;
 pub use waves::{Rooms, shared_wave};

@@ -10,9 +10,9 @@ ghost use Rattle.reduce_up.specs.Division.{chosen, source, IsPicked, IsPickedOf,
 ghost use Rattle.reduce_up.specs.Steps.{IsSharePicked, AreAllPicked};
 
 use crate::division::{EQUAL, Homes};
+use crate::forks::fork_each;
 use crate::spare::{empty, next_room};
 use dd_store::{Ref, SHARDS};
-use rayon::prelude::*;
 use std::alloc::{AllocError, Global};
 use std::thread;
 use std::thread::Threads;
@@ -182,7 +182,7 @@ fn pick_each<R: Threads + Sync>(
     if record_count(homes) < FEWEST_PICKED {
         thread::for_each_mut(rt, shares, 1, &pick);
     } else {
-        par_for_each_mut(rt, shares, pick);
+        fork_each(rt, shares, &pick);
     }
 }
 

@@ -5,10 +5,10 @@ ghost use Rattle.reduce_up.specs.Steps.{MayReadShares, IsShareRead, AreRead};
 
 use crate::answers::Answers;
 use crate::division::{Divided, Homes};
+use crate::forks::fork_each;
 use crate::spare::Spare;
 use crate::team::{Field, Rest, Team, resolve};
 use dd_store::Ref;
-use rayon::prelude::*;
 use std::alloc::{AllocError, Global};
 use std::thread::Threads;
 
@@ -115,7 +115,7 @@ fn read_all<R: Threads + Sync>(
         ensures { IsShareRead field.entry.workers field.entry.roots.now field.entry.parts.now answers.entry.now level sender
             share.exit.now }
     { share.read(field.team(answers), sender as u32, level) };
-    par_for_each_mut(rt, shares, read);
+    fork_each(rt, shares, &read);
 }
 
 /// What was read of each worker, put side by side.

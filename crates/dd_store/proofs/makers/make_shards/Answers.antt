@@ -14,7 +14,7 @@ loop-place-preserved g c =
     let u : Shard = c.note_lists.new.held in
     let now : length c.loop-place.shards ≡ length c.args.shards.now = c.loop-place.auto.shards in
     let lt = c.loop-place-test.true in
-    let Noted : ℕ → Shard → Shard → Type 0 = λ i old new. IsNoted c.args.limit c.args.level (c.args.first + i) (all_at c.args.parts.now (c.args.first + i)) old new in
+    let Noted : ℕ → Shard → Shard → Type 0 = λ i old new. IsNoted c.args.lists.now.limit c.args.lists.now.level (c.args.first + i) (all_at c.args.lists.now.parts.now (c.args.first + i)) old new in
     let at : (d : Shard) → Noted p (get_or c.args.shards.now p d) u = λ d.
     subst (λ z. Noted p z u) (get_or_default c.loop-place.shards p e d (omega (arith, now, lt)) ∙ v.rest p d (omega arith)) c.note_lists.ensures in
     record {
@@ -27,3 +27,6 @@ loop-place-preserved g c =
       ];
       rest = λ j d le. get_or-set_other c.loop-place.shards p j u d (omega (arith, le)) ∙ v.rest j d (omega (arith, le));
     }
+
+pub returns : goal.returns
+returns g c = λ i d lt. c.loop-place.invariant.made i d (omega (arith, lt, c.loop-place-test.false, c.loop-place.auto.shards))

@@ -10,6 +10,6 @@ returns-then-record_count-lt-FEWEST_PICKED g c = λ k d lt.
 
 pub returns-else-record_count-lt-FEWEST_PICKED : goal.returns-else-record_count-lt-FEWEST_PICKED
 returns-else-record_count-lt-FEWEST_PICKED g c = λ k d lt.
-    let same = c.par_for_each_mut.auto.s in
-    let at = (c.par_for_each_mut.ensures k d (omega (arith, lt, same))).1 in
+    let same = c.fork_each.auto.s in
+    let at = (c.fork_each.ensures k d (omega (arith, lt, same))).1 in
     subst (IsSharePicked c.args.parts.now c.args.homes.now c.args.refs.now k) at.left at.call

@@ -4,8 +4,8 @@ use Rattle.reduce_up.specs.Team.{MayReadPart}
 use Rattle.reduce_up.specs.Steps.{IsShareRead}
 use Rattle.reduce_up.proofs.reads.read_all.Goals as goal
 
-pub par_for_each_mut-requires-after_bounds : goal.par_for_each_mut-requires-after_bounds
-par_for_each_mut-requires-after_bounds g c k within =
+pub fork_each-requires-after_bounds : goal.fork_each-requires-after_bounds
+fork_each-requires-after_bounds g c k within =
     let f = c.args.field in let a = c.args.answers.now in
     let long = c.requires.long in
     λ i p lt e. subst (λ (z : ReadShare). MayReadPart f.workers f.roots.now f.parts.now a c.args.level i z.left.items) (sym e) (c.requires.each i p.now (omega (arith, lt, long)))
@@ -15,8 +15,8 @@ returns g c =
     let f = c.args.field in let a = c.args.answers.now in
     let old = c.requires.long in
     record {
-      long = c.par_for_each_mut.auto.s ∙ c.requires.long;
+      long = c.fork_each.auto.s ∙ c.requires.long;
       each = λ k d lt.
-          let at = (c.par_for_each_mut.ensures k d (omega (arith, lt, old))).1 in
+          let at = (c.fork_each.ensures k d (omega (arith, lt, old))).1 in
           subst (IsShareRead f.workers f.roots.now f.parts.now a c.args.level k) at.left at.call;
     }
