@@ -153,7 +153,7 @@ pub(crate) fn level_size(parts: &Parts, workers: u32, level: u16) -> usize
 }
 
 /// A level with fewer records is reduced on the caller's thread: to start the threads that share it takes as long.
-const FEWEST_SHARED: usize = 8192;
+const FEWEST_SHARED: usize = 4096;
 
 /// The diagrams of a level's records, worker by worker, by threads where there are many and several workers; missing nodes are made.
 fn level_answers<R: Threads + Sync, G: Monitor>(

@@ -193,14 +193,14 @@ fn told_shards<R: Threads + Wait + Abort + Sync>(
     ))
 }
 
-// A level of 8,191 records is left to the caller's thread; of one with 8,192 each shard is told once.
+// A level of 4,095 records is left to the caller's thread; of one with 4,096 each shard is told once.
 #[test]
 fn shards_of_a_wide_level(rt: HostRuntime) -> Result<(), Fail> {
-    let few = told_shards(&rt, rt.alloc(), 8_191, 2)?;
+    let few = told_shards(&rt, rt.alloc(), 4_095, 2)?;
     assert!(rt; few == (0, false));
-    let many = told_shards(&rt, rt.alloc(), 8_192, 2)?;
+    let many = told_shards(&rt, rt.alloc(), 4_096, 2)?;
     assert!(rt; many == (0x1111_1111_1111_1111, false));
-    let alone = told_shards(&rt, rt.alloc(), 8_192, 1)?;
+    let alone = told_shards(&rt, rt.alloc(), 4_096, 1)?;
     assert!(rt; alone == (0, false));
     Ok(())
 }
