@@ -48,7 +48,7 @@ pub trait Monitor: Watch + Sync {
 }
 
 /// A wave of more requests is large. This and the numbers below are a choice between what was measured, which docs/PERFORMANCE.md has.
-const LARGE: usize = 1 << 15;
+const LARGE: usize = 3 << 14;
 
 /// Up to so many requests a level is the caller's where the wave is expected to be large.
 const WIDE_IN_LARGE: usize = 1 << 12;

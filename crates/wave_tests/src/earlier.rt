@@ -43,8 +43,8 @@ impl Monitor for Heard {
 const SUMS: usize = 133;
 
 /// Waves that ask, at one level, for the difference of each two of so many sums, the first so many places behind the first sum; and
-/// whether four workers are called in. 92 sums have 4,186 differences, 140 have 9,730, 185 have 17,020, 362 have 65,341 and 370 have
-/// 68,265. Each comes to two requests at least. So those of 185 come to over 32,768, and those of 370 with all before to over 262,144.
+/// whether four workers are called in. 92 sums have 4,186 differences, 140 have 9,730, 223 have 24,753, 362 have 65,341 and 370 have
+/// 68,265. Each comes to two requests at least. So those of 223 come to over 49,152, and those of 370 with all before to over 262,144.
 /// 66 levels with 128 requests each have 8,448.
 const WAVES: [(u16, u16, bool); 9] = [
     (0, 362, false),
@@ -53,7 +53,7 @@ const WAVES: [(u16, u16, bool); 9] = [
     (872, 140, true),
     (1012, 92, false),
     (1104, 92, false),
-    (1196, 185, false),
+    (1196, 223, false),
     (1496, 140, true),
     (1636, 92, false),
 ];
@@ -92,7 +92,7 @@ fn call_in<R: Threads + Wait + Abort + Sync>(
 }
 
 // Four workers are called in at a level of more than 65,536 requests, and at one of more than 4,096 where the engine has done 262,144
-// requests and one of its last two waves had more than 32,768, where the levels from there on have 128 on average: 4,186 at one level
+// requests and one of its last two waves had more than 49,152, where the levels from there on have 128 on average: 4,186 at one level
 // never do it here. So are two, and one never is.
 #[test]
 fn workers_after_large_waves(rt: HostRuntime) -> Result<(), Fail> {
