@@ -7,11 +7,11 @@
 //! was so (`memory`); requests are never too many (`unbounded`). `Sought` knows which entries a computed table answers, and puts
 //! answers and computed table together (`Sought::settle`: `answers`, `kept`, `refused`).
 //!
-//! **Only tests show** when threads share a level (8,192 records, two workers), how many, and that every width answers
+//! **Only tests show** when threads share a level (4,096 records, two workers), how many, and that every width answers
 //! what the workers on one thread do (`wave_tests`).
 //!
 //! **Begin** with `waves`; a level goes to `narrow`, or by threads to `wide` with `reads`, `division` and `picking`.
-//! `forks` starts the threads of `reads` and `picking`.
+//! `forks` has the map by threads of `reads` and `picking`, and of others (`fork_each`), which all the caller's thread starts.
 //! What a wave comes to is in `specs/Waves`, what threads share in `specs/Team`.
 #![tactic(auto)]
 
