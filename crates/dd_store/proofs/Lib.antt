@@ -1,5 +1,6 @@
 pub mod Adding
 pub mod AddingAll
+pub mod Apart
 pub mod Canonical
 pub mod Growing
 pub mod Lacking

@@ -1,9 +1,9 @@
 -- What is done to the first part of a slice and to its rest is done to the whole.
-use Rattle.std.proofs.Common.{◌≡◌, ℕ, ◌+◌, ◌-◌, ◌<◌, List, [], ◌∷◌, ◌++◌, length, get_or, set, refl, sym, ap, ◌∙◌, subst, ⊎_elim, arith, length-append, MutBor}
-use Rattle.std.proofs.lemmas.List.{get_or_append_left, get_or-append_right}
-use Rattle.std.proofs.lemmas.Bool.{cases_lt}
+use Rattle.std.proofs.Common.{◌≡◌, ℕ, ◌+◌, ◌<◌, List, [], ◌∷◌, ◌++◌, length, get_or, set, refl, sym, ap, ◌∙◌, subst, arith, length-append, MutBor}
+use Rattle.std.proofs.lemmas.List.{get_or-append_right}
 use denote.Param.Members.{Shared}
 use Rattle.std.specs.Fork.{ChangesAt}
+use Rattle.dd_store.proofs.Apart.{of_both}
 use Rattle.reduce_up.specs.Forks.{AcceptsFrom, ChangesFrom}
 
 module _ {F T : Type 0} (g : Shared F (ℕ × (MutBor T × Unit {0})) ((Unit {0}) × (MutBor T × Unit {0}))) (f : F) where
@@ -44,10 +44,5 @@ module _ {F T : Type 0} (g : Shared F (ℕ × (MutBor T × Unit {0})) ((Unit {0}
       let sum : length all ≡ n + length ys = ap length e ∙ (length-append xs ys ∙ ap (λ m. m + length ys) l) in
       record {
         len = omega (arith, sum, length-append xs' ys', a.len, b.len, l);
-        each = λ k d lt. ⊎_elim
-            (λ low. changes_moved refl (sym (ap (λ l. get_or l k d) e ∙ get_or_append_left xs ys d k (omega (arith, low, l))))
-            (sym (get_or_append_left xs' ys' d k (omega (arith, low, l, a.len)))) (a.each k d (omega (arith, low, l))))
-            (λ high. changes_moved (omega (arith, high)) (sym (ap (λ l. get_or l k d) e ∙ get_or-append_right xs ys n k d l high))
-            (sym (get_or-append_right xs' ys' n k d (a.len ∙ l) high)) (b.each (k - n) d (omega (arith, sum, lt, high))))
-            (cases_lt k n);
+        each = of_both (ChangesAt g f) base n all xs ys xs' ys' e l a.len a.each b.each;
       }
