@@ -8,7 +8,7 @@ use Rattle.std.proofs.Math.ListN as listn
 use Rattle.dd_store.specs.Nodes.{Nodes}
 use Rattle.req_table.specs.declared.Key.{Key}
 use Rattle.req_table.specs.declared.Record.{Record}
-use Rattle.req_table.specs.declared.owned.Owned.{Owned}
+use Rattle.req_table.specs.declared.placed.Placed.{Placed}
 use Rattle.req_table.specs.Keys.{record_of, wave_of, IsChildIn}
 use Rattle.req_table.specs.Settled.{IsSplit, key_of, asked, asked_by}
 use Rattle.expand_work.specs.Due.{asked_of, due_by}
@@ -33,7 +33,7 @@ pub recorded-at : (S : Nodes) (tables : List (List Key)) (u : ℕ) → at (recor
 recorded-at S tables u = listn.get_or-map (records_of S) tables u []
 
 -- one more key of a row
-pub row_more : (S : Nodes) (n : ℕ) (ps qs : List (Owned × Owned)) (x : Key) (r : Record) (low high : Owned) (keys : List Key) (i : ℕ) (xs ys zs : List (List (ℕ × Key))) → i < length keys
+pub row_more : (S : Nodes) (n : ℕ) (ps qs : List (Placed × Placed)) (x : Key) (r : Record) (low high : Placed) (keys : List Key) (i : ℕ) (xs ys zs : List (List (ℕ × Key))) → i < length keys
     → (ps ≡ lean_row n (records_of S (take i keys))) × (length xs ≡ n) × ((k : ℕ) → k < n → at xs k ≡ with_levels S (filter (owned_by n k) (asked_by (records_of S (take i keys)))))
     → x ≡ get_or keys i x → r ≡ record_of S x → IsChildIn S r.low × IsChildIn S r.high → qs ≡ ps ++ (low, high) ∷ [] → low ≡ lean n r.low → high ≡ lean n r.high
     → ((k : ℕ) → k < n → at ys k ≡ at xs k ++ filter (asked_of n k) (due_by r.low)) → length zs ≡ n → ((k : ℕ) → k < n → at zs k ≡ at ys k ++ filter (asked_of n k) (due_by r.high))
@@ -68,11 +68,11 @@ pub row_of_all : (rs : List (List (List Record))) (spaces : List Space) (k v : �
     → (v < length own.rows) × (at own.rows v ≡ lean_row (length rs) (row_of rs k v))
 row_of_all rs spaces k v own all kb vb is =
     let n = length rs in
-    let long : length spaces ≡ n = sym (length-map spaces rows_in) ∙ ap (λ (ls : List (List (List (Owned × Owned)))). length ls) all ∙ length-map rs (map (lean_row n)) in
+    let long : length spaces ≡ n = sym (length-map spaces rows_in) ∙ ap (λ (ls : List (List (List (Placed × Placed)))). length ls) all ∙ length-map rs (map (lean_row n)) in
     let here : own.rows ≡ map (lean_row n) (get_or rs k []) =
-    ap rows_in is ∙ sym (get_or-map rows_in spaces k own [] (omega (arith, kb, long))) ∙ ap (λ (ls : List (List (List (Owned × Owned)))). get_or ls k []) all ∙ listn.get_or-map (map (lean_row n)) rs k [] in (
-      (let e = ap (λ (r : List (List (Owned × Owned))). length r) here ∙ length-map (get_or rs k []) (lean_row n) in omega (arith, e, vb)),
-      ap (λ (r : List (List (Owned × Owned))). at r v) here ∙ listn.get_or-map (lean_row n) (get_or rs k []) v [],
+    ap rows_in is ∙ sym (get_or-map rows_in spaces k own [] (omega (arith, kb, long))) ∙ ap (λ (ls : List (List (List (Placed × Placed)))). get_or ls k []) all ∙ listn.get_or-map (map (lean_row n)) rs k [] in (
+      (let e = ap (λ (r : List (List (Placed × Placed))). length r) here ∙ length-map (get_or rs k []) (lean_row n) in omega (arith, e, vb)),
+      ap (λ (r : List (List (Placed × Placed))). at r v) here ∙ listn.get_or-map (lean_row n) (get_or rs k []) v [],
     )
 
 -- ---- how many children there are, and how many records
@@ -80,23 +80,23 @@ sum_map : {X Y : Type 0} (f : Y → ℕ) (g : X → Y) (xs : List X) → sum_by 
 sum_map f g [] = refl
 sum_map f g (x ∷ xs) = sum_by-cons f (g x) (map g xs) ∙ ap (λ n. f (g x) + n) (sum_map f g xs) ∙ sym (sum_by-cons (λ x. f (g x)) x xs)
 
-lean_levels : (n : ℕ) (levels : List (List Record)) → sum_by (λ (row : List (Owned × Owned)). length row) (map (lean_row n) levels) ≡ sum_by (λ (row : List Record). length row) levels
+lean_levels : (n : ℕ) (levels : List (List Record)) → sum_by (λ (row : List (Placed × Placed)). length row) (map (lean_row n) levels) ≡ sum_by (λ (row : List Record). length row) levels
 lean_levels n [] = refl
 lean_levels n (r ∷ rs) =
-    let a = sum_by-cons (λ (row : List (Owned × Owned)). length row) (lean_row n r) (map (lean_row n) rs) in
+    let a = sum_by-cons (λ (row : List (Placed × Placed)). length row) (lean_row n r) (map (lean_row n) rs) in
     let b = sum_by-cons (λ (row : List Record). length row) r rs in
-    let l = length-map {B = Owned × Owned} r (λ (x : Record). (lean n x.low, lean n x.high)) in
+    let l = length-map {B = Placed × Placed} r (λ (x : Record). (lean n x.low, lean n x.high)) in
     let i = lean_levels n rs in
     omega (arith, a, b, l, i)
 
-lean_all : (n : ℕ) (records : List (List (List Record))) → sum_by (λ (levels : List (List (Owned × Owned))). sum_by (λ (row : List (Owned × Owned)). length row) levels) (map (map (lean_row n)) records) ≡ count_in records
+lean_all : (n : ℕ) (records : List (List (List Record))) → sum_by (λ (levels : List (List (Placed × Placed))). sum_by (λ (row : List (Placed × Placed)). length row) levels) (map (map (lean_row n)) records) ≡ count_in records
 lean_all n [] = refl
 lean_all n (r ∷ rs) =
-    sum_by-cons (λ (levels : List (List (Owned × Owned))). sum_by (λ (row : List (Owned × Owned)). length row) levels) (map (lean_row n) r) (map (map (lean_row n)) rs)
+    sum_by-cons (λ (levels : List (List (Placed × Placed))). sum_by (λ (row : List (Placed × Placed)). length row) levels) (map (lean_row n) r) (map (map (lean_row n)) rs)
     ∙ (λ i. lean_levels n r i + lean_all n rs i)
     ∙ sym (sum_by-cons (λ (levels : List (List Record)). sum_by (λ (row : List Record). length row) levels) r rs)
 
-pub lean_count : (records : List (List (List Record))) (spaces : List Space) → AreLean records (map rows_in spaces) → sum_by (λ (s : Space). sum_by (λ (row : List (Owned × Owned)). length row) s.rows) spaces ≡ count_in records
+pub lean_count : (records : List (List (List Record))) (spaces : List Space) → AreLean records (map rows_in spaces) → sum_by (λ (s : Space). sum_by (λ (row : List (Placed × Placed)). length row) s.rows) spaces ≡ count_in records
 lean_count records spaces lean =
-    let f : List (List (Owned × Owned)) → ℕ = λ levels. sum_by (λ (row : List (Owned × Owned)). length row) levels in
+    let f : List (List (Placed × Placed)) → ℕ = λ levels. sum_by (λ (row : List (Placed × Placed)). length row) levels in
     sym (sum_map f rows_in spaces) ∙ ap (λ rows. sum_by f rows) lean ∙ lean_all (length records) records

@@ -30,7 +30,7 @@ use Rattle.expand_work.proofs.Parting.{ends_of_closed}
 use Rattle.expand_work.proofs.Hearing.{stays_on}
 use Rattle.expand_work.proofs.Leaning.{keys_of_records, split_records, recorded-at}
 use Rattle.expand_work.specs.Lean.{lean_row, records_of, recorded}
-use Rattle.req_table.specs.declared.owned.Owned.{Owned}
+use Rattle.req_table.specs.declared.placed.Placed.{Placed}
 use mathlib.Core.Logic.{dite}
 use native.Mathlib.Decide.{ℕ_discrete}
 use Rattle.std.specs.Prelude.{slice_index_or}
@@ -118,7 +118,7 @@ module _ (l : LanesView) (s : Nodes) (roots : List Key) (v : ℕ) (w : Worker) (
         ∙ (let a = h.level.ended k kb in let z = ends-asked w.port.number (at w.due k) in omega (arith, a, z))
 
     -- ---- the level's Ends were sent, and it was closed
-    module _ (p2 p3 : PortView) (clock : Counts) (heldt tables : List (List Key)) (row : List (Owned × Owned)) (due : List (List (ℕ × Key))) (taken rows : List (List (Owned × Owned)))
+    module _ (p2 p3 : PortView) (clock : Counts) (heldt tables : List (List Key)) (row : List (Placed × Placed)) (due : List (List (ℕ × Key))) (taken rows : List (List (Placed × Placed)))
         (vb : v < s.levels) (stay1 : StaysClosed (lanes_scope l) p.taken q.taken w.tables heldt)
         (s2 : SentToAll q p2 (length l.lanes) (λ k. End q.number v ∷ []) (λ k. 1))
         (s3 : p3 ≡ record p2 { popped = p3.popped; taken = p3.taken })

@@ -26,7 +26,7 @@ use Rattle.expand_work.specs.Work.{at, owned_by, lanes_wave, with_levels, keys_i
 use Rattle.expand_work.specs.Working.{IsWorking}
 use Rattle.expand_work.specs.Worked.{IsFresh, IsWorked}
 use Rattle.expand_work.specs.Lean.{lean_row, records_of, recorded}
-use Rattle.req_table.specs.declared.owned.Owned.{Owned}
+use Rattle.req_table.specs.declared.placed.Placed.{Placed}
 use Rattle.expand_work.proofs.Waves.{lanes_laws, part_in_wave}
 use Rattle.expand_work.proofs.Levels.{ends_whole, loads-none}
 use Rattle.expand_work.proofs.Owing.{keys_levels}
@@ -35,7 +35,7 @@ use Rattle.expand_work.proofs.Leaning.{recorded-at}
 use Rattle.expand_work.proofs.Rounds.{keys_held}
 
 -- rows that are the children of their levels' records, one by one
-leans : (S : Nodes) (n : ℕ) (tables : List (List Key)) (rows : List (List (Owned × Owned))) → length rows ≡ length tables → ((u : ℕ) → u < length tables → at rows u ≡ lean_row n (records_of S (at tables u))) → rows ≡ map (lean_row n) (recorded S tables)
+leans : (S : Nodes) (n : ℕ) (tables : List (List Key)) (rows : List (List (Placed × Placed))) → length rows ≡ length tables → ((u : ℕ) → u < length tables → at rows u ≡ lean_row n (records_of S (at tables u))) → rows ≡ map (lean_row n) (recorded S tables)
 leans S n tables rows long each =
     ext_get_or [] rows (map (lean_row n) (recorded S tables)) (long ∙ sym (length-map (recorded S tables) (lean_row n) ∙ length-map tables (records_of S)))
     (λ u ub. each u (omega (arith, ub, long)) ∙ ap (lean_row n) (sym (recorded-at S tables u)) ∙ sym (listn.get_or-map (lean_row n) (recorded S tables) u []))
@@ -68,7 +68,7 @@ starts_heard c taken clock tables nothing clock-is tables-is = record {
   tabled = λ u ub. subst (λ xs. IsDistinctOf (asks_at u xs) (at tables u)) (sym nothing) (sym (ap (λ ts. get_or ts u []) tables-is ∙ get_or-replicate c.levels u [] [] ub));
 }
 
-pub starts_working : (l : LanesView) (S : Nodes) (roots : List Key) (p : PortView) (clock : Counts) (tables : List (List Key)) (noted : List (List ℕ)) (rows : List (List (Owned × Owned))) (due : List (List (ℕ × Key))) (spare : Unit {0})
+pub starts_working : (l : LanesView) (S : Nodes) (roots : List Key) (p : PortView) (clock : Counts) (tables : List (List Key)) (noted : List (List ℕ)) (rows : List (List (Placed × Placed))) (due : List (List (ℕ × Key))) (spare : Unit {0})
     → IsPortOf l p → p.number < length l.lanes → IsFresh p → l.sizes ≡ sizes_of S → IsSound S → All (IsKey S) roots
     → clock ≡ record { levels = S.levels; ended = replicate (length l.lanes) 0 } → tables ≡ replicate S.levels [] → noted ≡ replicate (length l.lanes) [] → rows ≡ replicate S.levels [] → length due ≡ length l.lanes
     → ((k : ℕ) → k < length l.lanes → at due k ≡ with_levels S (filter (owned_by (length l.lanes) k) (dealt_from (length l.lanes) p.number 0 roots)))

@@ -2,7 +2,7 @@
 use Rattle.std.specs.Prelude.{◌≡◌, ℕ, List, [], replicate}
 use Rattle.dd_store.specs.Nodes.{Nodes}
 use Rattle.req_table.specs.declared.Record.{Record}
-use Rattle.req_table.specs.declared.owned.Owned.{Owned}
+use Rattle.req_table.specs.declared.placed.Placed.{Placed}
 use Rattle.expand_work.specs.Lean.{recorded}
 use Rattle.expand_work.specs.declared.space.Space.{Space}
 
@@ -17,7 +17,7 @@ abbrev pub records_in : Nodes → Space → List (List Record)
 records_in S s = recorded S s.tables
 
 -- the children of all its requests, by level
-abbrev pub rows_in : Space → List (List (Owned × Owned))
+abbrev pub rows_in : Space → List (List (Placed × Placed))
 rows_in s = s.rows
 
 -- the places that it noted, by sender

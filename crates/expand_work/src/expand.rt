@@ -10,7 +10,7 @@ use crate::due::Due;
 use crate::{Spare, Splits};
 use dd_store::Store;
 use req_table::requests::{level_of, owner};
-use req_table::{Child, Key, Owned, Table};
+use req_table::{Child, Key, Placed, Row, Table};
 use std::alloc::AllocError;
 
 // The request becomes due from the key's owner, which is answered.
@@ -33,13 +33,13 @@ fn push_key(
     Ok(owner)
 }
 
-// A child in eight bytes. One that is asked for becomes due from its owner.
+// A child as a worker keeps it. One that is asked for becomes due from its owner.
 fn push_child(
     due: &mut Due,
     spare: &mut Spare,
     child: Child,
     workers: u32,
-) -> Result<Owned, AllocError>
+) -> Result<Placed, AllocError>
     requires long { length due.old ≡ workers }
     requires some { 0 < workers }
     ensures lean { IfOk result (λ p. p ≡ lean workers child) }
@@ -48,10 +48,10 @@ fn push_child(
         → at due.new k ≡ at due.old k ++ filter (asked_of workers k) (due_by child)) }
 {
     match child {
-        Child::Done(answer) => Ok(Owned::done(answer)),
+        Child::Done(answer) => Ok(Placed::done(answer)),
         Child::Ask { level, key, mark } => {
             let owner = push_key(due, spare, level, key, workers)?;
-            Ok(Owned::ask(level, owner, mark))
+            Ok(Placed::ask(level, owner, mark))
         }
     }
 }
@@ -62,15 +62,15 @@ pub fn expand_row(
     store: &Store,
     keys: &Table,
     workers: u32,
-    row: Vec<(Owned, Owned)>,
+    row: Row,
     due: Due,
     spare: &mut Spare,
-) -> Result<(Vec<(Owned, Owned)>, Due, usize), AllocError>
+) -> Result<(Row, Due, usize), AllocError>
     requires keys { All (IsKey store.now) keys.now }
     requires some { 0 < workers }
-    requires empty { row.items ≡ [] }
+    requires empty { row ≡ [] }
     requires none { due ≡ replicate workers [] }
-    ensures row { IfOk result (λ r. r.0.items ≡ lean_row workers (records_of store.now keys.now)) }
+    ensures row { IfOk result (λ r. r.0 ≡ lean_row workers (records_of store.now keys.now)) }
     ensures long { IfOk result (λ r. length r.1 ≡ workers) }
     ensures count { IfOk result (λ r. r.2 ≡ length keys.now) }
     ensures due { IfOk result (λ r. (k : ℕ) → k < workers
@@ -80,7 +80,7 @@ pub fn expand_row(
     let mut due = due;
     let mut splits = Splits::new();
     let count = keys.len();
-    row.reserve_exact(count)?;
+    row.reserve(count)?;
     for place in 0..count {
         let record = splits.split(store, keys.key_at(place));
         let low = push_child(&mut due, spare, record.low, workers)?;

@@ -4,7 +4,7 @@ ghost use Rattle.std.specs.List.{sum_by};
 ghost use Rattle.expand_work.specs.Noted.{EntersAt};
 ghost use Rattle.expand_work.specs.Work.{at};
 
-use req_table::{Key, Owned, Table};
+use req_table::{Key, Row, Table};
 use std::alloc::{AllocError, Global};
 use std::marker::Model;
 use std::mem;
@@ -15,6 +15,15 @@ fn clear_all<T: Copy>(lists: &mut Vec<Vec<T>>)
 {
     for place in 0..lists.len() {
         lists[place].clear();
+    }
+}
+
+// Removes all children of each row.
+fn clear_rows(rows: &mut Vec<Row>)
+    ensures { rows.new.items ≡ replicate (length rows.old.items) [] }
+{
+    for place in 0..rows.len() {
+        rows[place].clear();
     }
 }
 
@@ -140,22 +149,19 @@ impl Tables {
     }
 }
 
-// What a request takes in its row.
-const _: () = prove!(size_of::<(Owned, Owned)>() == 16);
-
-/// One row for each level: the children of each request, low and high. One that is asked for is told by its owner.
+/// One row for each level: the children of each request, low and high. The number of one that is asked for is its owner.
 #[derive(Drop)]
 pub struct Rows {
-    rows: Vec<Vec<(Owned, Owned)>>,
+    rows: Vec<Row>,
 }
 
 impl Model for Rows {
-    ghost use Rattle.std.specs.Prelude.{List, map};
-    ghost use Rattle.req_table.specs.declared.owned.Owned.{Owned};
+    ghost use Rattle.std.specs.Prelude.{List};
+    ghost use Rattle.req_table.specs.declared.placed.Placed.{Placed};
 
-    ghost Value = { List (List (Owned × Owned)) };
+    ghost Value = { List (List (Placed × Placed)) };
 
-    ghost view = { λ r. map (λ row. row.items) r.rows.items };
+    ghost view = { λ r. r.rows.items };
 }
 
 impl Rows {
@@ -165,7 +171,7 @@ impl Rows {
     {
         let mut rows = Vec::new(alloc);
         for made in 0..count {
-            rows.push(Vec::new(alloc))?;
+            rows.push(Row::new(alloc))?;
         }
         Ok(Rows { rows })
     }
@@ -178,31 +184,31 @@ impl Rows {
         if rows.len() != count as usize {
             return Rows::new(alloc, count);
         }
-        clear_all(&mut rows);
+        clear_rows(&mut rows);
         Ok(Rows { rows })
     }
 
     /// An empty row, in the memory of that of a level, which is taken out.
-    pub fn take(&mut self, alloc: Global, level: u16) -> Vec<(Owned, Owned)>
+    pub fn take(&mut self, alloc: Global, level: u16) -> Row
         requires { level < length self.old }
         ensures rows { self.new ≡ slice_set self.old level [] }
-        ensures empty { result.items ≡ [] }
+        ensures empty { result ≡ [] }
     {
-        let mut row = mem::replace(&mut self.rows[level as usize], Vec::new(alloc));
+        let mut row = mem::replace(&mut self.rows[level as usize], Row::new(alloc));
         row.clear();
         row
     }
 
     /// Puts the row of a level in.
-    pub fn put(&mut self, level: u16, row: Vec<(Owned, Owned)>)
+    pub fn put(&mut self, level: u16, row: Row)
         requires { level < length self.old }
-        ensures { self.new ≡ slice_set self.old level row.items }
+        ensures { self.new ≡ slice_set self.old level row }
     {
         self.rows[level as usize] = row;
     }
 
     /// The children of a level's requests, by place.
-    pub fn row(&self, level: u16) -> &[(Owned, Owned)]
+    pub fn row(&self, level: u16) -> &Row
         requires { level < length self.now }
         ensures { result.now ≡ at self.now level }
     {

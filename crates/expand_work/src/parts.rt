@@ -11,7 +11,7 @@ use crate::team::{Wave, run_workers};
 use crate::{Crew, Monitor, Part, Space, Spaces, WaveFault};
 use dd_store::Store;
 use lane_queue::{Lanes, Port};
-use req_table::{Key, Owned, Table};
+use req_table::{Key, Row, Table};
 use std::alloc::{AllocError, Global};
 use std::marker::Model;
 use std::snapshot::Snapshot;
@@ -39,9 +39,8 @@ impl Model for Parts {
 }
 
 impl Parts {
-    /// The children of a worker's requests of a level, low and high, by place. Of one that is asked for this tells the level, the
-    /// owner and the mark.
-    pub fn children(&self, worker: u32, level: u16) -> &[(Owned, Owned)]
+    /// The children of a worker's requests of a level, low and high, by place. The number of one that is asked for is its owner.
+    pub fn children(&self, worker: u32, level: u16) -> &Row
         requires worker { worker < length self.now.rows }
         requires level { level < length (slice_index_or self.now.rows worker []) }
         ensures { result.now ≡ lean_row (length self.now.rows) (row_of self.now.rows worker level) }

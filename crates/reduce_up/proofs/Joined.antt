@@ -3,7 +3,7 @@ use Rattle.std.proofs.Common.{◌≡◌, ◌≢◌, ℕ, zero, suc, ◌+◌, ◌
 use Rattle.std.specs.List.{AllZip}
 use Rattle.std.specs.declared.vec.Vec.{Vec}
 use Rattle.std.specs.declared.alloc.Global.{Global}
-use Rattle.std.proofs.lemmas.List.{get_or-map, length-map, take_all, reverse-reverse, get_or_default, get_or_append_left}
+use Rattle.std.proofs.lemmas.List.{length-map, take_all, reverse-reverse, get_or_default, get_or_append_left}
 use Rattle.std.proofs.Math.Seq.{get_or-append_seam}
 use Rattle.std.specs.Prelude.{Result, Ok, Err, OnOk}
 use Rattle.std.specs.declared.alloc.AllocError.{AllocError}
@@ -148,14 +148,13 @@ some_of [] l = absurd (omega (arith, l))
 some_of (x ∷ xs) l = x
 
 -- the workers' diagrams of a level, one behind the other
-pub in_row : (R : Record → Ref → Type 0) (rows : ℕ → ℕ → List Record) (v : ℕ) (answers : List (Vec Ref Global)) (n : ℕ) → n ≤ length answers → ((k : ℕ) (d : Vec Ref Global) → k < n → AllZip R (rows k v) (get_or answers k d).items)
-    → AllZip R (level_of_rows n rows v) (in_turn n (map (λ (w : Vec Ref Global). w.items) answers))
+pub in_row : (R : Record → Ref → Type 0) (rows : ℕ → ℕ → List Record) (v : ℕ) (answers : List (List Ref)) (n : ℕ) → n ≤ length answers → ((k : ℕ) (d : List Ref) → k < n → AllZip R (rows k v) (get_or answers k d))
+    → AllZip R (level_of_rows n rows v) (in_turn n answers)
 in_row R rows v answers zero l f = tt
 in_row R rows v answers (suc n) l f =
-    let d = some_of answers (omega (arith, l)) in
-    zip_append R (level_of_rows n rows v) (rows n v) (in_turn n (map (λ (w : Vec Ref Global). w.items) answers)) (get_or (map (λ (w : Vec Ref Global). w.items) answers) n [])
+    zip_append R (level_of_rows n rows v) (rows n v) (in_turn n answers) (get_or answers n [])
     (in_row R rows v answers n (omega (arith, l)) (λ k e b. f k e (omega (arith, b))))
-    (subst (λ z. AllZip R (rows n v) z) (sym (get_or-map (λ (w : Vec Ref Global). w.items) answers n d [] (omega (arith, l)))) (f n d (omega arith)))
+    (f n [] (omega arith))
 
 -- the records of a level were read and divided
 module _ (n : ℕ) (roots : List Key) (p : PartsView) (a : AnswersView) (v : ℕ) (parts : List (Vec (Vec Pair Global) Global)) (homes : List Homes) (lefts : List (Vec ℕ Global)) (D : AreDividedBy n roots p a v n parts homes lefts) where
@@ -240,12 +239,12 @@ module _ (n : ℕ) (roots : List Key) (p : PartsView) (a : AnswersView) (v : ℕ
           (zip_chosen (IsAnswered results T v) hs read (reverse answers) (sym own_part.long) picked.long own_part.within
           (λ s l. dite (ℕ_discrete s 16) (λ e. subst (λ z. AllZip (IsAnswered results T v) (chosen z hs read) (chosen z hs (reverse answers))) (sym e) of_equal) (λ m. of_shard s (grind (arith, l, m))))))
 
-    pub all_made : (answers : List (Vec Ref Global)) → ArePicked parts homes refs n answers → AreMadeOf n p a T v n answers
+    pub all_made : (answers : List (List Ref)) → ArePicked parts homes refs n answers → AreMadeOf n p a T v n answers
     all_made answers q = record {
       long = q.long;
       each = λ k d l.
           let h = get_or homes k (some_of homes (let e = D.many_homes in omega (arith, e, l))) in
-          part_made k l h (λ e. get_or_default homes k e (some_of homes (let e = D.many_homes in omega (arith, e, l))) (let e = D.many_homes in omega (arith, e, l))) (get_or answers k d).items
+          part_made k l h (λ e. get_or_default homes k e (some_of homes (let e = D.many_homes in omega (arith, e, l))) (let e = D.many_homes in omega (arith, e, l))) (get_or answers k d)
           (q.each k d (some_of homes (let e = D.many_homes in omega (arith, e, l))) l);
     }
 
@@ -330,25 +329,25 @@ read_one n roots p a v shares done rest t x h whole is =
     let own = subst (IsShareRead n roots p a v (length done)) (ap (λ (z : List ReadShare). get_or z (length done) t) at ∙ get_or-append_seam done t rest t) (h.each (length done) t (omega (arith, long, all))) in
     subst (λ (z : Result (Unit {0}) AllocError). OnOk z (IsPartRead n roots p a v (length done) t.divided t.left.items)) is own
 
-pub picked_more : (parts : List (Vec (Vec Pair Global) Global)) (homes : List Homes) (refs : List (Vec Ref Global)) (m : ℕ) (answers answers' : List (Vec Ref Global)) (x : Vec Ref Global) → ArePicked parts homes refs m answers → ((h : Homes) → IsPickedOf parts refs m (get_or homes m h) x.items) → answers' ≡ answers ++ x ∷ [] → ArePicked parts homes refs (m + 1) answers'
+pub picked_more : (parts : List (Vec (Vec Pair Global) Global)) (homes : List Homes) (refs : List (Vec Ref Global)) (m : ℕ) (answers answers' : List (List Ref)) (x : List Ref) → ArePicked parts homes refs m answers → ((h : Homes) → IsPickedOf parts refs m (get_or homes m h) x) → answers' ≡ answers ++ x ∷ [] → ArePicked parts homes refs (m + 1) answers'
 picked_more parts homes refs m answers answers' x o own is = record {
   long = one_longer answers answers' x m o.long is;
   each = λ k d h l. dite (ℕ_discrete k m)
-      (λ q. subst (λ j. IsPickedOf parts refs j (get_or homes j h) (get_or answers' j d).items) (sym q) (subst (λ (u : Vec Ref Global). IsPickedOf parts refs m (get_or homes m h) u.items) (sym (at_seam answers answers' x d m o.long is)) (own h)))
-      (λ q. let lt : k < m = grind (arith, l, q) in subst (λ (u : Vec Ref Global). IsPickedOf parts refs k (get_or homes k h) u.items) (sym (at_left answers answers' x d m k o.long lt is)) (o.each k d h lt));
+      (λ q. subst (λ j. IsPickedOf parts refs j (get_or homes j h) (get_or answers' j d)) (sym q) (subst (λ (u : List Ref). IsPickedOf parts refs m (get_or homes m h) u) (sym (at_seam answers answers' x d m o.long is)) (own h)))
+      (λ q. let lt : k < m = grind (arith, l, q) in subst (λ (u : List Ref). IsPickedOf parts refs k (get_or homes k h) u) (sym (at_left answers answers' x d m k o.long lt is)) (o.each k d h lt));
 }
 
 -- one of the parts' answers
 pub picked_one : (parts : List (Vec (Vec Pair Global) Global)) (homes : List Homes) (refs : List (Vec Ref Global)) (shares done rest : List PickShare) (t : PickShare) (x : Unit {0})
-    → AreAllPicked parts homes refs shares → (done ++ t ∷ []) ++ rest ≡ shares → t.done ≡ Ok x → (h : Homes) → IsPickedOf parts refs (length done) (get_or homes (length done) h) t.answers.items
+    → AreAllPicked parts homes refs shares → (done ++ t ∷ []) ++ rest ≡ shares → t.done ≡ Ok x → (h : Homes) → IsPickedOf parts refs (length done) (get_or homes (length done) h) t.answers
 picked_one parts homes refs shares done rest t x f whole is h =
     let at : shares ≡ done ++ t ∷ rest = sym whole ∙ append_assoc done (t ∷ []) rest in
     let long = ap (λ z. length z) at ∙ length-append done (t ∷ rest) in
     let own = subst (IsSharePicked parts homes refs (length done)) (ap (λ (z : List PickShare). get_or z (length done) t) at ∙ get_or-append_seam done t rest t) (f (length done) t (omega (arith, long))) in
-    subst (λ (z : Result (Unit {0}) AllocError). OnOk z (IsPickedOf parts refs (length done) (get_or homes (length done) h) t.answers.items)) is (own h)
+    subst (λ (z : Result (Unit {0}) AllocError). OnOk z (IsPickedOf parts refs (length done) (get_or homes (length done) h) t.answers)) is (own h)
 
 -- the same of lists that were read elsewhere
-pub picked_as : (parts' : List (Vec (Vec Pair Global) Global)) (homes' : List Homes) (refs' : List (Vec Ref Global)) (parts : List (Vec (Vec Pair Global) Global)) (homes : List Homes) (refs : List (Vec Ref Global)) (n : ℕ) → parts' ≡ parts → homes' ≡ homes → refs' ≡ refs → length homes ≡ n → (answers : List (Vec Ref Global))
+pub picked_as : (parts' : List (Vec (Vec Pair Global) Global)) (homes' : List Homes) (refs' : List (Vec Ref Global)) (parts : List (Vec (Vec Pair Global) Global)) (homes : List Homes) (refs : List (Vec Ref Global)) (n : ℕ) → parts' ≡ parts → homes' ≡ homes → refs' ≡ refs → length homes ≡ n → (answers : List (List Ref))
     → ArePicked parts' homes' refs' (length homes') answers → ArePicked parts homes refs n answers
 picked_as parts' homes' refs' parts homes refs n x y z long answers h =
     subst (λ k. ArePicked parts homes refs k answers) long

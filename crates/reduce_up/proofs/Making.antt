@@ -1,6 +1,7 @@
 -- Nodes that are made one after the other for the records of a row.
-use Rattle.std.proofs.Common.{◌≡◌, ◌≢◌, ℕ, ◌+◌, ◌<◌, ◌≤◌, ◌⊎◌, inl, inr, List, [], ◌∷◌, ◌++◌, length, drop, get_or, set, get_or-set_same, get_or-set_other, length-append, Contains, refl, sym, ap, ◌∙◌, subst, arith}
-use Rattle.std.specs.Prelude.{Err}
+use Rattle.std.proofs.Common.{◌≡◌, ◌≢◌, true≢false, ℕ, ◌+◌, ◌<◌, ◌≤◌, ◌⊎◌, inl, inr, List, [], ◌∷◌, ◌++◌, length, drop, get_or, set, get_or-set_same, get_or-set_other, length-append, Contains, refl, sym, ap, ◌∙◌, subst, arith}
+use Rattle.std.specs.Prelude.{Result, Ok, Err, OnOk, false}
+use Rattle.std.specs.Result.{is_err}
 use Rattle.std.specs.List.{AllZip}
 use mathlib.Core.List.{reverse}
 use Rattle.dd_store.specs.declared.StoreFault.{StoreFault}
@@ -91,8 +92,13 @@ one_refused results T U v row d p c e same Full h = (d, p, c, e, subst (λ z. Is
 pub level_refused : (n : ℕ) (roots : List Key) (p : PartsView) (a : AnswersView) (S : Nodes) (v : ℕ) (T : Nodes) (left : List (Vec ℕ Global)) (f : StoreFault) → IsSound T → AddsRow (told n p a) S T v (team_row n p v) → IsRowRefused (told n p a) T v (team_row n p v) f → AnswersLevel n roots p a S v (Err f) T left
 level_refused n roots p a S v T left f sound adds refused = record { sound = sound; adds = adds; made = tt; lefts = tt; fault = refused }
 
+-- what is said of a value holds where there is one
+pub on_ok : {T E P : Type 0} (r : Result T E) → is_err r ≡ false → OnOk r P → P
+on_ok (Ok x) none h = h
+on_ok (Err e) none h = absurd (true≢false none)
+
 -- so many workers' records have their diagrams
-pub record AreMakingLevel (n : ℕ) (roots : List Key) (p : PartsView) (a : AnswersView) (S : Nodes) (v m : ℕ) (T : Nodes) (answers : List (Vec Ref Global)) (lefts : List (Vec ℕ Global)) : Type 0 where
+pub record AreMakingLevel (n : ℕ) (roots : List Key) (p : PartsView) (a : AnswersView) (S : Nodes) (v m : ℕ) (T : Nodes) (answers : List (List Ref)) (lefts : List (Vec ℕ Global)) : Type 0 where
   pub sound : IsSound T
   pub adds : AddsRow (told n p a) S T v (team_row n p v)
   pub made : AreMadeOf n p a T v m answers
@@ -100,7 +106,7 @@ pub record AreMakingLevel (n : ℕ) (roots : List Key) (p : PartsView) (a : Answ
   pub done : (s : ℕ) (d : Vec ℕ Global) → s < m → AreLeft n (asked_above n roots p s v) (get_or lefts s d).items
   pub todo : (s : ℕ) (d : Vec ℕ Global) → m ≤ s → s < n → AreLeft n (asked_above n roots p s (v + 1)) (get_or lefts s d).items
 
-pub making_none : (n : ℕ) (roots : List Key) (p : PartsView) (a : AnswersView) (S : Nodes) (v : ℕ) (answers : List (Vec Ref Global)) (lefts : List (Vec ℕ Global)) → IsSound S → answers ≡ [] → AreAllLeft n roots p (v + 1) lefts → AreMakingLevel n roots p a S v 0 S answers lefts
+pub making_none : (n : ℕ) (roots : List Key) (p : PartsView) (a : AnswersView) (S : Nodes) (v : ℕ) (answers : List (List Ref)) (lefts : List (Vec ℕ Global)) → IsSound S → answers ≡ [] → AreAllLeft n roots p (v + 1) lefts → AreMakingLevel n roots p a S v 0 S answers lefts
 making_none n roots p a S v answers lefts sound none l = record {
   sound = sound;
   adds = adds_none (told n p a) S v (team_row n p v);
@@ -110,19 +116,19 @@ making_none n roots p a S v answers lefts sound none l = record {
   todo = λ s d b lt. l.each s d lt;
 }
 
-module _ (n : ℕ) (roots : List Key) (p : PartsView) (a : AnswersView) (S : Nodes) (v m : ℕ) (T : Nodes) (answers : List (Vec Ref Global)) (lefts : List (Vec ℕ Global)) (h : AreMakingLevel n roots p a S v m T answers lefts) (mb : m < n) where
-  pub making_more : (U : Nodes) → IsSound U → Extends T U → AddsRow (told n p a) T U v (team_row n p v) → (part : Vec Ref Global) → AllZip (IsAnswered (told n p a) U v) (row_of p.rows m v) part.items → (left : Vec ℕ Global) → AreLeft n (asked_above n roots p m v) left.items
-      → (answers' : List (Vec Ref Global)) → answers' ≡ answers ++ part ∷ [] → AreMakingLevel n roots p a S v (m + 1) U answers' (set lefts m left)
+module _ (n : ℕ) (roots : List Key) (p : PartsView) (a : AnswersView) (S : Nodes) (v m : ℕ) (T : Nodes) (answers : List (List Ref)) (lefts : List (Vec ℕ Global)) (h : AreMakingLevel n roots p a S v m T answers lefts) (mb : m < n) where
+  pub making_more : (U : Nodes) → IsSound U → Extends T U → AddsRow (told n p a) T U v (team_row n p v) → (part : List Ref) → AllZip (IsAnswered (told n p a) U v) (row_of p.rows m v) part → (left : Vec ℕ Global) → AreLeft n (asked_above n roots p m v) left.items
+      → (answers' : List (List Ref)) → answers' ≡ answers ++ part ∷ [] → AreMakingLevel n roots p a S v (m + 1) U answers' (set lefts m left)
   making_more U sound x adds part made left own answers' is = record {
     sound = sound;
     adds = adds_on (told n p a) S T U v (team_row n p v) h.sound h.adds adds;
     made = record {
       long = ap (λ z. length z) is ∙ length-append answers (part ∷ []) ∙ ap (λ z. z + 1) h.made.long;
       each = λ k d l. dite (ℕ_discrete k m)
-          (λ e. subst (λ (z : Vec Ref Global). AllZip (IsAnswered (told n p a) U v) (row_of p.rows k v) z.items) (sym (ap (λ z. get_or z k d) is ∙ ap (λ z. get_or (answers ++ part ∷ []) z d) (e ∙ sym h.made.long) ∙ get_or-append_seam answers part [] d))
-          (subst (λ z. AllZip (IsAnswered (told n p a) U v) (row_of p.rows z v) part.items) (sym e) made))
-          (λ o. let lt : k < m = grind (arith, l, o) in subst (λ (z : Vec Ref Global). AllZip (IsAnswered (told n p a) U v) (row_of p.rows k v) z.items) (sym (ap (λ z. get_or z k d) is ∙ get_or_append_left answers (part ∷ []) d k (let q = h.made.long in omega (arith, lt, q))))
-          (answered_still (told n p a) T U v x (row_of p.rows k v) (get_or answers k d).items (h.made.each k d lt)));
+          (λ e. subst (λ (z : List Ref). AllZip (IsAnswered (told n p a) U v) (row_of p.rows k v) z) (sym (ap (λ z. get_or z k d) is ∙ ap (λ z. get_or (answers ++ part ∷ []) z d) (e ∙ sym h.made.long) ∙ get_or-append_seam answers part [] d))
+          (subst (λ z. AllZip (IsAnswered (told n p a) U v) (row_of p.rows z v) part) (sym e) made))
+          (λ o. let lt : k < m = grind (arith, l, o) in subst (λ (z : List Ref). AllZip (IsAnswered (told n p a) U v) (row_of p.rows k v) z) (sym (ap (λ z. get_or z k d) is ∙ get_or_append_left answers (part ∷ []) d k (let q = h.made.long in omega (arith, lt, q))))
+          (answered_still (told n p a) T U v x (row_of p.rows k v) (get_or answers k d) (h.made.each k d lt)));
     };
     long = length-set lefts m left ∙ h.long;
     done = λ s d l. dite (ℕ_discrete s m)

@@ -7,7 +7,7 @@ use mathlib.Core.List.{reverse}
 use Rattle.std.proofs.Math.Nat.{mod-lt}
 use Rattle.std.proofs.Math.Seq.{get_or-append_seam}
 use Rattle.std.proofs.lemmas.List.Elements.{filter-append}
-use Rattle.std.proofs.lemmas.Option.{slice_get_within, get_or_from_slice_get, slice_get-get_or}
+use Rattle.std.proofs.lemmas.Option.{slice_get_within, get_or_from_slice_get}
 use Rattle.std.specs.declared.vec.Vec.{Vec}
 use Rattle.std.specs.declared.alloc.Global.{Global}
 use mathlib.Core.Logic.{dite}
@@ -18,8 +18,8 @@ use Rattle.req_table.specs.declared.Key.{Key}
 use Rattle.req_table.specs.declared.Child.{Child}
 use Rattle.req_table.specs.declared.Child.TheVariants.{Done, Ask}
 use Rattle.req_table.specs.declared.Record.{Record}
-use Rattle.req_table.specs.declared.owned.Owned.{Owned}
-use Rattle.req_table.specs.declared.owned.OwnedChild.TheVariants as by_owner
+use Rattle.req_table.specs.declared.placed.Placed.{Placed}
+use Rattle.req_table.specs.declared.placed.PlacedChild.TheVariants as by_number
 use Rattle.expand_work.specs.Lean.{lean, lean_row}
 use Rattle.req_table.specs.Keys.{level_of, owner}
 use Rattle.req_table.specs.Settled.{key_of, asked, asked_by, asked_below, dealt_from, level_of_rows}
@@ -278,17 +278,15 @@ inner_some [] (suc k) place b = absurd (omega (arith, b))
 inner_some (x ∷ xs) zero place b = omega arith
 inner_some (x ∷ xs) (suc k) place b = let z = inner_some xs k place b in omega (arith, z)
 
-pub got : (found : List (Vec (Vec Ref Global) Global)) (a : AnswersView) → a ≡ record { found = map (λ (w : Vec (Vec Ref Global) Global). map (λ (v : Vec Ref Global). v.items) w.items) found } → (l k place : ℕ) (level : Vec (Vec Ref Global) Global) (own : Vec Ref Global) (r : Ref)
-    → level ≡ get_or found l level → own ≡ get_or level.items k own → r ≡ get_or own.items place r → place < length (answers_at a l k) → slice_get (answers_at a l k) place ≡ Some r
-got found a is l k place level own r level-is own-is r-is b =
-    let items : Vec (Vec Ref Global) Global → List (List Ref) = λ w. map (λ (v : Vec Ref Global). v.items) w.items in
+pub got : (found : List (Vec (List Ref) Global)) (a : AnswersView) → a ≡ record { found = map (λ (w : Vec (List Ref) Global). w.items) found } → (l k place : ℕ) (level : Vec (List Ref) Global) (own : List Ref)
+    → level ≡ get_or found l level → own ≡ get_or level.items k own → place < length (answers_at a l k) → answers_at a l k ≡ own
+got found a is l k place level own level-is own-is b =
+    let items : Vec (List Ref) Global → List (List Ref) = λ w. w.items in
     let b' : place < length (get_or (get_or (map items found) l []) k []) = subst (λ (z : AnswersView). place < length (answers_at z l k)) is b in
     let f : get_or (map items found) l [] ≡ items level = list_kept items found l level k level-is (inner_some (get_or (map items found) l []) k place b') in
     let b'' : place < length (get_or (items level) k []) = subst (λ (z : List (List Ref)). place < length (get_or z k [])) f b' in
-    let g : get_or (items level) k [] ≡ own.items = list_kept (λ (v : Vec Ref Global). v.items) level.items k own place own-is b'' in
-    let at : answers_at a l k ≡ own.items = ap (λ (z : AnswersView). answers_at z l k) is ∙ ap (λ z. get_or z k []) f ∙ g in
-    subst (λ (z : List Ref). slice_get z place ≡ Some r) (sym at)
-    (slice_get-get_or own.items place r (subst (λ (z : List Ref). place < length z) at b) ∙ ap (λ z. Some z) (sym r-is))
+    let g : get_or (items level) k [] ≡ own = sym (own-is ∙ get_or_default level.items k own [] (inner_some (items level) k place b'')) in
+    ap (λ (z : AnswersView). answers_at z l k) is ∙ ap (λ z. get_or z k []) f ∙ g
 
 -- ---- one child
 pub owned_within : (n : ℕ) (x : Key) → 0 < n → owner n x < n
@@ -326,16 +324,16 @@ module _ (n : ℕ) (p : PartsView) (a : AnswersView) (s : ℕ) (left : List ℕ)
       (subst (λ (z : ℕ × ℕ). slice_get (answers_at a l z.0) z.1 ≡ Some r) (λ i. (k-is i, place-is i)) e)
 
 -- ---- a child in eight bytes
-pub asked_child : (n : ℕ) (e : Owned) (c : Child) (level k : ℕ) (m : Bool) → e ≡ by_owner.Ask level k m → e ≡ lean n c → (x : Key) × (c ≡ Ask level x m) × (k ≡ owner n x)
+pub asked_child : (n : ℕ) (e : Placed) (c : Child) (level k : ℕ) (m : Bool) → e ≡ by_number.Ask level k m → e ≡ lean n c → (x : Key) × (c ≡ Ask level x m) × (k ≡ owner n x)
 asked_child n e (Done r) level k m is f = absurd (let z = sym is ∙ f in cc)
 asked_child n e (Ask l x b) level k m is f =
-    let z : by_owner.Ask level k m ≡ by_owner.Ask l (owner n x) b = sym is ∙ f in
+    let z : by_number.Ask level k m ≡ by_number.Ask l (owner n x) b = sym is ∙ f in
     let at : level ≡ l = cc in let own : k ≡ owner n x = cc in let mark : m ≡ b = cc in
     (x, (λ i. Ask (sym at i) x (sym mark i)), own)
 
-pub done_child : (n : ℕ) (e : Owned) (c : Child) (r : Ref) → e ≡ by_owner.Done r → e ≡ lean n c → c ≡ Done r
+pub done_child : (n : ℕ) (e : Placed) (c : Child) (r : Ref) → e ≡ by_number.Done r → e ≡ lean n c → c ≡ Done r
 done_child n e (Done q) r is f =
-    let z : by_owner.Done r ≡ by_owner.Done q = sym is ∙ f in
+    let z : by_number.Done r ≡ by_number.Done q = sym is ∙ f in
     let a : r ≡ q = cc in ap (λ u. Done u) (sym a)
 done_child n e (Ask l x b) r is f = absurd (let z = sym is ∙ f in cc)
 
@@ -347,7 +345,7 @@ some_record [] i l = absurd (omega (arith, l))
 some_record (r ∷ records) i l = r
 
 -- the record whose children were read
-pub row_read : (n : ℕ) (p : PartsView) (s v : ℕ) (row : List (Owned × Owned)) → row ≡ lean_row (length p.rows) (row_of p.rows s v) → length p.rows ≡ n → (i : ℕ) → i < length (row_of p.rows s v) → (e : Owned × Owned) → e ≡ get_or row i e
+pub row_read : (n : ℕ) (p : PartsView) (s v : ℕ) (row : List (Placed × Placed)) → row ≡ lean_row (length p.rows) (row_of p.rows s v) → length p.rows ≡ n → (i : ℕ) → i < length (row_of p.rows s v) → (e : Placed × Placed) → e ≡ get_or row i e
     → (r : Record) × (r ≡ get_or (row_of p.rows s v) i r) × (e.0 ≡ lean n r.low) × (e.1 ≡ lean n r.high)
 row_read n p s v row is many i l e e-is =
     let own = row_of p.rows s v in

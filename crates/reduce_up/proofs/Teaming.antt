@@ -17,13 +17,12 @@ use Rattle.req_table.specs.Settled.{asked_by, level_of_rows}
 use Rattle.expand_work.specs.Expanded.{row_of}
 use Rattle.reduce_up.specs.Team.{AnswersView, answers_at, in_turn, team_row, levels_told, told, asked_above, AreLeft, AreAllLeft, AreMadeOf, IsLevelDone, IsHalfway}
 use Rattle.dd_store.specs.Nodes.{IsSound}
-use Rattle.std.proofs.lemmas.List.{get_or-map}
 use Rattle.expand_work.proofs.Zips.{zip_long}
 use Rattle.reduce_up.specs.Reducing.{AreAnswers, IsRow, IsRowReduced}
 use Rattle.reduce_up.specs.Sharing.{IsAnswered, AddsRow}
 use Rattle.reduce_up.proofs.Placing.{row_notes}
 use Rattle.reduce_up.proofs.Shared.{noted}
-use Rattle.reduce_up.proofs.Joined.{some_of, in_row}
+use Rattle.reduce_up.proofs.Joined.{in_row}
 use Rattle.reduce_up.proofs.Reading.{told_at, told_set, told-long, turn-none, turn-long, paired-none, before_whole}
 
 pub no_items : {X : Type 0} (xs : List X) → length xs ≡ 0 → xs ≡ []
@@ -115,23 +114,17 @@ module _ (n : ℕ) (roots : List Key) (p : PartsView) (v : ℕ) (a : AnswersView
   }
 
 -- ---- the diagrams of all workers are put in
-module _ (n : ℕ) (roots : List Key) (p : PartsView) (v : ℕ) (a : AnswersView) (h : IsHalfway n roots p (v + 1) a) (lb : v < length a.found) (T : Nodes) (answers : List (Vec Ref Global)) (made : AreMadeOf n p a T v n answers)
-    (new : AnswersView) (is : new ≡ record { found = set a.found v (map (λ (w : Vec Ref Global). w.items) answers) }) where
-  abbrev lists : List (List Ref)
-  lists = map (λ (w : Vec Ref Global). w.items) answers
-
-  as-many : (k : ℕ) → k < n → length (get_or lists k []) ≡ length (row_of p.rows k v)
+module _ (n : ℕ) (roots : List Key) (p : PartsView) (v : ℕ) (a : AnswersView) (h : IsHalfway n roots p (v + 1) a) (lb : v < length a.found) (T : Nodes) (answers : List (List Ref)) (made : AreMadeOf n p a T v n answers)
+    (new : AnswersView) (is : new ≡ record { found = set a.found v answers }) where
+  as-many : (k : ℕ) → k < n → length (get_or answers k []) ≡ length (row_of p.rows k v)
   as-many k kb =
-      let l : k < length answers = (let e = made.long in omega (arith, e, kb)) in
-      let d = get_or answers k (some_of answers (omega (arith, l))) in
-      ap (λ z. length z) (get_or-map (λ (w : Vec Ref Global). w.items) answers k (some_of answers (omega (arith, l))) [] l)
-      ∙ sym (zip_long (IsAnswered (told n p a) T v) (row_of p.rows k v) d.items (made.each k (some_of answers (omega (arith, l))) kb))
+      sym (zip_long (IsAnswered (told n p a) T v) (row_of p.rows k v) (get_or answers k []) (made.each k [] kb))
 
   pub made_halfway : IsHalfway n roots p v new
-  made_halfway = next_halfway n roots p v a h lb lists new is as-many
+  made_halfway = next_halfway n roots p v a h lb answers new is as-many
 
   pub made_reduced : (S : Nodes) → IsSound S → AreAnswers S (told n p a) → IsRow S (told n p a) v (team_row n p v) → IsSound T → AddsRow (told n p a) S T v (team_row n p v) → IsRowReduced S (told n p a) v (team_row n p v) (length (team_row n p v)) T (told n p new)
   made_reduced S held answered row sound adds =
-      noted S (told n p a) v (team_row n p v) held answered row T sound adds (in_turn n lists)
+      noted S (told n p a) v (team_row n p v) held answered row T sound adds (in_turn n answers)
       (in_row (IsAnswered (told n p a) T v) (row_of p.rows) v answers n (let e = made.long in omega (arith, e)) made.each)
-      (length (team_row n p v)) (told n p new) (notes_level n roots p v a h lb lists new is as-many (length (team_row n p v)) (le_refl (length (team_row n p v))))
+      (length (team_row n p v)) (told n p new) (notes_level n roots p v a h lb answers new is as-many (length (team_row n p v)) (le_refl (length (team_row n p v))))

@@ -67,10 +67,10 @@ IsPickedOf parts refs k homes answers = IsPicked homes.numbers.items (begin_of p
 
 -- this is so of the first m parts
 pub record ArePicked (parts : List (Vec (Vec Pair Global) Global)) (homes : List Homes) (refs : List (Vec Ref Global)) (m : ℕ)
-    (answers : List (Vec Ref Global)) : Type 0 where
+    (answers : List (List Ref)) : Type 0 where
   pub long : length answers ≡ m
-  pub each : (k : ℕ) (d : Vec Ref Global) (h : Homes) → k < m
-      → IsPickedOf parts refs k (slice_index_or homes k h) (slice_index_or answers k d).items
+  pub each : (k : ℕ) (d : List Ref) (h : Homes) → k < m
+      → IsPickedOf parts refs k (slice_index_or homes k h) (slice_index_or answers k d)
 
 -- a reference for each pair, by shard
 pub record AreRefsOf (parts : List (Vec (Vec Pair Global) Global)) (refs : List (Vec Ref Global)) : Type 0 where

@@ -29,7 +29,7 @@ pub record AreRead (n : ℕ) (roots : List Key) (p : PartsView) (a : AnswersView
 -- the diagrams of part k are picked in a share, where there was memory
 abbrev pub IsSharePicked : List (Vec (Vec Pair Global) Global) → List Homes → List (Vec Ref Global) → ℕ → PickShare → Type 0
 IsSharePicked parts homes refs k share = (h : Homes) → OnOk share.done
-    (IsPickedOf parts refs k (slice_index_or homes k h) share.answers.items)
+    (IsPickedOf parts refs k (slice_index_or homes k h) share.answers)
 
 -- the diagrams of all parts are picked, each in the part's share
 abbrev pub AreAllPicked : List (Vec (Vec Pair Global) Global) → List Homes → List (Vec Ref Global) → List PickShare → Type 0

@@ -15,7 +15,7 @@ use Rattle.req_table.specs.declared.Key.{Key}
 use Rattle.req_table.specs.declared.Child.{Child}
 use Rattle.req_table.specs.declared.Child.TheVariants.{Done, Ask}
 use Rattle.req_table.specs.declared.Record.{Record}
-use Rattle.req_table.specs.declared.owned.Owned.{Owned}
+use Rattle.req_table.specs.declared.placed.Placed.{Placed}
 use Rattle.expand_work.specs.Lean.{lean}
 use Rattle.req_table.specs.Keys.{owner}
 use Rattle.req_table.specs.Settled.{key_of, asked, asked_below, dealt_from, level_of_rows}
@@ -103,7 +103,7 @@ IsFound n p a (Done r) = Unit {0}
 IsFound n p a (Ask l x m) = (l < length a.found) × IsLevelDone n p l a
 
 -- e is a child that worker s asked for as the last of what is still to be read, and its diagram is known
-abbrev pub IsNext : ℕ → PartsView → AnswersView → ℕ → List ℕ → Owned → Child → Type 0
+abbrev pub IsNext : ℕ → PartsView → AnswersView → ℕ → List ℕ → Placed → Child → Type 0
 IsNext n p a s left e c = (e ≡ lean n c) × IsLast n p s left c × IsFound n p a c
 
 -- the parts of a wave over some store, of which the diagrams of the levels from v on are known, and no others
@@ -139,10 +139,10 @@ pub record AreDividedBy (n : ℕ) (roots : List Key) (p : PartsView) (a : Answer
   pub left : (s : ℕ) (d : Vec ℕ Global) → s < m → AreLeft n (asked_above n roots p s v) (slice_index_or lefts s d).items
 
 -- each worker's records of level v, of the first m, have their diagrams in store s
-pub record AreMadeOf (n : ℕ) (p : PartsView) (a : AnswersView) (s : Nodes) (v m : ℕ) (answers : List (Vec Ref Global)) : Type 0 where
+pub record AreMadeOf (n : ℕ) (p : PartsView) (a : AnswersView) (s : Nodes) (v m : ℕ) (answers : List (List Ref)) : Type 0 where
   pub long : length answers ≡ m
-  pub each : (k : ℕ) (d : Vec Ref Global) → k < m → AllZip (IsAnswered (told n p a) s v) (row_of p.rows k v)
-      (slice_index_or answers k d).items
+  pub each : (k : ℕ) (d : List Ref) → k < m → AllZip (IsAnswered (told n p a) s v) (row_of p.rows k v)
+      (slice_index_or answers k d)
 
 -- a wave of so many levels is reduced down to level v: the diagrams of the levels from v on are known, and `left` is what is still to
 -- be read of what each worker asked for
@@ -177,7 +177,7 @@ pub record MayReduceLevel (n : ℕ) (roots : List Key) (p : PartsView) (a : Answ
 -- what the reduction of level v comes to and leaves: only nodes of its records are added, and each worker's records have their
 -- diagrams and are read; or why some have none
 pub record AnswersLevel (n : ℕ) (roots : List Key) (p : PartsView) (a : AnswersView) (old : Nodes) (v : ℕ)
-    (result : Result (Vec (Vec Ref Global) Global) StoreFault) (new : Nodes) (left : List (Vec ℕ Global)) : Type 0 where
+    (result : Result (Vec (List Ref) Global) StoreFault) (new : Nodes) (left : List (Vec ℕ Global)) : Type 0 where
   pub sound : IsSound new
   pub adds : AddsRow (told n p a) old new v (team_row n p v)
   pub made : IfOk result (λ answers. AreMadeOf n p a new v n answers.items)

@@ -1,18 +1,16 @@
 //! The diagrams of a wave's requests, by level, worker and place.
-ghost use Rattle.std.specs.Prelude.{◌≡◌, ◌<◌, [], length, map, replicate, slice_get, slice_set, Some, IfOk};
-ghost use Rattle.std.specs.declared.vec.Vec.{Vec as VecValue};
-ghost use Rattle.std.specs.declared.alloc.Global.{Global as GlobalValue};
-ghost use Rattle.dd_store.specs.declared.reference.Ref.{Ref as RefValue};
+ghost use Rattle.std.specs.Prelude.{◌≡◌, ◌<◌, [], length, replicate, slice_get, slice_set, Some, IfOk};
 ghost use Rattle.reduce_up.specs.Team.{answers_at};
 
 use dd_store::Ref;
+use req_table::Refs;
 use std::alloc::{AllocError, Global};
 use std::marker::Model;
 
 /// The diagrams of each level's requests, by worker.
 #[derive(Drop)]
 pub(crate) struct Answers {
-    found: Vec<Vec<Vec<Ref>>>,
+    found: Vec<Vec<Refs>>,
 }
 
 impl Model for Answers {
@@ -21,7 +19,7 @@ impl Model for Answers {
 
     ghost Value = { AnswersView };
 
-    ghost view = { λ a. record { found = map (λ w. map (λ v. v.items) w.items) a.found.items } };
+    ghost view = { λ a. record { found = map (λ w. w.items) a.found.items } };
 }
 
 impl Answers {
@@ -37,17 +35,14 @@ impl Answers {
     }
 
     /// The lists of all levels, as memory.
-    pub(crate) fn into_lists(self) -> Vec<Vec<Vec<Ref>>> {
+    pub(crate) fn into_lists(self) -> Vec<Vec<Refs>> {
         self.found
     }
 
     /// Puts the diagrams of a level in.
-    pub(crate) fn put(&mut self, level: u16, answers: Vec<Vec<Ref>>)
+    pub(crate) fn put(&mut self, level: u16, answers: Vec<Refs>)
         requires { level < length self.old.found }
-        ensures { self.new ≡ record {
-          found = slice_set self.old.found level
-              (map (λ (v : VecValue RefValue GlobalValue). v.items) answers.items);
-        } }
+        ensures { self.new ≡ record { found = slice_set self.old.found level answers.items } }
     {
         self.found[level as usize] = answers;
     }
@@ -57,6 +52,6 @@ impl Answers {
         requires { place < length (answers_at self.now level worker) }
         ensures { slice_get (answers_at self.now level worker) place ≡ Some result }
     {
-        self.found[level as usize][worker as usize][place as usize]
+        self.found[level as usize][worker as usize].at(place as usize)
     }
 }

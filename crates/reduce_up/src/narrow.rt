@@ -8,7 +8,8 @@ ghost use Rattle.reduce_up.specs.Team.{MayReadPart, MayReduceLevel, AnswersLevel
 
 use crate::spare::{emptied, next_room};
 use crate::team::{Rest, Team, resolve};
-use dd_store::{Ref, Store, StoreFault};
+use dd_store::{Store, StoreFault};
+use req_table::Refs;
 
 /// The diagrams of a sender's records of a level, in the order in which they stand, in the memory that is handed in; missing nodes are
 /// made.
@@ -18,8 +19,8 @@ fn make_part(
     sender: u32,
     level: u16,
     left: &mut Vec<usize>,
-    room: Vec<Ref>,
-) -> Result<Vec<Ref>, StoreFault>
+    room: Refs,
+) -> Result<Refs, StoreFault>
     requires held { IsSound store.old }
     requires level { level < store.old.levels }
     requires read { MayReadPart team.workers team.roots.now team.parts.now team.answers.now level sender left.old.items }
@@ -31,7 +32,7 @@ fn make_part(
         (team_row team.entry.workers team.entry.parts.now level) }
     ensures made { IfOk result (λ answers. AllZip (IsAnswered
         (told team.entry.workers team.entry.parts.now team.entry.answers.now) store.new level)
-        (row_of team.entry.parts.now.rows sender level) answers.items) }
+        (row_of team.entry.parts.now.rows sender level) answers) }
     ensures left { OnOk result (AreLeft team.entry.workers
         (asked_above team.entry.workers team.entry.roots.now team.entry.parts.now sender level) left.new.items) }
     ensures fault { IfErr result (λ e. IsRowRefused (told team.entry.workers team.entry.parts.now team.entry.answers.now) store.new level
@@ -44,7 +45,7 @@ fn make_part(
     let mut next = row.len();
     while next > 0 {
         next -= 1;
-        let entry = row[next];
+        let entry = row.at(next);
         let high = resolve(team, sender, left, entry.1);
         let low = resolve(team, sender, left, entry.0);
         let answer = store.make(level, low, high)?;
@@ -62,7 +63,7 @@ pub(crate) fn make_level(
     team: Team<'_>,
     level: u16,
     rest: &mut Rest,
-) -> Result<Vec<Vec<Ref>>, StoreFault>
+) -> Result<Vec<Refs>, StoreFault>
     requires { MayReduceLevel team.workers team.roots.now team.parts.now team.answers.now store.old level rest.old.lefts.items }
     ensures { AnswersLevel team.entry.workers team.entry.roots.now team.entry.parts.now team.entry.answers.now store.old level result
         store.new rest.new.lefts.items }

@@ -11,8 +11,9 @@ ghost use Rattle.reduce_up.specs.Steps.{IsSharePicked, AreAllPicked};
 
 use crate::division::{EQUAL, Homes};
 use crate::forks::fork_each;
-use crate::spare::{empty, next_room};
+use crate::spare::next_room;
 use dd_store::{Ref, SHARDS};
+use req_table::Refs;
 use std::alloc::{AllocError, Global};
 use std::thread;
 use std::thread::Threads;
@@ -20,7 +21,7 @@ use std::thread::Threads;
 /// A part's share of a level: the diagrams of its records, and whether there was memory to pick these.
 #[derive(Drop)]
 pub(crate) struct PickShare {
-    pub(crate) answers: Vec<Ref>,
+    pub(crate) answers: Refs,
     pub(crate) done: Result<(), AllocError>,
 }
 
@@ -42,7 +43,7 @@ fn pick(
     homes: &Homes,
     refs: &[Vec<Ref>],
     starts: &[usize],
-    answers: &mut Vec<Ref>,
+    answers: &mut Refs,
 ) -> Result<(), AllocError>
     requires sixteen { length refs.now ≡ 16 }
     requires starts { length starts.now ≡ 17 }
@@ -50,11 +51,11 @@ fn pick(
     requires room { (s : ℕ) → s ≤ 16 → slice_index_or starts.now s 0 + length
         (chosen s homes.now.numbers.items homes.now.numbers.items) ≤ length (source refs.now homes.now s) }
     ensures { OnOk result (IsPicked homes.now.numbers.items (λ s. slice_index_or starts.now s 0) (source refs.now homes.now)
-        (reverse answers.new.items)) }
+        (reverse answers.new)) }
 {
-    let mut places = Vec::with_capacity(*answers.allocator(), starts.len())?;
+    let mut places = Vec::with_capacity(*homes.numbers.allocator(), starts.len())?;
     places.extend_from_slice(starts)?;
-    empty(answers, homes.numbers.len())?;
+    answers.restart(homes.numbers.len())?;
     for home in &homes.numbers {
         let place = places[*home as usize];
         let Some(next) = place.checked_add(1) else {
@@ -109,14 +110,15 @@ fn pick_part(
     homes: &[Homes],
     refs: &[Vec<Ref>],
     part: usize,
-    answers: &mut Vec<Ref>,
+    answers: &mut Refs,
 ) -> Result<(), AllocError>
     requires part { part < length homes.now }
     requires may { MayPick parts.now homes.now refs.now }
-    ensures { (h : HomesValue) → OnOk result (IsPickedOf parts.now refs.now part (slice_index_or homes.now part h) answers.new.items) }
+    ensures { (h : HomesValue) → OnOk result (IsPickedOf parts.now refs.now part (slice_index_or homes.now part h) answers.new) }
 {
-    let starts = starts_of(*answers.allocator(), parts, part, refs)?;
-    pick(&homes[part], refs, starts.as_slice(), answers)
+    let own = &homes[part];
+    let starts = starts_of(*own.numbers.allocator(), parts, part, refs)?;
+    pick(own, refs, starts.as_slice(), answers)
 }
 
 impl PickShare {
@@ -137,7 +139,7 @@ impl PickShare {
 }
 
 /// A share for each part, in which nothing is picked yet. They have the memory of the lists that are handed in, as far as there are some.
-fn pick_shares(parts: usize, rooms: Vec<Vec<Ref>>) -> Result<Vec<PickShare>, AllocError>
+fn pick_shares(parts: usize, rooms: Vec<Refs>) -> Result<Vec<PickShare>, AllocError>
     ensures { IfOk result (λ shares. length shares.items ≡ parts) }
 {
     let mut rooms = rooms;
@@ -192,7 +194,7 @@ fn join_picked(
     homes: &[Homes],
     refs: &[Vec<Ref>],
     shares: Vec<PickShare>,
-) -> Result<Vec<Vec<Ref>>, AllocError>
+) -> Result<Vec<Refs>, AllocError>
     requires { AreAllPicked parts.now homes.now refs.now shares.items }
     ensures { IfOk result (λ answers. ArePicked parts.now homes.now refs.now (length shares.items) answers.items) }
 {
@@ -216,8 +218,8 @@ pub(crate) fn pick_all<R: Threads + Sync>(
     parts: &[Vec<Vec<(Ref, Ref)>>],
     homes: &[Homes],
     refs: &[Vec<Ref>],
-    rooms: Vec<Vec<Ref>>,
-) -> Result<Vec<Vec<Ref>>, AllocError>
+    rooms: Vec<Refs>,
+) -> Result<Vec<Refs>, AllocError>
     requires may { MayPick parts.now homes.now refs.now }
     ensures { IfOk result (λ answers. ArePicked parts.now homes.now refs.now (length homes.now) answers.items) }
 {

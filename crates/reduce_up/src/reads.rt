@@ -46,7 +46,7 @@ fn read_part(
     let mut next = row.len();
     while next > 0 {
         next -= 1;
-        let entry = row[next];
+        let entry = row.at(next);
         let high = resolve(team, sender, left, entry.1);
         let low = resolve(team, sender, left, entry.0);
         divided.put((low, high))?;

@@ -6,7 +6,7 @@ ghost use Rattle.reduce_up.specs.Team.{IsHalfway, AreRootsLeft, told};
 
 use crate::team::{Team, resolve};
 use dd_store::{Ref, Store};
-use req_table::Owned;
+use req_table::Placed;
 use req_table::requests::{level_of, owner};
 use std::alloc::AllocError;
 
@@ -28,7 +28,7 @@ fn root_answer(store: &Store, team: Team<'_>, lefts: &mut Vec<Vec<usize>>, root:
         team,
         sender,
         &mut lefts[sender as usize],
-        Owned::ask(level, owner(key, team.workers), false),
+        Placed::ask(level, owner(key, team.workers), false),
     )
 }
 

@@ -2,7 +2,7 @@
 ghost use Rattle.std.specs.Prelude.{◌≡◌, [], IfOk, OnOk};
 
 use crate::division::Divided;
-use dd_store::Ref;
+use req_table::Refs;
 use std::alloc::{AllocError, Global};
 use std::marker::Model;
 use std::mem;
@@ -12,7 +12,7 @@ use std::mem;
 #[derive(Drop)]
 pub(crate) struct Spare {
     divided: Vec<Divided>,
-    answers: Vec<Vec<Vec<Ref>>>,
+    answers: Vec<Vec<Refs>>,
 }
 
 impl Model for Spare {
@@ -22,28 +22,20 @@ impl Model for Spare {
 }
 
 /// The last of some lists, where there is one.
-pub(crate) fn next_room(rooms: &mut Vec<Vec<Ref>>) -> Vec<Ref> {
+pub(crate) fn next_room(rooms: &mut Vec<Refs>) -> Refs {
     let alloc = *rooms.allocator();
     match rooms.pop() {
         Some(room) => room,
-        None => Vec::new(alloc),
+        None => Refs::new(alloc),
     }
 }
 
-/// Removes all diagrams of a list, and makes room for so many.
-pub(crate) fn empty(answers: &mut Vec<Ref>, count: usize) -> Result<(), AllocError>
-    ensures items { OnOk result (answers.new.items ≡ []) }
-{
-    answers.clear();
-    answers.reserve_exact(count)
-}
-
 /// No diagrams, in the memory of a list, with room for so many.
-pub(crate) fn emptied(room: Vec<Ref>, count: usize) -> Result<Vec<Ref>, AllocError>
-    ensures items { IfOk result (λ answers. answers.items ≡ []) }
+pub(crate) fn emptied(room: Refs, count: usize) -> Result<Refs, AllocError>
+    ensures items { IfOk result (λ answers. answers ≡ []) }
 {
     let mut answers = room;
-    empty(&mut answers, count)?;
+    answers.restart(count)?;
     Ok(answers)
 }
 
@@ -71,7 +63,7 @@ impl Spare {
     }
 
     /// Lists for the diagrams of a level, as many as there are.
-    pub(crate) fn answers(&mut self, level: u16) -> Vec<Vec<Ref>> {
+    pub(crate) fn answers(&mut self, level: u16) -> Vec<Refs> {
         let alloc = *self.answers.allocator();
         let place = level as usize;
         if place < self.answers.len() {
@@ -82,7 +74,7 @@ impl Spare {
     }
 
     /// Keeps the lists of the diagrams of all levels, and of those that had none the lists that were kept before.
-    pub(crate) fn keep_answers(&mut self, found: Vec<Vec<Vec<Ref>>>) {
+    pub(crate) fn keep_answers(&mut self, found: Vec<Vec<Refs>>) {
         let old = mem::replace(&mut self.answers, found);
         for (place, lists) in old.into_iter().enumerate() {
             if place < self.answers.len() && self.answers[place].is_empty() {

@@ -17,7 +17,7 @@ use crate::spare::Spare;
 use crate::wide::share_level;
 use dd_store::{Ref, Store, StoreFault};
 use expand_work::{Crew, Monitor, Parts, WaveFault};
-use req_table::{Key, Owned, OwnedChild};
+use req_table::{Key, Placed, PlacedChild, Refs};
 use std::alloc::{AllocError, Global};
 use std::thread::Threads;
 
@@ -32,7 +32,7 @@ pub(crate) struct Team<'a> {
 }
 
 /// The diagram of a child of a sender's record: of what the sender asked of the child's owner it is the last that is still to be read.
-pub(crate) fn resolve(team: Team<'_>, sender: u32, left: &mut Vec<usize>, child: Owned) -> Ref
+pub(crate) fn resolve(team: Team<'_>, sender: u32, left: &mut Vec<usize>, child: Placed) -> Ref
     requires some { 0 < team.workers }
     requires long { length left.old.items ≡ team.workers }
     requires many { length team.parts.now.noted ≡ team.workers }
@@ -44,8 +44,12 @@ pub(crate) fn resolve(team: Team<'_>, sender: u32, left: &mut Vec<usize>, child:
         c → IsResolved (told team.entry.workers team.entry.parts.now team.entry.answers.now) c result }
 {
     match child.view() {
-        OwnedChild::Done(answer) => answer,
-        OwnedChild::Ask { level, owner, mark } => {
+        PlacedChild::Done(answer) => answer,
+        PlacedChild::Ask {
+            level,
+            number: owner,
+            mark,
+        } => {
             let number = left[owner as usize] - 1;
             left[owner as usize] = number;
             let place = team.parts.noted(owner, sender)[number];
@@ -163,7 +167,7 @@ fn level_answers<R: Threads + Sync, G: Monitor>(
     answers: &Answers,
     level: u16,
     rest: &mut Rest,
-) -> Result<Vec<Vec<Ref>>, StoreFault>
+) -> Result<Vec<Refs>, StoreFault>
     requires { MayReduceLevel field.workers field.roots.now field.parts.now answers.now store.old level rest.old.lefts.items }
     ensures { AnswersLevel field.entry.workers field.entry.roots.now field.entry.parts.now answers.now store.old level result store.new
         rest.new.lefts.items }

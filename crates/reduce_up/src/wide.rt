@@ -10,6 +10,7 @@ use crate::spare::Spare;
 use crate::team::{Field, Rest};
 use dd_store::{Makers, Ref, Store, StoreFault};
 use expand_work::{Crew, Monitor};
+use req_table::Refs;
 use std::thread::Threads;
 
 /// Keeps the memory of what was read, for another level.
@@ -27,7 +28,7 @@ pub(crate) fn share_level<R: Threads + Sync, G: Monitor>(
     answers: &Answers,
     level: u16,
     rest: &mut Rest,
-) -> Result<Vec<Vec<Ref>>, StoreFault>
+) -> Result<Vec<Refs>, StoreFault>
     requires { MayReduceLevel field.workers field.roots.now field.parts.now answers.now store.old level rest.old.lefts.items }
     ensures { AnswersLevel field.entry.workers field.entry.roots.now field.entry.parts.now answers.now store.old level result store.new
         rest.new.lefts.items }

@@ -1,5 +1,5 @@
 -- What a cache holds after a pair was put, and what is right for a store.
-use Rattle.std.proofs.Common.{◌≡◌, ◌-◌, ℕ, Bool, List, [], ◌∷◌, length, inl, inr, Option, Some, None, Contains, take, refl, sym, ◌∙◌, ap, subst, IfSome, OnOk, OnErr, Result, Ok, Err, IsSome, IsOk, true≢false}
+use Rattle.std.proofs.Common.{◌≡◌, ◌-◌, ℕ, Bool, List, [], ◌∷◌, inl, inr, Option, Some, None, Contains, take, refl, sym, ◌∙◌, ap, subst, IfSome, OnOk, OnErr, Result, Ok, Err, IsSome, IsOk, true≢false}
 use Rattle.std.specs.Option.{option_map, option_map_or}
 use Rattle.std.specs.Map.{lookup, lookup_entry, remove_entry}
 use Rattle.std.proofs.lemmas.Map.Views.{Contains-from_lookup}
@@ -12,11 +12,10 @@ use Rattle.req_table.specs.contracts.KeyPartialEq.TheImpl.{eq-value}
 use Rattle.req_table.specs.Equal.{key_same}
 use Rattle.req_table.specs.ComputedTables.{Held, held, rest, with_first, Keeps, IsAnswerOf, IsRight, IsValueOf, or_held, known_of}
 use Rattle.req_table.specs.declared.Op.{Op}
-use Rattle.req_table.specs.declared.Child.{Child}
 use Rattle.req_table.specs.TerminalCase.{form_of, in_order, terminal_at, terminal_of, op_value}
-use Rattle.req_table.specs.Keys.{normal_of, answer_of, child_value, level_of, Denotes, IsKey, IsChildIn}
+use Rattle.req_table.specs.Keys.{normal_of, Denotes}
 use Rattle.req_table.proofs.TerminalCases.{OnAnswer, of_mark, of_form, terminal_is}
-use Rattle.req_table.proofs.Waved.{meaning_normal, terminal_denotes, is_key, first_of, second_of, cofactors}
+use Rattle.req_table.proofs.Waved.{meaning_normal, terminal_denotes}
 use Rattle.dd_store.specs.Nodes.{Nodes, IsSound, den, cofactor_of}
 use Rattle.dd_store.specs.View.{Has}
 use Rattle.dd_store.specs.View.{Keeps as KeepsNodes}

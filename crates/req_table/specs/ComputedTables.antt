@@ -1,19 +1,16 @@
 -- What a computed table holds of earlier requests, when that is right for a store, and what requests come to with it.
-use Rattle.std.specs.Prelude.{◌≡◌, ℕ, ◌-◌, Bool, true, false, List, ◌∷◌, take, length, Contains, Option, Some, None, ◌⊎◌}
+use Rattle.std.specs.Prelude.{◌≡◌, ℕ, ◌-◌, Bool, List, ◌∷◌, take, Contains, Option, Some, None, ◌⊎◌}
 use Rattle.std.specs.Map.{lookup, remove_entry}
 use Rattle.std.specs.Option.{option_map}
 use Rattle.dd_store.specs.Marks.{mark_by}
 use Rattle.dd_store.specs.declared.reference.Ref.{Ref}
-use Rattle.dd_store.specs.Graph.{bit}
-use Rattle.dd_store.specs.Nodes.{Nodes, IsDiagram, cofactor_of, den}
+use Rattle.dd_store.specs.Nodes.{Nodes, IsDiagram, den}
 use Rattle.dd_store.specs.View.{Has}
 use Rattle.req_table.specs.declared.Op.{Op}
 use Rattle.req_table.specs.declared.Key.{Key}
-use Rattle.req_table.specs.declared.Child.{Child}
-use Rattle.req_table.specs.declared.Record.{Record}
 use Rattle.req_table.specs.contracts.KeyPartialEq.TheImpl.{eq-value}
 use Rattle.req_table.specs.TerminalCase.{terminal_of, op_value}
-use Rattle.req_table.specs.Keys.{normal_of, level_of, meaning, answer_of, child_value}
+use Rattle.req_table.specs.Keys.{normal_of, meaning}
 
 -- keys with their answers, the pair that was kept last first, and how many there may be
 pub record Held : Type 0 where

@@ -15,6 +15,6 @@ pub mod WordLaws
 pub mod Short
 pub mod ShortLaws
 pub mod Forms
-pub mod PackedWords
-pub mod PackedLaws
-pub mod Unpacked
+pub mod PlacedWords
+pub mod PlacedLaws
+pub mod WordLists

@@ -5,8 +5,8 @@
 //! (`Key::op`: `request`). A `Table` is a list of requests, each once (`Table::admit`: `offers`, `stands`, `refused`); each has eight
 //! bytes where all fit.
 //! A `ComputedTable` is a list of keys with answers (`ComputedTable::peek`: `value`, `once`, `few`); `keep` puts a pair first and drops
-//! the key's old one, or the last of a full computed table, or changes nothing. `Placed` and `Owned` tell a child in eight bytes, its
-//! request by its place or its owner.
+//! the key's old one, or the last of a full computed table, or changes nothing. `Placed` tells a child in eight bytes, its request by
+//! a number of its level; a `Row` has the children of requests, and `Refs` references, in half of that where all fit.
 //!
 //! **Only tests show** that ample memory suffices, that then a pair is kept, and that a full store answers what is held
 //! (`wave_tests`).
@@ -21,16 +21,16 @@ ghost use Rattle.req_table.specs.TerminalCase.{op_number};
 ghost use Rattle.req_table.specs.Words.{xor_bit, first_word, operation_of, IsFirstWord};
 
 mod computed;
-mod owned;
 mod packed;
 mod placed;
 pub mod requests;
 mod short;
 mod table;
+mod words;
 
 pub use computed::ComputedTable;
 use dd_store::Ref;
-pub use owned::{Owned, OwnedChild};
+pub use packed::{Refs, Row};
 pub use placed::{Placed, PlacedChild};
 use std::collections::LinkedList;
 use std::fmt;

@@ -1,165 +1,145 @@
-//! The eight bytes of a child, whatever the number beside the level of its request stands for.
-ghost use Rattle.std.specs.Prelude.{◌≡◌, ◌<◌, ◌≤◌, ◌^◌};
-ghost use Rattle.req_table.specs.PackedWords.{packed_word, packed_of, short_of, IsPackedWord};
+//! What a wave keeps of a level beside its requests: the children of each, and the answer of each, by place.
+ghost use mathlib.Core.List.{reverse};
+ghost use Rattle.std.specs.Prelude.{◌≡◌, ◌<◌, ◌++◌, ◌∷◌, [], length, slice_get, Some, OnOk, OnErr};
 
+use crate::placed::Placed;
+use crate::words::{WordPairs, Words};
 use dd_store::Ref;
+use std::alloc::{AllocError, Global};
 use std::marker::Model;
 
-/// What a child comes to: its answer, or the level of its request with a number; `mark` says that it is the complement of what the
-/// request asks for.
-#[derive(Clone, Copy)]
-pub(crate) enum PackedChild {
-    Done(Ref),
-    Ask { level: u16, number: u32, mark: bool },
+/// The children of a level's requests, low and high, by place: in eight bytes a request where all fit in four each, else in sixteen.
+#[derive(Drop)]
+pub struct Row {
+    pairs: WordPairs,
 }
 
-/// What a child comes to, in eight bytes, of which the upper four are 0 where it fits in four.
-#[derive(Clone, Copy)]
-pub(crate) struct Packed {
-    /// The word of an answer, which is below 2^31 or from 2^41 on. Or a request that fits, near or far: 1 in bit 31, with the mark in
-    /// bit 0 and the number from bit 1 on; a near one has its level from bit 22 on, and a far one 1 in bit 30 and its level from bit
-    /// 18 on. Or another request: 1 in bit 63, with the mark in bit 62, the level from bit 32 on and the number below.
-    word: u64,
+impl Model for Row {
+    ghost use Rattle.std.specs.Prelude.{List};
+    ghost use Rattle.req_table.specs.declared.placed.Placed.{Placed};
+
+    ghost Value = { List (Placed × Placed) };
+
+    ghost use Rattle.req_table.specs.WordLists.{pairs_in, children_of, AreChildren};
+
+    ghost view = { λ r. children_of (pairs_in r.pairs) };
+
+    ghost invariant = { λ r. AreChildren (pairs_in r.pairs) };
 }
 
-/// The bit that tells a request that fits from an answer, the first bit of longer words, and the bit of a far request.
-const SHORT_BIT: u64 = 1 << 31;
-
-const SHORT_END: u64 = 1 << 32;
-
-const FAR_BIT: u64 = 1 << 30;
-
-/// The levels before which requests are near and far, and the numbers of theirs that fit.
-const NEAR_LEVELS: u16 = 1 << 8;
-
-const FAR_LEVELS: u16 = 1 << 12;
-
-const NEAR_NUMBERS: u32 = 1 << 21;
-
-const FAR_NUMBERS: u32 = 1 << 17;
-
-/// The lowest bit of a near request's level, and of a far one's.
-const NEAR_LEVEL_BIT: u64 = 1 << 22;
-
-const FAR_LEVEL_BIT: u64 = 1 << 18;
-
-/// The bit that tells another request from an answer, the bit of its mark, and the lowest bit of its level.
-const ASK_BIT: u64 = 1 << 63;
-
-const MARK_BIT: u64 = 1 << 62;
-
-const LEVEL_BIT: u64 = 1 << 32;
-
-impl Model for Packed {
-    ghost use Rattle.req_table.specs.declared.packed.PackedChild.{PackedChild};
-
-    ghost Value = { PackedChild };
-
-    ghost use Rattle.req_table.specs.PackedWords.{packed_word, packed_of, IsPackedWord};
-    ghost use Rattle.req_table.specs.PackedLaws.{packed_word-packed_of};
-
-    ghost view = { λ p. packed_of p.word };
-
-    ghost inverse = { λ p. record { word = packed_word p } };
-
-    ghost inverse_ok = { λ p h i. record { word = packed_word-packed_of p.word h i } };
-
-    ghost invariant = { λ p. IsPackedWord p.word };
-}
-
-/// The request with this word, of those that fit.
-#[inline(always)]
-fn short_request(word: u64) -> PackedChild
-    requires first { 2 ^ 31 ≤ word }
-    requires end { word < 2 ^ 32 }
-    ensures { result ≡ short_of word }
-{
-    let mark = word % 2 == 1;
-    if word < SHORT_BIT + FAR_BIT {
-        return PackedChild::Ask {
-            level: (word % FAR_BIT / NEAR_LEVEL_BIT) as u16,
-            number: (word % NEAR_LEVEL_BIT / 2) as u32,
-            mark,
-        };
+impl Row {
+    /// No pairs. It takes no memory yet.
+    pub fn new(alloc: Global) -> Row
+        ensures { result ≡ [] }
+    {
+        Row {
+            pairs: WordPairs::new(alloc),
+        }
     }
-    PackedChild::Ask {
-        level: (word % FAR_BIT / FAR_LEVEL_BIT) as u16,
-        number: (word % FAR_LEVEL_BIT / 2) as u32,
-        mark,
+
+    /// Adds the children of the next place.
+    #[inline(always)]
+    pub fn push(&mut self, pair: (Placed, Placed)) -> Result<(), AllocError>
+        ensures { OnOk result (self.new ≡ self.old ++ pair ∷ []) }
+    {
+        self.pairs.push((pair.0.word(), pair.1.word()))?;
+        Ok(())
+    }
+
+    /// How many pairs there are.
+    pub fn len(&self) -> usize
+        ensures { result ≡ length self.now }
+    {
+        self.pairs.len()
+    }
+
+    /// The children of a place.
+    #[inline(always)]
+    pub fn at(&self, place: usize) -> (Placed, Placed)
+        requires { place < length self.now }
+        ensures { slice_get self.now place ≡ Some result }
+    {
+        let (low, high) = self.pairs.at(place);
+        (Placed::of_word(low), Placed::of_word(high))
+    }
+
+    /// Removes all pairs, and keeps the memory where all fit.
+    pub fn clear(&mut self)
+        ensures { self.new ≡ [] }
+    {
+        self.pairs.clear();
+    }
+
+    /// Has room for so many pairs more, if they fit or some before them do not.
+    pub fn reserve(&mut self, count: usize) -> Result<(), AllocError>
+        ensures { self.new ≡ self.old }
+    {
+        self.pairs.reserve(count)?;
+        Ok(())
     }
 }
 
-impl Packed {
-    /// An answer.
-    #[inline(always)]
-    pub(crate) fn done(answer: Ref) -> Packed
-        ensures { result ≡ PackedChild.Done answer }
+/// References, by place, such as the answers of a level's requests: in four bytes each where all fit, else in eight.
+#[derive(Drop)]
+pub struct Refs {
+    words: Words,
+}
+
+impl Model for Refs {
+    ghost use Rattle.std.specs.Prelude.{List};
+    ghost use Rattle.dd_store.specs.declared.reference.Ref.{Ref};
+
+    ghost Value = { List Ref };
+
+    ghost use Rattle.req_table.specs.WordLists.{words_in, refs_of, AreRefs};
+
+    ghost view = { λ a. refs_of (words_in a.words) };
+
+    ghost invariant = { λ a. AreRefs (words_in a.words) };
+}
+
+impl Refs {
+    /// No references. They take no memory yet.
+    pub fn new(alloc: Global) -> Refs
+        ensures { result ≡ [] }
     {
-        Packed {
-            word: answer.word(),
+        Refs {
+            words: Words::new(alloc),
         }
     }
 
-    /// A request, told by a number at its level.
+    /// Adds the reference of the next place.
     #[inline(always)]
-    pub(crate) fn ask(level: u16, number: u32, mark: bool) -> Packed
-        ensures { result ≡ PackedChild.Ask level number mark }
+    pub fn push(&mut self, answer: Ref) -> Result<(), AllocError>
+        ensures done { OnOk result (self.new ≡ self.old ++ answer ∷ []) }
+        ensures refused { OnErr result (self.new ≡ self.old) }
     {
-        let low = number as u64 * 2 + mark as u64;
-        if level < NEAR_LEVELS && number < NEAR_NUMBERS {
-            return Packed {
-                word: SHORT_BIT + level as u64 * NEAR_LEVEL_BIT + low,
-            };
-        }
-        if level >= NEAR_LEVELS && level < FAR_LEVELS && number < FAR_NUMBERS {
-            return Packed {
-                word: SHORT_BIT + FAR_BIT + level as u64 * FAR_LEVEL_BIT + low,
-            };
-        }
-        let mark_bit = if mark { MARK_BIT } else { 0 };
-        Packed {
-            word: ASK_BIT + mark_bit + level as u64 * LEVEL_BIT + number as u64,
-        }
+        self.words.push(answer.word())?;
+        Ok(())
     }
 
-    /// Which of the two it is.
+    /// The reference at a place.
     #[inline(always)]
-    pub(crate) fn view(self) -> PackedChild
-        ensures { result ≡ self }
+    pub fn at(&self, place: usize) -> Ref
+        requires { place < length self.now }
+        ensures { slice_get self.now place ≡ Some result }
     {
-        let word = self.word;
-        if word < SHORT_BIT {
-            return PackedChild::Done(Ref::of_word(word));
-        }
-        if word < SHORT_END {
-            return short_request(word);
-        }
-        if word < ASK_BIT {
-            return PackedChild::Done(Ref::of_word(word));
-        }
-        PackedChild::Ask {
-            level: (word % MARK_BIT / LEVEL_BIT) as u16,
-            number: (word % LEVEL_BIT) as u32,
-            mark: word / MARK_BIT == 3,
-        }
+        Ref::of_word(self.words.at(place))
     }
 
-    /// Its eight bytes as a number, different for each.
-    #[inline(always)]
-    pub(crate) fn word(self) -> u64
-        ensures word { result ≡ packed_word self }
-        ensures within { IsPackedWord result }
-        ensures back { packed_of result ≡ self }
+    /// The last first.
+    pub fn reverse(&mut self)
+        ensures { self.new ≡ reverse self.old }
     {
-        self.word
+        self.words.reverse();
     }
 
-    /// What has these eight bytes.
-    #[inline(always)]
-    pub(crate) fn of_word(word: u64) -> Packed
-        requires { IsPackedWord word }
-        ensures { result ≡ packed_of word }
+    /// Removes all references, keeps the memory where all fit, and has room for so many that fit.
+    pub fn restart(&mut self, count: usize) -> Result<(), AllocError>
+        ensures { self.new ≡ [] }
     {
-        Packed { word }
+        self.words.clear();
+        self.words.reserve(count)?;
+        Ok(())
     }
 }

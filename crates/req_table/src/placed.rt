@@ -1,25 +1,54 @@
-//! What a child comes to, in eight bytes: its request is told by its place.
-ghost use Rattle.std.specs.Prelude.{◌≡◌};
-ghost use Rattle.req_table.specs.PackedWords.{IsPackedWord};
-ghost use Rattle.req_table.specs.Unpacked.{placed_word, placed_at};
+//! What a child comes to, in eight bytes.
+ghost use Rattle.std.specs.Prelude.{◌≡◌, ◌<◌, ◌≤◌, ◌^◌};
+ghost use Rattle.req_table.specs.PlacedWords.{placed_word, placed_of, short_of, IsPlacedWord};
 
-use crate::packed::{Packed, PackedChild};
 use dd_store::Ref;
 use std::marker::Model;
 
-/// What a child comes to: its answer, or the level of its request with its place there; `mark` says that it is the complement of
-/// what the request asks for.
+/// What a child comes to: its answer, or the level of its request with a number there, which is its place, or of what a worker asks the
+/// worker that owns it; `mark` says that it is the complement of what the request asks for.
 #[derive(Clone, Copy, Debug)]
 pub enum PlacedChild {
     Done(Ref),
-    Ask { level: u16, place: u32, mark: bool },
+    Ask { level: u16, number: u32, mark: bool },
 }
 
-/// What a child comes to, in eight bytes.
+/// What a child comes to, in eight bytes, of which the upper four are 0 where it fits in four.
 #[derive(Clone, Copy)]
 pub struct Placed {
-    packed: Packed,
+    /// The word of an answer, which is below 2^31 or from 2^41 on. Or a request that fits, near or far: 1 in bit 31, with the mark in
+    /// bit 0 and the number from bit 1 on; a near one has its level from bit 22 on, and a far one 1 in bit 30 and its level from bit
+    /// 18 on. Or another request: 1 in bit 63, with the mark in bit 62, the level from bit 32 on and the number below.
+    word: u64,
 }
+
+/// The bit that tells a request that fits from an answer, the first bit of longer words, and the bit of a far request.
+const SHORT_BIT: u64 = 1 << 31;
+
+const SHORT_END: u64 = 1 << 32;
+
+const FAR_BIT: u64 = 1 << 30;
+
+/// The levels before which requests are near and far, and the numbers of theirs that fit.
+const NEAR_LEVELS: u16 = 1 << 8;
+
+const FAR_LEVELS: u16 = 1 << 12;
+
+const NEAR_NUMBERS: u32 = 1 << 21;
+
+const FAR_NUMBERS: u32 = 1 << 17;
+
+/// The lowest bit of a near request's level, and of a far one's.
+const NEAR_LEVEL_BIT: u64 = 1 << 22;
+
+const FAR_LEVEL_BIT: u64 = 1 << 18;
+
+/// The bit that tells another request from an answer, the bit of its mark, and the lowest bit of its level.
+const ASK_BIT: u64 = 1 << 63;
+
+const MARK_BIT: u64 = 1 << 62;
+
+const LEVEL_BIT: u64 = 1 << 32;
 
 const _: () = prove!(size_of::<Placed>() == 8);
 
@@ -28,13 +57,38 @@ impl Model for Placed {
 
     ghost Value = { PlacedChild };
 
-    ghost use Rattle.req_table.specs.Unpacked.{placed_of, packed_placed, packed_placed-placed_of};
+    ghost use Rattle.req_table.specs.PlacedWords.{placed_word, placed_of, IsPlacedWord};
+    ghost use Rattle.req_table.specs.PlacedLaws.{placed_word-placed_of};
 
-    ghost view = { λ p. placed_of p.packed };
+    ghost view = { λ p. placed_of p.word };
 
-    ghost inverse = { λ p. record { packed = packed_placed p } };
+    ghost inverse = { λ p. record { word = placed_word p } };
 
-    ghost inverse_ok = { λ p _ i. record { packed = packed_placed-placed_of p.packed i } };
+    ghost inverse_ok = { λ p h i. record { word = placed_word-placed_of p.word h i } };
+
+    ghost invariant = { λ p. IsPlacedWord p.word };
+}
+
+/// The request with this word, of those that fit.
+#[inline(always)]
+fn short_request(word: u64) -> PlacedChild
+    requires first { 2 ^ 31 ≤ word }
+    requires end { word < 2 ^ 32 }
+    ensures { result ≡ short_of word }
+{
+    let mark = word % 2 == 1;
+    if word < SHORT_BIT + FAR_BIT {
+        return PlacedChild::Ask {
+            level: (word % FAR_BIT / NEAR_LEVEL_BIT) as u16,
+            number: (word % NEAR_LEVEL_BIT / 2) as u32,
+            mark,
+        };
+    }
+    PlacedChild::Ask {
+        level: (word % FAR_BIT / FAR_LEVEL_BIT) as u16,
+        number: (word % FAR_LEVEL_BIT / 2) as u32,
+        mark,
+    }
 }
 
 impl Placed {
@@ -44,17 +98,29 @@ impl Placed {
         ensures { result ≡ PlacedChild.Done answer }
     {
         Placed {
-            packed: Packed::done(answer),
+            word: answer.word(),
         }
     }
 
-    /// A request, told by its place.
+    /// A request, told by its number.
     #[inline(always)]
-    pub fn ask(level: u16, place: u32, mark: bool) -> Placed
-        ensures { result ≡ PlacedChild.Ask level place mark }
+    pub fn ask(level: u16, number: u32, mark: bool) -> Placed
+        ensures { result ≡ PlacedChild.Ask level number mark }
     {
+        let low = number as u64 * 2 + mark as u64;
+        if level < NEAR_LEVELS && number < NEAR_NUMBERS {
+            return Placed {
+                word: SHORT_BIT + level as u64 * NEAR_LEVEL_BIT + low,
+            };
+        }
+        if level >= NEAR_LEVELS && level < FAR_LEVELS && number < FAR_NUMBERS {
+            return Placed {
+                word: SHORT_BIT + FAR_BIT + level as u64 * FAR_LEVEL_BIT + low,
+            };
+        }
+        let mark_bit = if mark { MARK_BIT } else { 0 };
         Placed {
-            packed: Packed::ask(level, place, mark),
+            word: ASK_BIT + mark_bit + level as u64 * LEVEL_BIT + number as u64,
         }
     }
 
@@ -63,13 +129,20 @@ impl Placed {
     pub fn view(self) -> PlacedChild
         ensures { result ≡ self }
     {
-        match self.packed.view() {
-            PackedChild::Done(answer) => PlacedChild::Done(answer),
-            PackedChild::Ask {
-                level,
-                number: place,
-                mark,
-            } => PlacedChild::Ask { level, place, mark },
+        let word = self.word;
+        if word < SHORT_BIT {
+            return PlacedChild::Done(Ref::of_word(word));
+        }
+        if word < SHORT_END {
+            return short_request(word);
+        }
+        if word < ASK_BIT {
+            return PlacedChild::Done(Ref::of_word(word));
+        }
+        PlacedChild::Ask {
+            level: (word % MARK_BIT / LEVEL_BIT) as u16,
+            number: (word % LEVEL_BIT) as u32,
+            mark: word / MARK_BIT == 3,
         }
     }
 
@@ -77,20 +150,18 @@ impl Placed {
     #[inline(always)]
     pub fn word(self) -> u64
         ensures word { result ≡ placed_word self }
-        ensures within { IsPackedWord result }
-        ensures back { placed_at result ≡ self }
+        ensures within { IsPlacedWord result }
+        ensures back { placed_of result ≡ self }
     {
-        self.packed.word()
+        self.word
     }
 
     /// What has these eight bytes.
     #[inline(always)]
     pub fn of_word(word: u64) -> Placed
-        requires { IsPackedWord word }
-        ensures { result ≡ placed_at word }
+        requires { IsPlacedWord word }
+        ensures { result ≡ placed_of word }
     {
-        Placed {
-            packed: Packed::of_word(word),
-        }
+        Placed { word }
     }
 }

@@ -1,5 +1,4 @@
 pub mod LevelSet
-pub mod WordLists
 pub mod Places
 pub mod Down
 pub mod Up

@@ -7,13 +7,12 @@ ghost use Rattle.wave_engine.specs.Places.{row, IsPlaced, Admits, AreEmpty};
 ghost use Rattle.wave_engine.specs.Bounds.{AreMoreThan, AreAtMost};
 ghost use Rattle.wave_engine.specs.Down.{AreAdmitted, IsRowExpanded, AreExpanded, IsDown};
 
-use crate::lists::Row;
 use crate::requests::Requests;
 use crate::workspace::Down;
 use dd_store::{Ref, Store};
 use expand_work::{Splits, WaveFault};
 use req_table::requests::child;
-use req_table::{Child, Op, Placed};
+use req_table::{Child, Op, Placed, Row};
 use std::alloc::AllocError;
 
 /// Places a child: a request is admitted to the table of its level.

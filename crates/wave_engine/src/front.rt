@@ -8,12 +8,11 @@ ghost use Rattle.wave_engine.specs.Down.{AreAdmitted};
 ghost use Rattle.wave_engine.specs.Up.{AreReducedBelow, IsWithinBelow};
 ghost use Rattle.wave_engine.specs.Front.{keys_from, IsCopied, ArePut};
 
-use crate::lists::Answers;
 use crate::requests::Requests;
 use dd_store::{Ref, Store};
 use expand_work::{Crew, Monitor, WaveFault};
 use reduce_up::{Rooms, shared_wave};
-use req_table::{Key, Op, Table};
+use req_table::{Key, Op, Refs, Table};
 use std::alloc::{AllocError, Global};
 use std::sync::Wait;
 use std::thread::Threads;
@@ -51,7 +50,7 @@ fn frontier_of(alloc: Global, requests: &Requests, from: u16) -> Result<Vec<Key>
 
 /// Puts so many of the answers, from a place on, into a list. The answer is the place behind them.
 fn put_level(
-    answers: &mut Answers,
+    answers: &mut Refs,
     count: usize,
     found: &[Ref],
     at: usize,
@@ -69,7 +68,7 @@ fn put_level(
 
 /// Puts answers in their places, from a level on.
 fn put_answers(
-    answers: &mut Vec<Answers>,
+    answers: &mut Vec<Refs>,
     requests: &Requests,
     from: u16,
     found: &[Ref],
@@ -95,7 +94,7 @@ pub(crate) fn hand_over<R: Threads + Wait + Sync, G: Monitor>(
     store: &mut Store,
     entries: &[(Op, Ref, Ref)],
     frontier: &Frontier<'_>,
-    answers: &mut Vec<Answers>,
+    answers: &mut Vec<Refs>,
 ) -> Result<usize, WaveFault>
     requires operands { All (IsEntry store.old) entries.now }
     requires admitted { AreAdmitted store.old entries.now frontier.now.requests.now }

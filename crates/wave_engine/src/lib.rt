@@ -20,14 +20,12 @@ mod down;
 mod engine;
 mod front;
 mod level_set;
-mod lists;
 mod reductions;
 mod requests;
 mod rows;
 mod sizes;
 mod up;
 mod waves;
-mod words;
 mod workspace;
 
 pub use engine::Engine;

@@ -3,8 +3,7 @@ ghost use Rattle.std.specs.Prelude.{◌≡◌, ◌<◌, ◌≤◌, [], length, s
 ghost use Rattle.wave_engine.specs.Places.{row, AreEmpty, IsNextLevel, IsLastLevel};
 
 use crate::level_set::LevelSet;
-use crate::lists::Row;
-use req_table::Placed;
+use req_table::{Placed, Row};
 use std::alloc::{AllocError, Global};
 use std::marker::Model;
 use std::mem;

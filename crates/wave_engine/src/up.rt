@@ -7,26 +7,27 @@ ghost use Rattle.reduce_up.specs.Waves.{IsWanted, IsWaveFault, IsEntry};
 ghost use Rattle.req_table.specs.declared.Key.{Key};
 ghost use Rattle.wave_engine.specs.Up.{ComesTo, IsReadyAt, AskedAt, IsLevelReduced, IsLevelFault, AreReducedBelow, AreCounted, AreReady};
 
-use crate::lists::{Answers, Row};
 use crate::reductions::Reductions;
 use crate::rows::Rows;
 use crate::workspace::Up;
 use dd_store::{Ref, Store};
 use expand_work::WaveFault;
 use reduce_up::first_fault;
-use req_table::{Op, Placed, PlacedChild};
+use req_table::{Op, Placed, PlacedChild, Refs, Row};
 use std::mem;
 
 /// What a placed child comes to.
-pub(crate) fn resolve(answers: &[Answers], child: Placed) -> Ref
+pub(crate) fn resolve(answers: &[Refs], child: Placed) -> Ref
     requires { (r : RefValue) × ComesTo answers.now child r }
     ensures { ComesTo answers.now child result }
 {
     match child.view() {
         PlacedChild::Done(answer) => answer,
-        PlacedChild::Ask { level, place, mark } => answers[level as usize]
-            .at(place as usize)
-            .marked(mark),
+        PlacedChild::Ask {
+            level,
+            number: place,
+            mark,
+        } => answers[level as usize].at(place as usize).marked(mark),
     }
 }
 
@@ -34,7 +35,7 @@ pub(crate) fn resolve(answers: &[Answers], child: Placed) -> Ref
 #[derive(Drop)]
 struct Level<'a> {
     pairs: &'a Row,
-    answers: &'a [Answers],
+    answers: &'a [Refs],
     number: u16,
 }
 
@@ -42,7 +43,7 @@ struct Level<'a> {
 fn reduce_level(
     store: &mut Store,
     level: &Level<'_>,
-    own: &mut Answers,
+    own: &mut Refs,
     reductions: &mut Reductions,
 ) -> Result<(), WaveFault>
     requires held { IsSound store.old }
@@ -105,7 +106,7 @@ pub(crate) fn reduce(
     while let Some(number) = rows.last_level(end) {
         let children = rows.take(number);
         // the level's own list is taken out, since the lists below it are read meanwhile
-        let mut own = mem::replace(&mut up.answers[number as usize], Answers::new(alloc));
+        let mut own = mem::replace(&mut up.answers[number as usize], Refs::new(alloc));
         let level = Level {
             pairs: &children,
             answers: up.answers.as_slice(),

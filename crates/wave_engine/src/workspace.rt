@@ -13,7 +13,6 @@ ghost use Rattle.wave_engine.specs.Up.{ComesTo};
 
 use crate::down::{Limits, expand, place_roots};
 use crate::front::{Frontier, hand_over};
-use crate::lists::Answers;
 use crate::reductions::Reductions;
 use crate::requests::Requests;
 use crate::rows::Rows;
@@ -22,7 +21,7 @@ use crate::up::{reduce, resolve};
 use dd_store::{Ref, Store};
 use expand_work::{Crew, Monitor, Splits, WaveFault};
 use reduce_up::Rooms;
-use req_table::{Op, Placed};
+use req_table::{Op, Placed, Refs};
 use std::alloc::{AllocError, Global};
 use std::sync::Wait;
 use std::thread::Threads;
@@ -40,12 +39,12 @@ pub(crate) struct Down {
 /// What a wave's reduction leaves: the answers of the requests by level. All that the caller's thread ever reduces are counted.
 #[derive(Drop)]
 pub(crate) struct Up {
-    pub(crate) answers: Vec<Answers>,
+    pub(crate) answers: Vec<Refs>,
     pub(crate) reductions: Reductions,
 }
 
 /// Makes a list of answers for each level.
-fn fit_answers(alloc: Global, answers: &mut Vec<Answers>, levels: u16) -> Result<(), AllocError>
+fn fit_answers(alloc: Global, answers: &mut Vec<Refs>, levels: u16) -> Result<(), AllocError>
     ensures { OnOk result (length answers.new.items ≡ levels) }
 {
     if answers.len() == levels as usize {
@@ -53,7 +52,7 @@ fn fit_answers(alloc: Global, answers: &mut Vec<Answers>, levels: u16) -> Result
     }
     let mut fresh = Vec::new(alloc);
     for made in 0..levels {
-        fresh.push(Answers::new(alloc))?;
+        fresh.push(Refs::new(alloc))?;
     }
     *answers = fresh;
     Ok(())
@@ -66,7 +65,7 @@ fn go_down(
     store: &Store,
     entries: &[(Op, Ref, Ref)],
     down: &mut Down,
-    answers: &mut Vec<Answers>,
+    answers: &mut Vec<Refs>,
     limits: Limits,
 ) -> Result<u16, WaveFault>
     requires operands { All (IsEntry store.now) entries.now }
@@ -91,11 +90,7 @@ fn go_down(
 }
 
 /// The answers of the roots.
-fn root_answers(
-    alloc: Global,
-    roots: &[Placed],
-    answers: &[Answers],
-) -> Result<Vec<Ref>, AllocError>
+fn root_answers(alloc: Global, roots: &[Placed], answers: &[Refs]) -> Result<Vec<Ref>, AllocError>
     requires { All (λ p. (r : RefValue) × ComesTo answers.now p r) roots.now }
     ensures { IfOk result (λ refs. AllZip (ComesTo answers.now) roots.now refs.items) }
 {

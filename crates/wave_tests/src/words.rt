@@ -30,7 +30,11 @@ fn words_of_references(rt: HostRuntime) {
 /// Ends the test where a child is not asked for so.
 fn assert_asked(rt: &impl Abort, child: Placed, wanted: (u16, u32, bool)) {
     match child.view() {
-        PlacedChild::Ask { level, place, mark } => assert!(rt; (level, place, mark) == wanted),
+        PlacedChild::Ask {
+            level,
+            number,
+            mark,
+        } => assert!(rt; (level, number, mark) == wanted),
         PlacedChild::Done(_) => assert!(rt; false, "it is answered"),
     }
 }

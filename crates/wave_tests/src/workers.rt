@@ -11,7 +11,7 @@ use crate::requests::{either, make_either, request, request_for, store_of, varia
 use dd_store::{Ref, Store, Watch};
 use expand_work::{Free, Monitor, Part, Site, Space, WorkFault, work};
 use lane_queue::{Lanes, Port};
-use req_table::{Key, Op, Owned, OwnedChild, Table};
+use req_table::{Key, Op, Placed, PlacedChild, Row, Table};
 use std::alloc::Global;
 use std::process::Abort;
 use std::sync::Wait;
@@ -49,10 +49,14 @@ impl<'a> Monitor for Watcher<'a> {
 }
 
 /// What a child says, to be compared: its answer, or its level and owner, and whether it is the complement of what is asked for.
-fn tell(child: Owned) -> Result<Ref, (u16, u32, bool)> {
+fn tell(child: Placed) -> Result<Ref, (u16, u32, bool)> {
     match child.view() {
-        OwnedChild::Done(answer) => Ok(answer),
-        OwnedChild::Ask { level, owner, mark } => Err((level, owner, mark)),
+        PlacedChild::Done(answer) => Ok(answer),
+        PlacedChild::Ask {
+            level,
+            number: owner,
+            mark,
+        } => Err((level, owner, mark)),
     }
 }
 
@@ -104,7 +108,7 @@ fn work_alone<R: Wait + Abort, G: Monitor>(
 /// Whether a level has this one request with these children.
 fn is_row(
     keys: &Table,
-    row: &[(Owned, Owned)],
+    row: &Row,
     key: Key,
     low: Result<Ref, (u16, u32, bool)>,
     high: Result<Ref, (u16, u32, bool)>,
@@ -112,8 +116,8 @@ fn is_row(
     keys.len() == 1
         && keys.key_at(0) == key
         && row.len() == 1
-        && tell(row[0].0) == low
-        && tell(row[0].1) == high
+        && tell(row.at(0).0) == low
+        && tell(row.at(0).1) == high
 }
 
 #[test]
@@ -138,7 +142,7 @@ fn one_worker_records_what_it_is_asked_for(rt: HostRuntime) -> Result<(), Fail> 
         )
     );
     assert!(rt; is_row(tables.keys(1), rows.row(1), child, Ok(Ref::FALSE), Ok(c)));
-    assert!(rt; tables.keys(2).len() == 0 && rows.row(2).is_empty());
+    assert!(rt; tables.keys(2).len() == 0 && rows.row(2).len() == 0);
     assert!(rt; port.number() == 0 && port.put() == 3);
     assert!(rt; !stop.load(Ordering::SeqCst));
     Ok(())

@@ -6,7 +6,7 @@ use Rattle.expand_work.proofs.expand.expand_row.Given as goal
 
 abbrev pub invariant-loop-place : goal.invariant-loop-place
 invariant-loop-place l =
-    ((l.row.items ≡ lean_row l.workers (records_of l.store (take l.place l.keys)))
+    ((l.row ≡ lean_row l.workers (records_of l.store (take l.place l.keys)))
     × (length l.due ≡ l.workers)
     × ((k : ℕ) → k < l.workers → at l.due k ≡ with_levels l.store (filter (owned_by l.workers k) (asked_by (records_of l.store (take l.place l.keys))))))
     × (l.splits ≡ l.place)

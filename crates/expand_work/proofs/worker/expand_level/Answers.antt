@@ -23,7 +23,7 @@ returns-clause-working g c =
     let u = c.args.worker in
     let h = c.requires.closing in
     let said = h.has_spoken in
-    let row : c.in_ok-row.row.items ≡ lean_row n (records_of s (at u.tables c.args.level)) = c.in_ok-row.ensures.row ∙ (λ i. lean_row (c.count-workers.ensures.count i) (records_of s (c.keys-keys.ensures i))) in
+    let row : c.in_ok-row.row ≡ lean_row n (records_of s (at u.tables c.args.level)) = c.in_ok-row.ensures.row ∙ (λ i. lean_row (c.count-workers.ensures.count i) (records_of s (c.keys-keys.ensures i))) in
     let owed = subst (λ (y : ℕ × List Key). (k : ℕ) → k < y.0 → at c.in_ok-row.due k ≡ with_levels s (filter (owned_by y.0 k) (asked_by (records_of s y.1)))) (λ i. (c.count-workers.ensures.count i, c.keys-keys.ensures i)) c.in_ok-row.ensures.due in
-    level_next c.args.site.lanes.now s c.args.site.roots.now c.args.level h.before h.working said.sent said.left said.is_sent said.is_left said.kept said.is_kept h.spoken.port u.port u.senders.clock h.spoken.tables u.tables c.in_ok-row.row.items c.in_ok-row.due
+    level_next c.args.site.lanes.now s c.args.site.roots.now c.args.level h.before h.working said.sent said.left said.is_sent said.is_left said.kept said.is_kept h.spoken.port u.port u.senders.clock h.spoken.tables u.tables c.in_ok-row.row c.in_ok-row.due
     c.take-row.new.self c.put.new.self c.requires.level said.stays said.is_ended h.same h.heard h.stays h.closed row (c.in_ok-row.ensures.long ∙ c.count-workers.ensures.count) owed (c.take-row.ensures.rows ∙ ap (λ r. set r c.args.level []) h.rows) c.put.ensures u.senders.noted h.noted _

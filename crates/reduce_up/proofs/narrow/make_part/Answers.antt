@@ -1,4 +1,5 @@
 use Rattle.std.proofs.Common.{rules, ◌≡◌, ℕ, ◌+◌, ◌-◌, ◌<◌, ◌++◌, [], ◌∷◌, length, drop, sym, ap, ◌∙◌, subst, arith}
+use Rattle.std.proofs.lemmas.Option.{get_or_from_slice_get}
 use Rattle.std.proofs.lemmas.Result.{err_from_is_err_and}
 use Rattle.std.specs.List.{AllZip}
 use mathlib.Core.List.{reverse}
@@ -9,7 +10,7 @@ use Rattle.reduce_up.specs.Sharing.{IsPairOf, IsAnswered, CanStand}
 use Rattle.reduce_up.specs.Team.{AreLeft, IsNext, team_row, told}
 use Rattle.reduce_up.proofs.Reading.{before, before_none, before_whole, in_team, lean-long, row_read, high_last, high_found, after_high, low_last, low_found, after_low, next_pair, no_pairs}
 use Rattle.reduce_up.proofs.Rooted.{item_at}
-use Rattle.reduce_up.proofs.Making.{answered_still, extends_on, extends_same, stands_on, adds_none, adds_one, one_made, one_refused}
+use Rattle.reduce_up.proofs.Making.{on_ok, answered_still, extends_on, extends_same, stands_on, adds_none, adds_one, one_made, one_refused}
 use Rattle.reduce_up.proofs.narrow.make_part.Goals as goal
 
 pub loop-next-init : goal.loop-next-init
@@ -17,7 +18,7 @@ loop-next-init c =
     let t = c.args.team in
     let T = told t.workers t.parts.now t.answers.now in
     let row = row_of t.parts.now.rows c.args.sender c.args.level in
-    let long : length c.children-row.result.now ≡ length row = ap (λ z. length z) c.children-row.ensures ∙ lean-long (length t.parts.now.rows) row in
+    let long : c.len-next.result ≡ length row = c.len-next.ensures ∙ ap (λ z. length z) c.children-row.ensures ∙ lean-long (length t.parts.now.rows) row in
     record {
       bound = omega (arith, long);
       left = subst (λ z. AreLeft t.workers (before t.workers t.roots.now t.parts.now c.args.sender c.args.level z) c.args.left.now.items) (sym long)
@@ -26,8 +27,8 @@ loop-next-init c =
         sound = c.requires.held;
         extends = extends_same c.args.store.now;
         adds = adds_none T c.args.store.now c.args.level (team_row t.workers t.parts.now c.args.level);
-        made = subst (λ z. AllZip (IsAnswered T c.args.store.now c.args.level) (drop z row) (reverse c.in-Ok.answers.items)) (sym long)
-            (no_pairs (IsAnswered T c.args.store.now c.args.level) row c.in-Ok.answers.items c.in-Ok.ensures.items);
+        made = subst (λ z. AllZip (IsAnswered T c.args.store.now c.args.level) (drop z row) (reverse c.in-Ok.answers)) (sym long)
+            (no_pairs (IsAnswered T c.args.store.now c.args.level) row c.in-Ok.answers c.in-Ok.ensures.items);
       };
     }
 
@@ -36,10 +37,10 @@ resolve-high-requires-clause-child c =
     let t = c.args.team in let i : ℕ = c.loop-next.next - 1 in let some = c.loop-next-test.true in let bound = c.loop-next.invariant.bound in
     let n = t.workers in let p = t.parts.now in let a = t.answers.now in let v = c.args.level in let s = c.args.sender in
     let own = row_of p.rows s v in
-    let entry = c.index-row-next.result in
+    let entry = c.at-entry.result in
     let e : c.loop-next.next ≡ i + 1 = omega (arith, some) in
     let ib : i < length own = omega (arith, some, bound) in
-    let w = row_read n p s v c.children-row.result.now c.children-row.ensures c.requires.read.halfway.parts.many_rows i ib entry c.index-row-next.is in
+    let w = row_read n p s v c.children-row.result.now c.children-row.ensures c.requires.read.halfway.parts.many_rows i ib entry (sym (get_or_from_slice_get c.children-row.result.now i entry entry c.at-entry.ensures)) in
     let r : Record = w.0 in
     let left = subst (λ z. AreLeft n (before n t.roots.now p s v z) c.loop-next.left.items) e c.loop-next.invariant.left in
     let high : IsNext n p a s c.loop-next.left.items entry.1 r.high = (w.3, high_last n t.roots.now p v a c.requires.read.halfway s c.requires.read.sender c.requires.read.found i r ib w.1 c.loop-next.left.items left, high_found n t.roots.now p v a c.requires.read.halfway s c.requires.read.sender c.requires.read.found i r ib w.1) in
@@ -50,10 +51,10 @@ resolve-low-requires-clause-child c =
     let t = c.args.team in let i : ℕ = c.loop-next.next - 1 in let some = c.loop-next-test.true in let bound = c.loop-next.invariant.bound in
     let n = t.workers in let p = t.parts.now in let a = t.answers.now in let v = c.args.level in let s = c.args.sender in
     let own = row_of p.rows s v in
-    let entry = c.index-row-next.result in
+    let entry = c.at-entry.result in
     let e : c.loop-next.next ≡ i + 1 = omega (arith, some) in
     let ib : i < length own = omega (arith, some, bound) in
-    let w = row_read n p s v c.children-row.result.now c.children-row.ensures c.requires.read.halfway.parts.many_rows i ib entry c.index-row-next.is in
+    let w = row_read n p s v c.children-row.result.now c.children-row.ensures c.requires.read.halfway.parts.many_rows i ib entry (sym (get_or_from_slice_get c.children-row.result.now i entry entry c.at-entry.ensures)) in
     let r : Record = w.0 in
     let left = subst (λ z. AreLeft n (before n t.roots.now p s v z) c.loop-next.left.items) e c.loop-next.invariant.left in
     let high : IsNext n p a s c.loop-next.left.items entry.1 r.high = (w.3, high_last n t.roots.now p v a c.requires.read.halfway s c.requires.read.sender c.requires.read.found i r ib w.1 c.loop-next.left.items left, high_found n t.roots.now p v a c.requires.read.halfway s c.requires.read.sender c.requires.read.found i r ib w.1) in
@@ -66,10 +67,10 @@ resolve-low-requires-clause-long c =
     let t = c.args.team in let i : ℕ = c.loop-next.next - 1 in let some = c.loop-next-test.true in let bound = c.loop-next.invariant.bound in
     let n = t.workers in let p = t.parts.now in let a = t.answers.now in let v = c.args.level in let s = c.args.sender in
     let own = row_of p.rows s v in
-    let entry = c.index-row-next.result in
+    let entry = c.at-entry.result in
     let e : c.loop-next.next ≡ i + 1 = omega (arith, some) in
     let ib : i < length own = omega (arith, some, bound) in
-    let w = row_read n p s v c.children-row.result.now c.children-row.ensures c.requires.read.halfway.parts.many_rows i ib entry c.index-row-next.is in
+    let w = row_read n p s v c.children-row.result.now c.children-row.ensures c.requires.read.halfway.parts.many_rows i ib entry (sym (get_or_from_slice_get c.children-row.result.now i entry entry c.at-entry.ensures)) in
     let r : Record = w.0 in
     let left = subst (λ z. AreLeft n (before n t.roots.now p s v z) c.loop-next.left.items) e c.loop-next.invariant.left in
     let high : IsNext n p a s c.loop-next.left.items entry.1 r.high = (w.3, high_last n t.roots.now p v a c.requires.read.halfway s c.requires.read.sender c.requires.read.found i r ib w.1 c.loop-next.left.items left, high_found n t.roots.now p v a c.requires.read.halfway s c.requires.read.sender c.requires.read.found i r ib w.1) in
@@ -82,10 +83,10 @@ make-requires-clause-lo_here c =
     let t = c.args.team in let i : ℕ = c.loop-next.next - 1 in let some = c.loop-next-test.true in let bound = c.loop-next.invariant.bound in
     let n = t.workers in let p = t.parts.now in let a = t.answers.now in let v = c.args.level in let s = c.args.sender in
     let own = row_of p.rows s v in
-    let entry = c.index-row-next.result in
+    let entry = c.at-entry.result in
     let e : c.loop-next.next ≡ i + 1 = omega (arith, some) in
     let ib : i < length own = omega (arith, some, bound) in
-    let w = row_read n p s v c.children-row.result.now c.children-row.ensures c.requires.read.halfway.parts.many_rows i ib entry c.index-row-next.is in
+    let w = row_read n p s v c.children-row.result.now c.children-row.ensures c.requires.read.halfway.parts.many_rows i ib entry (sym (get_or_from_slice_get c.children-row.result.now i entry entry c.at-entry.ensures)) in
     let r : Record = w.0 in
     let left = subst (λ z. AreLeft n (before n t.roots.now p s v z) c.loop-next.left.items) e c.loop-next.invariant.left in
     let high : IsNext n p a s c.loop-next.left.items entry.1 r.high = (w.3, high_last n t.roots.now p v a c.requires.read.halfway s c.requires.read.sender c.requires.read.found i r ib w.1 c.loop-next.left.items left, high_found n t.roots.now p v a c.requires.read.halfway s c.requires.read.sender c.requires.read.found i r ib w.1) in
@@ -106,10 +107,10 @@ make-requires-clause-hi_here c =
     let t = c.args.team in let i : ℕ = c.loop-next.next - 1 in let some = c.loop-next-test.true in let bound = c.loop-next.invariant.bound in
     let n = t.workers in let p = t.parts.now in let a = t.answers.now in let v = c.args.level in let s = c.args.sender in
     let own = row_of p.rows s v in
-    let entry = c.index-row-next.result in
+    let entry = c.at-entry.result in
     let e : c.loop-next.next ≡ i + 1 = omega (arith, some) in
     let ib : i < length own = omega (arith, some, bound) in
-    let w = row_read n p s v c.children-row.result.now c.children-row.ensures c.requires.read.halfway.parts.many_rows i ib entry c.index-row-next.is in
+    let w = row_read n p s v c.children-row.result.now c.children-row.ensures c.requires.read.halfway.parts.many_rows i ib entry (sym (get_or_from_slice_get c.children-row.result.now i entry entry c.at-entry.ensures)) in
     let r : Record = w.0 in
     let left = subst (λ z. AreLeft n (before n t.roots.now p s v z) c.loop-next.left.items) e c.loop-next.invariant.left in
     let high : IsNext n p a s c.loop-next.left.items entry.1 r.high = (w.3, high_last n t.roots.now p v a c.requires.read.halfway s c.requires.read.sender c.requires.read.found i r ib w.1 c.loop-next.left.items left, high_found n t.roots.now p v a c.requires.read.halfway s c.requires.read.sender c.requires.read.found i r ib w.1) in
@@ -130,10 +131,10 @@ make-requires-clause-above_lo c =
     let t = c.args.team in let i : ℕ = c.loop-next.next - 1 in let some = c.loop-next-test.true in let bound = c.loop-next.invariant.bound in
     let n = t.workers in let p = t.parts.now in let a = t.answers.now in let v = c.args.level in let s = c.args.sender in
     let own = row_of p.rows s v in
-    let entry = c.index-row-next.result in
+    let entry = c.at-entry.result in
     let e : c.loop-next.next ≡ i + 1 = omega (arith, some) in
     let ib : i < length own = omega (arith, some, bound) in
-    let w = row_read n p s v c.children-row.result.now c.children-row.ensures c.requires.read.halfway.parts.many_rows i ib entry c.index-row-next.is in
+    let w = row_read n p s v c.children-row.result.now c.children-row.ensures c.requires.read.halfway.parts.many_rows i ib entry (sym (get_or_from_slice_get c.children-row.result.now i entry entry c.at-entry.ensures)) in
     let r : Record = w.0 in
     let left = subst (λ z. AreLeft n (before n t.roots.now p s v z) c.loop-next.left.items) e c.loop-next.invariant.left in
     let high : IsNext n p a s c.loop-next.left.items entry.1 r.high = (w.3, high_last n t.roots.now p v a c.requires.read.halfway s c.requires.read.sender c.requires.read.found i r ib w.1 c.loop-next.left.items left, high_found n t.roots.now p v a c.requires.read.halfway s c.requires.read.sender c.requires.read.found i r ib w.1) in
@@ -154,10 +155,10 @@ make-requires-clause-above_hi c =
     let t = c.args.team in let i : ℕ = c.loop-next.next - 1 in let some = c.loop-next-test.true in let bound = c.loop-next.invariant.bound in
     let n = t.workers in let p = t.parts.now in let a = t.answers.now in let v = c.args.level in let s = c.args.sender in
     let own = row_of p.rows s v in
-    let entry = c.index-row-next.result in
+    let entry = c.at-entry.result in
     let e : c.loop-next.next ≡ i + 1 = omega (arith, some) in
     let ib : i < length own = omega (arith, some, bound) in
-    let w = row_read n p s v c.children-row.result.now c.children-row.ensures c.requires.read.halfway.parts.many_rows i ib entry c.index-row-next.is in
+    let w = row_read n p s v c.children-row.result.now c.children-row.ensures c.requires.read.halfway.parts.many_rows i ib entry (sym (get_or_from_slice_get c.children-row.result.now i entry entry c.at-entry.ensures)) in
     let r : Record = w.0 in
     let left = subst (λ z. AreLeft n (before n t.roots.now p s v z) c.loop-next.left.items) e c.loop-next.invariant.left in
     let high : IsNext n p a s c.loop-next.left.items entry.1 r.high = (w.3, high_last n t.roots.now p v a c.requires.read.halfway s c.requires.read.sender c.requires.read.found i r ib w.1 c.loop-next.left.items left, high_found n t.roots.now p v a c.requires.read.halfway s c.requires.read.sender c.requires.read.found i r ib w.1) in
@@ -181,10 +182,10 @@ returns-in_err-answer-clause-fault c =
     let t = c.args.team in let i : ℕ = c.loop-next.next - 1 in let some = c.loop-next-test.true in let bound = c.loop-next.invariant.bound in
     let n = t.workers in let p = t.parts.now in let a = t.answers.now in let v = c.args.level in let s = c.args.sender in
     let own = row_of p.rows s v in
-    let entry = c.index-row-next.result in
+    let entry = c.at-entry.result in
     let e : c.loop-next.next ≡ i + 1 = omega (arith, some) in
     let ib : i < length own = omega (arith, some, bound) in
-    let w = row_read n p s v c.children-row.result.now c.children-row.ensures c.requires.read.halfway.parts.many_rows i ib entry c.index-row-next.is in
+    let w = row_read n p s v c.children-row.result.now c.children-row.ensures c.requires.read.halfway.parts.many_rows i ib entry (sym (get_or_from_slice_get c.children-row.result.now i entry entry c.at-entry.ensures)) in
     let r : Record = w.0 in
     let left = subst (λ z. AreLeft n (before n t.roots.now p s v z) c.loop-next.left.items) e c.loop-next.invariant.left in
     let high : IsNext n p a s c.loop-next.left.items entry.1 r.high = (w.3, high_last n t.roots.now p v a c.requires.read.halfway s c.requires.read.sender c.requires.read.found i r ib w.1 c.loop-next.left.items left, high_found n t.roots.now p v a c.requires.read.halfway s c.requires.read.sender c.requires.read.found i r ib w.1) in
@@ -206,10 +207,10 @@ returns-then-is_err-clause-adds c =
     let t = c.args.team in let i : ℕ = c.loop-next.next - 1 in let some = c.loop-next-test.true in let bound = c.loop-next.invariant.bound in
     let n = t.workers in let p = t.parts.now in let a = t.answers.now in let v = c.args.level in let s = c.args.sender in
     let own = row_of p.rows s v in
-    let entry = c.index-row-next.result in
+    let entry = c.at-entry.result in
     let e : c.loop-next.next ≡ i + 1 = omega (arith, some) in
     let ib : i < length own = omega (arith, some, bound) in
-    let w = row_read n p s v c.children-row.result.now c.children-row.ensures c.requires.read.halfway.parts.many_rows i ib entry c.index-row-next.is in
+    let w = row_read n p s v c.children-row.result.now c.children-row.ensures c.requires.read.halfway.parts.many_rows i ib entry (sym (get_or_from_slice_get c.children-row.result.now i entry entry c.at-entry.ensures)) in
     let r : Record = w.0 in
     let left = subst (λ z. AreLeft n (before n t.roots.now p s v z) c.loop-next.left.items) e c.loop-next.invariant.left in
     let high : IsNext n p a s c.loop-next.left.items entry.1 r.high = (w.3, high_last n t.roots.now p v a c.requires.read.halfway s c.requires.read.sender c.requires.read.found i r ib w.1 c.loop-next.left.items left, high_found n t.roots.now p v a c.requires.read.halfway s c.requires.read.sender c.requires.read.found i r ib w.1) in
@@ -229,10 +230,10 @@ loop-next-preserved c =
     let t = c.args.team in let i : ℕ = c.loop-next.next - 1 in let some = c.loop-next-test.true in let bound = c.loop-next.invariant.bound in
     let n = t.workers in let p = t.parts.now in let a = t.answers.now in let v = c.args.level in let s = c.args.sender in
     let own = row_of p.rows s v in
-    let entry = c.index-row-next.result in
+    let entry = c.at-entry.result in
     let e : c.loop-next.next ≡ i + 1 = omega (arith, some) in
     let ib : i < length own = omega (arith, some, bound) in
-    let w = row_read n p s v c.children-row.result.now c.children-row.ensures c.requires.read.halfway.parts.many_rows i ib entry c.index-row-next.is in
+    let w = row_read n p s v c.children-row.result.now c.children-row.ensures c.requires.read.halfway.parts.many_rows i ib entry (sym (get_or_from_slice_get c.children-row.result.now i entry entry c.at-entry.ensures)) in
     let r : Record = w.0 in
     let left = subst (λ z. AreLeft n (before n t.roots.now p s v z) c.loop-next.left.items) e c.loop-next.invariant.left in
     let high : IsNext n p a s c.loop-next.left.items entry.1 r.high = (w.3, high_last n t.roots.now p v a c.requires.read.halfway s c.requires.read.sender c.requires.read.found i r ib w.1 c.loop-next.left.items left, high_found n t.roots.now p v a c.requires.read.halfway s c.requires.read.sender c.requires.read.found i r ib w.1) in
@@ -245,7 +246,7 @@ loop-next-preserved c =
     let all = team_row n p v in
     let member = in_team n p v s r c.requires.read.sender (item_at own i r ib w.1) in
     let m = c.loop-next.invariant.making in
-    let answers : c.push.new.self.items ≡ c.loop-next.answers.items ++ c.in_ok-answer.answer ∷ [] = search rules in
+    let answers : c.push.new.self ≡ c.loop-next.answers ++ c.in_ok-answer.answer ∷ [] = on_ok c.push.result (sym c.is_err.ensures.value ∙ c.if-is_err.false) c.push.ensures.done in
     record {
       bound = omega (arith, bound);
       left = fewer;
@@ -253,9 +254,9 @@ loop-next-preserved c =
         sound = c.make.ensures.sound;
         extends = extends_on c.args.store.now c.loop-next.store c.make.new.self m.extends c.make.ensures.extends;
         adds = adds_one T c.args.store.now c.loop-next.store c.make.new.self v all m.sound m.adds r q c.in_ok-answer.answer member of c.in_ok-answer.ensures.made;
-        made = next_pair (IsAnswered T c.make.new.self v) own i r c.loop-next.answers.items c.push.new.self.items c.in_ok-answer.answer ib w.1 answers
-            (subst (λ z. AllZip (IsAnswered T c.make.new.self v) (drop z own) (reverse c.loop-next.answers.items)) e
-            (answered_still T c.loop-next.store c.make.new.self v c.make.ensures.extends (drop c.loop-next.next own) (reverse c.loop-next.answers.items) m.made))
+        made = next_pair (IsAnswered T c.make.new.self v) own i r c.loop-next.answers c.push.new.self c.in_ok-answer.answer ib w.1 answers
+            (subst (λ z. AllZip (IsAnswered T c.make.new.self v) (drop z own) (reverse c.loop-next.answers)) e
+            (answered_still T c.loop-next.store c.make.new.self v c.make.ensures.extends (drop c.loop-next.next own) (reverse c.loop-next.answers) m.made))
             (one_made T c.loop-next.store c.make.new.self v r q c.in_ok-answer.answer of c.in_ok-answer.ensures.made);
       };
     }
@@ -264,10 +265,10 @@ pub returns-clause-made : goal.returns-clause-made
 returns-clause-made c =
     let t = c.args.team in
     let z : c.loop-next.next ≡ 0 = omega arith in
-    let turned : c.reverse.new.self.items ≡ reverse c.loop-next.answers.items = search rules in
+    let turned : c.reverse.new.self ≡ reverse c.loop-next.answers = search rules in
     let R = IsAnswered (told t.workers t.parts.now t.answers.now) c.loop-next.store c.args.level in
     let own = row_of t.parts.now.rows c.args.sender c.args.level in
-    subst (AllZip R own) (sym turned) (subst (λ k. AllZip R (drop k own) (reverse c.loop-next.answers.items)) z c.loop-next.invariant.making.made)
+    subst (AllZip R own) (sym turned) (subst (λ k. AllZip R (drop k own) (reverse c.loop-next.answers)) z c.loop-next.invariant.making.made)
 
 pub returns-clause-left : goal.returns-clause-left
 returns-clause-left c =

@@ -9,7 +9,7 @@ abbrev pub invariant-loop-next : goal.invariant-loop-next
 invariant-loop-next l = record {
   bound : l.next ≤ length (row_of l.team.parts.now.rows l.sender l.level);
   left : AreLeft l.team.workers (before l.team.workers l.team.roots.now l.team.parts.now l.sender l.level l.next) l.left.items;
-  making : AreMaking (told l.team.workers l.team.parts.now l.team.answers.now) l.fn.store l.level (team_row l.team.workers l.team.parts.now l.level) (row_of l.team.parts.now.rows l.sender l.level) l.next l.store l.answers.items;
+  making : AreMaking (told l.team.workers l.team.parts.now l.team.answers.now) l.fn.store l.level (team_row l.team.workers l.team.parts.now l.level) (row_of l.team.parts.now.rows l.sender l.level) l.next l.store l.answers;
 }
 
 abbrev pub decreases-loop-next : goal.decreases-loop-next

@@ -4,4 +4,4 @@ use Rattle.reduce_up.proofs.Picked.{ArePicking}
 use Rattle.reduce_up.proofs.picking.pick.Given as goal
 
 abbrev pub invariant-loop-home : goal.invariant-loop-home
-invariant-loop-home l = ArePicking (take l.home-index l.homes.numbers.items) (λ s. get_or l.starts s 0) (source l.refs l.homes) l.places.items l.answers.items
+invariant-loop-home l = ArePicking (take l.home-index l.homes.numbers.items) (λ s. get_or l.starts s 0) (source l.refs l.homes) l.places.items l.answers

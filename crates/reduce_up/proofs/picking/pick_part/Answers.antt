@@ -32,5 +32,5 @@ pick-requires-clause-room c =
 pub returns : goal.returns
 returns c = λ hd.
     let h = c.index-homes-part.result in
-    subst (λ z. OnOk c.pick.result (IsPickedOf c.args.parts.now c.args.refs.now c.args.part z c.pick.new.answers.items)) (c.index-homes-part.is ∙ get_or_default c.args.homes.now c.args.part h hd c.requires.part)
-    (picked_from c.args.parts.now c.args.refs.now c.args.part h c.in_ok-starts.starts.items c.in_ok-starts.ensures.starts c.as_slice.result.now c.as_slice.ensures.value c.pick.new.answers.items c.pick.result c.pick.ensures)
+    subst (λ z. OnOk c.pick.result (IsPickedOf c.args.parts.now c.args.refs.now c.args.part z c.pick.new.answers)) (c.index-homes-part.is ∙ get_or_default c.args.homes.now c.args.part h hd c.requires.part)
+    (picked_from c.args.parts.now c.args.refs.now c.args.part h c.in_ok-starts.starts.items c.in_ok-starts.ensures.starts c.as_slice.result.now c.as_slice.ensures.value c.pick.new.answers c.pick.result c.pick.ensures)

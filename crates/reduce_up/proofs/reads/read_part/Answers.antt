@@ -1,5 +1,6 @@
 use Rattle.std.proofs.Common.{◌≡◌, ℕ, ◌+◌, ◌-◌, ◌<◌, length, drop, sym, ap, ◌∙◌, subst, arith}
 use mathlib.Core.List.{reverse}
+use Rattle.std.proofs.lemmas.Option.{get_or_from_slice_get}
 use Rattle.std.proofs.Math.Seq.{drop-length}
 use Rattle.dd_store.specs.Graph.{Pair}
 use Rattle.req_table.specs.declared.Record.{Record}
@@ -17,7 +18,7 @@ loop-next-init c =
     let t = c.args.team in
     let T = told t.workers t.parts.now t.answers.now in
     let row = row_of t.parts.now.rows c.args.sender c.args.level in
-    let long : length c.children-row.result.now ≡ length row = ap (λ z. length z) c.children-row.ensures ∙ lean-long (length t.parts.now.rows) row in
+    let long : c.len-next.result ≡ length row = c.len-next.ensures ∙ ap (λ z. length z) c.children-row.ensures ∙ lean-long (length t.parts.now.rows) row in
     let d = c.empty.new.self in
     record {
       bound = omega (arith, long);
@@ -34,10 +35,10 @@ resolve-high-requires-clause-child c =
     let t = c.args.team in let i : ℕ = c.loop-next.next - 1 in let some = c.loop-next-test.true in let bound = c.loop-next.invariant.bound in
     let n = t.workers in let p = t.parts.now in let a = t.answers.now in let v = c.args.level in let s = c.args.sender in
     let own = row_of p.rows s v in
-    let entry = c.index-row-next.result in
+    let entry = c.at-entry.result in
     let e : c.loop-next.next ≡ i + 1 = omega (arith, some) in
     let ib : i < length own = omega (arith, some, bound) in
-    let w = row_read n p s v c.children-row.result.now c.children-row.ensures c.requires.halfway.parts.many_rows i ib entry c.index-row-next.is in
+    let w = row_read n p s v c.children-row.result.now c.children-row.ensures c.requires.halfway.parts.many_rows i ib entry (sym (get_or_from_slice_get c.children-row.result.now i entry entry c.at-entry.ensures)) in
     let r : Record = w.0 in
     let left = subst (λ z. AreLeft n (before n t.roots.now p s v z) c.loop-next.left.items) e c.loop-next.invariant.left in
     let high : IsNext n p a s c.loop-next.left.items entry.1 r.high = (w.3, high_last n t.roots.now p v a c.requires.halfway s c.requires.sender c.requires.found i r ib w.1 c.loop-next.left.items left, high_found n t.roots.now p v a c.requires.halfway s c.requires.sender c.requires.found i r ib w.1) in
@@ -48,10 +49,10 @@ resolve-low-requires-clause-child c =
     let t = c.args.team in let i : ℕ = c.loop-next.next - 1 in let some = c.loop-next-test.true in let bound = c.loop-next.invariant.bound in
     let n = t.workers in let p = t.parts.now in let a = t.answers.now in let v = c.args.level in let s = c.args.sender in
     let own = row_of p.rows s v in
-    let entry = c.index-row-next.result in
+    let entry = c.at-entry.result in
     let e : c.loop-next.next ≡ i + 1 = omega (arith, some) in
     let ib : i < length own = omega (arith, some, bound) in
-    let w = row_read n p s v c.children-row.result.now c.children-row.ensures c.requires.halfway.parts.many_rows i ib entry c.index-row-next.is in
+    let w = row_read n p s v c.children-row.result.now c.children-row.ensures c.requires.halfway.parts.many_rows i ib entry (sym (get_or_from_slice_get c.children-row.result.now i entry entry c.at-entry.ensures)) in
     let r : Record = w.0 in
     let left = subst (λ z. AreLeft n (before n t.roots.now p s v z) c.loop-next.left.items) e c.loop-next.invariant.left in
     let high : IsNext n p a s c.loop-next.left.items entry.1 r.high = (w.3, high_last n t.roots.now p v a c.requires.halfway s c.requires.sender c.requires.found i r ib w.1 c.loop-next.left.items left, high_found n t.roots.now p v a c.requires.halfway s c.requires.sender c.requires.found i r ib w.1) in
@@ -64,10 +65,10 @@ resolve-low-requires-clause-long c =
     let t = c.args.team in let i : ℕ = c.loop-next.next - 1 in let some = c.loop-next-test.true in let bound = c.loop-next.invariant.bound in
     let n = t.workers in let p = t.parts.now in let a = t.answers.now in let v = c.args.level in let s = c.args.sender in
     let own = row_of p.rows s v in
-    let entry = c.index-row-next.result in
+    let entry = c.at-entry.result in
     let e : c.loop-next.next ≡ i + 1 = omega (arith, some) in
     let ib : i < length own = omega (arith, some, bound) in
-    let w = row_read n p s v c.children-row.result.now c.children-row.ensures c.requires.halfway.parts.many_rows i ib entry c.index-row-next.is in
+    let w = row_read n p s v c.children-row.result.now c.children-row.ensures c.requires.halfway.parts.many_rows i ib entry (sym (get_or_from_slice_get c.children-row.result.now i entry entry c.at-entry.ensures)) in
     let r : Record = w.0 in
     let left = subst (λ z. AreLeft n (before n t.roots.now p s v z) c.loop-next.left.items) e c.loop-next.invariant.left in
     let high : IsNext n p a s c.loop-next.left.items entry.1 r.high = (w.3, high_last n t.roots.now p v a c.requires.halfway s c.requires.sender c.requires.found i r ib w.1 c.loop-next.left.items left, high_found n t.roots.now p v a c.requires.halfway s c.requires.sender c.requires.found i r ib w.1) in
@@ -80,10 +81,10 @@ loop-next-preserved c =
     let t = c.args.team in let i : ℕ = c.loop-next.next - 1 in let some = c.loop-next-test.true in let bound = c.loop-next.invariant.bound in
     let n = t.workers in let p = t.parts.now in let a = t.answers.now in let v = c.args.level in let s = c.args.sender in
     let own = row_of p.rows s v in
-    let entry = c.index-row-next.result in
+    let entry = c.at-entry.result in
     let e : c.loop-next.next ≡ i + 1 = omega (arith, some) in
     let ib : i < length own = omega (arith, some, bound) in
-    let w = row_read n p s v c.children-row.result.now c.children-row.ensures c.requires.halfway.parts.many_rows i ib entry c.index-row-next.is in
+    let w = row_read n p s v c.children-row.result.now c.children-row.ensures c.requires.halfway.parts.many_rows i ib entry (sym (get_or_from_slice_get c.children-row.result.now i entry entry c.at-entry.ensures)) in
     let r : Record = w.0 in
     let left = subst (λ z. AreLeft n (before n t.roots.now p s v z) c.loop-next.left.items) e c.loop-next.invariant.left in
     let high : IsNext n p a s c.loop-next.left.items entry.1 r.high = (w.3, high_last n t.roots.now p v a c.requires.halfway s c.requires.sender c.requires.found i r ib w.1 c.loop-next.left.items left, high_found n t.roots.now p v a c.requires.halfway s c.requires.sender c.requires.found i r ib w.1) in

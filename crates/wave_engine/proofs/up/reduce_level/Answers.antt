@@ -1,20 +1,15 @@
-use Rattle.std.proofs.Common.{◌≡◌, ℕ, true≢false, ◌∙◌, refl, List, [], ◌∷◌, ◌++◌, slice_get, Some, sym, subst, arith}
-use Rattle.std.specs.Prelude.{Result, Ok, Err, OnOk, false}
-use Rattle.std.specs.Result.{is_err}
+use Rattle.std.proofs.Common.{◌≡◌, ℕ, ◌∙◌, refl, List, [], ◌∷◌, ◌++◌, slice_get, Some, sym, subst, arith}
+use Rattle.std.specs.Prelude.{Ok, Err}
 use Rattle.dd_store.specs.declared.reference.Ref.{Ref}
 use Rattle.req_table.specs.declared.Key.{Key}
 use Rattle.reduce_up.specs.Reducing.{IsRecordAt, IsAnswer, AddsDescribed, AskedBy}
 use Rattle.reduce_up.proofs.Reduction.{record_done, adds_none}
 use Rattle.reduce_up.proofs.Missing.{record_fault}
+use Rattle.reduce_up.proofs.Making.{on_ok}
 use Rattle.req_table.specs.declared.placed.Placed.{Placed}
 use Rattle.wave_engine.specs.Up.{IsReadyAt, IsLevelFault, AskedAt, IsLevelReduced}
 use Rattle.wave_engine.proofs.Raising.{rec, here, low_comes, high_comes, is_record, adds_one, one_more, one_fault, level_start}
 use Rattle.wave_engine.proofs.up.reduce_level.Goals as goal
-
--- what is said of a value holds where there is one
-on_ok : {T E P : Type 0} (r : Result T E) → is_err r ≡ false → OnOk r P → P
-on_ok (Ok x) none h = h
-on_ok (Err e) none h = absurd (true≢false none)
 
 pub returns-then-is_err-clause-adds : goal.returns-then-is_err-clause-adds
 returns-then-is_err-clause-adds c = λ T R.

@@ -8,7 +8,7 @@ use Rattle.reduce_up.proofs.answers.Answers.put.Goals as goal
 
 pub returns : goal.returns
 returns c =
-    let items : Vec (Vec Ref Global) Global → List (List Ref) = λ w. map (λ (v : Vec Ref Global). v.items) w.items in
+    let items : Vec (List Ref) Global → List (List Ref) = λ w. w.items in
     let f = map-set items c.self.inside.found.items c.args.level c.args.answers in
     let same : record { found = map items (set c.self.inside.found.items c.args.level c.args.answers) } ≡ record { found = set (map items c.self.inside.found.items) c.args.level (items c.args.answers) } = λ i. record { found = f i } in
     subst (λ (a : AnswersView). record { found = map items (set c.self.inside.found.items c.args.level c.args.answers) } ≡ record { found = set a.found c.args.level (items c.args.answers) }) c.self.view_is same

@@ -1,0 +1,229 @@
+//! Lists of words, in four bytes a word while all of a list fit, else in eight.
+ghost use mathlib.Core.List.{reverse};
+ghost use Rattle.std.specs.Prelude.{◌≡◌, ◌<◌, ◌++◌, ◌∷◌, [], length, slice_get, Some, IfOk, OnOk, OnErr};
+ghost use Rattle.req_table.specs.WordLists.{words_in, pairs_in};
+
+use std::alloc::{AllocError, Global};
+
+/// The first word that does not fit in four bytes.
+const SHORT_END: u64 = 1 << 32;
+
+/// Words, by place.
+#[derive(Drop)]
+pub(crate) enum Words {
+    /// All fit in four bytes.
+    Short(Vec<u32>),
+    /// Some do not.
+    Long(Vec<u64>),
+}
+
+/// The same words in eight bytes each, with as much room.
+fn widened(short: &Vec<u32>) -> Result<Vec<u64>, AllocError>
+    ensures { IfOk result (λ long. long.items ≡ short.now.items) }
+{
+    let mut long = Vec::new(*short.allocator());
+    long.reserve_exact(short.capacity())?;
+    for word in short {
+        long.push(*word as u64)?;
+    }
+    Ok(long)
+}
+
+impl Words {
+    /// No words. They take no memory yet.
+    pub(crate) fn new(alloc: Global) -> Words
+        ensures { words_in result ≡ [] }
+    {
+        Words::Short(Vec::new(alloc))
+    }
+
+    /// Adds a word at the end.
+    #[inline(always)]
+    pub(crate) fn push(&mut self, word: u64) -> Result<(), AllocError>
+        ensures done { OnOk result (words_in self.new ≡ words_in self.old ++ word ∷ []) }
+        ensures refused { OnErr result (words_in self.new ≡ words_in self.old) }
+    {
+        match self {
+            Words::Short(words) if word < SHORT_END => words.push(word as u32)?,
+            Words::Short(_) => self.widen_and_push(word)?,
+            Words::Long(words) => words.push(word)?,
+        }
+        Ok(())
+    }
+
+    /// Adds a word that does not fit: each has eight bytes from now on. Its code stands apart from that of most words, which fit.
+    #[inline(never)]
+    fn widen_and_push(&mut self, word: u64) -> Result<(), AllocError>
+        ensures done { OnOk result (words_in self.new ≡ words_in self.old ++ word ∷ []) }
+        ensures refused { OnErr result (words_in self.new ≡ words_in self.old) }
+    {
+        match self {
+            Words::Short(words) => {
+                let mut long = widened(words)?;
+                long.push(word)?;
+                *self = Words::Long(long);
+            }
+            Words::Long(words) => words.push(word)?,
+        }
+        Ok(())
+    }
+
+    /// The word at a place.
+    #[inline(always)]
+    pub(crate) fn at(&self, place: usize) -> u64
+        requires { place < length (words_in self.now) }
+        ensures { slice_get (words_in self.now) place ≡ Some result }
+    {
+        match self {
+            Words::Short(words) => words[place] as u64,
+            Words::Long(words) => words[place],
+        }
+    }
+
+    /// The last first.
+    pub(crate) fn reverse(&mut self)
+        ensures { words_in self.new ≡ reverse (words_in self.old) }
+    {
+        match self {
+            Words::Short(words) => words.reverse(),
+            Words::Long(words) => words.reverse(),
+        }
+    }
+
+    /// Removes all words, and keeps the memory where each had four bytes.
+    pub(crate) fn clear(&mut self)
+        ensures { words_in self.new ≡ [] }
+    {
+        match self {
+            Words::Short(words) => words.clear(),
+            Words::Long(words) => {
+                let alloc = *words.allocator();
+                *self = Words::new(alloc);
+            }
+        }
+    }
+
+    /// Has room for so many words more, each in as many bytes as those that are there.
+    pub(crate) fn reserve(&mut self, count: usize) -> Result<(), AllocError>
+        ensures { words_in self.new ≡ words_in self.old }
+    {
+        match self {
+            Words::Short(words) => words.reserve_exact(count)?,
+            Words::Long(words) => words.reserve_exact(count)?,
+        }
+        Ok(())
+    }
+}
+
+/// Pairs of words, by place.
+#[derive(Drop)]
+pub(crate) enum WordPairs {
+    /// All words fit in four bytes.
+    Short(Vec<(u32, u32)>),
+    /// Some do not.
+    Long(Vec<(u64, u64)>),
+}
+
+/// The same pairs in sixteen bytes each, with as much room.
+fn widened_pairs(short: &Vec<(u32, u32)>) -> Result<Vec<(u64, u64)>, AllocError>
+    ensures { IfOk result (λ long. long.items ≡ short.now.items) }
+{
+    let mut long = Vec::new(*short.allocator());
+    long.reserve_exact(short.capacity())?;
+    for pair in short {
+        long.push((pair.0 as u64, pair.1 as u64))?;
+    }
+    Ok(long)
+}
+
+impl WordPairs {
+    /// No pairs. They take no memory yet.
+    pub(crate) fn new(alloc: Global) -> WordPairs
+        ensures { pairs_in result ≡ [] }
+    {
+        WordPairs::Short(Vec::new(alloc))
+    }
+
+    /// Adds a pair at the end.
+    #[inline(always)]
+    pub(crate) fn push(&mut self, pair: (u64, u64)) -> Result<(), AllocError>
+        ensures done { OnOk result (pairs_in self.new ≡ pairs_in self.old ++ pair ∷ []) }
+        ensures refused { OnErr result (pairs_in self.new ≡ pairs_in self.old) }
+    {
+        let (low, high) = pair;
+        match self {
+            WordPairs::Short(pairs) if low < SHORT_END && high < SHORT_END => {
+                pairs.push((low as u32, high as u32))?
+            }
+            WordPairs::Short(_) => self.widen_and_push((low, high))?,
+            WordPairs::Long(pairs) => pairs.push((low, high))?,
+        }
+        Ok(())
+    }
+
+    /// Adds a pair that does not fit: each has sixteen bytes from now on. Its code stands apart from that of most pairs, which fit.
+    #[inline(never)]
+    fn widen_and_push(&mut self, pair: (u64, u64)) -> Result<(), AllocError>
+        ensures done { OnOk result (pairs_in self.new ≡ pairs_in self.old ++ pair ∷ []) }
+        ensures refused { OnErr result (pairs_in self.new ≡ pairs_in self.old) }
+    {
+        match self {
+            WordPairs::Short(pairs) => {
+                let mut long = widened_pairs(pairs)?;
+                long.push(pair)?;
+                *self = WordPairs::Long(long);
+            }
+            WordPairs::Long(pairs) => pairs.push(pair)?,
+        }
+        Ok(())
+    }
+
+    /// How many pairs there are.
+    pub(crate) fn len(&self) -> usize
+        ensures { result ≡ length (pairs_in self.now) }
+    {
+        match self {
+            WordPairs::Short(pairs) => pairs.len(),
+            WordPairs::Long(pairs) => pairs.len(),
+        }
+    }
+
+    /// The pair at a place.
+    #[inline(always)]
+    pub(crate) fn at(&self, place: usize) -> (u64, u64)
+        requires { place < length (pairs_in self.now) }
+        ensures { slice_get (pairs_in self.now) place ≡ Some result }
+    {
+        match self {
+            WordPairs::Short(pairs) => {
+                let (low, high) = pairs[place];
+                (low as u64, high as u64)
+            }
+            WordPairs::Long(pairs) => pairs[place],
+        }
+    }
+
+    /// Removes all pairs, and keeps the memory where each had eight bytes.
+    pub(crate) fn clear(&mut self)
+        ensures { pairs_in self.new ≡ [] }
+    {
+        match self {
+            WordPairs::Short(pairs) => pairs.clear(),
+            WordPairs::Long(pairs) => {
+                let alloc = *pairs.allocator();
+                *self = WordPairs::new(alloc);
+            }
+        }
+    }
+
+    /// Has room for so many pairs more, each in as many bytes as those that are there.
+    pub(crate) fn reserve(&mut self, count: usize) -> Result<(), AllocError>
+        ensures { pairs_in self.new ≡ pairs_in self.old }
+    {
+        match self {
+            WordPairs::Short(pairs) => pairs.reserve_exact(count)?,
+            WordPairs::Long(pairs) => pairs.reserve_exact(count)?,
+        }
+        Ok(())
+    }
+}
