@@ -1,8 +1,8 @@
-/* Preloaded, it notes in the file that BDD_THREADS names when threads that one thread starts together run.
+/* Preloaded, it notes in the file that BDD_THREADS names when the threads run that a program's first thread starts together.
  *
  * A line a thread: the milliseconds from its start to its first step, from there to its end, and on a processor, and its page faults.
  * A line for each time that threads are started and joined: the milliseconds on the clock from the first start to the last join, and
- * those that the starting thread was on a processor from there to its first join. Threads that are started by others are not told.
+ * those that the starting thread was on a processor from there to its first join. Threads that others than the first start are not told.
  */
 #define _GNU_SOURCE
 #include <dlfcn.h>
@@ -12,6 +12,7 @@
 #include <stdlib.h>
 #include <sys/resource.h>
 #include <time.h>
+#include <unistd.h>
 
 #define MOST 64
 
@@ -47,6 +48,8 @@ static void *begin(void *note) {
 
 int pthread_create(pthread_t *thread, const pthread_attr_t *how, void *(*work)(void *), void *given) {
     int (*real)(pthread_t *, const pthread_attr_t *, void *(*)(void *), void *) = dlsym(RTLD_NEXT, "pthread_create");
+    if (gettid() != getpid())
+        return real(thread, how, work, given);
     if (left == 0) {
         count = 0;
         first_start = milliseconds(CLOCK_MONOTONIC);
@@ -55,16 +58,21 @@ int pthread_create(pthread_t *thread, const pthread_attr_t *how, void *(*work)(v
     }
     if (count == MOST)
         abort();
-    struct noted *one = &together[count++];
+    struct noted *one = &together[count];
     *one = (struct noted){.work = work, .given = given, .created = milliseconds(CLOCK_MONOTONIC)};
-    left++;
     int answer = real(thread, how, begin, one);
-    one->thread = *thread;
+    if (answer == 0) {
+        one->thread = *thread;
+        count++;
+        left++;
+    }
     return answer;
 }
 
 int pthread_join(pthread_t thread, void **answer) {
     int (*real)(pthread_t, void **) = dlsym(RTLD_NEXT, "pthread_join");
+    if (gettid() != getpid())
+        return real(thread, answer);
     if (busy_until == 0)
         busy_until = milliseconds(CLOCK_THREAD_CPUTIME_ID);
     int status = real(thread, answer);

@@ -40,7 +40,8 @@ impl Row {
     /// Adds the children of the next place.
     #[inline(always)]
     pub fn push(&mut self, pair: (Placed, Placed)) -> Result<(), AllocError>
-        ensures { OnOk result (self.new ≡ self.old ++ pair ∷ []) }
+        ensures done { OnOk result (self.new ≡ self.old ++ pair ∷ []) }
+        ensures refused { OnErr result (self.new ≡ self.old) }
     {
         self.pairs.push((pair.0.word(), pair.1.word()))?;
         Ok(())

@@ -14,7 +14,7 @@ loop-place-preserved c =
     let is = sym (get_or_from_slice_get keys place key key c.key_at.ensures) in (
       row_more c.args.store.now c.args.workers c.loop-place.row c.push.new.self key c.split-record.result low.low high.high
           keys place c.loop-place.due c.push_child.new.due c.push_child-in-loop-place.new.due (search rules) before.0 is
-          (search rules) c.split-record.ensures.stands c.in_ok-push.ensures low.ensures.lean high.ensures.lean
+          (search rules) c.split-record.ensures.stands c.in_ok-push.ensures.done low.ensures.lean high.ensures.lean
           low.ensures.grown high.ensures.long high.ensures.grown,
       (let e = c.split-record.ensures.count in let h = before.1 in omega (arith, e, h)),
     )

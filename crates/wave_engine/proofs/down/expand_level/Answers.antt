@@ -20,7 +20,7 @@ loop-place-preserved c =
     let high_is : c.split-record.result.high ≡ child_of c.args.store.now k true = ap (λ (z : Record). z.high) c.split-record.ensures.record in
     let U : List (List Key) = c.place_child.new.requests in
     let V : List (List Key) = c.place_child-in-loop-place.new.requests in
-    let more : c.push.new.self ≡ c.loop-place.pairs ++ (c.in_ok-low.low, c.in_ok-high.high) ∷ [] = c.in_ok-push.ensures in
+    let more : c.push.new.self ≡ c.loop-place.pairs ++ (c.in_ok-low.low, c.in_ok-high.high) ∷ [] = c.in_ok-push.ensures.done in
     record {
       row = subst (IsRowExpanded c.args.store.now c.args.entries.now c.args.requests.now v (i + 1) V) (sym more)
           (row_more c.args.store.now c.levels.ensures.sound c.args.entries.now c.args.requests.now v i T c.loop-place.pairs c.loop-place.invariant.row k here c.in_ok-low.low c.in_ok-high.high U V
