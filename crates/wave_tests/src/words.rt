@@ -1,8 +1,9 @@
-//! The words of references and of children, by hand.
+//! The words of references and of children, by hand, and lists of them.
 
 use dd_store::{NodeId, Ref};
-use req_table::{Placed, PlacedChild};
+use req_table::{Placed, PlacedChild, Refs, Row};
 use std::process::Abort;
+use std::test::Fail;
 
 /// The node of this name.
 fn node(level: u16, shard: u8, index: u32) -> Ref {
@@ -51,4 +52,45 @@ fn words_of_children(rt: HostRuntime) {
     assert_asked(&rt, Placed::of_word(near.word()), (255, 1, true));
     assert_asked(&rt, Placed::of_word(far.word()), (256, 1, false));
     assert_asked(&rt, Placed::of_word(long.word()), (4_096, 1, false));
+}
+
+// The second pair does not fit in four bytes a word; what is put in the memory of both does.
+#[test]
+fn lists_of_children(rt: HostRuntime) -> Result<(), Fail> {
+    let near = Placed::ask(255, 1, true);
+    let long = Placed::ask(4_096, 1, false);
+    let answer = Placed::done(Ref::TRUE);
+    let mut row = Row::new(rt.alloc());
+    row.reserve(2)?;
+    row.push((near, answer))?;
+    row.push((answer, long))?;
+    assert!(rt; row.len() == 2);
+    let first = row.at(0);
+    assert!(rt; first.0.word() == near.word() && first.1.word() == answer.word());
+    let second = row.at(1);
+    assert!(rt; second.0.word() == answer.word() && second.1.word() == long.word());
+    row.clear();
+    assert!(rt; row.len() == 0);
+    row.push((near, near))?;
+    assert!(rt; row.len() == 1 && row.at(0).1.word() == near.word());
+    Ok(())
+}
+
+// The third reference does not fit in four bytes.
+#[test]
+fn lists_of_references(rt: HostRuntime) -> Result<(), Fail> {
+    let near = node(0, 3, 5);
+    let long = node(3, 0, 131_072);
+    let mut refs = Refs::new(rt.alloc());
+    refs.restart(2)?;
+    refs.push(near)?;
+    refs.push(near.negate())?;
+    refs.push(long)?;
+    assert!(rt; refs.at(0) == near && refs.at(1) == near.negate() && refs.at(2) == long);
+    refs.reverse();
+    assert!(rt; refs.at(0) == long && refs.at(1) == near.negate() && refs.at(2) == near);
+    refs.restart(1)?;
+    refs.push(Ref::FALSE)?;
+    assert!(rt; refs.at(0) == Ref::FALSE);
+    Ok(())
 }
