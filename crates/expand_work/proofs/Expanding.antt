@@ -33,7 +33,8 @@ use Rattle.expand_work.specs.Gathered.{AreParts, AreSettled, AreOpen, noted_of}
 use Rattle.expand_work.specs.Work.{at}
 use Rattle.expand_work.specs.Lean.{lean_row, records_of, recorded, AreLean}
 use Rattle.expand_work.specs.declared.space.Space.{Space}
-use Rattle.expand_work.specs.Spaces.{records_in, rows_in, noted_in}
+use Rattle.req_table.specs.declared.placed.Placed.{Placed}
+use Rattle.expand_work.specs.Spaces.{records_in, rows_in, without_rows, noted_in}
 use Rattle.expand_work.proofs.Leaning.{recorded-at, keys_of_records}
 use Rattle.expand_work.proofs.Parting.{parts_settle}
 use Rattle.expand_work.proofs.Counting.{sum_add, sum_const}
@@ -124,12 +125,12 @@ abbrev pub part_records : Nodes → Part → List (List Record)
 part_records S p = records_in S p.space
 
 -- the records of all workers, told of the parts
-pub records_as : (S : Nodes) (parts : List Part) (spaces : List Space) → spaces ≡ map (λ (p : Part). p.space) parts → map (records_in S) spaces ≡ map (part_records S) parts
-records_as S parts spaces is = ap (map (records_in S)) is ∙ map-map (records_in S) (λ (p : Part). p.space) parts
+pub records_as : (S : Nodes) (parts : List Part) (spaces : List Space) → spaces ≡ map (λ (p : Part). without_rows p.space) parts → map (records_in S) spaces ≡ map (part_records S) parts
+records_as S parts spaces is = ap (map (records_in S)) is ∙ map-map (records_in S) (λ (p : Part). without_rows p.space) parts
 
 -- and the places that they noted
-pub noted_as : (parts : List Part) (spaces : List Space) → spaces ≡ map (λ (p : Part). p.space) parts → map noted_in spaces ≡ map (λ (p : Part). p.space.noted) parts
-noted_as parts spaces is = ap (map noted_in) is ∙ map-map noted_in (λ (p : Part). p.space) parts
+pub noted_as : (parts : List Part) (spaces : List Space) → spaces ≡ map (λ (p : Part). without_rows p.space) parts → map noted_in spaces ≡ map (λ (p : Part). p.space.noted) parts
+noted_as parts spaces is = ap (map noted_in) is ∙ map-map noted_in (λ (p : Part). without_rows p.space) parts
 
 -- two functions that are the same on the elements of a list
 map_same : {A B : Type 0} (f g : A → B) (xs : List A) → ((i : ℕ) (d : A) → i < length xs → f (slice_index_or xs i d) ≡ g (slice_index_or xs i d)) → map f xs ≡ map g xs
@@ -137,11 +138,12 @@ map_same f g [] h = refl
 map_same f g (x ∷ xs) h = λ j. h 0 x (omega arith) j ∷ map_same f g xs (λ i d b. h (suc i) d (omega (arith, b))) j
 
 -- the rows of all workers are the children of their records
-pub parts_lean : (S : Nodes) (l : LanesView) (roots : List Key) (parts : List Part) → AreWorked l S roots parts → (spaces : List Space) → spaces ≡ map (λ (p : Part). p.space) parts → AreLean (map (records_in S) spaces) (map rows_in spaces)
-parts_lean S l roots parts worked spaces is =
+pub parts_lean : (S : Nodes) (l : LanesView) (roots : List Key) (parts : List Part) → AreWorked l S roots parts → (spaces : List Space) → spaces ≡ map (λ (p : Part). without_rows p.space) parts → (rows : List (List (List (Placed × Placed)))) → rows ≡ map (λ (p : Part). rows_in p.space) parts →
+    AreLean (map (records_in S) spaces) rows
+parts_lean S l roots parts worked spaces is rows rows-is =
     let n = length (map (records_in S) spaces) in
-    let wide : length l.lanes ≡ n = sym (length-map spaces (records_in S) ∙ ap (λ (xs : List Space). length xs) is ∙ length-map parts (λ (p : Part). p.space) ∙ worked.long) in
-    ap (map rows_in) is ∙ map-map rows_in (λ (p : Part). p.space) parts
+    let wide : length l.lanes ≡ n = sym (length-map spaces (records_in S) ∙ ap (λ (xs : List Space). length xs) is ∙ length-map parts (λ (p : Part). without_rows p.space) ∙ worked.long) in
+    rows-is
     ∙ map_same (λ (p : Part). p.space.rows) (λ (p : Part). map (lean_row n) (part_records S p)) parts (λ i d b. (worked.each i d (let k = worked.long in omega (arith, b, k))).lean ∙ ap (λ m. map (lean_row m) (part_records S (slice_index_or parts i d))) wide)
     ∙ sym (map-map (map (lean_row n)) (part_records S) parts) ∙ ap (map (map (lean_row n))) (sym (records_as S parts spaces is))
 

@@ -17,7 +17,8 @@ use Rattle.expand_work.specs.Lean.{lean, lean_row, records_of, recorded, AreLean
 use Rattle.expand_work.specs.Expanded.{row_of}
 use Rattle.expand_work.specs.Gathered.{count_in}
 use Rattle.expand_work.specs.declared.space.Space.{Space}
-use Rattle.expand_work.specs.Spaces.{records_in, rows_in}
+use Rattle.std.proofs.lemmas.List.{get_or_default}
+use Rattle.expand_work.specs.Spaces.{records_in}
 use Rattle.expand_work.proofs.Owing.{asks_more, due_levels, levels-append}
 
 pub keys_of_records : (S : Nodes) (keys : List Key) → map key_of (records_of S keys) ≡ keys
@@ -64,22 +65,18 @@ keys_of_all S rs spaces k v own all kb vb is =
     )
 
 -- a worker's children of a level, among those of all workers
-pub row_of_all : (rs : List (List (List Record))) (spaces : List Space) (k v : ℕ) (own : Space) → AreLean rs (map rows_in spaces) → k < length rs → v < length (get_or rs k []) → own ≡ get_or spaces k own
-    → (v < length own.rows) × (at own.rows v ≡ lean_row (length rs) (row_of rs k v))
-row_of_all rs spaces k v own all kb vb is =
+pub row_of_all : (rs : List (List (List Record))) (rows : List (List (List (Placed × Placed)))) (k v : ℕ) (own : List (List (Placed × Placed))) → AreLean rs rows → k < length rs → v < length (get_or rs k []) → own ≡ get_or rows k own
+    → (v < length own) × (at own v ≡ lean_row (length rs) (row_of rs k v))
+row_of_all rs rows k v own all kb vb is =
     let n = length rs in
-    let long : length spaces ≡ n = sym (length-map spaces rows_in) ∙ ap (λ (ls : List (List (List (Placed × Placed)))). length ls) all ∙ length-map rs (map (lean_row n)) in
-    let here : own.rows ≡ map (lean_row n) (get_or rs k []) =
-    ap rows_in is ∙ sym (get_or-map rows_in spaces k own [] (omega (arith, kb, long))) ∙ ap (λ (ls : List (List (List (Placed × Placed)))). get_or ls k []) all ∙ listn.get_or-map (map (lean_row n)) rs k [] in (
+    let long : length rows ≡ n = ap (λ (ls : List (List (List (Placed × Placed)))). length ls) all ∙ length-map rs (map (lean_row n)) in
+    let here : own ≡ map (lean_row n) (get_or rs k []) =
+    is ∙ get_or_default rows k own [] (omega (arith, kb, long)) ∙ ap (λ (ls : List (List (List (Placed × Placed)))). get_or ls k []) all ∙ listn.get_or-map (map (lean_row n)) rs k [] in (
       (let e = ap (λ (r : List (List (Placed × Placed))). length r) here ∙ length-map (get_or rs k []) (lean_row n) in omega (arith, e, vb)),
       ap (λ (r : List (List (Placed × Placed))). at r v) here ∙ listn.get_or-map (lean_row n) (get_or rs k []) v [],
     )
 
 -- ---- how many children there are, and how many records
-sum_map : {X Y : Type 0} (f : Y → ℕ) (g : X → Y) (xs : List X) → sum_by f (map g xs) ≡ sum_by (λ x. f (g x)) xs
-sum_map f g [] = refl
-sum_map f g (x ∷ xs) = sum_by-cons f (g x) (map g xs) ∙ ap (λ n. f (g x) + n) (sum_map f g xs) ∙ sym (sum_by-cons (λ x. f (g x)) x xs)
-
 lean_levels : (n : ℕ) (levels : List (List Record)) → sum_by (λ (row : List (Placed × Placed)). length row) (map (lean_row n) levels) ≡ sum_by (λ (row : List Record). length row) levels
 lean_levels n [] = refl
 lean_levels n (r ∷ rs) =
@@ -96,7 +93,5 @@ lean_all n (r ∷ rs) =
     ∙ (λ i. lean_levels n r i + lean_all n rs i)
     ∙ sym (sum_by-cons (λ (levels : List (List Record)). sum_by (λ (row : List Record). length row) levels) r rs)
 
-pub lean_count : (records : List (List (List Record))) (spaces : List Space) → AreLean records (map rows_in spaces) → sum_by (λ (s : Space). sum_by (λ (row : List (Placed × Placed)). length row) s.rows) spaces ≡ count_in records
-lean_count records spaces lean =
-    let f : List (List (Placed × Placed)) → ℕ = λ levels. sum_by (λ (row : List (Placed × Placed)). length row) levels in
-    sym (sum_map f rows_in spaces) ∙ ap (λ rows. sum_by f rows) lean ∙ lean_all (length records) records
+pub lean_count : (records : List (List (List Record))) (rows : List (List (List (Placed × Placed)))) → AreLean records rows → sum_by (λ (levels : List (List (Placed × Placed))). sum_by (λ (row : List (Placed × Placed)). length row) levels) rows ≡ count_in records
+lean_count records rows lean = ap (λ rs. sum_by (λ (levels : List (List (Placed × Placed))). sum_by (λ (row : List (Placed × Placed)). length row) levels) rs) lean ∙ lean_all (length records) records

@@ -10,7 +10,7 @@ use Rattle.req_table.specs.Wave.{Scope, Wave}
 use Rattle.req_table.specs.Lanes.{from_of, sent_by, ends, asks_at, IsFair, HasSenders}
 use Rattle.req_table.specs.Settled.{IsDistinctOf, dealt_from, is_owned}
 use Rattle.req_table.proofs.Lists.{each, all_of, filter_has}
-use Rattle.req_table.proofs.Rows.{dealt_has}
+use Rattle.req_table.proofs.ByLevel.{dealt_has}
 use Rattle.level_close.specs.Counts.{Counts}
 use Rattle.dd_store.specs.Nodes.{Nodes, IsSound}
 use Rattle.req_table.specs.Keys.{IsKey, wave_of}

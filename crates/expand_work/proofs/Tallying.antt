@@ -67,7 +67,7 @@ module _ (w : Wave) (roots : List Key) (R : ℕ → List Record) (c : IsClosure 
       let b = key_at v j x d f in
       c.once v vb i j d lt b.0 (a.1 ∙ sym b.1)
 
-  own_once : (v : ℕ) → v < w.levels → IsOnce (map key_of (R v))
+  pub own_once : (v : ℕ) → v < w.levels → IsOnce (map key_of (R v))
   own_once v vb i j x e f =
       elim (cases_lt i j) [
         | inl lt ↦ absurd (apart_at v vb i j x lt e f)

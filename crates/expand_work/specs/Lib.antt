@@ -11,3 +11,4 @@ pub mod Lean
 pub mod Spaces
 pub mod Bounds
 pub mod Due
+pub mod Held

@@ -20,6 +20,10 @@ records_in S s = recorded S s.tables
 abbrev pub rows_in : Space → List (List (Placed × Placed))
 rows_in s = s.rows
 
+-- the space with no rows
+abbrev pub without_rows : Space → Space
+without_rows s = record s { rows = [] }
+
 -- the places that it noted, by sender
 abbrev pub noted_in : Space → List (List ℕ)
 noted_in s = s.noted

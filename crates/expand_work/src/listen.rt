@@ -8,8 +8,9 @@ ghost use Rattle.expand_work.specs.Work.{at, MaySend, HasKept, Offered, IsHeard,
 ghost use Rattle.expand_work.specs.Noted.{IsNoted, Notes};
 
 use crate::due::Due;
-use crate::lists::{Noted, Tables};
+use crate::lists::Noted;
 use crate::site::Site;
+use crate::tables::Tables;
 use crate::{Spare, WorkFault};
 use crossbeam_utils::Backoff;
 use lane_queue::{Lanes, Load, Port};

@@ -1,53 +1,42 @@
 //! All requests that the roots of a wave ask for, as the workers in threads recorded them: nothing is put together.
-ghost use Rattle.std.specs.Prelude.{◌≡◌, ◌≢◌, ◌<◌, ◌%◌, ◌^◌, length, map, slice_index_or, All, IfOk, IfErr, OnOk, []};
+ghost use Rattle.std.specs.Prelude.{◌≡◌, ◌≢◌, ◌<◌, ◌%◌, ◌^◌, length, map, slice_index_or, All, IfOk, IfErr, IfSome, OnOk, []};
 ghost use Rattle.req_table.specs.Keys.{IsKey};
 ghost use Rattle.req_table.specs.Settled.{key_of};
 ghost use Rattle.expand_work.specs.declared.part.Part.{Part as PartValue};
 ghost use Rattle.expand_work.specs.Expanded.{row_of};
 ghost use Rattle.expand_work.specs.Gathered.{AreParts, AreSettled, HaveExpanded, count_in, noted_of};
-ghost use Rattle.expand_work.specs.Lean.{lean_row};
+ghost use Rattle.expand_work.specs.Lean.{lean_row, AreLean};
+ghost use Rattle.expand_work.specs.Spaces.{rows_in, without_rows};
 
 use crate::team::{Wave, run_workers};
 use crate::{Crew, Monitor, Part, Space, Spaces, WaveFault};
 use dd_store::Store;
 use lane_queue::{Lanes, Port};
-use req_table::{Key, Row, Table};
+use req_table::{Key, Row, Rows, Table};
 use std::alloc::{AllocError, Global};
 use std::marker::Model;
 use std::snapshot::Snapshot;
 use std::sync::Wait;
 use std::thread::Threads;
 
-/// What each worker of a wave was asked for, and where it put what each other asked of it.
+/// What the workers of a wave were asked for, and where each put what each other asked of it. The children stand apart, in rows.
 #[derive(Drop)]
-pub struct Parts {
+pub struct Notes {
     spaces: Vec<Space>,
     store: Snapshot<Store>,
 }
 
-impl Model for Parts {
+impl Model for Notes {
     ghost use Rattle.std.specs.Prelude.{map};
     ghost use Rattle.expand_work.specs.Gathered.{PartsView};
-    ghost use Rattle.expand_work.specs.Lean.{AreLean};
-    ghost use Rattle.expand_work.specs.Spaces.{records_in, rows_in, noted_in};
+    ghost use Rattle.expand_work.specs.Spaces.{records_in, noted_in};
 
     ghost Value = { PartsView };
 
-    ghost view = { λ p. record { rows = map (records_in p.store.value) p.spaces.items; noted = map noted_in p.spaces.items } };
-
-    ghost invariant = { λ p. AreLean (map (records_in p.store.value) p.spaces.items) (map rows_in p.spaces.items) };
+    ghost view = { λ n. record { rows = map (records_in n.store.value) n.spaces.items; noted = map noted_in n.spaces.items } };
 }
 
-impl Parts {
-    /// The children of a worker's requests of a level, low and high, by place. The number of one that is asked for is its owner.
-    pub fn children(&self, worker: u32, level: u16) -> &Row
-        requires worker { worker < length self.now.rows }
-        requires level { level < length (slice_index_or self.now.rows worker []) }
-        ensures { result.now ≡ lean_row (length self.now.rows) (row_of self.now.rows worker level) }
-    {
-        self.spaces[worker as usize].rows.row(level)
-    }
-
+impl Notes {
     /// The places at which a worker put the requests that a sender asked of it, in the order in which they were sent.
     pub fn noted(&self, worker: u32, sender: u32) -> &[u32]
         requires worker { worker < length self.now.noted }
@@ -57,13 +46,61 @@ impl Parts {
         self.spaces[worker as usize].noted.list(sender)
     }
 
-    /// The keys of a worker's requests of a level, by place.
-    pub fn keys(&self, worker: u32, level: u16) -> &Table
+    /// The keys of a worker's requests of a level, by place, where the wave's spaces keep each table with its level.
+    pub fn keys(&self, worker: u32, level: u16) -> Option<&Table>
         requires worker { worker < length self.now.rows }
         requires level { level < length (slice_index_or self.now.rows worker []) }
-        ensures { result.now ≡ map key_of (row_of self.now.rows worker level) }
+        ensures { IfSome result (λ keys. keys.now ≡ map key_of (row_of self.now.rows worker level)) }
     {
         self.spaces[worker as usize].tables.keys(level)
+    }
+
+    /// Leaves the memory of the workers for the next wave, with rows for them.
+    pub fn give_back(self, rows: Vec<Rows>, spaces: &mut Spaces)
+        ensures { spaces.new ≡ spaces.old }
+    {
+        let mut used = self.spaces;
+        for (space, rows) in used.iter_mut().zip(rows) {
+            space.rows = rows;
+        }
+        spaces.refill(used);
+    }
+}
+
+/// What each worker of a wave recorded: its rows, by worker, and what it was asked for.
+#[derive(Drop)]
+pub struct Parts {
+    rows: Vec<Rows>,
+    notes: Notes,
+}
+
+impl Model for Parts {
+    ghost use Rattle.std.specs.Prelude.{map};
+    ghost use Rattle.expand_work.specs.Gathered.{PartsView};
+    ghost use Rattle.expand_work.specs.Lean.{AreLean};
+
+    ghost Value = { PartsView };
+
+    ghost view = { λ p. p.notes };
+
+    ghost invariant = { λ p. AreLean p.notes.rows p.rows.items };
+}
+
+impl Parts {
+    /// The children of a worker's requests of a level, low and high, by place. The number of one that is asked for is its owner.
+    pub fn children(&self, worker: u32, level: u16) -> &Row
+        requires worker { worker < length self.now.rows }
+        requires level { level < length (slice_index_or self.now.rows worker []) }
+        ensures { result.now ≡ lean_row (length self.now.rows) (row_of self.now.rows worker level) }
+    {
+        self.rows[worker as usize].row(level)
+    }
+
+    /// What the workers were asked for, and what they noted.
+    pub fn notes(&self) -> &Notes
+        ensures { result.now ≡ self.now }
+    {
+        &self.notes
     }
 
     /// How many requests there are, modulo 2^64. It tells large waves from small ones, too.
@@ -71,33 +108,41 @@ impl Parts {
         ensures { result ≡ count_in self.now.rows % 2 ^ 64 }
     {
         let mut total: u64 = 0;
-        for space in &self.spaces {
-            total = total.wrapping_add(space.rows.count());
+        for rows in &self.rows {
+            total = total.wrapping_add(rows.count());
         }
         total
     }
 
-    /// Leaves the memory of the workers for the next wave.
-    pub fn give_back(self, spaces: &mut Spaces)
-        ensures { spaces.new ≡ spaces.old }
+    /// The rows of all workers, whose children are told by their owners, and the rest.
+    pub fn open(self) -> (Vec<Rows>, Notes)
+        ensures rows { AreLean self.rows result.0.items }
+        ensures notes { result.1 ≡ self }
     {
-        spaces.refill(self.spaces);
+        (self.rows, self.notes)
     }
 }
 
-/// The ports of the parts, and what the workers filled.
-fn split_parts(alloc: Global, parts: Vec<Part>) -> Result<(Vec<Port>, Vec<Space>), AllocError>
+/// The ports of the parts, their rows, and what else the workers filled.
+fn split_parts(
+    alloc: Global,
+    parts: Vec<Part>,
+) -> Result<(Vec<Port>, Vec<Rows>, Vec<Space>), AllocError>
     ensures ports { IfOk result (λ r. r.0.items ≡ map (λ (p : PartValue). p.port) parts.items) }
-    ensures spaces { IfOk result (λ r. r.1.items ≡ map (λ (p : PartValue). p.space) parts.items) }
+    ensures rows { IfOk result (λ r. r.1.items ≡ map (λ (p : PartValue). rows_in p.space) parts.items) }
+    ensures spaces { IfOk result (λ r. r.2.items ≡ map (λ (p : PartValue). without_rows p.space) parts.items) }
 {
     let mut ports = Vec::new(alloc);
+    let mut rows = Vec::new(alloc);
     let mut spaces = Vec::new(alloc);
     for part in parts {
         let Part { port, space } = part;
+        let (children, rest) = space.split(alloc);
         ports.push(port)?;
-        spaces.push(space)?;
+        rows.push(children)?;
+        spaces.push(rest)?;
     }
-    Ok((ports, spaces))
+    Ok((ports, rows, spaces))
 }
 
 /// All requests that the roots ask for, directly or through children, each recorded once, by its owner. Each of the 1 to 16 workers is a
@@ -133,12 +178,13 @@ pub fn expand_parts<R: Threads + Wait + Sync, G: Monitor>(
     };
     let used = spaces.take_all(alloc);
     let parts = run_workers(crew.rt, wave, ports, used, crew.monitor)?;
-    let (ports, filled) = split_parts(alloc, parts)?;
+    let (ports, rows, filled) = split_parts(alloc, parts)?;
     let settled = lanes.settle(crew.rt, ports)?;
-    let parts = Parts {
+    let notes = Notes {
         spaces: filled,
         store: Snapshot::of(store),
     };
+    let parts = Parts { rows, notes };
     spaces.add(parts.count());
     Ok((parts, settled.ports))
 }

@@ -5,7 +5,8 @@ use req_table::Key;
 use std::alloc::Global;
 use std::sync::atomic::AtomicBool;
 
-/// Where a worker works: the lanes, the store, all roots, and the flag that stops it.
+/// Where a worker works: the lanes, the store, all roots, the flag that stops it, and whether the table of a level stays with it once
+/// the level was expanded.
 #[derive(Clone, Copy)]
 pub struct Site<'a> {
     pub alloc: Global,
@@ -13,4 +14,5 @@ pub struct Site<'a> {
     pub store: &'a Store,
     pub roots: &'a [Key],
     pub stop: &'a AtomicBool,
+    pub keeps: bool,
 }

@@ -1,9 +1,11 @@
 //! The memory that the workers of a wave fill, which lasts from wave to wave.
-ghost use Rattle.expand_work.specs.Spaces.{IsEmptySpace};
-ghost use Rattle.std.specs.Prelude.{◌≡◌, ◌+◌, ◌%◌, ◌^◌, IfOk};
+ghost use Rattle.expand_work.specs.Spaces.{IsEmptySpace, rows_in, without_rows};
+ghost use Rattle.std.specs.Prelude.{◌≡◌, ◌+◌, ◌%◌, ◌^◌, [], replicate, IfOk};
 
 use crate::Spare;
-use crate::lists::{Noted, Rows, Tables};
+use crate::lists::Noted;
+use crate::tables::Tables;
+use req_table::Rows;
 use std::alloc::{AllocError, Global};
 use std::marker::Model;
 use std::mem;
@@ -18,13 +20,22 @@ pub struct Space {
     pub spare: Spare,
 }
 
+/// So many levels without children. A worker keeps the memory of all its rows.
+fn no_rows(alloc: Global, levels: u16) -> Result<Rows, AllocError>
+    ensures { IfOk result (λ rows. rows ≡ replicate levels []) }
+{
+    let mut rows = Rows::new(alloc, usize::MAX);
+    rows.restart(alloc, levels)?;
+    Ok(rows)
+}
+
 impl Space {
     fn new(alloc: Global, levels: u16, workers: u32) -> Result<Space, AllocError>
         ensures { IfOk result (IsEmptySpace levels workers) }
     {
         Ok(Space {
             tables: Tables::new(alloc, levels)?,
-            rows: Rows::new(alloc, levels)?,
+            rows: no_rows(alloc, levels)?,
             noted: Noted::new(alloc, workers)?,
             spare: Spare::new(alloc),
         })
@@ -33,12 +44,24 @@ impl Space {
     fn emptied(self, alloc: Global, levels: u16, workers: u32) -> Result<Space, AllocError>
         ensures { IfOk result (IsEmptySpace levels workers) }
     {
+        let mut rows = self.rows;
+        rows.restart(alloc, levels)?;
         Ok(Space {
             tables: self.tables.emptied(alloc, levels)?,
-            rows: self.rows.emptied(alloc, levels)?,
+            rows,
             noted: self.noted.emptied(alloc, workers)?,
             spare: self.spare,
         })
+    }
+
+    /// Its rows, and the rest of it.
+    pub(crate) fn split(self, alloc: Global) -> (Rows, Space)
+        ensures rows { result.0 ≡ rows_in self }
+        ensures rest { result.1 ≡ without_rows self }
+    {
+        let mut rest = self;
+        let rows = mem::replace(&mut rest.rows, Rows::new(alloc, usize::MAX));
+        (rows, rest)
     }
 
     /// A space for so many levels and workers with nothing in it, in the memory of another, with its bundles, where there is one.
@@ -63,6 +86,8 @@ impl Space {
 pub struct Spaces {
     used: Vec<Space>,
     expanded: u64,
+    /// Whether the table of a level stays with it once the level was expanded.
+    keeps: bool,
 }
 
 impl Model for Spaces {
@@ -74,14 +99,31 @@ impl Model for Spaces {
 }
 
 impl Spaces {
-    /// No memory yet, and nothing was expanded.
+    /// No memory yet, and nothing was expanded. The table of a level that was expanded serves others.
     pub fn new(alloc: Global) -> Spaces
         ensures { result ≡ 0 }
     {
         Spaces {
             used: Vec::new(alloc),
             expanded: 0,
+            keeps: false,
         }
+    }
+
+    /// The same, for whoever reads a wave's keys: each table stays with its level.
+    pub fn keeping(alloc: Global) -> Spaces
+        ensures { result ≡ 0 }
+    {
+        Spaces {
+            used: Vec::new(alloc),
+            expanded: 0,
+            keeps: true,
+        }
+    }
+
+    /// Whether each table stays with its level.
+    pub(crate) fn keeps(&self) -> bool {
+        self.keeps
     }
 
     /// The memory of one worker, where there is some.
@@ -98,6 +140,7 @@ impl Spaces {
         Spaces {
             used: mem::replace(&mut self.used, Vec::new(alloc)),
             expanded: 0,
+            keeps: self.keeps,
         }
     }
 

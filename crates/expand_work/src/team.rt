@@ -117,6 +117,7 @@ fn start<'s, E, R: Wait + Sync, G: Monitor>(
         store,
         roots,
         stop,
+        keeps,
     } = site;
     let promise = PartOf {
         lanes,
@@ -137,6 +138,7 @@ fn start<'s, E, R: Wait + Sync, G: Monitor>(
             store,
             roots,
             stop,
+            keeps,
         };
         work(rt, site, port, space, monitor)
     };
@@ -240,6 +242,7 @@ pub fn run_workers<R: Threads + Wait + Sync, G: Monitor>(
     } = wave;
     let stop = AtomicBool::new(false);
     let stop = &stop;
+    let keeps = used.keeps();
     thread::scope(
         thread::scope_env(),
         rt,
@@ -257,6 +260,7 @@ pub fn run_workers<R: Threads + Wait + Sync, G: Monitor>(
                 store,
                 roots,
                 stop,
+                keeps,
             };
             work_all(scope, rt, site, ports, used, monitor)
         },

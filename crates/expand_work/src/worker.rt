@@ -9,13 +9,14 @@ ghost use Rattle.expand_work.specs.Worked.{IsFresh, IsWorked};
 use crate::due::Due;
 use crate::expand::{deal_roots, expand_row};
 use crate::listen::{Senders, keep_own, take_until_closed};
-use crate::lists::{Rows, Tables};
 use crate::say::{send_due, send_ends};
 use crate::site::Site;
+use crate::tables::Tables;
 use crate::{Monitor, Part, Space, WorkFault};
 use dd_store::Store;
 use lane_queue::Port;
 use level_close::Clock;
+use req_table::Rows;
 use std::alloc::{AllocError, Global};
 use std::sync::Wait;
 use std::sync::atomic::Ordering;
@@ -65,7 +66,7 @@ fn expand_level<G: Monitor>(
     let Worker {
         port,
         senders,
-        tables,
+        mut tables,
         mut rows,
         due,
     } = worker;
@@ -75,9 +76,14 @@ fn expand_level<G: Monitor>(
         mut spare,
     } = senders;
     let workers = site.lanes.count();
-    let row = rows.take(site.alloc, level);
-    let keys = tables.keys(level);
-    let (row, due, count) = expand_row(site.store, keys, workers, row, due, &mut spare)?;
+    let mut row = rows.take(level);
+    row.clear();
+    let Some(keys) = tables.take(level) else {
+        // No level is expanded twice.
+        return Err(AllocError);
+    };
+    let (row, due, count) = expand_row(site.store, &keys, workers, row, due, &mut spare)?;
+    tables.leave(level, keys, site.keeps)?;
     monitor.at_requests(count);
     rows.put(level, row);
     Ok(Worker {

@@ -1,50 +1,40 @@
--- A level whose records threads read, divided by shard, and whose diagrams they pick.
-use Rattle.std.proofs.Common.{◌≡◌, ◌≢◌, ℕ, zero, suc, ◌+◌, ◌*◌, ◌<◌, ◌≤◌, ◌⊎◌, inl, inr, cond, List, [], ◌∷◌, ◌++◌, length, map, take, drop, get_or, slice_get, Some, Contains, All, refl, sym, ap, ◌∙◌, subst, arith, append_assoc, ne_eqb, length-append}
+-- A level in parts, divided by shard, of which the diagrams are picked.
+use Rattle.std.proofs.Common.{◌≡◌, ◌≢◌, ℕ, zero, suc, ◌+◌, ◌<◌, ◌≤◌, ◌⊎◌, inl, inr, cond, List, [], ◌∷◌, ◌++◌, length, map, take, drop, get_or, slice_get, Some, Contains, All, refl, sym, ap, ◌∙◌, subst, arith, append_assoc, append-nil, ne_eqb, length-append}
 use Rattle.std.specs.List.{AllZip}
+use Rattle.std.specs.Prelude.{Result, Ok, Err, OnOk}
 use Rattle.std.specs.declared.vec.Vec.{Vec}
 use Rattle.std.specs.declared.alloc.Global.{Global}
-use Rattle.std.proofs.lemmas.List.{length-map, take_all, reverse-reverse, get_or_default, get_or_append_left}
-use Rattle.std.proofs.Math.Seq.{get_or-append_seam}
-use Rattle.std.specs.Prelude.{Result, Ok, Err, OnOk}
 use Rattle.std.specs.declared.alloc.AllocError.{AllocError}
-use Rattle.reduce_up.specs.declared.division.Divided.{Divided}
+use Rattle.std.proofs.lemmas.List.{length-map, take_all, get_or_default, get_or_append_left}
+use Rattle.std.proofs.Math.Seq.{get_or-append_seam}
 use Rattle.std.proofs.Math.ListN.{get_or-eq_default}
-use Rattle.std.proofs.lemmas.Option.{slice_get_within, get_or_from_slice_get}
-use mathlib.Core.List.{reverse}
+use Rattle.std.proofs.lemmas.Option.{slice_get_within, slice_get_read, get_or_from_slice_get}
 use mathlib.Core.Logic.{dite}
 use native.Mathlib.Decide.{ℕ_discrete}
 use Rattle.dd_store.specs.declared.reference.Ref.{Ref}
-use Rattle.dd_store.specs.declared.StoreFault.{StoreFault}
-use Rattle.dd_store.specs.declared.StoreFault.TheVariants.{Full, OutOfMemory}
 use Rattle.dd_store.specs.Graph.{Pair}
 use Rattle.dd_store.specs.Codes.{shard_of_pair}
 use Rattle.dd_store.specs.Growing.{IsIn}
-use Rattle.dd_store.specs.Levels.{list_at, all_at, refs_at, plain_lists}
-use Rattle.dd_store.specs.Nodes.{Nodes, shard_at, IsSound, IsThere, count_of}
-use Rattle.dd_store.specs.Adding.{AreReady, GrowsLevel, IsLevelFault, IsMakeFault}
+use Rattle.dd_store.specs.Levels.{list_at, all_at, refs_at}
+use Rattle.dd_store.specs.Nodes.{Nodes, IsThere}
 use Rattle.dd_store.proofs.LevelFacts.{list_read}
-use Rattle.dd_store.proofs.Storing.{small_shard, shard-le-count}
-use Rattle.dd_store.proofs.AddingAll.{Extends-grown, lacking_absent}
-use Rattle.dd_store.proofs.View.{keeps, absent}
-use Rattle.req_table.specs.declared.Key.{Key}
-use Rattle.req_table.specs.declared.Record.{Record}
-use Rattle.req_table.specs.Settled.{level_of_rows}
-use Rattle.expand_work.specs.Expanded.{row_of}
-use Rattle.expand_work.specs.Gathered.{PartsView}
+use Rattle.dd_store.proofs.Storing.{small_shard}
+use Rattle.dd_store.proofs.Places.{slice_get-append}
 use Rattle.dd_store.proofs.Noting.{zip_append}
-use Rattle.expand_work.proofs.Zips.{zip_long, zip_weaker}
+use Rattle.expand_work.proofs.Zips.{zip_long}
+use Rattle.req_table.specs.declared.placed.Placed.{Placed}
+use Rattle.req_table.specs.Places.{row}
+use Rattle.reduce_up.specs.declared.division.Divided.{Divided}
 use Rattle.reduce_up.specs.declared.division.Homes.{Homes}
-use Rattle.reduce_up.specs.Sharing.{IsPairOf, IsAnswered, CanStand, RowCanStand, AddsRow, IsRowRefused}
-use Rattle.reduce_up.specs.Division.{chosen, span, source, begin_of, IsDivided, IsPicked, IsPickedOf, ArePicked, AreHomes, AreRefsOf}
-use Rattle.reduce_up.specs.Team.{AnswersView, in_turn, team_row, told, read_of, asked_above, AreLeft, AreAllLeft, IsPartRead, AreDividedBy, AreMadeOf}
 use Rattle.reduce_up.specs.declared.reads.ReadShare.{ReadShare}
 use Rattle.reduce_up.specs.declared.picking.PickShare.{PickShare}
-use Rattle.reduce_up.specs.Steps.{IsShareRead, AreRead, IsSharePicked, AreAllPicked}
-use Rattle.reduce_up.proofs.Naming.{grown_of_pair}
-use Rattle.reduce_up.proofs.Reading.{in_team}
+use Rattle.reduce_up.specs.OverParts.{level_over}
+use Rattle.reduce_up.specs.Division.{chosen, span, source, begin_of, twice, in_turn, IsPicked, IsPickedOf, ArePicked, AreHomes, AreRefsOf, AreInTurn, MayPick}
+use Rattle.reduce_up.specs.Steps.{BothComeTo, IsMadeOf, IsPartRead, IsShareRead, AreAllRead, AreRead, IsSharePicked, AreAllPicked}
 use Rattle.reduce_up.proofs.Shared.{zip_right, zip_through}
 use Rattle.reduce_up.proofs.Parted.{homes_of}
-use Rattle.reduce_up.proofs.Parting.{chosen-in, chosen-many, zip_chosen, zip_span, zip_turned, turned_in}
+use Rattle.reduce_up.proofs.OverParts.{slice_get-behind}
+use Rattle.reduce_up.proofs.Parting.{chosen-in, chosen-many, zip_chosen, zip_span}
 
 -- ---- lists of all parts
 in_split : (xs ys : List Pair) (q : Pair) → IsIn (xs ++ ys) q → IsIn xs q ⊎ IsIn ys q
@@ -104,160 +94,135 @@ begin_none (p ∷ ps) (suc k) h =
     let none = ap (λ z. length z) (no_more p.items 16 (h 0 p (omega arith)) (omega arith)) in
     length-append (list_at p.items 16) (all_at (take k ps) 16) ∙ (omega (arith, more, none))
 
+pub over_in : {X : Type 0} (rows : List (List (List X))) (k v j : ℕ) (x : X) → k < length rows → slice_get (row (row rows k) v) j ≡ Some x → (i : ℕ) × (slice_get (level_over rows v) i ≡ Some x)
+over_in [] k v j x l e = absurd (omega (arith, l))
+over_in (p ∷ ps) zero v j x l e = (j, slice_get-append (row p v) (level_over ps v) j x e)
+over_in (p ∷ ps) (suc k) v j x l e =
+    let w = over_in ps k v j x (omega (arith, l)) e in
+    (length (row p v) + w.0, slice_get-behind (row p v) (level_over ps v) w.0 ∙ w.1)
+
+-- what is said of each part's items holds of the level's
+over_all : {X : Type 0} (R : X → Ref → Type 0) (rows : List (List (List X))) (v : ℕ) (answers : List (List Ref)) → length answers ≡ length rows → ((k : ℕ) → k < length rows → AllZip R (row (row rows k) v) (get_or answers k [])) → AllZip R (level_over rows v) (in_turn answers)
+over_all R [] v [] e f = tt
+over_all R [] v (a ∷ answers) e f = absurd (omega (arith, e))
+over_all R (p ∷ ps) v [] e f = absurd (omega (arith, e))
+over_all R (p ∷ ps) v (a ∷ answers) e f =
+    zip_append R (row p v) (level_over ps v) a (in_turn answers) (f zero (omega arith)) (over_all R ps v answers (omega (arith, e)) (λ k l. f (suc k) (omega (arith, l))))
+
 -- ---- what is in the lists
-abbrev pub AreListed : List (Key × Ref) → List Record → (ℕ → List Pair) → Type 0
-AreListed results row lists = (s : ℕ) (q : Pair) → IsIn (lists s) q → (d : Record) × Contains row d × IsPairOf results d q × (q.0 ≢ q.1) × (shard_of_pair q.0 q.1 ≡ s)
+abbrev pub AreListed : List (List Ref) → List (Placed × Placed) → (ℕ → List Pair) → Type 0
+AreListed A children lists = (s : ℕ) (q : Pair) → IsIn (lists s) q → (i : ℕ) × (d : Placed × Placed) × (slice_get children i ≡ Some d) × BothComeTo A d q × (q.0 ≢ q.1) × (shard_of_pair q.0 q.1 ≡ s)
 
-module _ (results : List (Key × Ref)) (S : Nodes) (v : ℕ) (row : List Record) (lists : ℕ → List Pair) (are : AreListed results row lists) where
-  pub ready_all : v < S.levels → RowCanStand results S v row → AreReady S v lists
-  ready_all lt can = record {
-    level = lt;
-    differ = λ s p w. (are s p w).3;
-    lo_here = λ s p w. (of s p w).has_low;
-    hi_here = λ s p w. (of s p w).has_high;
-    above = λ s p w. ((of s p w).below_low, (of s p w).below_high);
-    sharded = λ s p l w. (are s p w).4;
-  }
-    where
-      of : (s : ℕ) (p : Pair) (w : IsIn (lists s) p) → CanStand S v p
-      of s p w = let o = are s p w in can o.0 p o.1 o.2
-
-  module _ (T : Nodes) where
-    pub adds_all : GrowsLevel S T v (plain_lists lists) → AddsRow results S T v row
-    adds_all g = record {
-      keeps = keeps S T (Extends-grown S T v (plain_lists lists) g);
-      only = λ m h. elim (grown_of_pair S T v lists g m h) [ inl old ↦ inl old | inr new ↦ (let o = are new.0 new.1 new.2 in inr (o.0, new.1, o.1, o.2, o.3, new.3)) ];
-    }
-
-    pub refused_all : (f : StoreFault) → IsSound T → (f ≡ Full → IsLevelFault T v (plain_lists lists) (Some Full)) → IsRowRefused results T v row f
-    refused_all OutOfMemory w h = tt
-    refused_all Full w f =
-        let h = f refl in
-        let s : ℕ = h.0 in
-        let full = h.2 in
-        let enough : length (shard_at T v s) ≤ count_of T = shard-le-count T (16 * v + s) in
-        let m = lacking_absent T v s (lists s) w (λ p i. (are s p i).4) h.3 in
-        let o = are s m.0 m.1 in
-        (o.0, m.0, o.1, o.2, (omega (arith, full, enough), o.3, absent T v m.0.0 m.0.1 m.2))
-
-in_list : {X : Type 0} (xs : List X) (i : ℕ) (x : X) → slice_get xs i ≡ Some x → Contains xs x
+pub in_list : {X : Type 0} (xs : List X) (i : ℕ) (x : X) → slice_get xs i ≡ Some x → Contains xs x
 in_list xs i x e = (i, slice_get_within xs i x e, get_or_from_slice_get xs i x x e)
 
 pub some_of : {X : Type 0} (xs : List X) → 0 < length xs → X
 some_of [] l = absurd (omega (arith, l))
 some_of (x ∷ xs) l = x
 
--- the workers' diagrams of a level, one behind the other
-pub in_row : (R : Record → Ref → Type 0) (rows : ℕ → ℕ → List Record) (v : ℕ) (answers : List (List Ref)) (n : ℕ) → n ≤ length answers → ((k : ℕ) (d : List Ref) → k < n → AllZip R (rows k v) (get_or answers k d))
-    → AllZip R (level_of_rows n rows v) (in_turn n answers)
-in_row R rows v answers zero l f = tt
-in_row R rows v answers (suc n) l f =
-    zip_append R (level_of_rows n rows v) (rows n v) (in_turn n answers) (get_or answers n [])
-    (in_row R rows v answers n (omega (arith, l)) (λ k e b. f k e (omega (arith, b))))
-    (f n [] (omega arith))
+-- pairs that are both of a diagram, which is there
+zip_twice : (T : Nodes) (v : ℕ) (rs : List Ref) → AllZip (λ (q : Pair) r. IsThere T v q.0 q.1 r) (twice rs) rs
+zip_twice T v [] = tt
+zip_twice T v (r ∷ rs) = (inl (refl, refl), zip_twice T v rs)
 
--- the records of a level were read and divided
-module _ (n : ℕ) (roots : List Key) (p : PartsView) (a : AnswersView) (v : ℕ) (parts : List (Vec (Vec Pair Global) Global)) (homes : List Homes) (lefts : List (Vec ℕ Global)) (D : AreDividedBy n roots p a v n parts homes lefts) where
-  abbrev results : List (Key × Ref)
-  results = told n p a
+listed_part : (A : List (List Ref)) (children : List (Placed × Placed)) (lists : Vec (Vec Pair Global) Global) (homes : Homes) → IsPartRead A children lists homes → AreListed A children (list_at lists.items)
+listed_part A children lists homes r s q w =
+    let own = r.divided.own s q w in
+    let sb : s < 16 = subst (λ z. z < 16) own.1 (small_shard q.0 q.1) in
+    let chose : List Pair = chosen s homes.numbers.items r.pairs in
+    let among : Contains chose q = subst (λ (z : List Pair). Contains z q) (sym {a = chose} {b = list_at lists.items s} (r.divided.differ s sb)) (in_list (list_at lists.items s) w.0 q w.1) in
+    let z = zip_right (BothComeTo A) children r.pairs r.read q (chosen-in s homes.numbers.items r.pairs q among) in
+    (z.1.0, z.0, slice_get_read children (length children) z.1.0 z.0 refl z.1.1 (sym z.1.2), z.2, own.0, own.1)
 
-  pub listed_row : AreListed results (team_row n p v) (all_at parts)
-  listed_row s q w =
+-- the parts of a level were read and divided
+module _ (A : List (List Ref)) (v : ℕ) (rows : List (List (List (Placed × Placed)))) (parts : List (Vec (Vec Pair Global) Global)) (homes : List Homes) (D : AreRead A v rows (length rows) parts homes) where
+  pub listed_level : AreListed A (level_over rows v) (all_at parts)
+  listed_level s q w =
       let m = part_in parts s q w in
       let k : ℕ = m.0 in
-      let kb : k < n = (let e = D.many_parts in let l = m.1 in omega (arith, e, l)) in
+      let kb : k < length rows = (let e = D.many_lists in let l = m.1 in omega (arith, e, l)) in
       let d = some_of parts (let l = m.1 in omega (arith, l)) in
       let h = some_of homes (let e = D.many_homes in omega (arith, e, kb)) in
-      let read = D.divided k d h kb in
-      let list = list_at (get_or parts k d).items in
-      let here : IsIn (list s) q = m.2 d in
-      let own = read.own s q here in
-      let sb : s < 16 = subst (λ z. z < 16) own.1 (small_shard q.0 q.1) in
-      let hs = (get_or homes k h).numbers.items in
-      let z = zip_right (IsPairOf results) (chosen s hs (read_of p k v)) (list s) (read.pairs s sb) q (in_list (list s) here.0 q here.1) in
-      (z.0, in_team n p v k z.0 kb (turned_in (row_of p.rows k v) z.0 (chosen-in s hs (read_of p k v) z.0 z.1)), z.2, own.0, own.1)
+      let o = listed_part A (row (row rows k) v) (get_or parts k d) (get_or homes k h) (D.each k d h kb) s q (m.2 d) in
+      let at = over_in rows k v o.0 o.1 kb o.2 in
+      (at.0, o.1, at.1, o.3, o.4, o.5)
 
   pub all_sixteen : All (λ (part : Vec (Vec Pair Global) Global). length part.items ≡ 16) parts
-  all_sixteen k d l = D.sixteen k d (let e = D.many_parts in omega (arith, e, l))
+  all_sixteen k d l = let lb : k < length rows = (let e = D.many_lists in omega (arith, e, l)) in (D.each k d (some_of homes (let e = D.many_homes in omega (arith, e, lb))) lb).sixteen
 
-  pub all_homes : (k : ℕ) (d : Vec (Vec Pair Global) Global) (h : Homes) → k < length homes → AreHomes (get_or homes k h) (list_at (get_or parts k d).items)
-  all_homes k d h l = homes_of results (read_of p k v) (get_or homes k h) (list_at (get_or parts k d).items) (D.divided k d h (let e = D.many_homes in omega (arith, e, l)))
+  all_homes : (k : ℕ) (d : Vec (Vec Pair Global) Global) (h : Homes) → k < length homes → AreHomes (get_or homes k h) (list_at (get_or parts k d).items)
+  all_homes k d h l = let r = D.each k d h (let e = D.many_homes in omega (arith, e, l)) in homes_of r.pairs (get_or homes k h) (list_at (get_or parts k d).items) r.divided
 
-  pub all_left : AreAllLeft n roots p v lefts
-  all_left = record { long = D.many_lefts; each = D.left }
+  module _ (T : Nodes) (refs : List (Vec Ref Global)) (sixteen : length refs ≡ 16) (there : (s : ℕ) → s < 16 → AllZip (λ (q : Pair) r. IsThere T v q.0 q.1 r) (all_at parts s) (refs_at refs s)) where
+    pub may_pick : MayPick parts homes refs
+    may_pick = record {
+      many = D.many_lists ∙ sym D.many_homes;
+      sixteen = all_sixteen;
+      refs_of = record { sixteen = sixteen; many = λ s l. sym (zip_long (λ (q : Pair) r. IsThere T v q.0 q.1 r) (all_at parts s) (refs_at refs s) (there s l)) };
+      homes_of = all_homes;
+    }
 
-  module _ (T : Nodes) (refs : List (Vec Ref Global)) (there : (s : ℕ) → s < 16 → AllZip (λ (q : Pair) r. IsThere T v q.0 q.1 r) (all_at parts s) (refs_at refs s)) where
-    -- the diagrams that one worker picked
-    module _ (k : ℕ) (kb : k < n) (h : Homes) (h-is : (e : Homes) → get_or homes k e ≡ h) (answers : List Ref) (picked : IsPickedOf parts refs k h answers) where
+    -- the diagrams that were picked of one part
+    module _ (k : ℕ) (kb : k < length rows) (h : Homes) (h-is : (e : Homes) → get_or homes k e ≡ h) (answers : List Ref) (picked : IsPickedOf parts refs k h answers) where
       abbrev hs : List ℕ
       hs = h.numbers.items
 
-      abbrev read : List Record
-      read = read_of p k v
-
       kp : k < length parts
-      kp = let e = D.many_parts in omega (arith, e, kb)
+      kp = let e = D.many_lists in omega (arith, e, kb)
 
       abbrev here : Vec (Vec Pair Global) Global
       here = get_or parts k (some_of parts (omega (arith, kp)))
 
-      own_part : IsDivided results read h (list_at here.items)
-      own_part = subst (λ z. IsDivided results read z (list_at here.items)) (h-is h) (D.divided k (some_of parts (omega (arith, kp))) h kb)
+      own_part : IsPartRead A (row (row rows k) v) here h
+      own_part = subst (IsPartRead A (row (row rows k) v) here) (h-is h) (D.each k (some_of parts (omega (arith, kp))) h kb)
 
-      as-many : (s : ℕ) → length (chosen s hs (reverse answers)) ≡ length (chosen s hs read)
-      as-many s = chosen-many s hs (reverse answers) read picked.long (sym own_part.long)
+      as-many : (s : ℕ) → length (chosen s hs answers) ≡ length (chosen s hs own_part.pairs)
+      as-many s = chosen-many s hs answers own_part.pairs picked.long (sym own_part.divided.long)
 
       -- the references of a shard
-      of_shard : (s : ℕ) → s < 16 → AllZip (IsAnswered results T v) (chosen s hs read) (chosen s hs (reverse answers))
+      of_shard : (s : ℕ) → s < 16 → AllZip (λ (q : Pair) r. IsThere T v q.0 q.1 r) (chosen s hs own_part.pairs) (chosen s hs answers)
       of_shard s l =
           let list = list_at here.items s in
           let own : AllZip (λ (q : Pair) r. IsThere T v q.0 q.1 r) list (span (begin_of parts k s) (length list) (refs_at refs s)) =
           zip_span (λ (q : Pair) r. IsThere T v q.0 q.1 r) (all_at (take k parts) s) list (all_at (drop (suc k) parts) s) (refs_at refs s)
           (subst (λ z. AllZip (λ (q : Pair) r. IsThere T v q.0 q.1 r) z (refs_at refs s)) (all_split parts k s (some_of parts (omega (arith, kp))) kp) (there s l)) in
-          let many : length list ≡ length (chosen s hs (reverse answers)) = sym (as-many s ∙ zip_long (IsPairOf results) (chosen s hs read) list (own_part.pairs s l)) in
+          let is : list ≡ chosen s hs own_part.pairs = sym (own_part.divided.differ s l) in
+          let many : length list ≡ length (chosen s hs answers) = ap (λ z. length z) is ∙ sym (as-many s) in
           let from : refs_at refs s ≡ source refs h s = sym (ap (λ b. cond b h.equal.items (refs_at refs s)) (ne_eqb s 16 (λ e. absurd (omega (arith, l, e))))) in
-          subst (λ z. AllZip (IsAnswered results T v) (chosen s hs read) z) (sym (picked.each s (omega (arith, l))))
-          (subst (λ z. AllZip (IsAnswered results T v) (chosen s hs read) (span (begin_of parts k s) (length (chosen s hs (reverse answers))) z)) from
-          (subst (λ z. AllZip (IsAnswered results T v) (chosen s hs read) (span (begin_of parts k s) z (refs_at refs s))) many
-          (zip_through (IsPairOf results) (λ (q : Pair) r. IsThere T v q.0 q.1 r) (chosen s hs read) list (span (begin_of parts k s) (length list) (refs_at refs s)) (own_part.pairs s l) own)))
+          let at : chosen s hs answers ≡ span (begin_of parts k s) (length list) (refs_at refs s) =
+          picked.each s (omega (arith, l)) ∙ ap (λ z. span (begin_of parts k s) z (source refs h s)) (sym many) ∙ ap (λ z. span (begin_of parts k s) (length list) z) (sym from) in
+          subst (λ z. AllZip (λ (q : Pair) r. IsThere T v q.0 q.1 r) (chosen s hs own_part.pairs) z) (sym at)
+          (subst (λ z. AllZip (λ (q : Pair) r. IsThere T v q.0 q.1 r) z (span (begin_of parts k s) (length list) (refs_at refs s))) is own)
 
       -- the diagrams of equal children
-      of_equal : AllZip (IsAnswered results T v) (chosen 16 hs read) (chosen 16 hs (reverse answers))
+      of_equal : AllZip (λ (q : Pair) r. IsThere T v q.0 q.1 r) (chosen 16 hs own_part.pairs) (chosen 16 hs answers)
       of_equal =
           let equal = h.equal.items in
-          let many : length (chosen 16 hs (reverse answers)) ≡ length equal = as-many 16 ∙ zip_long (λ c r. IsPairOf results c (r, r)) (chosen 16 hs read) equal own_part.same in
-          let is : chosen 16 hs (reverse answers) ≡ equal =
+          let many : length (chosen 16 hs answers) ≡ length equal = as-many 16 ∙ ap (λ z. length z) own_part.divided.same ∙ length-map equal (λ (r : Ref). (r, r)) in
+          let is : chosen 16 hs answers ≡ equal =
           picked.each 16 (omega arith)
-          ∙ ap (λ z. span z (length (chosen 16 hs (reverse answers))) (source refs h 16)) (begin_none parts k all_sixteen)
+          ∙ ap (λ z. span z (length (chosen 16 hs answers)) (source refs h 16)) (begin_none parts k all_sixteen)
           ∙ ap (λ z. take z equal) many ∙ take_all (length equal) equal (omega arith) in
-          subst (λ z. AllZip (IsAnswered results T v) (chosen 16 hs read) z) (sym is)
-          (zip_weaker (λ c r. IsPairOf results c (r, r)) (IsAnswered results T v) (λ c r e. ((r, r), e, inl (refl, refl))) (chosen 16 hs read) equal own_part.same)
+          subst (λ z. AllZip (λ (q : Pair) r. IsThere T v q.0 q.1 r) (chosen 16 hs own_part.pairs) z) (sym is)
+          (subst (λ z. AllZip (λ (q : Pair) r. IsThere T v q.0 q.1 r) z equal) (sym own_part.divided.same) (zip_twice T v equal))
 
-      pub part_made : AllZip (IsAnswered results T v) (row_of p.rows k v) answers
-      part_made = subst (λ (z : List Record × List Ref). AllZip (IsAnswered results T v) z.0 z.1) (λ i. (reverse-reverse (row_of p.rows k v) i, reverse-reverse answers i))
-          (zip_turned (IsAnswered results T v) read (reverse answers)
-          (zip_chosen (IsAnswered results T v) hs read (reverse answers) (sym own_part.long) picked.long own_part.within
-          (λ s l. dite (ℕ_discrete s 16) (λ e. subst (λ z. AllZip (IsAnswered results T v) (chosen z hs read) (chosen z hs (reverse answers))) (sym e) of_equal) (λ m. of_shard s (grind (arith, l, m))))))
+      part_made : AllZip (IsMadeOf A T v) (row (row rows k) v) answers
+      part_made = zip_through (BothComeTo A) (λ (q : Pair) r. IsThere T v q.0 q.1 r) (row (row rows k) v) own_part.pairs answers own_part.read
+          (zip_chosen (λ (q : Pair) r. IsThere T v q.0 q.1 r) hs own_part.pairs answers (sym own_part.divided.long) picked.long own_part.divided.within
+          (λ s l. dite (ℕ_discrete s 16) (λ e. subst (λ z. AllZip (λ (q : Pair) r. IsThere T v q.0 q.1 r) (chosen z hs own_part.pairs) (chosen z hs answers)) (sym e) of_equal) (λ m. of_shard s (grind (arith, l, m)))))
 
-    pub all_made : (answers : List (List Ref)) → ArePicked parts homes refs n answers → AreMadeOf n p a T v n answers
-    all_made answers q = record {
-      long = q.long;
-      each = λ k d l.
-          let h = get_or homes k (some_of homes (let e = D.many_homes in omega (arith, e, l))) in
-          part_made k l h (λ e. get_or_default homes k e (some_of homes (let e = D.many_homes in omega (arith, e, l))) (let e = D.many_homes in omega (arith, e, l))) (get_or answers k d)
-          (q.each k d (some_of homes (let e = D.many_homes in omega (arith, e, l))) l);
-    }
+    -- the diagrams that were picked of all parts
+    pub all_made : (own : List Ref) → AreInTurn parts homes refs own → AllZip (IsMadeOf A T v) (level_over rows v) own
+    all_made own (answers, q, is) = subst (λ z. AllZip (IsMadeOf A T v) (level_over rows v) z) (sym is)
+        (over_all (IsMadeOf A T v) rows v answers (q.long ∙ D.many_homes) (λ k l.
+        let lh : k < length homes = (let e = D.many_homes in omega (arith, e, l)) in
+        let h = get_or homes k (some_of homes (omega (arith, lh))) in
+        part_made k l h (λ e. get_or_default homes k e (some_of homes (omega (arith, lh))) lh) (get_or answers k []) (q.each k [] (some_of homes (omega (arith, lh))) lh)))
 
--- a reference for each pair
-pub refs_all : (T : Nodes) (v : ℕ) (parts : List (Vec (Vec Pair Global) Global)) (refs : List (Vec Ref Global)) → length refs ≡ 16 → ((s : ℕ) → s < 16 → AllZip (λ (q : Pair) r. IsThere T v q.0 q.1 r) (all_at parts s) (refs_at refs s)) → AreRefsOf parts refs
-refs_all T v parts refs sixteen there = record { sixteen = sixteen; many = λ s l. sym (zip_long (λ (q : Pair) r. IsThere T v q.0 q.1 r) (all_at parts s) (refs_at refs s) (there s l)) }
-
-pub fault_all : (T : Nodes) (v : ℕ) (lists : ℕ → List Pair) (f : StoreFault) → IsMakeFault T v lists f → f ≡ Full → IsLevelFault T v lists (Some Full)
-fault_all T v lists Full h e = h
-fault_all T v lists OutOfMemory h e = absurd (cc)
-
-pub refused_make : (results : List (Key × Ref)) (S : Nodes) (v : ℕ) (row : List Record) (parts' parts : List (Vec (Vec Pair Global) Global)) → parts' ≡ parts → AreListed results row (all_at parts) → (U : Nodes) (f : StoreFault) → IsSound U → IsMakeFault U v (plain_lists (all_at parts')) f → IsRowRefused results U v row f
-refused_make results S v row parts' parts e are U f w h = refused_all results S v row (all_at parts) are U f w (fault_all U v (plain_lists (all_at parts)) f (subst (λ (z : List (Vec (Vec Pair Global) Global)). IsMakeFault U v (plain_lists (all_at z)) f) e h))
+-- one list more behind
+pub turn_more : (lists : List (List Ref)) (xs : List Ref) → in_turn (lists ++ xs ∷ []) ≡ in_turn lists ++ xs
+turn_more [] xs = append-nil xs
+turn_more (y ∷ lists) xs = ap (λ z. y ++ z) (turn_more lists xs) ∙ sym (append_assoc y (in_turn lists) xs)
 
 -- a part's references are among those of all
 pub pick_room : (parts : List (Vec (Vec Pair Global) Global)) (refs : List (Vec Ref Global)) (k : ℕ) (h : Homes) (p : Vec (Vec Pair Global) Global) → k < length parts → All (λ (part : Vec (Vec Pair Global) Global). length part.items ≡ 16) parts → AreRefsOf parts refs → AreHomes h (list_at (get_or parts k p).items)
@@ -273,10 +238,10 @@ pick_room parts refs k h p l all r are s sb = dite (ℕ_discrete s 16)
     subst (λ z. begin_of parts k s + length (chosen s h.numbers.items h.numbers.items) ≤ length z) from (omega (arith, room, many, all-refs)))
 
 pub picked_from : (parts : List (Vec (Vec Pair Global) Global)) (refs : List (Vec Ref Global)) (k : ℕ) (h : Homes) (starts : List ℕ) → ((s : ℕ) → s ≤ 16 → get_or starts s 0 ≡ begin_of parts k s) → (slice : List ℕ) → slice ≡ starts → (answers : List Ref) (r : Result (Unit {0}) AllocError)
-    → OnOk r (IsPicked h.numbers.items (λ s. get_or slice s 0) (source refs h) (reverse answers)) → OnOk r (IsPickedOf parts refs k h answers)
+    → OnOk r (IsPicked h.numbers.items (λ s. get_or slice s 0) (source refs h) answers) → OnOk r (IsPickedOf parts refs k h answers)
 picked_from parts refs k h starts each slice is answers (Ok x) o = record {
   long = o.long;
-  each = λ s l. o.each s l ∙ ap (λ z. span z (length (chosen s h.numbers.items (reverse answers))) (source refs h s)) (ap (λ z. get_or z s 0) is ∙ each s l);
+  each = λ s l. o.each s l ∙ ap (λ z. span z (length (chosen s h.numbers.items answers)) (source refs h s)) (ap (λ z. get_or z s 0) is ∙ each s l);
 }
 picked_from parts refs k h starts each slice is answers (Err e) o = o
 
@@ -286,48 +251,29 @@ at_seam xs xs' x d m e is = ap (λ z. get_or z m d) is ∙ ap (λ z. get_or (xs 
 at_left : {X : Type 0} (xs xs' : List X) (x d : X) (m s : ℕ) → length xs ≡ m → s < m → xs' ≡ xs ++ x ∷ [] → get_or xs' s d ≡ get_or xs s d
 at_left xs xs' x d m s e l is = ap (λ z. get_or z s d) is ∙ get_or_append_left xs (x ∷ []) d s (omega (arith, e, l))
 
--- one more in its place
-pub each_more : {X : Type 0} (P : ℕ → X → Type 0) (xs xs' : List X) (x : X) (n : ℕ) → length xs ≡ n → ((k : ℕ) (d : X) → k < n → P k (get_or xs k d)) → P n x → xs' ≡ xs ++ x ∷ []
-    → (length xs' ≡ n + 1) × ((k : ℕ) (d : X) → k < n + 1 → P k (get_or xs' k d))
-each_more P xs xs' x n long each is xs-is = (
-  (let a = ap (λ z. length z) xs-is in let b = length-append xs (x ∷ []) in omega (arith, a, b, long)),
-  (λ k d l. dite (ℕ_discrete k n)
-      (λ e. subst (λ z. P z (get_or xs' z d)) (sym e) (subst (P n) (sym (at_seam xs xs' x d n long xs-is)) is))
-      (λ m. subst (P k) (sym (at_left xs xs' x d n k long (omega (arith, l, m)) xs-is)) (each k d (omega (arith, l, m))))),
-)
-
 one_longer : {X : Type 0} (xs xs' : List X) (x : X) (m : ℕ) → length xs ≡ m → xs' ≡ xs ++ x ∷ [] → length xs' ≡ m + 1
 one_longer xs xs' x m e is = ap (λ z. length z) is ∙ length-append xs (x ∷ []) ∙ ap (λ z. z + 1) e
 
-pub reads_more : (n : ℕ) (roots : List Key) (p : PartsView) (a : AnswersView) (v m : ℕ) (parts : List (Vec (Vec Pair Global) Global)) (homes : List Homes) (lefts : List (Vec ℕ Global)) → AreDividedBy n roots p a v m parts homes lefts
-    → (d : Divided) (left : Vec ℕ Global) → IsPartRead n roots p a v m d left.items → (parts' : List (Vec (Vec Pair Global) Global)) (homes' : List Homes) (lefts' : List (Vec ℕ Global)) → parts' ≡ parts ++ d.lists ∷ [] → homes' ≡ homes ++ d.homes ∷ [] → lefts' ≡ lefts ++ left ∷ []
-    → AreDividedBy n roots p a v (m + 1) parts' homes' lefts'
-reads_more n roots p a v m parts homes lefts o d left r parts' homes' lefts' x y z = record {
-  many_parts = one_longer parts parts' d.lists m o.many_parts x;
+pub reads_more : (A : List (List Ref)) (v : ℕ) (rows : List (List (List (Placed × Placed)))) (m : ℕ) (parts : List (Vec (Vec Pair Global) Global)) (homes : List Homes) → AreRead A v rows m parts homes
+    → (d : Divided) → IsPartRead A (row (row rows m) v) d.lists d.homes → (parts' : List (Vec (Vec Pair Global) Global)) (homes' : List Homes) → parts' ≡ parts ++ d.lists ∷ [] → homes' ≡ homes ++ d.homes ∷ [] → AreRead A v rows (m + 1) parts' homes'
+reads_more A v rows m parts homes o d r parts' homes' x y = record {
+  many_lists = one_longer parts parts' d.lists m o.many_lists x;
   many_homes = one_longer homes homes' d.homes m o.many_homes y;
-  many_lefts = one_longer lefts lefts' left m o.many_lefts z;
-  sixteen = λ s e l. dite (ℕ_discrete s m)
-      (λ q. subst (λ (u : Vec (Vec Pair Global) Global). length u.items ≡ 16) (sym (ap (λ k. get_or parts' k e) q ∙ at_seam parts parts' d.lists e m o.many_parts x)) r.sixteen)
-      (λ q. let lt : s < m = grind (arith, l, q) in subst (λ (u : Vec (Vec Pair Global) Global). length u.items ≡ 16) (sym (at_left parts parts' d.lists e m s o.many_parts lt x)) (o.sixteen s e lt));
-  divided = λ s e h l. dite (ℕ_discrete s m)
-      (λ q. subst (λ k. IsDivided (told n p a) (read_of p k v) (get_or homes' k h) (list_at (get_or parts' k e).items)) (sym q)
-      (subst (λ (u : Homes × Vec (Vec Pair Global) Global). IsDivided (told n p a) (read_of p m v) u.0 (list_at u.1.items)) (λ i. (sym (at_seam homes homes' d.homes h m o.many_homes y) i, sym (at_seam parts parts' d.lists e m o.many_parts x) i)) r.divided))
+  each = λ s e h l. dite (ℕ_discrete s m)
+      (λ q. subst (λ k. IsPartRead A (row (row rows k) v) (get_or parts' k e) (get_or homes' k h)) (sym q)
+      (subst (λ (u : Homes × Vec (Vec Pair Global) Global). IsPartRead A (row (row rows m) v) u.1 u.0) (λ i. (sym (at_seam homes homes' d.homes h m o.many_homes y) i, sym (at_seam parts parts' d.lists e m o.many_lists x) i)) r))
       (λ q. let lt : s < m = grind (arith, l, q) in
-      subst (λ (u : Homes × Vec (Vec Pair Global) Global). IsDivided (told n p a) (read_of p s v) u.0 (list_at u.1.items)) (λ i. (sym (at_left homes homes' d.homes h m s o.many_homes lt y) i, sym (at_left parts parts' d.lists e m s o.many_parts lt x) i)) (o.divided s e h lt));
-  left = λ s e l. dite (ℕ_discrete s m)
-      (λ q. subst (λ k. AreLeft n (asked_above n roots p k v) (get_or lefts' k e).items) (sym q) (subst (λ (u : Vec ℕ Global). AreLeft n (asked_above n roots p m v) u.items) (sym (at_seam lefts lefts' left e m o.many_lefts z)) r.rest))
-      (λ q. let lt : s < m = grind (arith, l, q) in subst (λ (u : Vec ℕ Global). AreLeft n (asked_above n roots p s v) u.items) (sym (at_left lefts lefts' left e m s o.many_lefts lt z)) (o.left s e lt));
+      subst (λ (u : Homes × Vec (Vec Pair Global) Global). IsPartRead A (row (row rows s) v) u.1 u.0) (λ i. (sym (at_left homes homes' d.homes h m s o.many_homes lt y) i, sym (at_left parts parts' d.lists e m s o.many_lists lt x) i)) (o.each s e h lt));
 }
 
--- what one worker read
-pub read_one : (n : ℕ) (roots : List Key) (p : PartsView) (a : AnswersView) (v : ℕ) (shares done rest : List ReadShare) (t : ReadShare) (x : Unit {0})
-    → AreRead n roots p a v n shares → (done ++ t ∷ []) ++ rest ≡ shares → t.done ≡ Ok x → IsPartRead n roots p a v (length done) t.divided t.left.items
-read_one n roots p a v shares done rest t x h whole is =
+-- what was read of one part
+pub read_one : (A : List (List Ref)) (v : ℕ) (rows : List (List (List (Placed × Placed)))) (shares done rest : List ReadShare) (t : ReadShare) (x : Unit {0})
+    → AreAllRead A v rows shares → (done ++ t ∷ []) ++ rest ≡ shares → t.done ≡ Ok x → IsPartRead A (row (row rows (length done)) v) t.divided.lists t.divided.homes
+read_one A v rows shares done rest t x f whole is =
     let at : shares ≡ done ++ t ∷ rest = sym whole ∙ append_assoc done (t ∷ []) rest in
     let long = ap (λ z. length z) at ∙ length-append done (t ∷ rest) in
-    let all = h.long in
-    let own = subst (IsShareRead n roots p a v (length done)) (ap (λ (z : List ReadShare). get_or z (length done) t) at ∙ get_or-append_seam done t rest t) (h.each (length done) t (omega (arith, long, all))) in
-    subst (λ (z : Result (Unit {0}) AllocError). OnOk z (IsPartRead n roots p a v (length done) t.divided t.left.items)) is own
+    let own = subst (IsShareRead A v rows (length done)) (ap (λ (z : List ReadShare). get_or z (length done) t) at ∙ get_or-append_seam done t rest t) (f (length done) t (omega (arith, long))) in
+    subst (λ (z : Result (Unit {0}) AllocError). OnOk z (IsPartRead A (row (row rows (length done)) v) t.divided.lists t.divided.homes)) is own
 
 pub picked_more : (parts : List (Vec (Vec Pair Global) Global)) (homes : List Homes) (refs : List (Vec Ref Global)) (m : ℕ) (answers answers' : List (List Ref)) (x : List Ref) → ArePicked parts homes refs m answers → ((h : Homes) → IsPickedOf parts refs m (get_or homes m h) x) → answers' ≡ answers ++ x ∷ [] → ArePicked parts homes refs (m + 1) answers'
 picked_more parts homes refs m answers answers' x o own is = record {
@@ -345,10 +291,3 @@ picked_one parts homes refs shares done rest t x f whole is h =
     let long = ap (λ z. length z) at ∙ length-append done (t ∷ rest) in
     let own = subst (IsSharePicked parts homes refs (length done)) (ap (λ (z : List PickShare). get_or z (length done) t) at ∙ get_or-append_seam done t rest t) (f (length done) t (omega (arith, long))) in
     subst (λ (z : Result (Unit {0}) AllocError). OnOk z (IsPickedOf parts refs (length done) (get_or homes (length done) h) t.answers)) is (own h)
-
--- the same of lists that were read elsewhere
-pub picked_as : (parts' : List (Vec (Vec Pair Global) Global)) (homes' : List Homes) (refs' : List (Vec Ref Global)) (parts : List (Vec (Vec Pair Global) Global)) (homes : List Homes) (refs : List (Vec Ref Global)) (n : ℕ) → parts' ≡ parts → homes' ≡ homes → refs' ≡ refs → length homes ≡ n → (answers : List (List Ref))
-    → ArePicked parts' homes' refs' (length homes') answers → ArePicked parts homes refs n answers
-picked_as parts' homes' refs' parts homes refs n x y z long answers h =
-    subst (λ k. ArePicked parts homes refs k answers) long
-    (subst (λ (u : List (Vec (Vec Pair Global) Global) × List Homes × List (Vec Ref Global)). ArePicked u.0 u.1 u.2 (length u.1) answers) (λ i. (x i, y i, z i)) h)

@@ -1,5 +1,8 @@
 -- Members of a list, from its front.
 use Rattle.std.proofs.Common.{◌≡◌, zero, suc, ◌⊎◌, inl, inr, List, [], ◌∷◌, refl, arith, Contains}
+use Rattle.std.proofs.Common.{true≢false}
+use Rattle.std.specs.Prelude.{Result, Ok, Err, OnOk, false}
+use Rattle.std.specs.Result.{is_err}
 
 pub nothing : {X : Type 0} (x : X) → Contains [] x → ⊥
 nothing x (i, lt, e) = omega arith
@@ -13,3 +16,8 @@ tail_in x y xs (i, lt, e) = (suc i, omega arith, e)
 pub in_cases : {X : Type 0} (x y : X) (xs : List X) → Contains (x ∷ xs) y → (x ≡ y) ⊎ Contains xs y
 in_cases x y xs (zero, lt, e) = inl e
 in_cases x y xs (suc i, lt, e) = inr (i, omega arith, e)
+
+-- what holds of each answer that is no error holds of this one
+pub on_ok : {T E P : Type 0} (r : Result T E) → is_err r ≡ false → OnOk r P → P
+on_ok (Ok x) none h = h
+on_ok (Err e) none h = absurd (true≢false none)

@@ -3,7 +3,6 @@ use Rattle.std.proofs.Common.{◌≡◌, ℕ, ◌<◌, inl, inr, Bool, true, fal
 use Rattle.std.specs.Prelude.{not}
 use Rattle.std.proofs.Math.Bool.{not-not}
 use Rattle.dd_store.specs.declared.reference.Ref.{Ref}
-use Rattle.dd_store.specs.Graph.{Pair}
 use Rattle.dd_store.specs.Functions.{Agree, IsFixedSomehow, DependsOn, OfEither}
 use Rattle.dd_store.specs.Marks.{turned}
 use Rattle.dd_store.specs.Nodes.{Nodes, IsSound, den}
@@ -11,7 +10,6 @@ use Rattle.dd_store.specs.Parts.{Part, top_of}
 use Rattle.dd_store.specs.Parts.Part.{leaf, node}
 use Rattle.dd_store.specs.View.{part, Has, top, Keeps, IsOneNode}
 use Rattle.dd_store.proofs.View.{parts, top-part, top-node, kept_den, kept_top}
-use Rattle.reduce_up.specs.Sharing.{IsOfPair}
 
 -- ---- a function or its complement
 
@@ -71,7 +69,3 @@ one_node_kept S T w k m r hm hr (inr o) = inr (
   kept_top S T k m ∙ o.0 ∙ sym (kept_top S T k r),
   λ x hx. kept_den S T w k m hm x ∙ o.1 x (hx ∙ k.levels) ∙ ap not (sym (kept_den S T w k r hr x)),
 )
-
--- the node of a pair stays that of the pair
-pub of_pair_kept : (S T : Nodes) → IsSound S → Keeps S T → (v : ℕ) (p : Pair) (m : Ref) → Has S m → IsOfPair S v p m → IsOfPair T v p m
-of_pair_kept S T w k v p m h (r, is, one) = (r, (k.has r is.0, k.part_is r is.0 ∙ is.1), one_node_kept S T w k m r h is.0 one)

@@ -1,11 +1,8 @@
 -- Lists that are divided by a number for each item, and put together again.
-use Rattle.std.proofs.Common.{◌≡◌, ◌≢◌, ℕ, zero, suc, ◌+◌, ◌≤◌, inl, inr, true, false, cond, eqb, List, [], ◌∷◌, ◌++◌, length, take, drop, get_or, slice_get, Some, Contains, All, refl, sym, ap, ◌∙◌, subst, arith, append-nil, eq-eqb, ne_eqb}
+use Rattle.std.proofs.Common.{◌≡◌, ◌≢◌, ℕ, zero, suc, ◌+◌, ◌≤◌, inl, inr, true, false, cond, eqb, List, [], ◌∷◌, ◌++◌, length, take, drop, get_or, slice_get, Some, Contains, All, refl, ap, ◌∙◌, subst, arith, append-nil, eq-eqb, ne_eqb}
 use Rattle.std.specs.List.{AllZip}
-use mathlib.Core.List.{reverse}
-use Rattle.std.proofs.lemmas.List.{reverse-append, take_more, get_or-drop, length-drop}
+use Rattle.std.proofs.lemmas.List.{take_more, get_or-drop, length-drop}
 use Rattle.std.proofs.lemmas.Option.{slice_get_within, get_or_from_slice_get}
-use Rattle.std.proofs.lemmas.List.Elements.{Contains-push_cases}
-use Rattle.dd_store.proofs.Noting.{zip_push}
 use mathlib.Core.Logic.{dite}
 use native.Mathlib.Decide.{ℕ_discrete}
 use Rattle.reduce_up.specs.Division.{chosen, span}
@@ -95,19 +92,3 @@ zip_span R [] (x ∷ own) after [] h = absurd h
 zip_span R [] (x ∷ own) after (y ∷ ys) h = (h.0, zip_span R [] own after ys h.1)
 zip_span R (x ∷ before) own after [] h = absurd h
 zip_span R (x ∷ before) own after (y ∷ ys) h = zip_span R before own after ys h.1
-
--- both lists turned
-pub zip_turned : {A B : Type 0} (R : A → B → Type 0) (xs : List A) (ys : List B) → AllZip R xs ys → AllZip R (reverse xs) (reverse ys)
-zip_turned R [] [] h = tt
-zip_turned R [] (y ∷ ys) h = absurd h
-zip_turned R (x ∷ xs) [] h = absurd h
-zip_turned R (x ∷ xs) (y ∷ ys) h =
-    subst (λ z. AllZip R (reverse (x ∷ xs)) z) (sym (reverse-append (y ∷ []) ys))
-    (subst (λ z. AllZip R z (reverse ys ++ y ∷ [])) (sym (reverse-append (x ∷ []) xs)) (zip_push R (reverse xs) (reverse ys) x y (zip_turned R xs ys h.1) h.0))
-
-pub turned_in : {X : Type 0} (xs : List X) (x : X) → Contains (reverse xs) x → Contains xs x
-turned_in [] x c = c
-turned_in (y ∷ xs) x c = elim (Contains-push_cases (reverse xs) y x (subst (λ z. Contains z x) (reverse-append (y ∷ []) xs) c)) [
-  | inl before ↦ tail_in y x xs (turned_in xs x before)
-  | inr e ↦ subst (λ z. Contains (y ∷ xs) z) e (head_in y xs)
-]

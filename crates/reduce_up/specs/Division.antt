@@ -1,7 +1,5 @@
 -- A list that is divided by a number for each of its items, and put together again.
-use Rattle.std.specs.Prelude.{◌≡◌, ◌≢◌, ◌==◌, ◌<◌, ◌≤◌, ℕ, cond, List, [], ◌∷◌, ◌++◌, length, slice_index_or, take, drop, All}
-use Rattle.std.specs.List.{AllZip}
-use mathlib.Core.List.{reverse}
+use Rattle.std.specs.Prelude.{◌≡◌, ◌≢◌, ◌==◌, ◌<◌, ◌≤◌, ℕ, cond, List, [], ◌∷◌, ◌++◌, length, map, slice_index_or, take, drop, All}
 use Rattle.std.specs.declared.vec.Vec.{Vec}
 use Rattle.std.specs.declared.alloc.Global.{Global}
 use Rattle.dd_store.specs.Levels.{list_at, all_at, refs_at}
@@ -9,11 +7,9 @@ use Rattle.dd_store.specs.declared.reference.Ref.{Ref}
 use Rattle.dd_store.specs.Graph.{Pair}
 use Rattle.dd_store.specs.Codes.{shard_of_pair}
 use Rattle.dd_store.specs.Growing.{IsIn}
-use Rattle.req_table.specs.declared.Key.{Key}
-use Rattle.req_table.specs.declared.Record.{Record}
 use Rattle.reduce_up.specs.declared.division.Divided.{Divided}
 use Rattle.reduce_up.specs.declared.division.Homes.{Homes}
-use Rattle.reduce_up.specs.Sharing.{IsPairOf, IsListed}
+use Rattle.reduce_up.specs.Sharing.{IsListed}
 
 -- the items whose number is s
 abbrev pub chosen : {X : Type 0} → ℕ → List ℕ → List X → List X
@@ -25,13 +21,17 @@ chosen s (h ∷ hs) (x ∷ xs) = cond (h == s) (x ∷ chosen s hs xs) (chosen s 
 abbrev pub span : {X : Type 0} → ℕ → ℕ → List X → List X
 span start n xs = take n (drop start xs)
 
--- A home for each record that was read: the shard of the pair that its children come to, or 16 where they come to one diagram. Each list
--- has the pairs of its shard, and `equal` of the homes these diagrams, in the order in which the records were read.
-pub record IsDivided (results : List (Key × Ref)) (read : List Record) (homes : Homes) (lists : ℕ → List Pair) : Type 0 where
-  pub long : length homes.numbers.items ≡ length read
+-- both of a diagram
+abbrev pub twice : List Ref → List Pair
+twice rs = map (λ (r : Ref). (r, r)) rs
+
+-- A home for each pair that was read: its shard, or 16 where both are one diagram. Each list has the pairs of its shard, and `equal` of the
+-- homes these diagrams, in the order in which the pairs were read.
+pub record IsDivided (pairs : List Pair) (homes : Homes) (lists : ℕ → List Pair) : Type 0 where
+  pub long : length homes.numbers.items ≡ length pairs
   pub within : All (λ h. h ≤ 16) homes.numbers.items
-  pub pairs : (s : ℕ) → s < 16 → AllZip (IsPairOf results) (chosen s homes.numbers.items read) (lists s)
-  pub same : AllZip (λ d r. IsPairOf results d (r, r)) (chosen 16 homes.numbers.items read) homes.equal.items
+  pub differ : (s : ℕ) → s < 16 → chosen s homes.numbers.items pairs ≡ lists s
+  pub same : chosen 16 homes.numbers.items pairs ≡ twice homes.equal.items
   pub own : (s : ℕ) (p : Pair) → IsIn (lists s) p → (p.0 ≢ p.1) × (shard_of_pair p.0 p.1 ≡ s)
 
 -- one pair more is read: a home for it, and the pair in the list of its shard, or the diagram that both its children are
@@ -61,9 +61,9 @@ pub record IsPicked (homes : List ℕ) (starts : ℕ → ℕ) (sources : ℕ →
 abbrev pub begin_of : List (Vec (Vec Pair Global) Global) → ℕ → ℕ → ℕ
 begin_of parts k s = length (all_at (take k parts) s)
 
--- the answers of part k, in the order in which its records stand
+-- the answers of part k, in the order in which its pairs were read
 abbrev pub IsPickedOf : List (Vec (Vec Pair Global) Global) → List (Vec Ref Global) → ℕ → Homes → List Ref → Type 0
-IsPickedOf parts refs k homes answers = IsPicked homes.numbers.items (begin_of parts k) (source refs homes) (reverse answers)
+IsPickedOf parts refs k homes answers = IsPicked homes.numbers.items (begin_of parts k) (source refs homes) answers
 
 -- this is so of the first m parts
 pub record ArePicked (parts : List (Vec (Vec Pair Global) Global)) (homes : List Homes) (refs : List (Vec Ref Global)) (m : ℕ)
@@ -72,12 +72,21 @@ pub record ArePicked (parts : List (Vec (Vec Pair Global) Global)) (homes : List
   pub each : (k : ℕ) (d : List Ref) (h : Homes) → k < m
       → IsPickedOf parts refs k (slice_index_or homes k h) (slice_index_or answers k d)
 
+-- several lists, one behind the other
+abbrev pub in_turn : List (List Ref) → List Ref
+in_turn [] = []
+in_turn (xs ∷ xss) = xs ++ in_turn xss
+
+-- the answers of all parts, one part behind the other
+abbrev pub AreInTurn : List (Vec (Vec Pair Global) Global) → List Homes → List (Vec Ref Global) → List Ref → Type 0
+AreInTurn parts homes refs all = (answers : List (List Ref)) × ArePicked parts homes refs (length homes) answers × (all ≡ in_turn answers)
+
 -- a reference for each pair, by shard
 pub record AreRefsOf (parts : List (Vec (Vec Pair Global) Global)) (refs : List (Vec Ref Global)) : Type 0 where
   pub sixteen : length refs ≡ 16
   pub many : (s : ℕ) → s < 16 → length (refs_at refs s) ≡ length (all_at parts s)
 
--- the answers of parts may be picked: each part has sixteen lists of pairs and a home for each of its records, and each pair its reference
+-- the answers of parts may be picked: each part has sixteen lists of pairs and a home for each pair, and each pair its reference
 pub record MayPick (parts : List (Vec (Vec Pair Global) Global)) (homes : List Homes) (refs : List (Vec Ref Global)) : Type 0 where
   pub many : length parts ≡ length homes
   pub sixteen : All (λ (part : Vec (Vec Pair Global) Global). length part.items ≡ 16) parts

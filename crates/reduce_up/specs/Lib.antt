@@ -1,10 +1,13 @@
 pub mod Reducing
 pub mod Levels
 pub mod Waves
-pub mod Team
 pub mod Sharing
 pub mod Division
+pub mod Steps
 pub mod Known
 pub mod Placed
-pub mod Steps
 pub mod Forks
+pub mod ByPlace
+pub mod Up
+pub mod OverParts
+pub mod Numbers

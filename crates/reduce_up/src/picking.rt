@@ -1,24 +1,24 @@
-//! The diagrams of a worker's records of a level, picked from those of all workers' pairs.
-ghost use Rattle.std.specs.Prelude.{◌≡◌, ◌+◌, ◌<◌, ◌≤◌, ℕ, length, take, slice_get, slice_index_or, Some, All, IfOk, OnOk};
+//! The diagrams of a part of a level, picked from those of all parts' pairs.
+ghost use Rattle.std.specs.Prelude.{◌≡◌, ◌+◌, ◌<◌, ◌≤◌, ◌++◌, ℕ, length, slice_get, slice_index_or, Some, All, IfOk, OnOk};
 ghost use Rattle.std.specs.declared.vec.Vec.{Vec as VecValue};
 ghost use Rattle.std.specs.declared.alloc.Global.{Global as GlobalValue};
-ghost use mathlib.Core.List.{reverse};
 ghost use Rattle.dd_store.specs.Graph.{Pair};
-ghost use Rattle.dd_store.specs.Levels.{list_at, all_at, refs_at};
+ghost use Rattle.dd_store.specs.Levels.{all_at};
 ghost use Rattle.reduce_up.specs.declared.division.Homes.{Homes as HomesValue};
-ghost use Rattle.reduce_up.specs.Division.{chosen, source, IsPicked, IsPickedOf, ArePicked, AreRefsOf, MayPick, begin_of};
+ghost use Rattle.reduce_up.specs.Division.{chosen, source, begin_of, in_turn, IsPicked, IsPickedOf, ArePicked, AreInTurn};
+ghost use Rattle.reduce_up.specs.Division.{AreRefsOf, MayPick};
 ghost use Rattle.reduce_up.specs.Steps.{IsSharePicked, AreAllPicked};
 
 use crate::division::{EQUAL, Homes};
 use crate::forks::fork_each;
-use crate::spare::next_room;
+use crate::spare::Spare;
 use dd_store::{Ref, SHARDS};
 use req_table::Refs;
 use std::alloc::{AllocError, Global};
 use std::thread;
 use std::thread::Threads;
 
-/// A part's share of a level: the diagrams of its records, and whether there was memory to pick these.
+/// A part's share of a level: the diagrams of its requests, and whether there was memory to pick these.
 #[derive(Drop)]
 pub(crate) struct PickShare {
     pub(crate) answers: Refs,
@@ -38,7 +38,7 @@ fn diagram_at(homes: &Homes, refs: &[Vec<Ref>], home: u8, place: usize) -> Ref
     refs[home as usize][place]
 }
 
-/// A diagram for each home: the next of those of this home from a place on. The last one that was read is the first.
+/// A diagram for each home: the next of those of this home from a place on.
 fn pick(
     homes: &Homes,
     refs: &[Vec<Ref>],
@@ -51,7 +51,7 @@ fn pick(
     requires room { (s : ℕ) → s ≤ 16 → slice_index_or starts.now s 0 + length
         (chosen s homes.now.numbers.items homes.now.numbers.items) ≤ length (source refs.now homes.now s) }
     ensures { OnOk result (IsPicked homes.now.numbers.items (λ s. slice_index_or starts.now s 0) (source refs.now homes.now)
-        (reverse answers.new)) }
+        answers.new) }
 {
     let mut places = Vec::with_capacity(*homes.numbers.allocator(), starts.len())?;
     places.extend_from_slice(starts)?;
@@ -64,7 +64,6 @@ fn pick(
         places[*home as usize] = next;
         answers.push(diagram_at(homes, refs, *home, place))?;
     }
-    answers.reverse();
     Ok(())
 }
 
@@ -104,7 +103,7 @@ fn starts_of(
     Ok(starts)
 }
 
-/// The diagrams of a part's records, in the order in which they stand.
+/// The diagrams of a part's requests, in the order in which they stand.
 fn pick_part(
     parts: &[Vec<Vec<(Ref, Ref)>>],
     homes: &[Homes],
@@ -138,26 +137,25 @@ impl PickShare {
     }
 }
 
-/// A share for each part, in which nothing is picked yet. They have the memory of the lists that are handed in, as far as there are some.
-fn pick_shares(parts: usize, rooms: Vec<Refs>) -> Result<Vec<PickShare>, AllocError>
+/// A share for each part, in which nothing is picked yet.
+fn pick_shares(alloc: Global, parts: usize, spare: &mut Spare) -> Result<Vec<PickShare>, AllocError>
     ensures { IfOk result (λ shares. length shares.items ≡ parts) }
 {
-    let mut rooms = rooms;
-    let mut shares = Vec::with_capacity(*rooms.allocator(), parts)?;
+    let mut shares = Vec::with_capacity(alloc, parts)?;
     for _ in 0..parts {
         shares.push(PickShare {
-            answers: next_room(&mut rooms),
+            answers: spare.picked(),
             done: Err(AllocError),
         })?;
     }
     Ok(shares)
 }
 
-/// The diagrams of fewer records are picked on the caller's thread: to start the threads takes as long.
+/// The diagrams of fewer requests are picked on the caller's thread: to start the threads takes as long.
 const FEWEST_PICKED: usize = 1 << 16;
 
-/// How many records there are, or as many as can be counted.
-fn record_count(homes: &[Homes]) -> usize {
+/// How many requests there are, or as many as can be counted.
+fn request_count(homes: &[Homes]) -> usize {
     let mut total: usize = 0;
     for part in homes {
         total = total.saturating_add(part.numbers.len());
@@ -181,7 +179,7 @@ fn pick_each<R: Threads + Sync>(
         requires { (part < length homes.now) × MayPick parts.now homes.now refs.now }
         ensures { IsSharePicked parts.entry.now homes.entry.now refs.entry.now part share.exit.now }
     { share.pick(parts, homes, refs, part) };
-    if record_count(homes) < FEWEST_PICKED {
+    if request_count(homes) < FEWEST_PICKED {
         thread::for_each_mut(rt, shares, 1, &pick);
     } else {
         fork_each(rt, shares, &pick);
@@ -211,19 +209,51 @@ fn join_picked(
     Ok(answers)
 }
 
-/// The diagrams of all parts' records, where there are many each part's by a thread of its own. They are put in the memory of the lists
-/// that are handed in, as far as there are some.
-pub(crate) fn pick_all<R: Threads + Sync>(
+/// Adds the diagrams of all parts, one part behind the other.
+fn add_all(own: &mut Refs, picked: &[Refs]) -> Result<(), AllocError>
+    ensures { OnOk result (own.new ≡ own.old ++ in_turn picked.now) }
+{
+    for part in picked {
+        own.append(part)?;
+    }
+    Ok(())
+}
+
+/// The diagrams of all parts, where there are many each part's by a thread of its own.
+fn pick_all<R: Threads + Sync>(
     rt: &R,
     parts: &[Vec<Vec<(Ref, Ref)>>],
     homes: &[Homes],
     refs: &[Vec<Ref>],
-    rooms: Vec<Refs>,
+    shares: Vec<PickShare>,
 ) -> Result<Vec<Refs>, AllocError>
+    requires long { length shares.items ≡ length homes.now }
     requires may { MayPick parts.now homes.now refs.now }
     ensures { IfOk result (λ answers. ArePicked parts.now homes.now refs.now (length homes.now) answers.items) }
 {
-    let mut shares = pick_shares(homes.len(), rooms)?;
+    let mut shares = shares;
     pick_each(rt, parts, homes, refs, shares.as_mut_slice());
     join_picked(parts, homes, refs, shares)
+}
+
+/// The diagrams of all parts, one part behind the other, in the memory of `own`.
+pub(crate) fn pick_level<R: Threads + Sync>(
+    rt: &R,
+    parts: &[Vec<Vec<(Ref, Ref)>>],
+    homes: &[Homes],
+    refs: &[Vec<Ref>],
+    own: &mut Refs,
+    spare: &mut Spare,
+) -> Result<(), AllocError>
+    requires may { MayPick parts.now homes.now refs.now }
+    ensures { OnOk result (AreInTurn parts.now homes.now refs.now own.new) }
+{
+    let shares = pick_shares(spare.allocator(), homes.len(), spare)?;
+    let picked = pick_all(rt, parts, homes, refs, shares)?;
+    own.restart(request_count(homes))?;
+    add_all(own, picked.as_slice())?;
+    for part in picked {
+        spare.keep_picked(part);
+    }
+    Ok(())
 }

@@ -5,53 +5,21 @@ ghost use Rattle.req_table.specs.Keys.{IsKey};
 ghost use Rattle.expand_work.specs.Gathered.{AreParts, HaveExpanded};
 ghost use Rattle.reduce_up.specs.Waves.{AnswersWave, entries_for};
 
-use crate::roots::root_answers;
-use crate::spare::Spare;
-use crate::team::{Field, Progress, begin, reduce_team};
+use crate::numbers::number_all;
+use crate::up::{Up, reduce, root_answers};
 use dd_store::{Ref, Store};
-use expand_work::{Crew, Monitor, Spaces, WaveFault, expand_parts};
+use expand_work::{Crew, Monitor, Parts, Spaces, WaveFault, expand_parts};
 use req_table::Key;
 use std::alloc::Global;
 use std::marker::Model;
-use std::mem;
 use std::sync::Wait;
 use std::thread::Threads;
-
-/// The diagram of each root, by reduction of what the workers recorded, each for itself.
-fn answer_team<R: Threads + Sync, G: Monitor>(
-    crew: &Crew<'_, R, G>,
-    store: &mut Store,
-    field: Field<'_>,
-    spare: &mut Spare,
-) -> Result<Vec<Ref>, WaveFault>
-    requires roots { All (IsKey store.old) field.roots.now }
-    requires some { 0 < field.workers }
-    requires parts { AreParts store.old field.workers field.roots.now field.parts.now }
-    ensures wave { AnswersWave store.old (entries_for field.entry.roots.now) (entries_for field.entry.roots.now) result store.new }
-    ensures unbounded { IfErr result (λ e. e ≢ WaveFault.TooManyRequests) }
-    ensures memory { count_of store.old ≤ store.old.limit → result ≡ Err WaveFault.OutOfMemory → count_of store.new ≤ store.new.limit }
-{
-    let _ = store.levels();
-    let used = mem::replace(spare, Spare::new(field.alloc));
-    let Ok(mut progress) = begin(store, field, used) else {
-        return Err(WaveFault::OutOfMemory);
-    };
-    reduce_team(crew, store, field, &mut progress)?;
-    let Progress { answers, mut rest } = progress;
-    let team = field.team(&answers);
-    let Ok(found) = root_answers(store, team, &mut rest.lefts) else {
-        return Err(WaveFault::OutOfMemory);
-    };
-    *spare = rest.spare;
-    spare.keep_answers(answers.into_lists());
-    Ok(found)
-}
 
 /// The memory of waves by threads, between two of them. Contracts see how many requests the workers have expanded in it, modulo 2^64.
 #[derive(Drop)]
 pub struct Rooms {
     spaces: Spaces,
-    spare: Spare,
+    up: Up,
 }
 
 impl Model for Rooms {
@@ -69,7 +37,7 @@ impl Rooms {
     {
         Rooms {
             spaces: Spaces::new(alloc),
-            spare: Spare::new(alloc),
+            up: Up::new(alloc),
         }
     }
 
@@ -81,12 +49,46 @@ impl Rooms {
     }
 }
 
+/// The diagram of each root, by reduction of what the workers recorded: each child is told by its place first.
+fn answer_parts<R: Threads + Sync, G: Monitor>(
+    crew: &Crew<'_, R, G>,
+    store: &mut Store,
+    roots: &[Key],
+    parts: Parts,
+    rooms: &mut Rooms,
+) -> Result<Vec<Ref>, WaveFault>
+    requires roots { All (IsKey store.old) roots.now }
+    requires parts { AreParts store.old crew.now.workers.count roots.now parts }
+    ensures wave { AnswersWave store.old (entries_for roots.now) (entries_for roots.now) result store.new }
+    ensures unbounded { IfErr result (λ e. e ≢ WaveFault.TooManyRequests) }
+    ensures memory { count_of store.old ≤ store.old.limit → result ≡ Err WaveFault.OutOfMemory → count_of store.new ≤ store.new.limit }
+    ensures expanded { rooms.new ≡ rooms.old }
+{
+    let levels = store.levels();
+    let alloc = crew.alloc;
+    let _ = crew.workers.count();
+    let (rows, notes) = parts.open();
+    let Ok((mut rows, placed)) = number_all(crew.rt, alloc, store, &notes, roots, rows) else {
+        return Err(WaveFault::OutOfMemory);
+    };
+    if rooms.up.fit(levels).is_err() {
+        return Err(WaveFault::OutOfMemory);
+    }
+    reduce(crew, store, rows.as_mut_slice(), &mut rooms.up, levels)?;
+    let known = rooms.up.answers.as_slice();
+    let Ok(answers) = root_answers(alloc, placed.as_slice(), known) else {
+        return Err(WaveFault::OutOfMemory);
+    };
+    notes.give_back(rows, &mut rooms.spaces);
+    Ok(answers)
+}
+
 /// The diagram of each request, without a computed table.
 ///
 /// The requests, and all that they ask for, are expanded by workers in threads, and reduced from the last level up (Ochi,
 /// Yasuoka and Yajima 1993). NoWorker is answered where a worker's thread could not be started;
 /// what no other thread could be started for, the caller's thread does. All of it is done in the memory of an earlier wave as far as there
-/// is some, and leaves its own for the next; after a refusal it is given back.
+/// is some, and leaves its own for the next; after a refusal the workers' is given back.
 pub fn shared_wave<R: Threads + Wait + Sync, G: Monitor>(
     crew: &Crew<'_, R, G>,
     store: &mut Store,
@@ -101,13 +103,5 @@ pub fn shared_wave<R: Threads + Wait + Sync, G: Monitor>(
 {
     let _ = store.levels();
     let (parts, _) = expand_parts(crew, store, roots, &mut rooms.spaces)?;
-    let field = Field {
-        alloc: crew.alloc,
-        parts: &parts,
-        roots,
-        workers: crew.workers.count(),
-    };
-    let answers = answer_team(crew, store, field, &mut rooms.spare)?;
-    parts.give_back(&mut rooms.spaces);
-    Ok(answers)
+    answer_parts(crew, store, roots, parts, rooms)
 }

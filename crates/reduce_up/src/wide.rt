@@ -1,15 +1,19 @@
-//! A level with many records, which threads reduce in three steps: each reads a worker's records and divides the pairs of their
-//! children by shard, the store makes the nodes of all pairs, and each picks its worker's diagrams. No pair is sought twice.
-ghost use Rattle.reduce_up.specs.Team.{MayReduceLevel, AnswersLevel};
+//! A level with many requests, which threads reduce in three steps: each reads a part's children and divides the pairs of
+//! their diagrams by shard, the store makes the nodes of all pairs, and each picks its part's diagrams. No pair is sought twice.
+ghost use Rattle.std.specs.Prelude.{◌<◌, List, length, All, IfErr, OnOk};
+ghost use Rattle.dd_store.specs.Nodes.{IsSound};
+ghost use Rattle.req_table.specs.declared.Key.{Key};
+ghost use Rattle.reduce_up.specs.Reducing.{AddsDescribed};
+ghost use Rattle.reduce_up.specs.Up.{AskedAt, IsReadyAt, IsLevelReduced, IsLevelFault};
+ghost use Rattle.reduce_up.specs.OverParts.{level_over};
 
-use crate::answers::Answers;
 use crate::division::{Divided, Homes};
-use crate::picking::pick_all;
+use crate::picking::pick_level;
 use crate::reads::read_level;
 use crate::spare::Spare;
-use crate::team::{Field, Rest};
-use dd_store::{Makers, Ref, Store, StoreFault};
-use expand_work::{Crew, Monitor};
+use crate::up::Level;
+use dd_store::{Makers, Ref, Store};
+use expand_work::{Crew, Monitor, WaveFault};
 use req_table::Refs;
 use std::thread::Threads;
 
@@ -20,35 +24,45 @@ fn keep_read(spare: &mut Spare, parts: Vec<Vec<Vec<(Ref, Ref)>>>, homes: Vec<Hom
     }
 }
 
-/// The diagrams of a level's records, worker by worker; missing nodes are made.
+/// Puts the answers of a level's requests into the memory of `own`, the parts' one behind the other; missing nodes are made. What is said
+/// holds of all requests of which the level's children are the children.
 pub(crate) fn share_level<R: Threads + Sync, G: Monitor>(
     crew: &Crew<'_, R, G>,
     store: &mut Store,
-    field: Field<'_>,
-    answers: &Answers,
-    level: u16,
-    rest: &mut Rest,
-) -> Result<Vec<Refs>, StoreFault>
-    requires { MayReduceLevel field.workers field.roots.now field.parts.now answers.now store.old level rest.old.lefts.items }
-    ensures { AnswersLevel field.entry.workers field.entry.roots.now field.entry.parts.now answers.now store.old level result store.new
-        rest.new.lefts.items }
+    level: &Level<'_>,
+    own: &mut Refs,
+    spare: &mut Spare,
+) -> Result<(), WaveFault>
+    requires held { IsSound store.old }
+    requires levels { All (λ rows. level.now.number < length rows) level.now.parts.now }
+    requires ready { (tables : List (List Key)) × IsReadyAt store.old tables (level_over level.now.parts.now level.now.number)
+        level.now.answers.now level.now.number }
+    ensures sound { IsSound store.new }
+    ensures adds { (tables : List (List Key)) → IsReadyAt store.old tables (level_over level.now.parts.now level.now.number)
+        level.now.answers.now level.now.number → AddsDescribed store.old store.new (AskedAt store.old tables level.now.number) }
+    ensures whole { (tables : List (List Key)) → IsReadyAt store.old tables (level_over level.now.parts.now level.now.number)
+        level.now.answers.now level.now.number → OnOk result (IsLevelReduced store.old tables level.now.number
+        (length (level_over level.now.parts.now level.now.number)) store.new own.new) }
+    ensures fault { (tables : List (List Key)) → IsReadyAt store.old tables (level_over level.now.parts.now level.now.number)
+        level.now.answers.now level.now.number → IfErr result (λ e. IsLevelFault store.new tables level.now.number e) }
 {
-    let Ok(read) = read_level(crew.rt, field, answers, level, rest) else {
-        return Err(StoreFault::OutOfMemory);
+    let Ok(read) = read_level(crew.rt, crew.alloc, level, spare) else {
+        return Err(WaveFault::OutOfMemory);
     };
     let makers = Makers {
         rt: crew.rt,
         watch: crew.monitor,
-        count: field.workers,
+        count: crew.workers.count(),
     };
     let lists = read.parts.as_slice();
-    let refs = store.make_by(&makers, level, lists)?;
-    let homes = read.homes.as_slice();
-    let rooms = rest.spare.answers(level);
-    let Ok(answers) = pick_all(crew.rt, lists, homes, refs.as_slice(), rooms) else {
-        return Err(StoreFault::OutOfMemory);
+    let refs = match store.make_by(&makers, level.number, lists) {
+        Ok(refs) => refs,
+        Err(fault) => return Err(WaveFault::from(fault)),
     };
-    rest.lefts = read.lefts;
-    keep_read(&mut rest.spare, read.parts, read.homes);
-    Ok(answers)
+    let homes = read.homes.as_slice();
+    if pick_level(crew.rt, lists, homes, refs.as_slice(), own, spare).is_err() {
+        return Err(WaveFault::OutOfMemory);
+    }
+    keep_read(spare, read.parts, read.homes);
+    Ok(())
 }

@@ -3,7 +3,7 @@ pub mod Keyed
 pub mod Admits
 pub mod Items
 pub mod Fair
-pub mod Rows
+pub mod ByLevel
 pub mod Closure
 pub mod Means
 pub mod TerminalCases
@@ -13,3 +13,7 @@ pub mod Sized
 pub mod AsksFor
 pub mod ComputedTables
 pub mod Forming
+pub mod Standing
+pub mod Entering
+pub mod LevelSets
+pub mod Members

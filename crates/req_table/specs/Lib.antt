@@ -18,3 +18,5 @@ pub mod Forms
 pub mod PlacedWords
 pub mod PlacedLaws
 pub mod WordLists
+pub mod LevelSet
+pub mod Places

@@ -6,7 +6,8 @@
 //! bytes where all fit.
 //! A `ComputedTable` is a list of keys with answers (`ComputedTable::peek`: `value`, `once`, `few`); `keep` puts a pair first and drops
 //! the key's old one, or the last of a full computed table, or changes nothing. `Placed` tells a child in eight bytes, its request by
-//! a number of its level; a `Row` has the children of requests, and `Refs` references, in half of that where all fit.
+//! a number of its level; a `Row` has the children of requests, and `Refs` references, in half of that where all fit. `Waiting` and
+//! `Rows` have tables and rows by level, and find the next level that has something.
 //!
 //! **Only tests show** that ample memory suffices, that then a pair is kept, and that a full store answers what is held
 //! (`wave_tests`).
@@ -20,23 +21,30 @@ ghost use Rattle.req_table.specs.Operation.{IsRequest};
 ghost use Rattle.req_table.specs.TerminalCase.{op_number};
 ghost use Rattle.req_table.specs.Words.{xor_bit, first_word, operation_of, IsFirstWord};
 
+mod children;
 mod computed;
+mod level_set;
 mod packed;
 mod placed;
 pub mod requests;
 mod short;
+mod spare;
 mod table;
+mod waiting;
 mod words;
 
+pub use children::Rows;
 pub use computed::ComputedTable;
 use dd_store::Ref;
 pub use packed::{Refs, Row};
 pub use placed::{Placed, PlacedChild};
+pub use spare::SpareTables;
 use std::collections::LinkedList;
 use std::fmt;
 use std::hash::{Hash, Hasher};
 use std::marker::Model;
 pub use table::Table;
+pub use waiting::Waiting;
 
 /// A Boolean operation on two operands.
 #[derive(Clone, Copy, Debug, PartialEq, Eq, PartialOrd, Ord, Hash)]

@@ -1,5 +1,4 @@
 //! What a wave keeps of a level beside its requests: the children of each, and the answer of each, by place.
-ghost use mathlib.Core.List.{reverse};
 ghost use Rattle.std.specs.Prelude.{◌≡◌, ◌<◌, ◌++◌, ◌∷◌, [], length, slice_get, Some, OnOk, OnErr};
 
 use crate::placed::Placed;
@@ -119,6 +118,14 @@ impl Refs {
         Ok(())
     }
 
+    /// Adds the references of another list at the end. After a refusal some of them may stand.
+    pub fn append(&mut self, more: &Refs) -> Result<(), AllocError>
+        ensures { OnOk result (self.new ≡ self.old ++ more.now) }
+    {
+        self.words.append(&more.words)?;
+        Ok(())
+    }
+
     /// The reference at a place.
     #[inline(always)]
     pub fn at(&self, place: usize) -> Ref
@@ -126,13 +133,6 @@ impl Refs {
         ensures { slice_get self.now place ≡ Some result }
     {
         Ref::of_word(self.words.at(place))
-    }
-
-    /// The last first.
-    pub fn reverse(&mut self)
-        ensures { self.new ≡ reverse self.old }
-    {
-        self.words.reverse();
     }
 
     /// Removes all references, keeps the memory where all fit, and has room for so many that fit.

@@ -10,7 +10,7 @@ use indexmap::IndexSet;
 use std::alloc::{AllocError, Global};
 use std::marker::Model;
 
-/// A table that has room for more than so many times the requests that it holds gives its memory back when it is emptied.
+/// A table that has room for more than so many times the requests that it is to hold gives its memory back.
 const MOST_ROOM: usize = 8;
 
 /// Admits a request that fits.
@@ -180,26 +180,51 @@ impl Table {
         }
     }
 
+    /// How many requests it has memory for.
+    pub fn room(&self) -> usize {
+        match &self.keys {
+            Keys::Short(short) => short.capacity(),
+            Keys::Long(long) => long.capacity(),
+        }
+    }
+
+    /// Whether it has room for many times so many requests.
+    pub fn is_roomy(&self, count: usize) -> bool {
+        self.room() / MOST_ROOM > count
+    }
+
+    /// Removes all requests. The memory serves on if each had eight bytes.
+    pub fn empty(&mut self)
+        ensures { self.new ≡ [] }
+    {
+        if self.len() == 0 {
+            return;
+        }
+        match &mut self.keys {
+            Keys::Short(short) => short.clear(),
+            Keys::Long(long) => {
+                let alloc = *long.allocator();
+                self.keys = Keys::Short(IndexSet::new(alloc));
+            }
+        }
+    }
+
     /// Removes all requests. The memory serves on if each had eight bytes, unless it is much more than these requests needed.
     pub fn clear(&mut self)
         ensures { self.new ≡ [] }
     {
         let count = self.len();
-        if count == 0 {
-            return;
+        if count > 0 && self.is_roomy(count) {
+            *self = Table::new(self.allocator());
+        } else {
+            self.empty();
         }
-        match &mut self.keys {
-            Keys::Short(short) => {
-                if short.capacity() / MOST_ROOM > count {
-                    *short = IndexSet::new(*short.allocator());
-                } else {
-                    short.clear();
-                }
-            }
-            Keys::Long(long) => {
-                let alloc = *long.allocator();
-                self.keys = Keys::Short(IndexSet::new(alloc));
-            }
+    }
+
+    fn allocator(&self) -> Global {
+        match &self.keys {
+            Keys::Short(short) => *short.allocator(),
+            Keys::Long(long) => *long.allocator(),
         }
     }
 }

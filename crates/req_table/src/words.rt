@@ -1,6 +1,5 @@
 //! Lists of words, in four bytes a word while all of a list fit, else in eight.
-ghost use mathlib.Core.List.{reverse};
-ghost use Rattle.std.specs.Prelude.{◌≡◌, ◌<◌, ◌++◌, ◌∷◌, [], length, slice_get, Some, IfOk, OnOk, OnErr};
+ghost use Rattle.std.specs.Prelude.{◌≡◌, ◌<◌, ◌++◌, ◌∷◌, ℕ, [], length, take, slice_get, Some, IfOk, OnOk, OnErr};
 ghost use Rattle.req_table.specs.WordLists.{words_in, pairs_in};
 
 use std::alloc::{AllocError, Global};
@@ -68,6 +67,50 @@ impl Words {
         Ok(())
     }
 
+    /// Adds words of four bytes each: where each here has as many, they are copied as one.
+    fn append_short(&mut self, more: &[u32]) -> Result<(), AllocError>
+        ensures done { OnOk result (words_in self.new ≡ words_in self.old ++ more.now) }
+        ensures begun { (n : ℕ) × (words_in self.new ≡ words_in self.old ++ take n more.now) }
+    {
+        if let Words::Short(words) = self {
+            words.extend_from_slice(more)?;
+            return Ok(());
+        }
+        for word in more {
+            self.push(*word as u64)?;
+        }
+        Ok(())
+    }
+
+    /// Adds words of eight bytes each.
+    fn append_long(&mut self, more: &[u64]) -> Result<(), AllocError>
+        ensures done { OnOk result (words_in self.new ≡ words_in self.old ++ more.now) }
+        ensures begun { (n : ℕ) × (words_in self.new ≡ words_in self.old ++ take n more.now) }
+    {
+        let mut long = match self {
+            Words::Long(words) => {
+                words.extend_from_slice(more)?;
+                return Ok(());
+            }
+            Words::Short(words) => widened(words)?,
+        };
+        long.extend_from_slice(more)?;
+        *self = Words::Long(long);
+        Ok(())
+    }
+
+    /// Adds the words of another list at the end. After a refusal some of them may stand.
+    pub(crate) fn append(&mut self, more: &Words) -> Result<(), AllocError>
+        ensures done { OnOk result (words_in self.new ≡ words_in self.old ++ words_in more.now) }
+        ensures begun { (n : ℕ) × (words_in self.new ≡ words_in self.old ++ take n (words_in more.now)) }
+    {
+        match more {
+            Words::Short(words) => self.append_short(words.as_slice())?,
+            Words::Long(words) => self.append_long(words.as_slice())?,
+        }
+        Ok(())
+    }
+
     /// The word at a place.
     #[inline(always)]
     pub(crate) fn at(&self, place: usize) -> u64
@@ -77,16 +120,6 @@ impl Words {
         match self {
             Words::Short(words) => words[place] as u64,
             Words::Long(words) => words[place],
-        }
-    }
-
-    /// The last first.
-    pub(crate) fn reverse(&mut self)
-        ensures { words_in self.new ≡ reverse (words_in self.old) }
-    {
-        match self {
-            Words::Short(words) => words.reverse(),
-            Words::Long(words) => words.reverse(),
         }
     }
 

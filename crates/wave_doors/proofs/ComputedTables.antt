@@ -1,26 +1,16 @@
 -- What requests come to where what a computed table holds is done.
-use Rattle.std.proofs.Common.{◌≡◌, ◌-◌, ℕ, Bool, List, [], ◌∷◌, length, inl, inr, Option, Some, None, Contains, take, refl, sym, ◌∙◌, ap, subst, IfSome, OnOk, OnErr, Result, Ok, Err, IsSome, IsOk, true≢false}
-use Rattle.std.specs.Option.{option_map, option_map_or}
-use Rattle.std.specs.Map.{lookup, lookup_entry, remove_entry}
-use Rattle.std.proofs.lemmas.Map.Views.{Contains-from_lookup}
+use Rattle.std.proofs.Common.{◌≡◌, Bool, List, length, Option, Some, None, refl, ◌∙◌, ap, IfSome}
 use Rattle.dd_store.specs.declared.reference.Ref.{Ref}
 use Rattle.req_table.specs.declared.Key.{Key}
-use Rattle.req_table.specs.contracts.KeyPartialEq.TheImpl.{eq-value}
-use Rattle.req_table.specs.Equal.{key_same}
-use Rattle.req_table.specs.ComputedTables.{Held, held, rest, with_first, Keeps, IsAnswerOf, IsRight, IsValueOf, or_held, known_of}
+use Rattle.req_table.specs.ComputedTables.{Held, IsRight, IsValueOf, or_held, known_of}
 use Rattle.wave_doors.specs.ComputedTables.{child_known, child_known_of, IsHalfOf}
 use Rattle.req_table.specs.declared.Op.{Op}
 use Rattle.req_table.specs.declared.Child.{Child}
-use Rattle.req_table.specs.TerminalCase.{form_of, in_order, terminal_at, terminal_of, op_value}
-use Rattle.req_table.specs.Keys.{normal_of, answer_of, child_value, level_of, Denotes, IsKey, IsChildIn}
-use Rattle.req_table.proofs.TerminalCases.{OnAnswer, of_mark, of_form, terminal_is}
-use Rattle.req_table.proofs.Waved.{meaning_normal, terminal_denotes, is_key, first_of, second_of, cofactors}
+use Rattle.req_table.specs.TerminalCase.{terminal_of, op_value}
+use Rattle.req_table.specs.Keys.{normal_of, answer_of, child_value, level_of, IsKey, IsChildIn}
+use Rattle.req_table.proofs.Waved.{meaning_normal, is_key, first_of, second_of, cofactors}
 use Rattle.dd_store.specs.Nodes.{Nodes, IsSound, den, cofactor_of}
 use Rattle.dd_store.specs.View.{Has}
-use Rattle.dd_store.specs.View.{Keeps as KeepsNodes}
-use Rattle.dd_store.specs.Marks.{mark_by, turned}
-use Rattle.dd_store.proofs.Marks.{den-mark_by}
-use Rattle.dd_store.proofs.View.{kept_den, has-negate}
 use Rattle.req_table.proofs.ComputedTables.{known_value}
 
 module _ (S : Nodes) (m : Held) (right : IsRight S m) (op : Op) (f g : Ref) (hf : Has S f) (hg : Has S g) where

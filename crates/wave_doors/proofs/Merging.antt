@@ -1,20 +1,19 @@
 -- From the parts of all workers to their records, put together.
-use Rattle.std.proofs.Common.{◌≡◌, ℕ, suc, ◌+◌, ◌<◌, List, [], ◌∷◌, ◌++◌, map, length, slice_index_or, get_or, All, Contains, AllPairs, refl, sym, ap, ◌∙◌, subst, arith}
+use Rattle.std.proofs.Common.{◌≡◌, ℕ, suc, ◌+◌, ◌<◌, List, [], ◌∷◌, ◌++◌, map, length, All, refl, sym, ap, ◌∙◌, subst, arith}
 use Rattle.std.proofs.lemmas.List.{get_or-map, length-map}
 use Rattle.std.proofs.lemmas.List.Elements.{All-contains}
 use Rattle.dd_store.specs.Nodes.{Nodes, IsSound}
 use Rattle.req_table.specs.declared.Key.{Key}
 use Rattle.req_table.specs.declared.Record.{Record}
-use Rattle.req_table.specs.Wave.{Wave}
 use Rattle.req_table.specs.Keys.{IsKey, wave_of}
 use Rattle.req_table.specs.Reached.{IsReached}
-use Rattle.req_table.specs.Settled.{IsSplit, IsClosure, level_of_rows, key_of}
+use Rattle.req_table.specs.Settled.{IsSplit, level_of_rows, key_of}
 use Rattle.expand_work.specs.Expanded.{row_of}
 use Rattle.expand_work.specs.Gathered.{PartsView, AreParts}
 use Rattle.expand_work.specs.Lean.{records_of}
 use Rattle.expand_work.proofs.Teams.{first_of}
 use Rattle.reduce_up.proofs.Closed.{reached_key}
-use Rattle.reduce_up.proofs.Reading.{in_team}
+use Rattle.reduce_up.proofs.Numbering.{in_team}
 use Rattle.reduce_up.proofs.Rooted.{all_of}
 use Rattle.wave_doors.specs.Merging.{MayMerge}
 

@@ -1,8 +1,8 @@
 -- Diagrams by level: what the levels hold together, and what is found by place.
-use Rattle.std.proofs.Common.{◌≡◌, ℕ, zero, suc, ◌<◌, ◌≤◌, ◌⊎◌, inl, inr, true, false, eqb, List, [], ◌∷◌, ◌++◌, length, map, get_or, set, slice_get, Some, None, refl, sym, ◌∙◌, ap, subst, arith, Contains, eqb-true, eq-eqb, get_or-set_same, get_or-set_other}
+use Rattle.std.proofs.Common.{◌≡◌, ℕ, zero, suc, ◌<◌, ◌≤◌, inl, inr, List, [], ◌∷◌, ◌++◌, length, get_or, set, Some, None, refl, sym, ◌∙◌, ap, subst, arith, Contains}
 use Rattle.std.specs.Prelude.{Option, MatchOption, IsSome, Result, Ok, Err, OnOk, OnErr, All, min}
 use Rattle.std.specs.declared.alloc.AllocError.{AllocError}
-use Rattle.std.proofs.lemmas.List.{get_or_default, set-get_or, length-map}
+use Rattle.std.proofs.lemmas.List.{get_or_default, set-get_or}
 use Rattle.dd_store.specs.declared.reference.Ref.{Ref}
 use Rattle.dd_store.specs.declared.reference.Reference.TheVariants.{False, True, Node}
 use Rattle.dd_store.specs.Graph.{top}
@@ -10,13 +10,10 @@ use Rattle.dd_store.specs.Nodes.{Nodes, IsSound}
 use Rattle.std.proofs.lemmas.List.Elements.{Contains-get_or}
 use Rattle.std.proofs.lemmas.Option.{get_or_from_slice_get}
 use Rattle.req_table.specs.declared.Key.{Key}
-use Rattle.req_table.specs.declared.Child.TheVariants.{Done}
 use Rattle.req_table.specs.declared.Record.{Record}
-use Rattle.req_table.specs.Settled.{key_of}
 use Rattle.reduce_up.specs.Reducing.{IsKeyAt, IsRow, HasAnswer, Notes}
-use Rattle.reduce_up.specs.Sharing.{NotesFirst}
 use Rattle.reduce_up.specs.Placed.{place_of, paired, joined, ArePlaced}
-use Rattle.reduce_up.proofs.Noting.{nothing, head_in, tail_in, in_cases}
+use Rattle.reduce_up.proofs.Noting.{nothing, head_in, in_cases}
 use Rattle.reduce_up.proofs.Placing.{in_either, in_joined, in_left, in_right, notes_row, paired_place, placed_set}
 
 -- an empty row more

@@ -1,34 +1,21 @@
 -- The answer of a record from those of its children.
-use Rattle.std.proofs.Common.{◌≡◌, ◌≢◌, ℕ, zero, suc, ◌+◌, ◌<◌, ◌≤◌, ◌⊎◌, inl, inr, Bool, true, false, cond, List, [], ◌∷◌, ◌++◌, length, get_or, take, drop, refl, sym, ◌∙◌, ap, subst, arith, Contains}
-use Rattle.std.specs.Prelude.{min, Result, Ok, Err, IfOk, OnErr}
-use Rattle.dd_store.specs.declared.StoreFault.{StoreFault}
-use Rattle.dd_store.specs.declared.StoreFault.TheVariants.{Full, OutOfMemory}
-use Rattle.expand_work.specs.declared.fault.WaveFault.{WaveFault}
-use Rattle.expand_work.specs.declared.fault.WaveFault.TheVariants as wave_faults
-use Rattle.std.proofs.Math.Seq.{get_or-append_seam}
-use Rattle.std.proofs.lemmas.List.{length-append, take-append-drop, get_or_default}
-use Rattle.std.proofs.Math.ListN.{length-take, length-drop}
+use Rattle.std.proofs.Common.{◌≡◌, ℕ, zero, suc, ◌+◌, ◌<◌, ◌≤◌, ◌⊎◌, inl, inr, Bool, List, [], ◌∷◌, length, get_or, sym, ◌∙◌, ap, subst, arith, Contains}
+use Rattle.std.proofs.lemmas.List.{get_or_default}
 use Rattle.dd_store.specs.declared.reference.Ref.{Ref}
 use Rattle.req_table.specs.declared.Key.{Key}
 use Rattle.req_table.specs.declared.Child.{Child}
 use Rattle.req_table.specs.declared.Child.TheVariants.{Done, Ask}
 use Rattle.req_table.specs.declared.Record.{Record}
-use Rattle.dd_store.specs.Functions.{Agree, OfEither}
-use Rattle.dd_store.specs.Nodes.{node as node_at}
-use Rattle.dd_store.specs.Marks.{mark_by, turned}
-use Rattle.dd_store.proofs.Marks.{top-mark_by, IsRef-mark_by, den-mark_by}
+use Rattle.dd_store.specs.Functions.{OfEither}
 use Rattle.dd_store.specs.Parts.Part.{node}
-use Rattle.dd_store.specs.Nodes.{Nodes, den, IsSound, IsDiagram, count_of}
-use Rattle.dd_store.specs.View.{part, Has, top, Keeps, IsOneNode, IsMade}
-use Rattle.expand_work.specs.Fault.{wave_fault}
-use Rattle.reduce_up.specs.Reducing.{IsKeyAt, IsAnswer, IsAnswerAt, IsChild, IsRecordAt, AreAnswers, HasAnswer, IsReady, IsResolved, AddsDescribed, AskedBy, IsRow, IsRowReduced, Notes, IsRecordFault, IsRowFault, ReducesRow}
+use Rattle.dd_store.specs.Nodes.{Nodes, den, IsSound}
+use Rattle.dd_store.specs.View.{part, Has, Keeps}
+use Rattle.reduce_up.specs.Reducing.{IsKeyAt, IsAnswer, AreAnswers, HasAnswer, IsReady, AddsDescribed, AskedBy, IsRow, IsRowReduced, Notes}
 use Rattle.req_table.specs.Keys.{meaning}
-use Rattle.req_table.specs.TerminalCase.{op_value}
 use Rattle.std.specs.Prelude.{slice_index_or}
 use Rattle.std.proofs.Math.Nat.{eq-or-lt_of_le}
-use Rattle.reduce_up.proofs.Noting.{head_in}
-use Rattle.reduce_up.proofs.Opposite.{either_more, either_kept, one_node_either, one_node_part}
-use Rattle.dd_store.proofs.View.{by_bit, kept_den, kept_top, top-node, keeps-trans, keeps-refl}
+use Rattle.reduce_up.proofs.Opposite.{either_more, either_kept}
+use Rattle.dd_store.proofs.View.{keeps-trans}
 use Rattle.reduce_up.proofs.Reduction.{answer_kept, kept_meaning}
 
 pub ready_more : (before pairs : List (Key × Ref)) → ((k : Key) → HasAnswer before k → HasAnswer pairs k) → (c : Child) → IsReady before c → IsReady pairs c

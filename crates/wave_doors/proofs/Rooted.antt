@@ -1,21 +1,11 @@
 -- The requests of a list of entries.
-use Rattle.std.specs.List.{AllZip}
-use Rattle.std.proofs.Common.{◌≡◌, ℕ, zero, suc, arith, ◌+◌, ◌<◌, inl, inr, Bool, true, false, not, List, [], ◌∷◌, ◌++◌, length, take, get_or, Option, Some, None, refl, sym, ◌∙◌, ap, subst, append_assoc, true≢false, is_some, Contains, All}
-use Rattle.std.proofs.lemmas.List.{take_more, append-nil, get_or_default}
-use Rattle.std.proofs.lemmas.List.Elements.{Contains-append_left, Contains-append_right, Contains-append_cases, All-contains}
+use Rattle.std.proofs.Common.{◌≡◌, ℕ, ◌+◌, ◌<◌, Bool, true, false, not, List, [], ◌∷◌, ◌++◌, length, take, get_or, Option, Some, None, refl, sym, ◌∙◌, ap, append_assoc, true≢false, is_some}
+use Rattle.std.proofs.lemmas.List.{append-nil}
 use Rattle.dd_store.specs.declared.reference.Ref.{Ref}
-use Rattle.dd_store.specs.Nodes.{Nodes, IsDiagram, den}
-use Rattle.dd_store.specs.View.{Has}
-use Rattle.dd_store.specs.Marks.{turned, mark_by}
-use Rattle.dd_store.proofs.View.{has-negate}
 use Rattle.req_table.specs.declared.Key.{Key}
 use Rattle.req_table.specs.TerminalCase.{terminal_of}
-use Rattle.req_table.specs.Keys.{normal_of, IsKey, meaning}
-use Rattle.req_table.proofs.Means.{Answers, terminal_means}
-use Rattle.req_table.proofs.TerminalCases.{OnAnswer, terminal_is}
-use Rattle.req_table.proofs.Waved.{is_key, is_value, meaning_normal}
-use Rattle.reduce_up.specs.Waves.{Entry, entry_value, entry_for, entries_for, IsEntry, request_of, requests_of, IsTakenFrom}
-use Rattle.reduce_up.proofs.Noting.{nothing, head_in, tail_in, in_cases}
+use Rattle.req_table.specs.Keys.{normal_of}
+use Rattle.reduce_up.specs.Waves.{Entry, request_of, requests_of}
 use Rattle.reduce_up.proofs.Rooted.{item_next}
 
 -- one more entry

@@ -1,5 +1,5 @@
 -- A level whose shards several threads share: what they leave, seen through references, and what it is for the level's records.
-use Rattle.std.proofs.Common.{◌≡◌, ◌≢◌, ℕ, ◌+◌, ◌*◌, ◌<◌, ◌≤◌, ◌⊎◌, inl, inr, true, false, List, [], ◌∷◌, length, get_or, Some, None, refl, sym, ◌∙◌, ap, subst, arith, Contains, All}
+use Rattle.std.proofs.Common.{◌≡◌, ℕ, ◌+◌, ◌*◌, ◌<◌, ◌≤◌, inl, inr, List, length, get_or, Some, None, refl, sym, ◌∙◌, ap, subst, arith, Contains, All}
 use Rattle.std.specs.Prelude.{slice_index_or, Result, Ok, Err, MatchResult, OnOk, IfErr}
 use Rattle.std.specs.List.{AllZip}
 use Rattle.std.proofs.Math.Nat.{eq-or-lt_of_le}
@@ -12,25 +12,17 @@ use Rattle.req_table.specs.declared.Record.{Record}
 use Rattle.dd_store.specs.Graph.{Pair}
 use Rattle.dd_store.specs.Codes.{shard_of_pair}
 use Rattle.dd_store.specs.Growing.{IsIn}
-use Rattle.dd_store.specs.Functions.{OfEither}
-use Rattle.dd_store.specs.Parts.Part.{node}
-use Rattle.dd_store.specs.Nodes.{Nodes, shard_at, den, IsSound, IsThere, count_of}
+use Rattle.dd_store.specs.Nodes.{Nodes, shard_at, IsSound, IsThere, count_of}
 use Rattle.dd_store.specs.Adding.{AreReady, GrowsLevel, IsLevelFault}
 use Rattle.dd_store.specs.Levels.{plain_lists}
-use Rattle.dd_store.specs.View.{part, Has}
 use Rattle.dd_store.proofs.Storing.{small_shard, shard-le-count}
 use Rattle.dd_store.proofs.AddingAll.{Extends-grown, added_there, lacking_absent}
 use Rattle.dd_store.proofs.View.{keeps, same_ref, absent}
-use Rattle.expand_work.proofs.Zips.{zip_at}
 use Rattle.expand_work.specs.Fault.{wave_fault}
-use Rattle.reduce_up.specs.Reducing.{IsKeyAt, IsAnswer, IsAnswerAt, IsRecordAt, AreAnswers, HasAnswer, AddsDescribed, AskedBy, IsRow, IsRowReduced, IsRowFault, Notes}
-use Rattle.reduce_up.specs.Sharing.{IsPairOf, IsAnswered, CanStand, RowCanStand, AreDivided, IsOfPair, AddsRow, IsRowRefused, NotesFirst}
+use Rattle.reduce_up.specs.Reducing.{AreAnswers, HasAnswer, IsRow, IsRowReduced, IsRowFault, Notes}
+use Rattle.reduce_up.specs.Sharing.{IsPairOf, CanStand, AreDivided, AddsRow, IsRowRefused, NotesFirst}
 use Rattle.wave_doors.specs.Sharing.{AddsPairs, HasPair, IsPairsFault}
-use Rattle.reduce_up.proofs.Naming.{there_part, grown_of_pair}
-use Rattle.reduce_up.proofs.Noting.{nothing, head_in, tail_in, in_cases}
-use Rattle.reduce_up.proofs.Opposite.{one_node_either, one_node_part}
-use Rattle.reduce_up.proofs.Reduction.{resolved, asked_as, made_answer, kept_meaning, answer_kept, record_kept, row_fault}
-use Rattle.reduce_up.proofs.Missing.{record_fault}
+use Rattle.reduce_up.proofs.Naming.{grown_of_pair}
 use Rattle.reduce_up.proofs.Shared.{added, noted, refused, stands, zip_right, zip_through}
 
 -- pairs that can stand at a level may be added to it

@@ -1,20 +1,14 @@
 -- What requests come to where what a computed table holds is done.
-use Rattle.std.specs.Prelude.{◌≡◌, ℕ, ◌-◌, Bool, true, false, List, ◌∷◌, take, length, Contains, Option, Some, None, ◌⊎◌}
-use Rattle.std.specs.Map.{lookup, remove_entry}
-use Rattle.std.specs.Option.{option_map}
-use Rattle.dd_store.specs.Marks.{mark_by}
+use Rattle.std.specs.Prelude.{◌≡◌, Bool, true, false, List, length}
 use Rattle.dd_store.specs.declared.reference.Ref.{Ref}
 use Rattle.dd_store.specs.Graph.{bit}
-use Rattle.dd_store.specs.Nodes.{Nodes, IsDiagram, cofactor_of, den}
-use Rattle.dd_store.specs.View.{Has}
+use Rattle.dd_store.specs.Nodes.{Nodes, cofactor_of}
 use Rattle.req_table.specs.declared.Op.{Op}
 use Rattle.req_table.specs.declared.Key.{Key}
 use Rattle.req_table.specs.declared.Child.{Child}
 use Rattle.req_table.specs.declared.Record.{Record}
-use Rattle.req_table.specs.contracts.KeyPartialEq.TheImpl.{eq-value}
-use Rattle.req_table.specs.TerminalCase.{terminal_of, op_value}
-use Rattle.req_table.specs.Keys.{normal_of, level_of, meaning, answer_of, child_value}
-use Rattle.req_table.specs.ComputedTables.{Held, held, known_of}
+use Rattle.req_table.specs.Keys.{level_of, meaning, answer_of, child_value}
+use Rattle.req_table.specs.ComputedTables.{Held, known_of}
 
 -- what an operation comes to where what is held is done
 abbrev pub child_known : Nodes → Held → Op → Ref → Ref → Child

@@ -1,16 +1,8 @@
 -- Records by level, and their reduction from the last level up.
-use Rattle.std.specs.Prelude.{◌≡◌, ℕ, ◌<◌, ◌≤◌, ◌⊎◌, Bool, true, false, List, length, All, Contains}
-use Rattle.dd_store.specs.declared.reference.Ref.{Ref}
-use Rattle.req_table.specs.declared.Key.{Key}
-use Rattle.req_table.specs.declared.Child.{Child}
-use Rattle.req_table.specs.declared.Child.TheVariants.{Done, Ask}
+use Rattle.std.specs.Prelude.{◌≡◌, ℕ, ◌<◌, true, false, List, length, All}
 use Rattle.req_table.specs.declared.Record.{Record}
-use Rattle.expand_work.specs.declared.fault.WaveFault.{WaveFault}
-use Rattle.expand_work.specs.declared.fault.WaveFault.TheVariants as wave_faults
-use Rattle.dd_store.specs.Functions.{Agree}
-use Rattle.dd_store.specs.Nodes.{Nodes, IsSound, count_of}
-use Rattle.reduce_up.specs.Reducing.{IsRecordAt, AreAnswers, HasAnswer, AddsDescribed, LacksAnswer}
-use Rattle.req_table.specs.Keys.{IsKey, level_of, child_of, meaning}
+use Rattle.dd_store.specs.Nodes.{Nodes}
+use Rattle.req_table.specs.Keys.{IsKey, level_of, child_of}
 use Rattle.req_table.specs.Tables.{row_at}
 use Rattle.reduce_up.specs.Levels.{IsAsked}
 

@@ -1,9 +1,7 @@
 -- Diagrams by level: at which level a request's diagram stands, and what the levels hold together.
-use Rattle.std.specs.Prelude.{◌≡◌, ℕ, List, [], ◌∷◌, ◌++◌, length, map, Contains, slice_index_or}
-use Rattle.dd_store.specs.declared.reference.Ref.{Ref}
+use Rattle.std.specs.Prelude.{◌≡◌, List, length, map}
 use Rattle.req_table.specs.declared.Key.{Key}
 use Rattle.req_table.specs.declared.Record.{Record}
-use Rattle.req_table.specs.Keys.{level_at}
 use Rattle.req_table.specs.Settled.{key_of}
 
 -- keys that are as many as the records are theirs, in order

@@ -1,17 +1,12 @@
 -- A level that several threads share: the pairs that its records' children come to, their division by shard, and the nodes
 -- that stand for them.
-use Rattle.std.specs.Prelude.{◌≡◌, ◌≢◌, ℕ, ◌<◌, ◌⊎◌, List, [], ◌∷◌, ◌++◌, length, Contains, slice_index_or}
+use Rattle.std.specs.Prelude.{◌≢◌, ℕ, ◌⊎◌, List, Contains}
 use Rattle.dd_store.specs.declared.reference.Ref.{Ref}
 use Rattle.dd_store.specs.declared.StoreFault.{StoreFault}
 use Rattle.dd_store.specs.declared.StoreFault.TheVariants.{Full, OutOfMemory}
-use Rattle.req_table.specs.declared.Key.{Key}
-use Rattle.req_table.specs.declared.Record.{Record}
 use Rattle.dd_store.specs.Graph.{Pair}
-use Rattle.dd_store.specs.Codes.{shard_of_pair}
-use Rattle.dd_store.specs.Growing.{IsIn}
 use Rattle.dd_store.specs.Nodes.{Nodes, IsThere}
-use Rattle.dd_store.specs.View.{Has, top, Keeps, IsNode, IsOneNode, IsFull}
-use Rattle.reduce_up.specs.Reducing.{HasAnswer, IsResolved}
+use Rattle.dd_store.specs.View.{Has, Keeps, IsFull}
 use Rattle.reduce_up.specs.Sharing.{IsOfPair}
 
 -- new keeps what old has, and each other node of new is one of level v for a pair of different children, or the complement of one

@@ -44,7 +44,11 @@ fn level_records(
     let _ = store.levels();
     let mut records = Vec::new(alloc);
     for worker in 0..workers {
-        let more = split_all(alloc, store, parts.keys(worker, level))?;
+        let Some(keys) = parts.notes().keys(worker, level) else {
+            // The spaces of the wave keep each table with its level.
+            return Err(AllocError);
+        };
+        let more = split_all(alloc, store, keys)?;
         records.extend_from_slice(more.as_slice())?;
     }
     Ok(records)

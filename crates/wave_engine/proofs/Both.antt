@@ -15,11 +15,12 @@ use Rattle.expand_work.proofs.Once.{once_append}
 use Rattle.reduce_up.specs.Known.{unknown}
 use Rattle.reduce_up.specs.Waves.{Entry, IsEntry, requests_of}
 use Rattle.reduce_up.proofs.Closed.{reached_key}
-use Rattle.wave_engine.specs.Down.{AreExpanded, HaveSplit}
+use Rattle.reduce_up.specs.ByPlace.{AreExpanded}
+use Rattle.wave_engine.specs.Down.{HaveSplit}
 use Rattle.wave_engine.specs.Front.{keys_from}
-use Rattle.wave_engine.specs.Places.{StandsAt}
+use Rattle.req_table.specs.Places.{StandsAt}
 use Rattle.wave_engine.specs.Resting.{AtRest, HaveReduced}
-use Rattle.wave_engine.specs.Up.{AreCounted}
+use Rattle.reduce_up.specs.Up.{AreCounted}
 use Rattle.wave_engine.proofs.Counting.{reached_sorted}
 use Rattle.wave_engine.proofs.Fronting.{key_before, key_from, front_keys}
 

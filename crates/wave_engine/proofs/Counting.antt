@@ -1,5 +1,5 @@
 -- How many requests are split on the way down, and that none is missed.
-use Rattle.std.proofs.Common.{◌≡◌, ◌∙◌, ℕ, suc, ◌+◌, ◌-◌, ◌%◌, ◌^◌, ◌<◌, ◌≤◌, ◌⊎◌, inl, inr, Bool, true, false, List, [], ◌∷◌, ◌++◌, length, slice_get, Some, None, refl, sym, ap, subst, arith}
+use Rattle.std.proofs.Common.{◌≡◌, ◌∙◌, ℕ, ◌+◌, ◌-◌, ◌%◌, ◌^◌, ◌<◌, ◌≤◌, ◌⊎◌, inl, inr, Bool, true, false, List, [], ◌++◌, length, slice_get, Some, None, refl, sym, ap, subst, arith}
 use Rattle.std.proofs.lemmas.Bool.{cases_lt}
 use Rattle.std.proofs.lemmas.List.{length-append}
 use Rattle.std.proofs.lemmas.Option.{slice_get-get_or, slice_get_within, get_or_from_slice_get}
@@ -17,18 +17,17 @@ use Rattle.expand_work.proofs.Once.{append_cases, once_append}
 use Rattle.reduce_up.specs.Waves.{Entry, requests_of}
 use Rattle.reduce_up.proofs.Rooted.{of_entry}
 use Rattle.wave_engine.specs.Bounds.{AreMoreThan, AreAtMost}
-use Rattle.wave_engine.specs.Down.{AreAdmitted, AreExpanded, IsSplitAt, HaveSplit}
-use Rattle.wave_engine.specs.Places.{row, StandsAt, IsPlaced, AreNone, IsNextLevel}
-use Rattle.wave_engine.proofs.Placing.{in_lists, stands_some, root_for}
+use Rattle.reduce_up.specs.ByPlace.{AreAdmitted, AreExpanded, IsSplitAt}
+use Rattle.wave_engine.specs.Down.{HaveSplit}
+use Rattle.req_table.specs.Places.{row, StandsAt, IsPlaced, AreNone, IsNextLevel}
+use Rattle.req_table.proofs.Standing.{in_lists, stands_some}
+use Rattle.reduce_up.proofs.Answering.{root_for}
+use Rattle.reduce_up.proofs.Reduced.{in_back}
 
 -- what was split before level v, and how many requests more there may be where they are bounded
 pub record IsCounted (s : Nodes) (entries : List Entry) (tables : List (List Key)) (bound left before after v : ℕ) : Type 0 where
   pub split : HaveSplit s entries tables v before after
   pub sum : bound < 2 ^ 64 - 1 → left + length split.requests ≡ bound
-
-pub in_back : {X : Type 0} (a b : List X) (x : X) → IsIn b x → IsIn (a ++ b) x
-in_back [] b x h = h
-in_back (y ∷ a) b x h = let w = in_back a b x h in (suc w.0, w.1)
 
 -- before the first level nothing is split
 pub none_counted : (s : Nodes) (entries : List Entry) (T : List (List Key)) (bound count : ℕ) → IsCounted s entries T bound bound count count 0

@@ -1,9 +1,8 @@
 -- Lists that are emptied, and the requests that are handed to the workers.
 use Rattle.std.proofs.Common.{◌≡◌, ℕ, zero, suc, ◌+◌, ◌-◌, ◌<◌, ◌≤◌, inl, inr, List, [], ◌∷◌, ◌++◌, length, set, take, drop, replicate, Some, slice_get, refl, sym, ◌∙◌, ap, subst, arith, append_assoc, Contains, All}
 use Rattle.std.specs.List.{AllZip}
-use Rattle.std.proofs.Math.ListN.{length-drop, length-replicate}
+use Rattle.std.proofs.Math.ListN.{length-drop}
 use Rattle.std.proofs.lemmas.List.Elements.{Contains-append_cases}
-use Rattle.std.proofs.lemmas.Bool.{cases_lt}
 use Rattle.std.proofs.lemmas.List.{length-append, length-set, take-append-drop, take_more, append-nil}
 use Rattle.std.proofs.lemmas.Option.{slice_get-get_or}
 use Rattle.dd_store.specs.declared.reference.Ref.{Ref}
@@ -18,37 +17,18 @@ use Rattle.expand_work.specs.declared.fault.WaveFault.TheVariants as wave_faults
 use Rattle.reduce_up.proofs.Reduction.{adds_none}
 use Rattle.reduce_up.proofs.Noting.{nothing, head_in, tail_in, in_cases}
 use Rattle.reduce_up.proofs.Rooted.{all_of}
-use Rattle.wave_engine.specs.Places.{row, StandsAt, AreEmpty, AreNone}
-use Rattle.wave_engine.specs.Down.{AreAdmitted}
-use Rattle.wave_engine.specs.Up.{AreReducedBelow, IsWithinBelow}
+use Rattle.req_table.specs.Places.{row, StandsAt}
+use Rattle.reduce_up.specs.ByPlace.{AreAdmitted}
+use Rattle.reduce_up.specs.Up.{AreReducedBelow, IsWithinBelow}
 use Rattle.wave_engine.specs.Front.{joined, keys_from, count_before, IsCopied, ArePut}
-use Rattle.wave_engine.proofs.Placing.{same_level, stands_none, row_none, in_lists, row_own, row_other}
-use Rattle.wave_engine.proofs.Wanted.{AreReachedBy, diagram_answer, adds_through, lacks_through, has_request_of}
+use Rattle.req_table.proofs.Standing.{same_level, stands_none, in_lists, row_own, row_other}
+use Rattle.reduce_up.proofs.Wanted.{AreReachedBy, diagram_answer, adds_through, lacks_through, has_request_of}
 
 -- empty lists
 row_replicate : {X : Type 0} (n w : ℕ) → row {X = X} (replicate n []) w ≡ []
 row_replicate zero w = refl
 row_replicate (suc n) zero = refl
 row_replicate (suc n) (suc w) = row_replicate n w
-
-pub made_empty : {X : Type 0} (n : ℕ) (lists : List (List X)) → lists ≡ replicate n [] → AreEmpty lists n
-made_empty {X} n lists e = subst (λ (z : List (List X)). AreEmpty z n) (sym e) (record { levels = length-replicate n []; empty = λ w. row_replicate n w })
-
--- levels that are emptied, one after the other
-pub taken_more : {X : Type 0} (T : List (List X)) (v u : ℕ) → u < length T → AreNone T 0 v → AreNone T v u → AreNone (set T u []) 0 (u + 1)
-taken_more {X} T v u lt before between w q k le l h =
-    elim (same_level w u) [
-      | inl d ↦ stands_none (row (set T u []) w) q k (ap (row (set T u [])) d ∙ row_own T u [] lt) h
-      | inr d ↦
-          let at : StandsAt T w q k = subst (λ (z : List X). slice_get z q ≡ Some k) (row_other T u [] w d) h in
-          elim (cases_lt w v) [ inl a ↦ before w q k le a at | inr b ↦ between w q k b (grind (arith, l, d)) at ]
-    ]
-
-pub taken_all : {X : Type 0} (T : List (List X)) (n v : ℕ) → length T ≡ n → AreNone T 0 v → ((w q : ℕ) (x : X) → v ≤ w → StandsAt T w q x → ⊥) → AreEmpty T n
-taken_all T n v len before later = record {
-  levels = len;
-  empty = λ w. row_none T w (λ q x h. elim (cases_lt w v) [ inl lt ↦ before w q x (omega arith) lt h | inr le ↦ later w q x le h ]);
-}
 
 -- lists one after the other
 joined-append : {X : Type 0} (a b : List (List X)) → joined (a ++ b) ≡ joined a ++ joined b

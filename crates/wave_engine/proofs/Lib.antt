@@ -1,11 +1,6 @@
-pub mod LevelSets
 pub mod Placing
-pub mod Members
 pub mod Waiting
-pub mod Wanted
-pub mod Raising
 pub mod Fronting
 pub mod Whole
 pub mod Counting
-pub mod Reduced
 pub mod Both

@@ -1,103 +1,25 @@
 -- Placing children, and the levels that are expanded.
-use Rattle.std.proofs.Common.{◌≡◌, ◌≢◌, ℕ, zero, suc, ◌+◌, ◌<◌, ◌≤◌, ◌⊎◌, inl, inr, true, false, Bool, List, [], ◌∷◌, ◌++◌, length, set, get_or, Option, Some, None, slice_get, refl, sym, ◌∙◌, ap, subst, arith, Contains}
+use Rattle.std.proofs.Common.{◌≡◌, ◌≢◌, ℕ, ◌+◌, ◌<◌, ◌≤◌, ◌⊎◌, inl, inr, true, false, Bool, List, [], ◌∷◌, ◌++◌, length, set, Option, Some, None, slice_get, refl, sym, ◌∙◌, ap, subst, arith, Contains}
 use Rattle.std.specs.List.{AllZip}
-use Rattle.std.proofs.Math.Nat.{eq-or-lt_of_le}
-use Rattle.std.proofs.Math.ListN.{get_or-eq_default}
 use Rattle.std.proofs.lemmas.Bool.{cases_lt}
-use Rattle.std.proofs.lemmas.List.{length-set, length-append, get_or_default, get_or-set_same, get_or-set_other}
+use Rattle.std.proofs.lemmas.List.{length-set, length-append}
 use Rattle.dd_store.specs.declared.reference.Ref.{Ref}
 use Rattle.dd_store.specs.Nodes.{Nodes, IsSound}
-use Rattle.dd_store.proofs.Places.{slice_get-append, slice_get_cases-push}
+use Rattle.dd_store.proofs.Places.{slice_get_cases-push}
 use Rattle.req_table.specs.declared.Key.{Key}
 use Rattle.req_table.specs.declared.Child.{Child}
-use Rattle.req_table.specs.declared.Child.TheVariants as child
 use Rattle.req_table.specs.Keys.{IsKey, IsChildIn, level_of, normal_of, child as child_at, child_of, answer_of}
 use Rattle.req_table.specs.Reached.{root as root_of, child as child_from}
 use Rattle.req_table.specs.TerminalCase.{terminal_of}
-use Rattle.req_table.specs.Tables.{Offers}
 use Rattle.req_table.proofs.Waved.{told, held, deeper, bounded}
 use Rattle.reduce_up.specs.Waves.{Entry, requests_of}
-use Rattle.reduce_up.proofs.Noting.{nothing, in_cases}
 use Rattle.reduce_up.proofs.Rooted.{to_request}
 use Rattle.req_table.specs.declared.placed.Placed.{Placed}
 use Rattle.req_table.specs.declared.placed.PlacedChild.TheVariants.{Done, Ask}
-use Rattle.wave_engine.specs.Places.{row, StandsAt, Enters, IsPlaced, AsksAt, Admits, AreNone}
-use Rattle.wave_engine.specs.Down.{IsAdmitted, AreAdmitted, IsSplitAt, Grow, IsRowExpanded, AreExpanded}
-
-pub same_level : (w l : ℕ) → (w ≡ l) ⊎ (w ≢ l)
-same_level w l =
-    elim (cases_lt w l) [
-      | inl lt ↦ inr (λ e. omega (arith, e, lt))
-      | inr le ↦ elim (eq-or-lt_of_le le) [ inl e ↦ inl (sym e) | inr lt ↦ inr (λ e. omega (arith, e, lt)) ]
-    ]
-
-pub some_same : {X : Type 0} (o : Option X) (x y : X) → o ≡ Some x → o ≡ Some y → x ≡ y
-some_same (Some z) x y e f = cc
-some_same None x y e f = absurd (let g : None ≡ Some x = e in cc)
-
-pub stands_none : {X : Type 0} (xs : List X) (q : ℕ) (x : X) → xs ≡ [] → slice_get xs q ≡ Some x → ⊥
-stands_none {X} xs q x e h = by (subst (λ (z : List X). slice_get z q ≡ Some x) e h)
-  where
-    by : None ≡ Some x → ⊥
-    by g = cc
-
--- one list of a list of lists is written
-pub row_own : {X : Type 0} (lists : List (List X)) (v : ℕ) (xs : List X) → v < length lists → row (set lists v xs) v ≡ xs
-row_own lists v xs lt = get_or-set_same lists v xs [] lt
-
-pub row_other : {X : Type 0} (lists : List (List X)) (v : ℕ) (xs : List X) (w : ℕ) → w ≢ v → row (set lists v xs) w ≡ row lists w
-row_other lists v xs w ne = get_or-set_other lists v w xs [] ne
-
--- a key that was offered to a table, and its place there
-pub offered_enters : (old new : List Key) (k : Key) (p : ℕ) (fresh : Bool) → Offers old k fresh new → slice_get new p ≡ Some k → Enters old k p new
-offered_enters old new k p true o at = (at, inr o.1)
-offered_enters old new k p false o at = (at, inl o.1)
-
--- the place of a key that entered
-entered_kept : (old new : List Key) (k : Key) (p : ℕ) → Enters old k p new → (q : ℕ) (x : Key) → slice_get old q ≡ Some x → slice_get new q ≡ Some x
-entered_kept old new k p e q x h =
-    elim e.1 [
-      | inl same ↦ subst (λ (z : List Key). slice_get z q ≡ Some x) (sym same) h
-      | inr more ↦ subst (λ (z : List Key). slice_get z q ≡ Some x) (sym more) (slice_get-append old (k ∷ []) q x h)
-    ]
-
-entered_only : (old new : List Key) (k : Key) (p : ℕ) → Enters old k p new → (q : ℕ) (x : Key) → slice_get new q ≡ Some x → (slice_get old q ≡ Some x) ⊎ (x ≡ k)
-entered_only old new k p e q x h =
-    elim e.1 [
-      | inl same ↦ inl (subst (λ (z : List Key). slice_get z q ≡ Some x) same h)
-      | inr more ↦ elim (slice_get_cases-push old k q x (subst (λ (z : List Key). slice_get z q ≡ Some x) more h)) [ inl o ↦ inl o | inr n ↦ inr n.1 ]
-    ]
-
--- a request is placed
-pub ask_admits : (T : List (List Key)) (l : ℕ) (k : Key) (p : ℕ) (new : List Key) → l < length T → Enters (row T l) k p new → (m : Bool) → Admits T (child.Ask l k m) (set T l new)
-ask_admits T l k p new lt e m = record {
-  levels = length-set T l new;
-  kept = λ w q x h.
-      elim (same_level w l) [
-        | inl d ↦ subst (λ z. StandsAt (set T l new) z q x) (sym d)
-            (subst (λ (z : List Key). slice_get z q ≡ Some x) (sym (row_own T l new lt)) (entered_kept (row T l) new k p e q x (subst (λ z. StandsAt T z q x) d h)))
-        | inr d ↦ subst (λ (z : List Key). slice_get z q ≡ Some x) (sym (row_other T l new w d)) h
-      ];
-  only = λ w q x h.
-      elim (same_level w l) [
-        | inl d ↦
-            let at : slice_get new q ≡ Some x = subst (λ (z : List Key). slice_get z q ≡ Some x) (row_own T l new lt) (subst (λ z. StandsAt (set T l new) z q x) d h) in
-            elim (entered_only (row T l) new k p e q x at) [
-              | inl o ↦ inl (subst (λ z. StandsAt T z q x) (sym d) o)
-              | inr n ↦ inr (m, ap (λ z. child.Ask z k m) (sym d) ∙ ap (λ z. child.Ask w z m) (sym n))
-            ]
-        | inr d ↦ inl (subst (λ (z : List Key). slice_get z q ≡ Some x) (row_other T l new w d) h)
-      ];
-  others = λ w no. row_other T l new w (λ d. no k (m, ap (λ z. child.Ask z k m) (sym d)));
-}
-
--- and stands at its place
-pub ask_placed : (T : List (List Key)) (l : ℕ) (k : Key) (p : ℕ) (new : List Key) → l < length T → Enters (row T l) k p new → StandsAt (set T l new) l p k
-ask_placed T l k p new lt e = subst (λ (z : List Key). slice_get z p ≡ Some k) (sym (row_own T l new lt)) e.0
-
--- nothing is admitted
-pub none_admits : (T : List (List Key)) (c : Child) → Admits T c T
-none_admits T c = record { levels = refl; kept = λ w q x h. h; only = λ w q x h. inl h; others = λ w no. refl }
+use Rattle.req_table.proofs.Standing.{same_level, some_same, stands_none, row_own, row_other, row_none}
+use Rattle.req_table.specs.Places.{row, StandsAt, IsPlaced, AsksAt, Admits, AreNone}
+use Rattle.reduce_up.specs.ByPlace.{IsAdmitted, AreAdmitted, IsSplitAt, AreExpanded}
+use Rattle.wave_engine.specs.Down.{Grow, IsRowExpanded}
 
 -- what is placed stays placed
 pub placed_kept : (T U : List (List Key)) → Grow T U → (d : Placed) (c : Child) → IsPlaced T d c → IsPlaced U d c
@@ -110,12 +32,6 @@ all_placed_kept S T U g [] [] z = z
 all_placed_kept S T U g [] (p ∷ ps) z = z
 all_placed_kept S T U g (e ∷ es) [] z = z
 all_placed_kept S T U g (e ∷ es) (p ∷ ps) z = (placed_kept T U g p (child_at S e.0 e.1 e.2) z.0, all_placed_kept S T U g es ps z.1)
-
--- an entry's root
-pub root_for : (S : Nodes) (T : List (List Key)) (es : List Entry) (ps : List Placed) → AllZip (λ e p. IsPlaced T p (child_at S e.0 e.1 e.2)) es ps → (e : Entry) → Contains es e → (p : Placed) × IsPlaced T p (child_at S e.0 e.1 e.2)
-root_for S T [] ps z e m = absurd (nothing {X = Entry} e m)
-root_for S T (d ∷ es) [] z e m = absurd z
-root_for S T (d ∷ es) (p ∷ ps) z e m = elim (in_cases {X = Entry} d e es m) [ inl x ↦ (p, subst (λ (y : Entry). IsPlaced T p (child_at S y.0 y.1 y.2)) x z.0) | inr i ↦ root_for S T es ps z.1 e i ]
 
 pub admitted_more : (S : Nodes) (es : List Entry) (T : List (List Key)) (c : Child) (U : List (List Key)) → AreAdmitted S es T → Admits T c U
     → ((l : ℕ) (k : Key) → AsksAt c l k → IsAdmitted S es l k) → AreAdmitted S es U
@@ -236,14 +152,6 @@ level_more S es roots v T rows lt e U pairs r = record {
         (subst (λ (z : List (Placed × Placed)). slice_get z q ≡ Some d) (row_other rows v pairs w m) g) in
         (placed_kept T U r.grown d.0 (child_of S k false) s.0, placed_kept T U r.grown d.1 (child_of S k true) s.1)
 
--- a level where nothing stands is empty
-pub row_none : {X : Type 0} (lists : List (List X)) (w : ℕ) → ((q : ℕ) (x : X) → StandsAt lists w q x → ⊥) → row lists w ≡ []
-row_none {X} lists w none = by (row lists w) refl
-  where
-    by : (xs : List X) → row lists w ≡ xs → row lists w ≡ []
-    by [] e = e
-    by (x ∷ xs) e = absurd (none 0 x (ap (λ z. slice_get z 0) e))
-
 -- levels without requests are passed over
 pub levels_passed : (S : Nodes) (es : List Entry) (roots : List Placed) (v u : ℕ) (T : List (List Key)) (rows : List (List (Placed × Placed))) → AreExpanded S es roots v T rows → AreNone T v u → ((w : ℕ) → v ≤ w → row rows w ≡ [])
     → AreExpanded S es roots u T rows
@@ -265,17 +173,3 @@ ask_fits S sound T c l k len i e =
     let b : level_of S k < S.levels = bounded S sound k h.0 in
     let t : l ≡ level_of S k = h.1 in
     omega (arith, len, b, t)
-
--- what an index reads of a list of lists
-pub row_read : {X : Type 0} (lists : List (List X)) (v : ℕ) (xs : List X) → v < length lists → xs ≡ get_or lists v xs → xs ≡ row lists v
-row_read lists v xs lt e = e ∙ get_or_default lists v xs [] lt
-
--- what stands at a place stands in one of the lists
-pub in_lists : {X : Type 0} (lists : List (List X)) (l p : ℕ) (x : X) → StandsAt lists l p x → l < length lists
-in_lists lists l p x h = elim (cases_lt l (length lists)) [ inl lt ↦ lt | inr le ↦ absurd (stands_none (row lists l) p x (get_or-eq_default lists [] le) h) ]
-
--- something stands at each place of a list
-pub stands_some : {X : Type 0} (xs : List X) (i : ℕ) → i < length xs → (x : X) × (slice_get xs i ≡ Some x)
-stands_some [] i lt = absurd (omega arith)
-stands_some (x ∷ xs) zero lt = (x, refl)
-stands_some (x ∷ xs) (suc i) lt = stands_some xs i (omega arith)

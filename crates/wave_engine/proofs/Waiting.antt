@@ -11,11 +11,13 @@ use Rattle.req_table.specs.declared.Key.{Key}
 use Rattle.req_table.specs.declared.placed.Placed.{Placed}
 use Rattle.req_table.specs.Keys.{child_of}
 use Rattle.reduce_up.specs.Waves.{Entry}
-use Rattle.wave_engine.specs.Places.{row, StandsAt, AreNone, AreEmpty}
-use Rattle.wave_engine.specs.Down.{AreAdmitted, Grow, IsSplitAt, IsRowExpanded, AreExpanded, AreWaiting, IsDown}
+use Rattle.req_table.specs.Places.{row, StandsAt, AreNone, AreEmpty}
+use Rattle.reduce_up.specs.ByPlace.{AreAdmitted, IsSplitAt, AreExpanded}
+use Rattle.wave_engine.specs.Down.{Grow, IsRowExpanded, AreWaiting, IsDown}
 use Rattle.wave_engine.specs.Front.{joined, keys_from}
-use Rattle.wave_engine.specs.Up.{IsWithinBelow, AreReducedBelow}
-use Rattle.wave_engine.proofs.Placing.{same_level, stands_none, placed_kept, row_own, row_other, row_none, levels_passed, level_more}
+use Rattle.reduce_up.specs.Up.{IsWithinBelow, AreReducedBelow}
+use Rattle.req_table.proofs.Standing.{same_level, stands_none, row_own, row_other, row_none}
+use Rattle.wave_engine.proofs.Placing.{placed_kept, levels_passed, level_more}
 use Rattle.wave_engine.proofs.Counting.{IsCounted, none_counted, more_counted, counted_passed}
 
 -- the lists of T before level v, and those of W from there on

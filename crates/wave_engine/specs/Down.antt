@@ -1,33 +1,14 @@
 -- The expansion of requests by place, from the first level down.
-use Rattle.std.specs.Prelude.{◌≡◌, ℕ, ◌+◌, ◌%◌, ◌^◌, ◌<◌, ◌≤◌, true, false, List, [], length, slice_get, Some}
-use Rattle.std.specs.List.{AllZip}
+use Rattle.std.specs.Prelude.{◌≡◌, ℕ, ◌+◌, ◌%◌, ◌^◌, ◌<◌, ◌≤◌, List, [], length, slice_get, Some}
 use Rattle.slot_table.specs.Lists.{IsIn, IsOnce}
 use Rattle.req_table.specs.declared.Key.{Key}
 use Rattle.dd_store.specs.Nodes.{Nodes}
-use Rattle.req_table.specs.Keys.{IsKey, level_of, child, child_of, wave_of}
+use Rattle.req_table.specs.Keys.{level_of, wave_of}
 use Rattle.req_table.specs.Reached.{IsReached}
+use Rattle.reduce_up.specs.ByPlace.{AreAdmitted, IsSplitAt, AreExpanded}
 use Rattle.reduce_up.specs.Waves.{Entry, requests_of}
 use Rattle.req_table.specs.declared.placed.Placed.{Placed}
-use Rattle.wave_engine.specs.Places.{row, StandsAt, IsPlaced}
-
--- what stands at a place of level w is a key of the store of that level, which the entries ask for
-pub record IsAdmitted (s : Nodes) (entries : List Entry) (w : ℕ) (k : Key) : Type 0 where
-  pub key : IsKey s k
-  pub level : level_of s k ≡ w
-  pub reached : IsReached (wave_of s 1) (requests_of entries) k
-
--- a table for each level, of such keys
-pub record AreAdmitted (s : Nodes) (entries : List Entry) (tables : List (List Key)) : Type 0 where
-  pub levels : length tables ≡ s.levels
-  pub keys : (w q : ℕ) (k : Key) → StandsAt tables w q k → IsAdmitted s entries w k
-
--- the pair stands for the two children of the key
-abbrev pub IsSplitAt : Nodes → List (List Key) → Key → Placed × Placed → Type 0
-IsSplitAt s tables k d = IsPlaced tables d.0 (child_of s k false) × IsPlaced tables d.1 (child_of s k true)
-
--- the key at place q of level w is expanded
-abbrev pub IsExpanded : Nodes → List (List Key) → List (List (Placed × Placed)) → ℕ → ℕ → Key → Type 0
-IsExpanded s tables rows w q k = (d : Placed × Placed) × StandsAt rows w q d × IsSplitAt s tables k d
+use Rattle.req_table.specs.Places.{row, StandsAt}
 
 -- tables that grew: what stood at a place stands there
 abbrev pub Grow : List (List Key) → List (List Key) → Type 0
@@ -41,15 +22,6 @@ pub record IsRowExpanded (s : Nodes) (entries : List Entry) (start : List (List 
   pub above : (w : ℕ) → w ≤ v → row tables w ≡ row start w
   pub count : length pairs ≡ i
   pub split : (q : ℕ) (k : Key) (d : Placed × Placed) → StandsAt tables v q k → slice_get pairs q ≡ Some d → IsSplitAt s tables k d
-
--- the levels before v are expanded
-pub record AreExpanded (s : Nodes) (entries : List Entry) (roots : List Placed) (v : ℕ) (tables : List (List Key))
-    (rows : List (List (Placed × Placed))) : Type 0 where
-  pub admitted : AreAdmitted s entries tables
-  pub rooted : AllZip (λ e p. IsPlaced tables p (child s e.0 e.1 e.2)) entries roots
-  pub levels : length rows ≡ s.levels
-  pub counts : (w : ℕ) → w < v → length (row rows w) ≡ length (row tables w)
-  pub split : (w q : ℕ) (k : Key) (d : Placed × Placed) → w < v → StandsAt tables w q k → StandsAt rows w q d → IsSplitAt s tables k d
 
 -- between two counts modulo 2^64 exactly the requests that stand before level v were split, each once
 pub record HaveSplit (s : Nodes) (entries : List Entry) (tables : List (List Key)) (v : ℕ) (before after : ℕ) : Type 0 where

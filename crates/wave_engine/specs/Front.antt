@@ -2,7 +2,7 @@
 use Rattle.std.specs.Prelude.{◌≡◌, ℕ, ◌+◌, ◌-◌, ◌<◌, ◌≤◌, List, [], ◌∷◌, ◌++◌, length, take, drop, slice_get, Some}
 use Rattle.dd_store.specs.declared.reference.Ref.{Ref}
 use Rattle.req_table.specs.declared.Key.{Key}
-use Rattle.wave_engine.specs.Places.{row, StandsAt}
+use Rattle.req_table.specs.Places.{row, StandsAt}
 
 -- the lists one after the other
 abbrev pub joined : {X : Type 0} → List (List X) → List X

@@ -1,23 +1,23 @@
 //! Expansion, from the first level down: each request's children are placed in the tables of their levels at once.
-ghost use Rattle.std.specs.Prelude.{◌≡◌, ◌≢◌, ◌<◌, ◌≤◌, ◌+◌, ◌-◌, ◌%◌, ◌^◌, ℕ, [], length, Err, IfOk, IfErr, OnOk, All};
+ghost use Rattle.std.specs.Prelude.{◌≡◌, ◌≢◌, ◌<◌, ◌≤◌, ◌+◌, ◌-◌, ◌%◌, ◌^◌, ℕ, [], length, replicate, Err, IfOk, IfErr, OnOk, All};
 ghost use Rattle.std.specs.List.{AllZip};
 ghost use Rattle.req_table.specs.Keys.{IsChildIn, child as child_spec};
 ghost use Rattle.reduce_up.specs.Waves.{IsEntry};
-ghost use Rattle.wave_engine.specs.Places.{row, IsPlaced, Admits, AreEmpty};
+ghost use Rattle.req_table.specs.Places.{row, IsPlaced, Admits, AreEmpty};
 ghost use Rattle.wave_engine.specs.Bounds.{AreMoreThan, AreAtMost};
-ghost use Rattle.wave_engine.specs.Down.{AreAdmitted, IsRowExpanded, AreExpanded, IsDown};
+ghost use Rattle.reduce_up.specs.ByPlace.{AreAdmitted, AreExpanded};
+ghost use Rattle.wave_engine.specs.Down.{IsRowExpanded, IsDown};
 
-use crate::requests::Requests;
 use crate::workspace::Down;
 use dd_store::{Ref, Store};
 use expand_work::{Splits, WaveFault};
 use req_table::requests::child;
-use req_table::{Child, Op, Placed, Row};
+use req_table::{Child, Op, Placed, Row, Waiting};
 use std::alloc::AllocError;
 
 /// Places a child: a request is admitted to the table of its level.
 #[inline(always)]
-fn place_child(store: &Store, requests: &mut Requests, asked: Child) -> Result<Placed, AllocError>
+fn place_child(store: &Store, requests: &mut Waiting, asked: Child) -> Result<Placed, AllocError>
     requires levels { length requests.old ≡ store.now.levels }
     requires stands { IsChildIn store.now asked }
     ensures placed { IfOk result (λ p. IsPlaced requests.new p asked) }
@@ -37,7 +37,7 @@ fn place_child(store: &Store, requests: &mut Requests, asked: Child) -> Result<P
 pub(crate) fn place_roots(
     store: &Store,
     entries: &[(Op, Ref, Ref)],
-    requests: &mut Requests,
+    requests: &mut Waiting,
     roots: &mut Vec<Placed>,
 ) -> Result<(), AllocError>
     requires operands { All (IsEntry store.now) entries.now }
@@ -61,7 +61,7 @@ pub(crate) fn place_roots(
 fn expand_level(
     store: &Store,
     entries: &[(Op, Ref, Ref)],
-    requests: &mut Requests,
+    requests: &mut Waiting,
     pairs: &mut Row,
     splits: &mut Splits,
     level: u16,
@@ -105,7 +105,7 @@ const WIDE: usize = 1 << 10;
 const AVERAGE: usize = 1 << 7;
 
 /// The most requests that a level may have which has so many: its limit, or any number where few requests wait from there on.
-fn most_at(limits: Limits, requests: &Requests, level: u16, count: usize) -> usize
+fn most_at(limits: Limits, requests: &Waiting, level: u16, count: usize) -> usize
     ensures least { limits.level ≤ result }
 {
     if count <= limits.level || limits.level < WIDE || requests.are_many(level, AVERAGE) {
@@ -125,7 +125,7 @@ pub(crate) fn expand(
     limits: Limits,
 ) -> Result<u16, WaveFault>
     requires start { AreExpanded store.now entries.now down.old.roots.items 0 down.old.requests down.old.rows }
-    requires rows { AreEmpty down.old.rows store.now.levels }
+    requires rows { down.old.rows ≡ replicate store.now.levels [] }
     ensures down { IfOk result (λ v. IsDown store.now entries.now v down.new.requests down.new.rows down.new.roots.items
         down.old.splits down.new.splits) }
     ensures wide { IfOk result (λ v. v < store.now.levels → limits.level < length (row down.new.requests v)) }

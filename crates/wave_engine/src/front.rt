@@ -4,15 +4,14 @@ ghost use Rattle.dd_store.specs.Nodes.{IsSound, count_of};
 ghost use Rattle.expand_work.specs.Gathered.{HaveExpanded};
 ghost use Rattle.reduce_up.specs.Reducing.{AddsDescribed};
 ghost use Rattle.reduce_up.specs.Waves.{IsEntry, IsWanted, IsWaveFault};
-ghost use Rattle.wave_engine.specs.Down.{AreAdmitted};
-ghost use Rattle.wave_engine.specs.Up.{AreReducedBelow, IsWithinBelow};
+ghost use Rattle.reduce_up.specs.ByPlace.{AreAdmitted};
+ghost use Rattle.reduce_up.specs.Up.{AreReducedBelow, IsWithinBelow};
 ghost use Rattle.wave_engine.specs.Front.{keys_from, IsCopied, ArePut};
 
-use crate::requests::Requests;
 use dd_store::{Ref, Store};
 use expand_work::{Crew, Monitor, WaveFault};
 use reduce_up::{Rooms, shared_wave};
-use req_table::{Key, Op, Refs, Table};
+use req_table::{Key, Op, Refs, Table, Waiting};
 use std::alloc::{AllocError, Global};
 use std::sync::Wait;
 use std::thread::Threads;
@@ -20,7 +19,7 @@ use std::thread::Threads;
 /// The requests from a level on.
 #[derive(Drop)]
 pub(crate) struct Frontier<'a> {
-    pub(crate) requests: &'a Requests,
+    pub(crate) requests: &'a Waiting,
     pub(crate) from: u16,
 }
 
@@ -37,7 +36,7 @@ fn push_all(front: &mut Vec<Key>, keys: &Table) -> Result<(), AllocError>
 }
 
 /// The requests from a level on, in one list.
-fn frontier_of(alloc: Global, requests: &Requests, from: u16) -> Result<Vec<Key>, AllocError>
+fn frontier_of(alloc: Global, requests: &Waiting, from: u16) -> Result<Vec<Key>, AllocError>
     requires { from ≤ length requests.now }
     ensures { IfOk result (λ ks. ks.items ≡ keys_from from requests.now) }
 {
@@ -69,7 +68,7 @@ fn put_level(
 /// Puts answers in their places, from a level on.
 fn put_answers(
     answers: &mut Vec<Refs>,
-    requests: &Requests,
+    requests: &Waiting,
     from: u16,
     found: &[Ref],
 ) -> Result<(), AllocError>

@@ -12,19 +12,14 @@
 //! **Only tests show** that ample memory suffices, and when workers are called in: always, never, and at the levels
 //! that the numbers of `Free` say (`wave_tests`).
 //!
-//! **Begin** with `engine` and `workspace`: a wave goes `down`, and `up` again; what waits before the first wide level
-//! (`sizes`) is handed over by `front`.
+//! **Begin** with `engine` and `workspace`: a wave goes `down`, what waits before the first wide level (`sizes`) is handed over by
+//! `front`, and the levels before it are reduced as one part.
 #![tactic(auto)]
 
 mod down;
 mod engine;
 mod front;
-mod level_set;
-mod reductions;
-mod requests;
-mod rows;
 mod sizes;
-mod up;
 mod waves;
 mod workspace;
 

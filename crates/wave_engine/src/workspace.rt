@@ -9,53 +9,32 @@ ghost use Rattle.expand_work.specs.Gathered.{HaveExpanded};
 ghost use Rattle.wave_engine.specs.Bounds.{AreMoreThan, AreAtMost, ArePast};
 ghost use Rattle.wave_engine.specs.Down.{IsDown};
 ghost use Rattle.wave_engine.specs.Resting.{HaveReduced};
-ghost use Rattle.wave_engine.specs.Up.{ComesTo};
+ghost use Rattle.reduce_up.specs.Up.{ComesTo};
 
 use crate::down::{Limits, expand, place_roots};
 use crate::front::{Frontier, hand_over};
-use crate::reductions::Reductions;
-use crate::requests::Requests;
-use crate::rows::Rows;
 use crate::sizes::Sizes;
-use crate::up::{reduce, resolve};
 use dd_store::{Ref, Store};
 use expand_work::{Crew, Monitor, Splits, WaveFault};
-use reduce_up::Rooms;
-use req_table::{Op, Placed, Refs};
+use reduce_up::{Rooms, Up, reduce, root_answers};
+use req_table::{Op, Placed, Rows, Waiting};
 use std::alloc::{AllocError, Global};
+use std::slice;
 use std::sync::Wait;
 use std::thread::Threads;
+
+/// A row of more requests than these gives its memory back when its level is reduced, 8 KB or more: the store may need it. To ask for
+/// smaller ones anew costs more than they take.
+const MOST_KEPT: usize = 1 << 10;
 
 /// What a wave's expansion leaves: the requests that wait, the children of those that do not, and what the entries come to. All that are
 /// ever split for it are counted.
 #[derive(Drop)]
 pub(crate) struct Down {
-    pub(crate) requests: Requests,
+    pub(crate) requests: Waiting,
     pub(crate) rows: Rows,
     pub(crate) roots: Vec<Placed>,
     pub(crate) splits: Splits,
-}
-
-/// What a wave's reduction leaves: the answers of the requests by level. All that the caller's thread ever reduces are counted.
-#[derive(Drop)]
-pub(crate) struct Up {
-    pub(crate) answers: Vec<Refs>,
-    pub(crate) reductions: Reductions,
-}
-
-/// Makes a list of answers for each level.
-fn fit_answers(alloc: Global, answers: &mut Vec<Refs>, levels: u16) -> Result<(), AllocError>
-    ensures { OnOk result (length answers.new.items ≡ levels) }
-{
-    if answers.len() == levels as usize {
-        return Ok(());
-    }
-    let mut fresh = Vec::new(alloc);
-    for made in 0..levels {
-        fresh.push(Refs::new(alloc))?;
-    }
-    *answers = fresh;
-    Ok(())
 }
 
 /// Places and expands what the entries ask for, down to the first level with more requests than its limit. It refuses where they are
@@ -65,13 +44,14 @@ fn go_down(
     store: &Store,
     entries: &[(Op, Ref, Ref)],
     down: &mut Down,
-    answers: &mut Vec<Refs>,
+    up: &mut Up,
     limits: Limits,
 ) -> Result<u16, WaveFault>
     requires operands { All (IsEntry store.now) entries.now }
     ensures down { IfOk result (λ v. IsDown store.now entries.now v down.new.requests down.new.rows down.new.roots.items
         down.old.splits down.new.splits) }
-    ensures answers { OnOk result (length answers.new.items ≡ store.now.levels) }
+    ensures answers { OnOk result (length up.new.answers.items ≡ store.now.levels) }
+    ensures counted { up.new.reductions ≡ up.old.reductions }
     ensures alone { limits.level ≡ 2 ^ 64 - 1 → IfOk result (λ v. v ≡ store.now.levels) }
     ensures refused { IfErr result (λ e. e ≢ WaveFault.Full) }
     ensures served { IfErr result (λ e. e ≢ WaveFault.NoWorker) }
@@ -83,22 +63,10 @@ fn go_down(
     let levels = store.levels();
     down.requests.restart(alloc, levels)?;
     down.rows.restart(alloc, levels)?;
-    fit_answers(alloc, answers, levels)?;
+    up.fit(levels)?;
     down.roots.clear();
     place_roots(store, entries, &mut down.requests, &mut down.roots)?;
     expand(store, entries, down, limits)
-}
-
-/// The answers of the roots.
-fn root_answers(alloc: Global, roots: &[Placed], answers: &[Refs]) -> Result<Vec<Ref>, AllocError>
-    requires { All (λ p. (r : RefValue) × ComesTo answers.now p r) roots.now }
-    ensures { IfOk result (λ refs. AllZip (ComesTo answers.now) roots.now refs.items) }
-{
-    let mut refs = Vec::new(alloc);
-    for root in roots {
-        refs.push(resolve(answers, *root))?;
-    }
-    Ok(refs)
 }
 
 /// Does waves one after the other. It keeps the memory that they take, and how large they were, by which it is decided when workers
@@ -123,15 +91,12 @@ impl<'a, R: Threads + Wait + Sync, G: Monitor> Workspace<'a, R, G> {
         Workspace {
             crew,
             down: Down {
-                requests: Requests::new(alloc),
-                rows: Rows::new(alloc),
+                requests: Waiting::new(alloc),
+                rows: Rows::new(alloc, MOST_KEPT),
                 roots: Vec::new(alloc),
                 splits: Splits::new(),
             },
-            up: Up {
-                answers: Vec::new(alloc),
-                reductions: Reductions::new(),
-            },
+            up: Up::new(alloc),
             rooms: Rooms::new(alloc),
             sizes: Sizes::new(),
         }
@@ -191,14 +156,7 @@ impl<'a, R: Threads + Wait + Sync, G: Monitor> Workspace<'a, R, G> {
             wave: self.crew.monitor.most_requests(),
         };
         let before = self.down.splits.count();
-        let from = go_down(
-            alloc,
-            store,
-            entries,
-            &mut self.down,
-            &mut self.up.answers,
-            limits,
-        )?;
+        let from = go_down(alloc, store, entries, &mut self.down, &mut self.up, limits)?;
         let alone = self.down.splits.count().wrapping_sub(before);
         self.crew.monitor.at_requests(alone);
         let frontier = Frontier {
@@ -214,7 +172,8 @@ impl<'a, R: Threads + Wait + Sync, G: Monitor> Workspace<'a, R, G> {
             &mut self.up.answers,
         )?;
         self.sizes = self.sizes.then(alone.saturating_add(shared));
-        reduce(store, entries, &mut self.down.rows, &mut self.up, from)?;
+        let parts = slice::from_mut(&mut self.down.rows);
+        reduce(self.crew, store, parts, &mut self.up, from)?;
         let answers = self.up.answers.as_slice();
         match root_answers(alloc, self.down.roots.as_slice(), answers) {
             Ok(answers) => Ok(answers),

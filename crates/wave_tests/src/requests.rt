@@ -6,7 +6,7 @@ ghost use Rattle.req_table.specs.Sizes.{sizes_of, IsKeyOf};
 
 use dd_store::{NodeId, Ref, Store};
 use req_table::requests::{level_of, normal, owner, terminal_case};
-use req_table::{ComputedTable, Key, Op, Table};
+use req_table::{ComputedTable, Key, Op, SpareTables, Table, Waiting};
 use std::alloc::Global;
 use std::process::Abort;
 use std::test::Fail;
@@ -200,6 +200,46 @@ fn table_is_widened(rt: HostRuntime) -> Result<(), Fail> {
     assert!(rt; table.find(short) == Some(0) && table.find(long) == Some(1));
     table.clear();
     assert!(rt; table.admit(long)? == (0, true) && table.find(short).is_none());
+    Ok(())
+}
+
+// One request waits at the second of three levels, and then none.
+#[test]
+fn requests_wait_by_level(rt: HostRuntime) -> Result<(), Fail> {
+    let key = conjunction(&rt, 0, 1);
+    let mut waiting = Waiting::new(rt.alloc());
+    waiting.restart(rt.alloc(), 3)?;
+    assert!(rt; waiting.levels() == 3 && waiting.next_level(0).is_none());
+    let first = waiting.admit(1, key)?;
+    let again = waiting.admit(1, key)?;
+    assert!(rt; first == 0 && again == 0 && waiting.count(1) == 1 && waiting.keys(1).len() == 1);
+    assert!(rt;
+        waiting.key_at(1, 0) == key
+            && waiting.next_level(0) == Some(1)
+            && waiting.next_level(2).is_none()
+    );
+    assert!(rt; waiting.are_many(2, 0) && !waiting.are_many(0, 1));
+    waiting.empty_level(1)?;
+    assert!(rt; waiting.next_level(0).is_none());
+    Ok(())
+}
+
+// A table keeps its memory for the next level, and gives it back where that is many times what is needed.
+#[test]
+fn spare_table_keeps_its_memory(rt: HostRuntime) -> Result<(), Fail> {
+    let mut table = Table::new(rt.alloc());
+    for level in 1..101 {
+        table.admit(conjunction(&rt, 0, level))?;
+    }
+    let room = table.room();
+    let mut spare = SpareTables::new(rt.alloc());
+    spare.put(table)?;
+    spare.trim(100);
+    let table = spare.take();
+    assert!(rt; spare.is_empty() && table.len() == 0 && room >= 100 && table.room() == room);
+    spare.put(table)?;
+    spare.trim(1);
+    assert!(rt; spare.is_empty());
     Ok(())
 }
 

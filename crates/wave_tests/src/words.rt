@@ -1,7 +1,7 @@
 //! The words of references and of children, by hand, and lists of them.
 
 use dd_store::{NodeId, Ref};
-use req_table::{Placed, PlacedChild, Refs, Row};
+use req_table::{Placed, PlacedChild, Refs, Row, Rows};
 use std::process::Abort;
 use std::test::Fail;
 
@@ -87,10 +87,54 @@ fn lists_of_references(rt: HostRuntime) -> Result<(), Fail> {
     refs.push(near.negate())?;
     refs.push(long)?;
     assert!(rt; refs.at(0) == near && refs.at(1) == near.negate() && refs.at(2) == long);
-    refs.reverse();
-    assert!(rt; refs.at(0) == long && refs.at(1) == near.negate() && refs.at(2) == near);
     refs.restart(1)?;
     refs.push(Ref::FALSE)?;
     assert!(rt; refs.at(0) == Ref::FALSE);
+    Ok(())
+}
+
+// Of the first list all fit in four bytes, of the second one does not.
+#[test]
+fn lists_of_references_are_joined(rt: HostRuntime) -> Result<(), Fail> {
+    let near = node(0, 3, 5);
+    let long = node(3, 0, 131_072);
+    let mut short_list = Refs::new(rt.alloc());
+    short_list.push(near)?;
+    short_list.push(Ref::TRUE)?;
+    let mut long_list = Refs::new(rt.alloc());
+    long_list.push(long)?;
+    let mut refs = Refs::new(rt.alloc());
+    refs.append(&short_list)?;
+    refs.append(&long_list)?;
+    refs.append(&short_list)?;
+    assert!(rt; refs.at(0) == near && refs.at(1) == Ref::TRUE && refs.at(2) == long);
+    assert!(rt; refs.at(3) == near && refs.at(4) == Ref::TRUE);
+    Ok(())
+}
+
+// Of four levels the first but one gets two pairs and the next one; both leave them again.
+#[test]
+fn rows_by_level(rt: HostRuntime) -> Result<(), Fail> {
+    let answer = Placed::done(Ref::TRUE);
+    let mut rows = Rows::new(rt.alloc(), 1);
+    rows.restart(rt.alloc(), 4)?;
+    assert!(rt; rows.last_level(4).is_none() && rows.count() == 0);
+    let mut two = Row::new(rt.alloc());
+    two.push((answer, answer))?;
+    two.push((answer, answer))?;
+    rows.put(1, two);
+    let mut one = Row::new(rt.alloc());
+    one.push((answer, answer))?;
+    rows.put(2, one);
+    assert!(rt; rows.count() == 3 && rows.row(1).len() == 2 && rows.row(3).len() == 0);
+    assert!(rt;
+        rows.last_level(4) == Some(2)
+            && rows.last_level(2) == Some(1)
+            && rows.last_level(1).is_none()
+    );
+    let taken = rows.take(2);
+    assert!(rt; taken.len() == 1 && rows.last_level(4) == Some(1));
+    rows.leave(1);
+    assert!(rt; rows.last_level(4).is_none() && rows.row(1).len() == 0);
     Ok(())
 }

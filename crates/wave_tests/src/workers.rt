@@ -80,16 +80,23 @@ fn root_of(rt: &impl Abort, store: &Store) -> Key
     request_for(rt, store, Op::And, first, second)
 }
 
+/// What a worker does alone: one root, with tables that stay with their levels or that serve others.
+#[derive(Clone, Copy)]
+struct Task {
+    root: Key,
+    keeps: bool,
+}
+
 /// Runs the worker of the first of so many ports alone, on one root.
 fn work_alone<R: Wait + Abort, G: Monitor>(
     rt: &R,
     alloc: Global,
     store: &Store,
-    root: Key,
+    task: Task,
     monitor: &G,
     stop: &AtomicBool,
 ) -> Result<Part, WorkFault>
-    requires { IsKey store.now root }
+    requires { IsKey store.now task.root }
     ensures tables { IfOk result (λ p. length p.space.tables ≡ store.now.levels) }
     ensures rows { IfOk result (λ p. length p.space.rows ≡ store.now.levels) }
 {
@@ -99,20 +106,24 @@ fn work_alone<R: Wait + Abort, G: Monitor>(
         alloc,
         lanes: &lanes,
         store,
-        roots: &[root],
+        roots: &[task.root],
         stop,
+        keeps: task.keeps,
     };
     work(rt, site, port, None, monitor)
 }
 
 /// Whether a level has this one request with these children.
 fn is_row(
-    keys: &Table,
+    keys: Option<&Table>,
     row: &Row,
     key: Key,
     low: Result<Ref, (u16, u32, bool)>,
     high: Result<Ref, (u16, u32, bool)>,
 ) -> bool {
+    let Some(keys) = keys else {
+        return false;
+    };
     keys.len() == 1
         && keys.key_at(0) == key
         && row.len() == 1
@@ -125,7 +136,8 @@ fn one_worker_records_what_it_is_asked_for(rt: HostRuntime) -> Result<(), Fail> 
     let store = row_store(&rt, rt.alloc());
     let root = root_of(&rt, &store);
     let stop = AtomicBool::new(false);
-    let Ok(part) = work_alone(&rt, rt.alloc(), &store, root, &Free, &stop) else {
+    let task = Task { root, keeps: true };
+    let Ok(part) = work_alone(&rt, rt.alloc(), &store, task, &Free, &stop) else {
         return Err(Fail::from("no part"));
     };
     let c = variable(&rt, &store, 2);
@@ -142,9 +154,27 @@ fn one_worker_records_what_it_is_asked_for(rt: HostRuntime) -> Result<(), Fail> 
         )
     );
     assert!(rt; is_row(tables.keys(1), rows.row(1), child, Ok(Ref::FALSE), Ok(c)));
-    assert!(rt; tables.keys(2).len() == 0 && rows.row(2).len() == 0);
+    assert!(rt; tables.keys(2).map(|keys| keys.len()) == Some(0) && rows.row(2).len() == 0);
     assert!(rt; port.number() == 0 && port.put() == 3);
     assert!(rt; !stop.load(Ordering::SeqCst));
+    Ok(())
+}
+
+#[test]
+fn the_table_of_an_expanded_level_serves_others(rt: HostRuntime) -> Result<(), Fail> {
+    let store = row_store(&rt, rt.alloc());
+    let root = root_of(&rt, &store);
+    let stop = AtomicBool::new(false);
+    let task = Task { root, keeps: false };
+    let Ok(part) = work_alone(&rt, rt.alloc(), &store, task, &Free, &stop) else {
+        return Err(Fail::from("no part"));
+    };
+    let Part { space, .. } = part;
+    let Space { tables, rows, .. } = space;
+    for level in 0..3 {
+        assert!(rt; tables.keys(level).is_none());
+    }
+    assert!(rt; rows.row(0).len() == 1 && rows.row(1).len() == 1 && rows.row(2).len() == 0);
     Ok(())
 }
 
@@ -168,7 +198,8 @@ fn a_flag_is_read_where_a_level_begins(rt: HostRuntime) -> Result<(), Fail> {
             stop: &stop,
             last,
         };
-        let fault = work_alone(&rt, rt.alloc(), &store, root, &monitor, &stop).err();
+        let task = Task { root, keeps: false };
+        let fault = work_alone(&rt, rt.alloc(), &store, task, &monitor, &stop).err();
         let want = if ends { None } else { Some(WorkFault::Stopped) };
         assert!(rt; fault == want && monitor.seen.load(Ordering::SeqCst) == told);
     }
@@ -201,6 +232,7 @@ fn work_until_told<R: Wait>(
         store,
         roots: &[],
         stop: flags.stop,
+        keeps: false,
     };
     let fault = work(rt, site, port, None, &Free).err();
     flags.ended.store(true, Ordering::SeqCst);

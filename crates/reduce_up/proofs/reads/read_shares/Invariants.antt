@@ -1,5 +1,5 @@
-use Rattle.reduce_up.specs.Steps.{MayReadShares}
+use Rattle.std.proofs.Common.{◌≡◌, length}
 use Rattle.reduce_up.proofs.reads.read_shares.Given as goal
 
-abbrev pub invariant-loop-sender : goal.invariant-loop-sender
-invariant-loop-sender l = MayReadShares l.field.workers l.field.roots.now l.field.parts.now l.answers l.level l.sender l.shares.items
+abbrev pub invariant-loop : goal.invariant-loop
+invariant-loop l = length l.shares.items ≡ l.counter

@@ -4,7 +4,7 @@ use Rattle.req_table.specs.Settled.{level_of_rows}
 use Rattle.req_table.specs.Tables.{row_at}
 use Rattle.expand_work.specs.Expanded.{row_of}
 use Rattle.expand_work.specs.Gathered.{AreParts, AreSettled}
-use Rattle.reduce_up.proofs.Rooting.{closure_same}
+use Rattle.reduce_up.proofs.Numbering.{closure_same}
 use Rattle.wave_doors.proofs.expanded.expand_all.Goals as goal
 
 pub merge_rows-requires-clause-parts : goal.merge_rows-requires-clause-parts

@@ -5,11 +5,13 @@ use Rattle.dd_store.specs.Nodes.{Nodes}
 use Rattle.req_table.specs.declared.Key.{Key}
 use Rattle.reduce_up.specs.Waves.{Entry}
 use Rattle.req_table.specs.declared.placed.Placed.{Placed}
-use Rattle.wave_engine.specs.Places.{IsNextLevel}
-use Rattle.wave_engine.specs.Down.{AreExpanded}
+use Rattle.req_table.specs.Places.{IsNextLevel}
+use Rattle.reduce_up.specs.ByPlace.{AreExpanded}
 use Rattle.wave_engine.proofs.Counting.{too_many, all_counted}
 use Rattle.wave_engine.proofs.Waiting.{IsGoing, going_start, going_passed, going_next, going_down, splice, waiting_admitted}
+use Rattle.req_table.proofs.Standing.{made_empty}
 use Rattle.wave_engine.proofs.down.expand.Goals.{else-limits-lt18446744073709551615-via-then-limits-lt18446744073709551615+else-count-left, else-limits-lt18446744073709551615-via-else-limits-lt18446744073709551615}
+use Rattle.req_table.proofs.Standing.{made_empty}
 use Rattle.wave_engine.proofs.down.expand.Goals as goal
 
 pub returns-then-count-most-clause-down : goal.returns-then-count-most-clause-down
@@ -166,25 +168,6 @@ put-requires-clause-bound c =
     let fit : next < S.levels = let n : next < length W = h.1 in let l : length T ≡ S.levels = g.expanded.admitted.levels in let m : length W ≡ length T = g.waits.levels in omega (arith, n, l, m) in
     let l : length rows ≡ S.levels = g.expanded.levels in let t : length c.take-pairs.new.self ≡ length rows = ap length c.take-pairs.ensures.rest ∙ length-set rows next [] in omega (arith, fit, l, t)
 
-pub put-requires-clause-some : goal.put-requires-clause-some
-put-requires-clause-some c =
-    let S : Nodes = c.args.store.now in
-    let es : List Entry = c.args.entries.now in
-    let ps : List Placed = c.loop-next.down.roots.items in
-    let W : List (List Key) = c.loop-next.down.requests in
-    let rows : List (List (Placed × Placed)) = c.loop-next.down.rows in
-    let bound : ℕ = c.args.limits.wave in
-    let left : ℕ = c.loop-next.left in
-    let before : ℕ = c.args.down.now.splits in
-    let after : ℕ = c.loop-next.down.splits in
-    let T : List (List Key) = c.loop-next.invariant.going.0 in
-    let next : ℕ = c.in-Some.next in
-    let h : IsNextLevel W c.loop-next.level (Some next) = c.in-Some.ensures in
-    let g : IsGoing S es ps next W rows bound left before after T =
-    going_passed S es ps c.loop-next.level W rows bound left before after T c.loop-next.invariant.going.1 next h.0 h.3 in
-    let fit : next < S.levels = let n : next < length W = h.1 in let l : length T ≡ S.levels = g.expanded.admitted.levels in let m : length W ≡ length T = g.waits.levels in omega (arith, n, l, m) in
-    let n = c.in_ok-expand_level.ensures.expanded.count in let some = h.2 in omega (arith, n, some)
-
 pub empty_level-requires : goal.empty_level-requires
 empty_level-requires c =
     let S : Nodes = c.args.store.now in
@@ -284,5 +267,5 @@ pub loop-next-init : goal.loop-next-init
 loop-next-init c = record {
   bound = omega arith;
   few = search rules;
-  going = (c.args.down.now.requests, going_start c.args.store.now c.args.entries.now c.args.down.now.roots.items c.args.down.now.requests c.args.down.now.rows c.args.store.now.levels c.args.limits.wave c.args.down.now.splits c.requires.start c.requires.rows);
+  going = (c.args.down.now.requests, going_start c.args.store.now c.args.entries.now c.args.down.now.roots.items c.args.down.now.requests c.args.down.now.rows c.args.store.now.levels c.args.limits.wave c.args.down.now.splits c.requires.start (made_empty c.args.store.now.levels c.args.down.now.rows c.requires.rows));
 }

@@ -2,7 +2,7 @@ use Rattle.std.proofs.Common.{◌≡◌, ℕ, ◌+◌, ◌<◌, true, false, Lis
 use Rattle.req_table.specs.declared.Record.{Record}
 use Rattle.req_table.specs.declared.Key.{Key}
 use Rattle.req_table.specs.Keys.{child_of}
-use Rattle.wave_engine.specs.Places.{StandsAt, IsPlaced, Admits}
+use Rattle.req_table.specs.Places.{StandsAt, IsPlaced, Admits}
 use Rattle.wave_engine.specs.Down.{IsRowExpanded}
 use Rattle.wave_engine.proofs.Placing.{row_more}
 use Rattle.wave_engine.proofs.down.expand_level.Goals as goal

@@ -1,6 +1,6 @@
 use Rattle.std.proofs.Common.{sym, subst}
 use Rattle.req_table.specs.declared.Child.{Child}
-use Rattle.wave_engine.specs.Places.{Admits}
+use Rattle.req_table.specs.Places.{Admits}
 use Rattle.wave_engine.proofs.Placing.{ask_fits}
 use Rattle.wave_engine.proofs.down.place_child.Goals as goal
 

@@ -5,7 +5,7 @@ use Rattle.req_table.specs.Keys.{IsChildIn, child as child_at}
 use Rattle.reduce_up.specs.Waves.{Entry}
 use Rattle.reduce_up.proofs.Rooted.{item_at, item_next}
 use Rattle.req_table.specs.declared.placed.Placed.{Placed}
-use Rattle.wave_engine.specs.Places.{IsPlaced, Admits}
+use Rattle.req_table.specs.Places.{IsPlaced, Admits}
 use Rattle.wave_engine.proofs.Placing.{admitted_more, all_placed_kept, root_admitted}
 use Rattle.wave_engine.proofs.down.place_roots.Goals as goal
 

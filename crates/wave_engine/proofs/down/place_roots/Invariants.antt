@@ -1,8 +1,8 @@
 use Rattle.std.proofs.Common.{take}
 use Rattle.std.specs.List.{AllZip}
 use Rattle.req_table.specs.Keys.{child as child_spec}
-use Rattle.wave_engine.specs.Places.{IsPlaced}
-use Rattle.wave_engine.specs.Down.{AreAdmitted}
+use Rattle.req_table.specs.Places.{IsPlaced}
+use Rattle.reduce_up.specs.ByPlace.{AreAdmitted}
 use Rattle.wave_engine.proofs.down.place_roots.Given as goal
 
 abbrev pub invariant-loop-entry : goal.invariant-loop-entry

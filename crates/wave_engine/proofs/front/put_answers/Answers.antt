@@ -1,5 +1,5 @@
 use Rattle.std.proofs.Common.{◌≡◌, ◌∙◌, ◌<◌, ◌≤◌, ◌+◌, ℕ, length, ap, subst, arith}
-use Rattle.wave_engine.specs.Places.{row}
+use Rattle.req_table.specs.Places.{row}
 use Rattle.wave_engine.specs.Front.{IsCopied, keys_from, count_before}
 use Rattle.wave_engine.proofs.Fronting.{before_next, before_all, put_more}
 use Rattle.wave_engine.proofs.front.put_answers.Goals as goal

@@ -1,7 +1,7 @@
-use Rattle.std.proofs.Common.{◌≡◌, ◌%◌, ◌^◌, length, take}
+use Rattle.std.proofs.Common.{◌≡◌, ◌%◌, ◌^◌, List, length, take}
 use Rattle.std.specs.List.{sum_by}
-use Rattle.expand_work.specs.declared.space.Space.{Space}
+use Rattle.req_table.specs.declared.placed.Placed.{Placed}
 use Rattle.expand_work.proofs.parts.Parts.count.Given as goal
 
-abbrev pub invariant-loop-space : goal.invariant-loop-space
-invariant-loop-space l = l.total ≡ sum_by (λ (s : Space). sum_by (λ row. length row) s.rows) (take l.space-index l.space-items) % 2 ^ 64
+abbrev pub invariant-loop-rows : goal.invariant-loop-rows
+invariant-loop-rows l = l.total ≡ sum_by (λ (levels : List (List (Placed × Placed))). sum_by (λ (row : List (Placed × Placed)). length row) levels) (take l.rows-index l.rows-items) % 2 ^ 64

@@ -10,14 +10,18 @@ use Rattle.req_table.specs.declared.placed.Placed.{Placed}
 use Rattle.expand_work.specs.Gathered.{HaveExpanded}
 use Rattle.wave_engine.specs.Down.{IsDown}
 use Rattle.wave_engine.specs.Resting.{HaveReduced}
-use Rattle.wave_engine.specs.Up.{ComesTo, AreReducedBelow, IsWithinBelow, AreReady}
+use Rattle.reduce_up.specs.Up.{AreCounted, ComesTo, AreReducedBelow, IsWithinBelow, AreReady}
 use Rattle.wave_engine.proofs.Both.{have_both, have_reduced}
-use Rattle.wave_engine.proofs.Whole.{down_ready, adds_both, fault_back, roots_come, roots_answered, within_both}
+use Rattle.wave_engine.proofs.Whole.{entries_kept, down_ready, adds_both, fault_back}
+use Rattle.reduce_up.proofs.Answering.{roots_come, roots_answered, within_both}
 use Rattle.wave_engine.proofs.Waiting.{waiting_admitted, waiting_within, waiting_keys}
+use Rattle.reduce_up.specs.OverParts.{over_parts}
+use Rattle.reduce_up.specs.Up.{MayReduce}
+use Rattle.reduce_up.proofs.Ready.{one_part}
 use Rattle.wave_engine.proofs.workspace.Workspace.wave.Goals as goal
 
 pub reduce-requires-clause-ready : goal.reduce-requires-clause-ready
-reduce-requires-clause-ready g c =
+reduce-requires-clause-ready g c κs within =
     let rows : List (List (Placed × Placed)) = c.go_down.new.down.rows in
     let ps : List Placed = c.go_down.new.down.roots.items in
     let D : IsDown c.args.store.now c.args.entries.now c.in_ok-from.from c.go_down.new.down.requests rows ps c.args.self.now.down.splits c.go_down.new.down.splits = c.in_ok-from.ensures.down in
@@ -25,7 +29,10 @@ reduce-requires-clause-ready g c =
     let Y : AreReady c.hand_over.new.store c.args.entries.now c.in_ok-from.from rows c.hand_over.new.answers.items T =
     down_ready c.args.store.now c.levels-levels.ensures.sound c.args.entries.now c.requires.operands c.hand_over.new.store c.hand_over.ensures.adds.keeps c.in_ok-from.from c.go_down.new.down.requests rows ps c.args.self.now.down.splits c.go_down.new.down.splits D
     c.hand_over.new.answers.items c.in_ok-shared.ensures.reduced in
-    (T, Y)
+    let M : MayReduce c.hand_over.new.store c.args.entries.now c.in_ok-from.from (over_parts c.hand_over.new.store.levels c.from_mut-parts.result.now) c.hand_over.new.answers.items T =
+    one_part c.hand_over.new.store c.args.entries.now c.in_ok-from.from rows c.hand_over.new.answers.items T c.from_mut-parts.result.now c.from_mut-parts.ensures.value
+    (entries_kept c.args.store.now c.levels-levels.ensures.sound c.args.entries.now c.requires.operands c.hand_over.new.store c.hand_over.ensures.adds.keeps) Y in
+    (c.args.entries.now, T, M)
 
 pub hand_over-requires-clause-admitted : goal.hand_over-requires-clause-admitted
 hand_over-requires-clause-admitted g c κs within =
@@ -46,10 +53,20 @@ returns-in_err-shared-clause-wave g c =
 
 pub returns-in_err-reduce-clause-wave : goal.returns-in_err-reduce-clause-wave
 returns-in_err-reduce-clause-wave g c =
+    let rows : List (List (Placed × Placed)) = c.go_down.new.down.rows in
+    let ps : List Placed = c.go_down.new.down.roots.items in
+    let D : IsDown c.args.store.now c.args.entries.now c.in_ok-from.from c.go_down.new.down.requests rows ps c.args.self.now.down.splits c.go_down.new.down.splits = c.in_ok-from.ensures.down in
+    let T : List (List Key) = D.tables in
+    let Y : AreReady c.hand_over.new.store c.args.entries.now c.in_ok-from.from rows c.hand_over.new.answers.items T =
+    down_ready c.args.store.now c.levels-levels.ensures.sound c.args.entries.now c.requires.operands c.hand_over.new.store c.hand_over.ensures.adds.keeps c.in_ok-from.from c.go_down.new.down.requests rows ps c.args.self.now.down.splits c.go_down.new.down.splits D
+    c.hand_over.new.answers.items c.in_ok-shared.ensures.reduced in
+    let M : MayReduce c.hand_over.new.store c.args.entries.now c.in_ok-from.from (over_parts c.hand_over.new.store.levels c.from_mut-parts.result.now) c.hand_over.new.answers.items T =
+    one_part c.hand_over.new.store c.args.entries.now c.in_ok-from.from rows c.hand_over.new.answers.items T c.from_mut-parts.result.now c.from_mut-parts.ensures.value
+    (entries_kept c.args.store.now c.levels-levels.ensures.sound c.args.entries.now c.requires.operands c.hand_over.new.store c.hand_over.ensures.adds.keeps) Y in
     let adds : AddsDescribed c.args.store.now c.reduce.new.store (IsWanted c.args.store.now c.args.entries.now) =
-    adds_both c.args.store.now c.levels-levels.ensures.sound c.args.entries.now c.requires.operands c.hand_over.new.store c.hand_over.ensures.adds.keeps c.hand_over.ensures.sound c.reduce.new.store c.hand_over.ensures.adds c.reduce.ensures.adds in
+    adds_both c.args.store.now c.levels-levels.ensures.sound c.args.entries.now c.requires.operands c.hand_over.new.store c.hand_over.ensures.adds.keeps c.hand_over.ensures.sound c.reduce.new.store c.hand_over.ensures.adds (c.reduce.ensures.adds c.args.entries.now T M) in
     let f : IsWaveFault c.args.store.now c.args.entries.now c.reduce.new.store c.in_err-reduce.field-0.0 =
-    fault_back c.args.store.now c.levels-levels.ensures.sound c.args.entries.now c.requires.operands c.hand_over.new.store c.hand_over.ensures.adds.keeps c.reduce.new.store c.in_err-reduce.field-0.0 c.in_err-reduce.ensures.fault in
+    fault_back c.args.store.now c.levels-levels.ensures.sound c.args.entries.now c.requires.operands c.hand_over.new.store c.hand_over.ensures.adds.keeps c.reduce.new.store c.in_err-reduce.field-0.0 (c.in_err-reduce.ensures.fault c.args.entries.now T M) in
     let p = err_from_is_err_and c.from_residual-in_err-reduce.result c.from_residual-in_err-reduce.ensures.1 in
     rw (p.1, p.2) (wave_given_up c.args.store.now c.args.entries.now c.args.entries.now c.reduce.new.store c.in_err-reduce.field-0.0 c.reduce.ensures.sound adds f)
 
@@ -62,7 +79,10 @@ root_answers-requires g c =
     let Y : AreReady c.hand_over.new.store c.args.entries.now c.in_ok-from.from rows c.hand_over.new.answers.items T =
     down_ready c.args.store.now c.levels-levels.ensures.sound c.args.entries.now c.requires.operands c.hand_over.new.store c.hand_over.ensures.adds.keeps c.in_ok-from.from c.go_down.new.down.requests rows ps c.args.self.now.down.splits c.go_down.new.down.splits D
     c.hand_over.new.answers.items c.in_ok-shared.ensures.reduced in
-    let R : AreReducedBelow c.hand_over.new.store c.args.entries.now T 0 c.reduce.new.store c.reduce.new.up.answers.items = c.in_ok-reduce.ensures.reduced T Y in
+    let M : MayReduce c.hand_over.new.store c.args.entries.now c.in_ok-from.from (over_parts c.hand_over.new.store.levels c.from_mut-parts.result.now) c.hand_over.new.answers.items T =
+    one_part c.hand_over.new.store c.args.entries.now c.in_ok-from.from rows c.hand_over.new.answers.items T c.from_mut-parts.result.now c.from_mut-parts.ensures.value
+    (entries_kept c.args.store.now c.levels-levels.ensures.sound c.args.entries.now c.requires.operands c.hand_over.new.store c.hand_over.ensures.adds.keeps) Y in
+    let R : AreReducedBelow c.hand_over.new.store c.args.entries.now T 0 c.reduce.new.store c.reduce.new.up.answers.items = c.in_ok-reduce.ensures.reduced c.args.entries.now T M in
     subst (λ (z : List Placed). All (λ p. (r : Ref) × ComesTo c.as_slice-answers.result.now p r) z) (sym c.as_slice.ensures.value)
     (subst (λ (z : List (List Ref)). All (λ p. (r : Ref) × ComesTo z p r) ps) (sym c.as_slice-answers.ensures.value)
     (roots_come c.args.store.now c.levels-levels.ensures.sound c.args.entries.now c.requires.operands T c.reduce.new.up.answers.items (λ v q k h. R.counts v q k (omega arith) h) ps D.expanded.rooted))
@@ -76,11 +96,14 @@ returns-in-Ok-clause-wave g c =
     let Y : AreReady c.hand_over.new.store c.args.entries.now c.in_ok-from.from rows c.hand_over.new.answers.items T =
     down_ready c.args.store.now c.levels-levels.ensures.sound c.args.entries.now c.requires.operands c.hand_over.new.store c.hand_over.ensures.adds.keeps c.in_ok-from.from c.go_down.new.down.requests rows ps c.args.self.now.down.splits c.go_down.new.down.splits D
     c.hand_over.new.answers.items c.in_ok-shared.ensures.reduced in
-    let R : AreReducedBelow c.hand_over.new.store c.args.entries.now T 0 c.reduce.new.store c.reduce.new.up.answers.items = c.in_ok-reduce.ensures.reduced T Y in
+    let M : MayReduce c.hand_over.new.store c.args.entries.now c.in_ok-from.from (over_parts c.hand_over.new.store.levels c.from_mut-parts.result.now) c.hand_over.new.answers.items T =
+    one_part c.hand_over.new.store c.args.entries.now c.in_ok-from.from rows c.hand_over.new.answers.items T c.from_mut-parts.result.now c.from_mut-parts.ensures.value
+    (entries_kept c.args.store.now c.levels-levels.ensures.sound c.args.entries.now c.requires.operands c.hand_over.new.store c.hand_over.ensures.adds.keeps) Y in
+    let R : AreReducedBelow c.hand_over.new.store c.args.entries.now T 0 c.reduce.new.store c.reduce.new.up.answers.items = c.in_ok-reduce.ensures.reduced c.args.entries.now T M in
     let come : AllZip (ComesTo c.reduce.new.up.answers.items) ps c.in-Ok.answers.items =
     subst (λ (z : List Placed). AllZip (ComesTo c.reduce.new.up.answers.items) z c.in-Ok.answers.items) c.as_slice.ensures.value
     (subst (λ (z : List (List Ref)). AllZip (ComesTo z) c.as_slice.result.now c.in-Ok.answers.items) c.as_slice-answers.ensures.value c.in-Ok.ensures) in
-    let adds : AddsDescribed c.args.store.now c.reduce.new.store (IsWanted c.args.store.now c.args.entries.now) = adds_both c.args.store.now c.levels-levels.ensures.sound c.args.entries.now c.requires.operands c.hand_over.new.store c.hand_over.ensures.adds.keeps c.hand_over.ensures.sound c.reduce.new.store c.hand_over.ensures.adds c.reduce.ensures.adds in
+    let adds : AddsDescribed c.args.store.now c.reduce.new.store (IsWanted c.args.store.now c.args.entries.now) = adds_both c.args.store.now c.levels-levels.ensures.sound c.args.entries.now c.requires.operands c.hand_over.new.store c.hand_over.ensures.adds.keeps c.hand_over.ensures.sound c.reduce.new.store c.hand_over.ensures.adds (c.reduce.ensures.adds c.args.entries.now T M) in
     let answers : AnswersEach c.args.store.now c.args.entries.now c.reduce.new.store c.in-Ok.answers.items =
     roots_answered c.args.store.now c.levels-levels.ensures.sound c.args.entries.now c.requires.operands T c.reduce.new.up.answers.items c.reduce.new.store D.expanded.admitted adds.keeps (λ v q k r h g. R.answered v q k r (omega arith) h g) c.args.entries.now c.requires.operands ps D.expanded.rooted c.in-Ok.answers.items come in
     let first : IsWithinBelow c.args.store.now T c.in_ok-from.from c.hand_over.new.store =
@@ -90,8 +113,18 @@ returns-in-Ok-clause-wave g c =
 
 pub returns-in-Err-clause-wave : goal.returns-in-Err-clause-wave
 returns-in-Err-clause-wave g c =
+    let rows : List (List (Placed × Placed)) = c.go_down.new.down.rows in
+    let ps : List Placed = c.go_down.new.down.roots.items in
+    let D : IsDown c.args.store.now c.args.entries.now c.in_ok-from.from c.go_down.new.down.requests rows ps c.args.self.now.down.splits c.go_down.new.down.splits = c.in_ok-from.ensures.down in
+    let T : List (List Key) = D.tables in
+    let Y : AreReady c.hand_over.new.store c.args.entries.now c.in_ok-from.from rows c.hand_over.new.answers.items T =
+    down_ready c.args.store.now c.levels-levels.ensures.sound c.args.entries.now c.requires.operands c.hand_over.new.store c.hand_over.ensures.adds.keeps c.in_ok-from.from c.go_down.new.down.requests rows ps c.args.self.now.down.splits c.go_down.new.down.splits D
+    c.hand_over.new.answers.items c.in_ok-shared.ensures.reduced in
+    let M : MayReduce c.hand_over.new.store c.args.entries.now c.in_ok-from.from (over_parts c.hand_over.new.store.levels c.from_mut-parts.result.now) c.hand_over.new.answers.items T =
+    one_part c.hand_over.new.store c.args.entries.now c.in_ok-from.from rows c.hand_over.new.answers.items T c.from_mut-parts.result.now c.from_mut-parts.ensures.value
+    (entries_kept c.args.store.now c.levels-levels.ensures.sound c.args.entries.now c.requires.operands c.hand_over.new.store c.hand_over.ensures.adds.keeps) Y in
     let adds : AddsDescribed c.args.store.now c.reduce.new.store (IsWanted c.args.store.now c.args.entries.now) =
-    adds_both c.args.store.now c.levels-levels.ensures.sound c.args.entries.now c.requires.operands c.hand_over.new.store c.hand_over.ensures.adds.keeps c.hand_over.ensures.sound c.reduce.new.store c.hand_over.ensures.adds c.reduce.ensures.adds in
+    adds_both c.args.store.now c.levels-levels.ensures.sound c.args.entries.now c.requires.operands c.hand_over.new.store c.hand_over.ensures.adds.keeps c.hand_over.ensures.sound c.reduce.new.store c.hand_over.ensures.adds (c.reduce.ensures.adds c.args.entries.now T M) in
     wave_given_up c.args.store.now c.args.entries.now c.args.entries.now c.reduce.new.store _ c.reduce.ensures.sound adds tt
 
 pub returns-in-Ok-clause-expanded : goal.returns-in-Ok-clause-expanded
@@ -113,7 +146,10 @@ returns-in-Err-clause-memory g c = λ old _.
     let Y : AreReady c.hand_over.new.store c.args.entries.now c.in_ok-from.from rows c.hand_over.new.answers.items T =
     down_ready c.args.store.now c.levels-levels.ensures.sound c.args.entries.now c.requires.operands c.hand_over.new.store c.hand_over.ensures.adds.keeps c.in_ok-from.from c.go_down.new.down.requests rows ps c.args.self.now.down.splits c.go_down.new.down.splits D
     c.hand_over.new.answers.items c.in_ok-shared.ensures.reduced in
-    let R : AreReducedBelow c.hand_over.new.store c.args.entries.now T 0 c.reduce.new.store c.reduce.new.up.answers.items = c.in_ok-reduce.ensures.reduced T Y in
+    let M : MayReduce c.hand_over.new.store c.args.entries.now c.in_ok-from.from (over_parts c.hand_over.new.store.levels c.from_mut-parts.result.now) c.hand_over.new.answers.items T =
+    one_part c.hand_over.new.store c.args.entries.now c.in_ok-from.from rows c.hand_over.new.answers.items T c.from_mut-parts.result.now c.from_mut-parts.ensures.value
+    (entries_kept c.args.store.now c.levels-levels.ensures.sound c.args.entries.now c.requires.operands c.hand_over.new.store c.hand_over.ensures.adds.keeps) Y in
+    let R : AreReducedBelow c.hand_over.new.store c.args.entries.now T 0 c.reduce.new.store c.reduce.new.up.answers.items = c.in_ok-reduce.ensures.reduced c.args.entries.now T M in
     let first : IsWithinBelow c.args.store.now T c.in_ok-from.from c.hand_over.new.store =
     waiting_within T c.in_ok-from.from c.go_down.new.down.requests D.waits c.args.store.now c.hand_over.new.store c.in_ok-shared.ensures.within in
     within_still c.args.store.now c.args.entries.now c.reduce.new.store
@@ -128,7 +164,10 @@ returns-in-Ok-clause-reduced g c =
     let Y : AreReady c.hand_over.new.store c.args.entries.now c.in_ok-from.from rows c.hand_over.new.answers.items T =
     down_ready c.args.store.now c.levels-levels.ensures.sound c.args.entries.now c.requires.operands c.hand_over.new.store c.hand_over.ensures.adds.keeps c.in_ok-from.from c.go_down.new.down.requests rows ps c.args.self.now.down.splits c.go_down.new.down.splits D
     c.hand_over.new.answers.items c.in_ok-shared.ensures.reduced in
-    (c.in_ok-from.from, have_reduced c.args.store.now c.levels-levels.ensures.sound c.args.entries.now c.requires.operands T rows ps c.in_ok-from.from D.expanded 1 c.args.self.now.up.reductions c.reduce.new.up.reductions (c.in_ok-reduce.ensures.counted T Y))
+    let M : MayReduce c.hand_over.new.store c.args.entries.now c.in_ok-from.from (over_parts c.hand_over.new.store.levels c.from_mut-parts.result.now) c.hand_over.new.answers.items T =
+    one_part c.hand_over.new.store c.args.entries.now c.in_ok-from.from rows c.hand_over.new.answers.items T c.from_mut-parts.result.now c.from_mut-parts.ensures.value
+    (entries_kept c.args.store.now c.levels-levels.ensures.sound c.args.entries.now c.requires.operands c.hand_over.new.store c.hand_over.ensures.adds.keeps) Y in
+    (c.in_ok-from.from, have_reduced c.args.store.now c.levels-levels.ensures.sound c.args.entries.now c.requires.operands T rows ps c.in_ok-from.from D.expanded 1 c.args.self.now.up.reductions c.reduce.new.up.reductions (subst (λ z. AreCounted T 0 c.in_ok-from.from z c.reduce.new.up.reductions) c.go_down.ensures.counted (c.in_ok-reduce.ensures.counted c.args.entries.now T M)))
 
 pub returns-in-Ok-clause-all_reduced : goal.returns-in-Ok-clause-all_reduced
 returns-in-Ok-clause-all_reduced g c = λ bounded.
@@ -139,6 +178,9 @@ returns-in-Ok-clause-all_reduced g c = λ bounded.
     let Y : AreReady c.hand_over.new.store c.args.entries.now c.in_ok-from.from rows c.hand_over.new.answers.items T =
     down_ready c.args.store.now c.levels-levels.ensures.sound c.args.entries.now c.requires.operands c.hand_over.new.store c.hand_over.ensures.adds.keeps c.in_ok-from.from c.go_down.new.down.requests rows ps c.args.self.now.down.splits c.go_down.new.down.splits D
     c.hand_over.new.answers.items c.in_ok-shared.ensures.reduced in
+    let M : MayReduce c.hand_over.new.store c.args.entries.now c.in_ok-from.from (over_parts c.hand_over.new.store.levels c.from_mut-parts.result.now) c.hand_over.new.answers.items T =
+    one_part c.hand_over.new.store c.args.entries.now c.in_ok-from.from rows c.hand_over.new.answers.items T c.from_mut-parts.result.now c.from_mut-parts.ensures.value
+    (entries_kept c.args.store.now c.levels-levels.ensures.sound c.args.entries.now c.requires.operands c.hand_over.new.store c.hand_over.ensures.adds.keeps) Y in
     let whole : c.in_ok-from.from ≡ c.args.store.now.levels = c.in_ok-from.ensures.alone (c.most_alone.ensures.bounded bounded) in
     subst (λ z. HaveReduced c.args.store.now (requests_of c.args.entries.now) z c.args.self.now.up.reductions c.reduce.new.up.reductions) whole
-    (have_reduced c.args.store.now c.levels-levels.ensures.sound c.args.entries.now c.requires.operands T rows ps c.in_ok-from.from D.expanded 1 c.args.self.now.up.reductions c.reduce.new.up.reductions (c.in_ok-reduce.ensures.counted T Y))
+    (have_reduced c.args.store.now c.levels-levels.ensures.sound c.args.entries.now c.requires.operands T rows ps c.in_ok-from.from D.expanded 1 c.args.self.now.up.reductions c.reduce.new.up.reductions (subst (λ z. AreCounted T 0 c.in_ok-from.from z c.reduce.new.up.reductions) c.go_down.ensures.counted (c.in_ok-reduce.ensures.counted c.args.entries.now T M)))

@@ -1,0 +1,158 @@
+-- A level by place whose pairs' nodes are made.
+use Rattle.std.proofs.Common.{◌≡◌, ◌≢◌, ℕ, ◌<◌, ◌⊎◌, inl, inr, true, false, Bool, List, [], ◌∷◌, ◌+◌, ◌*◌, ◌≤◌, zero, suc, length, get_or, slice_get, Some, All, refl, sym, ◌∙◌, subst, arith}
+use Rattle.std.specs.Prelude.{Err}
+use Rattle.std.specs.List.{AllZip}
+use Rattle.std.proofs.Math.Nat.{eq-or-lt_of_le}
+use Rattle.std.proofs.lemmas.List.{get_or_default}
+use Rattle.std.proofs.lemmas.Option.{slice_get_within, slice_get-get_or}
+use Rattle.dd_store.specs.declared.reference.Ref.{Ref}
+use Rattle.dd_store.specs.declared.StoreFault.{StoreFault}
+use Rattle.dd_store.specs.declared.StoreFault.TheVariants.{Full, OutOfMemory}
+use Rattle.dd_store.specs.Graph.{Pair}
+use Rattle.dd_store.specs.Functions.{Agree, OfEither}
+use Rattle.dd_store.specs.Growing.{IsIn}
+use Rattle.dd_store.specs.Levels.{plain_lists}
+use Rattle.dd_store.specs.Parts.Part.{node}
+use Rattle.dd_store.specs.Nodes.{Nodes, IsSound, den, shard_at, count_of}
+use Rattle.dd_store.specs.View.{part, Has, Keeps}
+use Rattle.dd_store.specs.Adding.{AreReady, GrowsLevel, IsMakeFault}
+use Rattle.dd_store.proofs.Storing.{shard-le-count}
+use Rattle.dd_store.proofs.AddingAll.{Extends-grown, lacking_absent}
+use Rattle.dd_store.proofs.View.{keeps, absent}
+use Rattle.expand_work.specs.Fault.{wave_fault}
+use Rattle.expand_work.proofs.Zips.{zip_long}
+use Rattle.req_table.specs.declared.Key.{Key}
+use Rattle.req_table.specs.declared.placed.Placed.{Placed}
+use Rattle.req_table.specs.Places.{row, StandsAt}
+use Rattle.req_table.proofs.Standing.{some_same, stands_some}
+use Rattle.reduce_up.specs.Reducing.{IsAnswer, IsAnswerAt, IsRecordAt, AddsDescribed}
+use Rattle.reduce_up.specs.Sharing.{IsOfPair}
+use Rattle.reduce_up.specs.OverParts.{level_over}
+use Rattle.reduce_up.specs.Up.{AskedAt, IsReadyAt, IsLevelReduced, IsLevelFault}
+use Rattle.reduce_up.specs.Steps.{BothComeTo, IsMadeOf, MayReadLevel}
+use Rattle.reduce_up.proofs.Naming.{grown_of_pair, there_part}
+use Rattle.reduce_up.proofs.Opposite.{one_node_either, one_node_part}
+use Rattle.reduce_up.proofs.Reduction.{made_answer, kept_meaning, record_kept}
+use Rattle.reduce_up.proofs.Missing.{record_fault}
+use Rattle.reduce_up.proofs.Raising.{rec, one_answer}
+use Rattle.reduce_up.proofs.Joined.{AreListed, over_in}
+
+-- the item beside one at a place
+zip_beside : {X Y : Type 0} (R : X → Y → Type 0) (xs : List X) (ys : List Y) (i : ℕ) (y : Y) → AllZip R xs ys → slice_get ys i ≡ Some y → (x : X) × (slice_get xs i ≡ Some x) × R x y
+zip_beside R [] [] i y h e = absurd (let l = slice_get_within [] i y e in omega (arith, l))
+zip_beside R [] (z ∷ ys) i y h e = absurd h
+zip_beside R (x ∷ xs) [] i y h e = absurd h
+zip_beside R (x ∷ xs) (z ∷ ys) zero y h e = (x, refl, subst (R x) (some_same (slice_get (z ∷ ys) zero) z y refl e) h.0)
+zip_beside R (x ∷ xs) (z ∷ ys) (suc i) y h e = zip_beside R xs ys i y h.1 e
+
+module _ (S : Nodes) (T : List (List Key)) (children : List (Placed × Placed)) (A : List (List Ref)) (v : ℕ) (R : IsReadyAt S T children A v) where
+  -- the request at a place
+  key_at : (i : ℕ) (d : Placed × Placed) → slice_get children i ≡ Some d → (k : Key) × StandsAt T v i k
+  key_at i d at = stands_some (row T v) i (let e = R.counts in let l = slice_get_within children i d at in omega (arith, e, l))
+
+  -- what its children come to makes a record of it
+  record_at : (i : ℕ) (d : Placed × Placed) (q : Pair) (k : Key) → slice_get children i ≡ Some d → StandsAt T v i k → BothComeTo A d q → IsRecordAt S v (rec k q.0 q.1)
+  record_at i d q k at st of =
+      let low = R.low i k d st at in
+      let high = R.high i k d st at in
+      record {
+        key = R.keys i k st;
+        low = subst (IsAnswerAt S v k false) (one_answer A d.0 low.1.0 q.0 low.1.1 of.0) low.1.2;
+        high = subst (IsAnswerAt S v k true) (one_answer A d.1 high.1.0 q.1 high.1.1 of.1) high.1.2;
+      }
+
+  pub comes : (i : ℕ) (d : Placed × Placed) → slice_get children i ≡ Some d → (p : Pair) × BothComeTo A d p
+  comes i d at =
+      let k = key_at i d at in
+      let low = R.low i k.0 d k.1 at in
+      let high = R.high i k.0 d k.1 at in
+      ((low.1.0, high.1.0), (low.1.1, high.1.1))
+
+  module _ (lists : ℕ → List Pair) (are : AreListed A children lists) where
+    -- a listed pair makes a record of a request
+    of_list : (s : ℕ) (p : Pair) → IsIn (lists s) p → (i : ℕ) × (k : Key) × StandsAt T v i k × IsRecordAt S v (rec k p.0 p.1)
+    of_list s p w =
+        let o = are s p w in
+        let k = key_at o.0 o.1 o.2 in
+        (o.0, k.0, k.1, record_at o.0 o.1 p k.0 o.2 k.1 o.3)
+
+    pub ready_all : AreReady S v lists
+    ready_all = record {
+      level = R.bounded;
+      differ = λ s p w. (are s p w).4;
+      lo_here = λ s p w. (of_list s p w).3.low.has;
+      hi_here = λ s p w. (of_list s p w).3.high.has;
+      above = λ s p w. ((of_list s p w).3.low.below, (of_list s p w).3.high.below);
+      sharded = λ s p l w. (are s p w).5;
+    }
+
+    -- nodes of listed pairs are made
+    module _ (U : Nodes) (held : IsSound S) (sound : IsSound U) (grows : GrowsLevel S U v (plain_lists lists)) where
+      kept : Keeps S U
+      kept = keeps S U (Extends-grown S U v (plain_lists lists) grows)
+
+      -- what stands for a record's children is its answer
+      answered : (k : Key) (p : Pair) (m : Ref) → IsRecordAt S v (rec k p.0 p.1) → Has U m → ((p.0 ≡ p.1) × (m ≡ p.0)) ⊎ ((p.0 ≢ p.1) × (part U m ≡ node v p.0 p.1)) → IsAnswer U k m
+      answered k p m i h is = made_answer S U v k p.0 p.1 m held sound i.key i.low i.high kept h is
+
+      asked_as : (w : ℕ) (f g : List Bool → Bool) → Agree S.levels f g → AskedAt S T v w g → AskedAt S T v w f
+      asked_as w f g a (at, (q, k, st, e)) = (at, (q, k, st, λ x hx. a x hx ∙ e x hx))
+
+      described : (m : Ref) → Has U m → (s : ℕ) (p : Pair) → IsIn (lists s) p → IsOfPair U v p m → (w : ℕ) × (lo : Ref) × (hi : Ref) × (part U m ≡ node w lo hi) × OfEither (AskedAt S T v w) (den U m)
+      described m h s p w (r, is, one) =
+          let o = of_list s p w in
+          let k : Key = o.1 in
+          let key = o.3.key in
+          let a : IsAnswer U k r = answered k p r o.3 is.0 (inr ((are s p w).4, is.1)) in
+          let asked : AskedAt S T v v (den U r) = (refl, (o.0, k, o.2, λ x hx. a.denotes x (hx ∙ sym kept.levels) ∙ kept_meaning S U held kept k key.first key.second x)) in
+          let e = one_node_part U sound m r v p.0 p.1 h is.0 is.1 one in
+          (v, e.0, e.1, e.2, one_node_either U m r (AskedAt S T v v) (λ f g z. asked_as v f g (λ x hx. z x (hx ∙ sym kept.levels))) one asked)
+
+      pub adds_all : AddsDescribed S U (AskedAt S T v)
+      adds_all = record {
+        keeps = kept;
+        described = λ m h. elim (grown_of_pair S U v lists grows m h) [ inl old ↦ inl old | inr new ↦ inr (described m h new.0 new.1 new.2 new.3) ];
+      }
+
+      -- or why some are missing
+      pub refused_all : (f : StoreFault) → IsMakeFault U v (plain_lists lists) f → IsLevelFault U T v (wave_fault f)
+      refused_all OutOfMemory h = tt
+      refused_all Full h =
+          let s : ℕ = h.0 in
+          let full = h.2 in
+          let enough : length (shard_at U v s) ≤ count_of U = shard-le-count U (16 * v + s) in
+          let m = lacking_absent U v s (lists s) sound (λ p i. (are s p i).5) h.3 in
+          let o = of_list s m.0 m.1 in
+          let k : Key = o.1 in
+          let i : IsRecordAt U v (rec k m.0.0 m.0.1) = record_kept S U held kept v (rec k m.0.0 m.0.1) o.3 in
+          let x = record_fault U U v k m.0.0 m.0.1 (Err Full) sound i.key i.low i.high refl (omega (arith, full, enough), (are s m.0 m.1).4, absent U v m.0.0 m.0.1 m.2) in
+          (o.0, k, o.2, elim (eq-or-lt_of_le x.0) [ inl e ↦ inr (sym e, x.1) | inr lt ↦ inl lt ])
+
+      -- all have their answers
+      pub whole_all : (own : List Ref) → AllZip (IsMadeOf A U v) children own → IsLevelReduced S T v (length children) U own
+      whole_all own made = record {
+        held = sound;
+        adds = adds_all;
+        count = sym (zip_long (IsMadeOf A U v) children own made);
+        answered = λ q k r st g. by q k r st (zip_beside (IsMadeOf A U v) children own q r made g);
+      }
+        where
+          by : (q : ℕ) (k : Key) (r : Ref) → StandsAt T v q k → (d : Placed × Placed) × (slice_get children q ≡ Some d) × IsMadeOf A U v d r → IsAnswer U k r
+          by q k r st (d, at, (p, of, t)) =
+              let i = record_at q d p k at st of in
+              let h = there_part U v p.0 p.1 r (kept.has p.0 i.low.has) t in
+              answered k p r i h.0 h.1
+
+-- a level that is ready may be read, part by part
+pub may_read : (S : Nodes) (T : List (List Key)) (rows : List (List (List (Placed × Placed)))) (A : List (List Ref)) (v : ℕ) → IsReadyAt S T (level_over rows v) A v → All (λ (part : List (List (Placed × Placed))). v < length part) rows → MayReadLevel A v rows
+may_read S T rows A v R levels k d l = record { level = levels k d l; come = come }
+  where
+    same : get_or rows k d ≡ row rows k
+    same = get_or_default rows k d [] l
+
+    come : (j : ℕ) (e : Placed × Placed) → j < length (row (get_or rows k d) v) → (p : Pair) × BothComeTo A (get_or (row (get_or rows k d) v) j e) p
+    come j e lj =
+        let at : slice_get (row (row rows k) v) j ≡ Some (get_or (row (get_or rows k d) v) j e) =
+        subst (λ (z : List (List (Placed × Placed))). slice_get (row z v) j ≡ Some (get_or (row (get_or rows k d) v) j e)) same (slice_get-get_or (row (get_or rows k d) v) j e lj) in
+        let w = over_in rows k v j (get_or (row (get_or rows k d) v) j e) l at in
+        comes S T (level_over rows v) A v R w.0 (get_or (row (get_or rows k d) v) j e) w.1

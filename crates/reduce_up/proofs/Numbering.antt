@@ -1,0 +1,390 @@
+-- Children by their places: what a worker asks of another next stands where that one noted.
+use Rattle.std.proofs.Common.{◌≡◌, ◌≢◌, ℕ, zero, suc, ◌+◌, ◌-◌, ◌*◌, ◌^◌, ◌<◌, ◌≤◌, Bool, true, false, cond, List, [], ◌∷◌, ◌++◌, length, map, filter, take, drop, get_or, set, slice_get, Some, Contains, All, refl, sym, ap, ◌∙◌, subst, arith, append_assoc, append-nil, eq-eqb, ne_eqb, get_or-set_same, get_or-set_other, length-append}
+use Rattle.std.specs.Prelude.{AllPairs}
+use Rattle.std.specs.List.{AllZip}
+use Rattle.std.proofs.lemmas.List.{take_more, take_all, length-set, length-map, map-append, get_or_append_left, get_or-append_right, get_or_default, drop_more}
+use Rattle.std.proofs.lemmas.List.Elements.{All-contains}
+use Rattle.std.proofs.lemmas.Option.{slice_get_within, get_or_from_slice_get}
+use Rattle.std.proofs.Math.Nat.{mod-lt, mul-le-mul_right}
+use Rattle.std.proofs.Math.Seq.{get_or-append_seam, drop-length}
+use mathlib.Core.Logic.{dite}
+use native.Mathlib.Decide.{ℕ_discrete}
+use Rattle.dd_store.specs.Codes.{code_of}
+use Rattle.dd_store.specs.Nodes.{Nodes, IsSound}
+use Rattle.req_table.specs.declared.Key.{Key}
+use Rattle.req_table.specs.declared.Child.{Child}
+use Rattle.req_table.specs.declared.Child.TheVariants.{Done, Ask}
+use Rattle.req_table.specs.declared.Record.{Record}
+use Rattle.req_table.specs.declared.placed.Placed.{Placed}
+use Rattle.req_table.specs.declared.placed.PlacedChild.TheVariants as by_number
+use Rattle.req_table.specs.TerminalCase.{op_number}
+use Rattle.req_table.specs.Keys.{level_of, owner, child_of, wave_of}
+use Rattle.req_table.specs.Places.{row, IsPlaced}
+use Rattle.req_table.specs.Reached.{IsReached}
+use Rattle.req_table.specs.Settled.{IsClosure, IsSplit, key_of, asked, asked_by, level_of_rows}
+use Rattle.req_table.specs.Wave.{Wave}
+use Rattle.req_table.proofs.Waved as waved
+use Rattle.expand_work.specs.Expanded.{row_of}
+use Rattle.expand_work.specs.Gathered.{PartsView, AreParts, noted_of}
+use Rattle.expand_work.specs.Lean.{lean, lean_row, AreLean}
+use Rattle.std.proofs.Math.ListN as listn
+use Rattle.expand_work.specs.Work.{owned_by}
+use Rattle.expand_work.proofs.Zips.{zip_grown}
+use Rattle.reduce_up.specs.Numbers.{keys_at, keys_of, starts_at, starts_below, IsTold, AreTold, IsField, StandsWith, AreNext, IsNext, IsNumbered, IsRowNumbered, IsNumberedTo, asked_up, asked_from}
+use Rattle.dd_store.proofs.Places.{slice_get-append}
+use Rattle.reduce_up.proofs.OverParts.{slice_get-behind}
+use Rattle.reduce_up.proofs.Placing.{in_left, in_right}
+use Rattle.reduce_up.proofs.Rooted.{all_of}
+
+-- ---- records by level
+pub level_split : (rows : ℕ → ℕ → List Record) (v n k : ℕ) → k < n → (rest : List Record) × (level_of_rows n rows v ≡ (level_of_rows k rows v ++ rows k v) ++ rest)
+level_split rows v zero k l = absurd (omega (arith, l))
+level_split rows v (suc n) k l = dite (ℕ_discrete k n)
+    (λ e. ([], subst (λ z. level_of_rows n rows v ++ rows n v ≡ (level_of_rows z rows v ++ rows z v) ++ []) (sym e) (sym (append-nil (level_of_rows n rows v ++ rows n v)))))
+    (λ m. let w = level_split rows v n k (grind (arith, l, m)) in (w.0 ++ rows n v, ap (λ z. z ++ rows n v) w.1 ∙ append_assoc (level_of_rows k rows v ++ rows k v) w.0 (rows n v)))
+
+-- a worker's record is one of the level
+pub in_team : (n : ℕ) (p : PartsView) (v k : ℕ) (r : Record) → k < n → Contains (row_of p.rows k v) r → Contains (level_of_rows n (row_of p.rows) v) r
+in_team n p v k r l c =
+    let w = level_split (row_of p.rows) v n k l in
+    subst (λ z. Contains z r) (sym w.1) (in_left (level_of_rows k (row_of p.rows) v ++ row_of p.rows k v) w.0 r (in_right (level_of_rows k (row_of p.rows) v) (row_of p.rows k v) r c))
+
+-- records by level that are the same level by level
+module _ (w : Wave) (rows records : ℕ → List Record) (same : (v : ℕ) → v < w.levels → records v ≡ rows v) where
+  pub closure_same : (roots : List Key) → IsClosure w roots rows → IsClosure w roots records
+  closure_same roots c = record {
+    split = λ v vb. subst (All (IsSplit w)) (sym (same v vb)) (c.split v vb);
+    placed = λ v vb. subst (All (λ (r : Record). w.level r.key ≡ v)) (sym (same v vb)) (c.placed v vb);
+    reached = λ v vb. subst (All (λ (r : Record). IsReached w roots r.key)) (sym (same v vb)) (c.reached v vb);
+    recorded = λ x h. (let (b, k) = c.recorded x h in (b, subst (λ (rs : List Record). Contains (map key_of rs) x) (sym (same (w.level x) b)) k));
+    once = λ v vb. subst (AllPairs (λ (a b : Record). ¬ (a.key ≡ b.key))) (sym (same v vb)) (c.once v vb);
+  }
+
+-- ---- children are told with the levels of their requests
+told_child : (S : Nodes) → IsSound S → (k : Key) (b : Bool) (c : Child) → c ≡ child_of S k b → IsTold S c
+told_child S w k b (Done r) e = tt
+told_child S w k b (Ask l x m) e = waved.told S w k x b l m (sym e)
+
+pub told_rows : (S : Nodes) (n : ℕ) (roots : List Key) (p : PartsView) → IsSound S → AreParts S n roots p → (k v : ℕ) → k < n → v < S.levels → All (AreTold S) (row_of p.rows k v)
+told_rows S n roots p sound a k v kb vb =
+    all_of (AreTold S) (row_of p.rows k v)
+    (λ r c.
+    let split : IsSplit (wave_of S n) r = All-contains (IsSplit (wave_of S n)) (level_of_rows n (row_of p.rows) v) r (a.closure.split v vb) (in_team n p v k r kb c) in
+    (told_child S sound r.key false r.low split.0, told_child S sound r.key true r.high split.1))
+
+-- ---- places of a level
+-- where a worker's request stands among those of its level
+pub stands_in_level : (n : ℕ) (p : PartsView) (v k place : ℕ) (x : Key) → k < n → slice_get (map key_of (row_of p.rows k v)) place ≡ Some x
+    → slice_get (keys_at n p v) (length (level_of_rows k (row_of p.rows) v) + place) ≡ Some x
+stands_in_level n p v k place x l e =
+    let w = level_split (row_of p.rows) v n k l in
+    let before = level_of_rows k (row_of p.rows) v in
+    let own = row_of p.rows k v in
+    let keys : keys_at n p v ≡ (map key_of before ++ map key_of own) ++ map key_of w.0 = ap (map key_of) w.1 ∙ map-append key_of (before ++ own) w.0 ∙ ap (λ z. z ++ map key_of w.0) (map-append key_of before own) in
+    let at : length before + place ≡ length (map key_of before) + place = (let z = length-map before key_of in omega (arith, z)) in
+    subst (λ z. slice_get z (length before + place) ≡ Some x) (sym keys)
+    (subst (λ z. slice_get ((map key_of before ++ map key_of own) ++ map key_of w.0) z ≡ Some x) (sym at)
+    (slice_get-append (map key_of before ++ map key_of own) (map key_of w.0) (length (map key_of before) + place) x (slice_get-behind (map key_of before) (map key_of own) place ∙ e)))
+
+pub keys_of-long : (n : ℕ) (p : PartsView) (m : ℕ) → length (keys_of n p m) ≡ m
+keys_of-long n p zero = refl
+keys_of-long n p (suc m) = length-append (keys_of n p m) (keys_at n p m ∷ []) ∙ (let e = keys_of-long n p m in omega (arith, e))
+
+pub keys_of_at : (n : ℕ) (p : PartsView) (m v : ℕ) → v < m → row (keys_of n p m) v ≡ keys_at n p v
+keys_of_at n p zero v l = absurd (omega (arith, l))
+keys_of_at n p (suc m) v l = dite (ℕ_discrete v m)
+    (λ e. ap (λ z. get_or (keys_of n p m ++ keys_at n p m ∷ []) z []) (e ∙ sym (keys_of-long n p m)) ∙ get_or-append_seam (keys_of n p m) (keys_at n p m) [] [] ∙ ap (keys_at n p) (sym e))
+    (λ o. get_or_append_left (keys_of n p m) (keys_at n p m ∷ []) [] v (let e = keys_of-long n p m in grind (arith, l, o, e)) ∙ keys_of_at n p m v (grind (arith, l, o)))
+
+-- ---- how many requests the workers before each have
+starts_at-long : (n : ℕ) (rows : ℕ → ℕ → List Record) (v : ℕ) → length (starts_at n rows v) ≡ n
+starts_at-long zero rows v = refl
+starts_at-long (suc n) rows v = length-append (starts_at n rows v) (length (level_of_rows n rows v) ∷ []) ∙ (let e = starts_at-long n rows v in omega (arith, e))
+
+starts_at_at : (n : ℕ) (rows : ℕ → ℕ → List Record) (v k : ℕ) → k < n → get_or (starts_at n rows v) k 0 ≡ length (level_of_rows k rows v)
+starts_at_at zero rows v k l = absurd (omega (arith, l))
+starts_at_at (suc n) rows v k l = dite (ℕ_discrete k n)
+    (λ e. ap (λ z. get_or (starts_at n rows v ++ length (level_of_rows n rows v) ∷ []) z 0) (e ∙ sym (starts_at-long n rows v))
+    ∙ get_or-append_seam (starts_at n rows v) (length (level_of_rows n rows v)) [] 0 ∙ ap (λ z. length (level_of_rows z rows v)) (sym e))
+    (λ o. get_or_append_left (starts_at n rows v) (length (level_of_rows n rows v) ∷ []) 0 k (let e = starts_at-long n rows v in grind (arith, l, o, e)) ∙ starts_at_at n rows v k (grind (arith, l, o)))
+
+starts_below-long : (m n : ℕ) (rows : ℕ → ℕ → List Record) → length (starts_below m n rows) ≡ m * n
+starts_below-long zero n rows = omega arith
+starts_below-long (suc m) n rows =
+    let a = length-append (starts_below m n rows) (starts_at n rows m) in
+    let b = starts_below-long m n rows in
+    let c = starts_at-long n rows m in
+    grind (arith, a, b, c)
+
+-- the place of a worker's start of a level
+row_within : (m n v k : ℕ) → v < m → k < n → v * n + k < m * n
+row_within m n v k vb kb =
+    let a : suc v * n ≤ m * n = mul-le-mul_right n (omega (arith, vb)) in
+    let b : suc v * n ≡ v * n + n = grind arith in
+    omega (arith, a, b, kb)
+
+pub starts_within : (m n : ℕ) (rows : ℕ → ℕ → List Record) (v k : ℕ) → v < m → k < n → v * n + k < length (starts_below m n rows)
+starts_within m n rows v k vb kb = subst (λ z. v * n + k < z) (sym (starts_below-long m n rows)) (row_within m n v k vb kb)
+
+pub starts_below_at : (m n : ℕ) (rows : ℕ → ℕ → List Record) (v k : ℕ) → v < m → k < n → get_or (starts_below m n rows) (v * n + k) 0 ≡ length (level_of_rows k rows v)
+starts_below_at zero n rows v k vb kb = absurd (omega (arith, vb))
+starts_below_at (suc m) n rows v k vb kb = dite (ℕ_discrete v m)
+    (λ e. let at : m * n + k - m * n ≡ k = omega arith in
+    ap (λ z. get_or (starts_below m n rows ++ starts_at n rows m) (z * n + k) 0) e
+    ∙ get_or-append_right (starts_below m n rows) (starts_at n rows m) (m * n) (m * n + k) 0 (starts_below-long m n rows) (omega arith)
+    ∙ ap (λ z. get_or (starts_at n rows m) z 0) at ∙ starts_at_at n rows m k kb ∙ ap (λ z. length (level_of_rows k rows z)) (sym e))
+    (λ o. let lt : v < m = grind (arith, vb, o) in
+    get_or_append_left (starts_below m n rows) (starts_at n rows m) 0 (v * n + k) (starts_within m n rows v k lt kb) ∙ starts_below_at m n rows v k lt kb)
+
+-- one worker more
+pub starts_more : (rows : ℕ → ℕ → List Record) (v k : ℕ) (before starts starts' : List ℕ) (start : ℕ) → starts ≡ before ++ starts_at k rows v → start ≡ length (level_of_rows k rows v) → starts' ≡ starts ++ start ∷ [] → starts' ≡ before ++ starts_at (k + 1) rows v
+starts_more rows v k before starts starts' start is start-is more =
+    let up : suc k ≡ k + 1 = omega arith in
+    more ∙ ap (λ z. z ++ start ∷ []) is ∙ ap (λ z. (before ++ starts_at k rows v) ++ z ∷ []) start-is
+    ∙ append_assoc before (starts_at k rows v) (length (level_of_rows k rows v) ∷ []) ∙ ap (λ z. before ++ starts_at z rows v) up
+
+pub start_more : (rows : ℕ → ℕ → List Record) (v k start count n : ℕ) (own : List (Placed × Placed)) → start ≡ length (level_of_rows k rows v) → own ≡ lean_row n (rows k v) → count ≡ length own → start + count ≡ length (level_of_rows (k + 1) rows v)
+start_more rows v k start count n own start-is own-is count-is =
+    let up : suc k ≡ k + 1 = omega arith in
+    let many : count ≡ length (rows k v) = count-is ∙ ap length own-is ∙ length-map {B = Placed × Placed} (rows k v) (λ (r : Record). (lean n r.low, lean n r.high)) in
+    let both = length-append (level_of_rows k rows v) (rows k v) in
+    let here : start + count ≡ length (level_of_rows (suc k) rows v) = omega (arith, start-is, many, both) in
+    here ∙ ap (λ z. length (level_of_rows z rows v)) up
+
+-- a worker's lean row of a level
+pub lean_at : (records : List (List (List Record))) (rows : List (List (List (Placed × Placed)))) → AreLean records rows → (k v : ℕ) (own : List (List (Placed × Placed))) → k < length rows → own ≡ get_or rows k own → row own v ≡ lean_row (length records) (row_of records k v)
+lean_at records rows lean k v own kb is =
+    let n = length records in
+    ap (λ (z : List (List (Placed × Placed))). row z v) (is ∙ get_or_default rows k own [] kb ∙ ap (λ (z : List (List (List (Placed × Placed)))). get_or z k []) lean ∙ listn.get_or-map (map (lean_row n)) records k [])
+    ∙ listn.get_or-map (lean_row n) (get_or records k []) v []
+
+-- each worker has as many rows as it has levels
+pub lean_levels : (records : List (List (List Record))) (rows : List (List (List (Placed × Placed)))) → AreLean records rows → (m : ℕ) → ((k : ℕ) → k < length records → length (get_or records k []) ≡ m) → All (λ (own : List (List (Placed × Placed))). length own ≡ m) rows
+lean_levels records rows lean m each k d kb =
+    let n = length records in
+    let long : length rows ≡ n = ap (λ (z : List (List (List (Placed × Placed)))). length z) lean ∙ length-map records (map (lean_row n)) in
+    ap (λ (z : List (List (Placed × Placed))). length z) (get_or_default rows k d [] kb ∙ ap (λ (z : List (List (List (Placed × Placed)))). get_or z k []) lean ∙ listn.get_or-map (map (lean_row n)) records k [])
+    ∙ length-map (get_or records k []) (lean_row n) ∙ each k (omega (arith, kb, long))
+
+-- one level more
+pub levels_more : (rows : ℕ → ℕ → List Record) (v n : ℕ) (starts starts' : List ℕ) → starts ≡ starts_below v n rows → starts' ≡ starts ++ starts_at n rows v → starts' ≡ starts_below (v + 1) n rows
+levels_more rows v n starts starts' is more =
+    let up : suc v ≡ v + 1 = omega arith in
+    more ∙ ap (λ z. z ++ starts_at n rows v) is ∙ ap (λ z. starts_below z n rows) up
+
+-- ---- what is asked for next
+zip_next : {A B : Type 0} (R : A → B → Type 0) (x : A) (xs : List A) (ys : List B) (i : ℕ) → AllZip R (x ∷ xs) (drop i ys)
+    → (y : B) × (slice_get ys i ≡ Some y) × R x y × AllZip R xs (drop (suc i) ys)
+zip_next R x xs [] zero h = absurd h
+zip_next R x xs [] (suc i) h = absurd h
+zip_next R x xs (y ∷ ys) zero h = (y, refl, h.0, h.1)
+zip_next R x xs (y ∷ ys) (suc i) h = zip_next R x xs ys i h
+
+pub owned_within : (n : ℕ) (x : Key) → 0 < n → owner n x < n
+owned_within n x some = mod-lt (op_number x.op + 3 * code_of x.f + 5 * code_of x.g) some
+
+-- a level that has a request is one of the worker's
+row_there : {X : Type 0} (xs : List (List X)) (l place : ℕ) → place < length (get_or xs l []) → l < length xs
+row_there [] zero place b = absurd (omega (arith, b))
+row_there [] (suc l) place b = absurd (omega (arith, b))
+row_there (x ∷ xs) zero place b = omega arith
+row_there (x ∷ xs) (suc l) place b = let z = row_there xs l place b in omega (arith, z)
+
+-- ---- a child in eight bytes
+pub asked_child : (n : ℕ) (e : Placed) (c : Child) (level k : ℕ) (m : Bool) → e ≡ by_number.Ask level k m → e ≡ lean n c → (x : Key) × (c ≡ Ask level x m) × (k ≡ owner n x)
+asked_child n e (Done r) level k m is f = absurd (let z = sym is ∙ f in cc)
+asked_child n e (Ask l x b) level k m is f =
+    let z : by_number.Ask level k m ≡ by_number.Ask l (owner n x) b = sym is ∙ f in
+    let at : level ≡ l = cc in let own : k ≡ owner n x = cc in let mark : m ≡ b = cc in
+    (x, (λ i. Ask (sym at i) x (sym mark i)), own)
+
+-- a child of worker s that asks worker k at level l; turn is how much s asked of k before
+module _ (S : Nodes) (n : ℕ) (p : PartsView) (starts : List ℕ) (f : IsField S n p starts) (s : ℕ) (next : List ℕ) (child : Placed) (c : Child) (rest : List Key) (i : IsNext S n p s next child c rest)
+    (l k : ℕ) (m : Bool) (is : child ≡ by_number.Ask l k m) (turn : ℕ) (turn-is : turn ≡ get_or next k turn) (ns : List ℕ) (ns-is : ns ≡ noted_of p.noted k s) where
+  asks : (x : Key) × (c ≡ Ask l x m) × (k ≡ owner n x)
+  asks = asked_child n child c l k m is i.owned
+
+  abbrev x : Key
+  x = asks.0
+
+  k-is : k ≡ owner n x
+  k-is = asks.2
+
+  asks_told : l ≡ level_of S x
+  asks_told = subst (IsTold S) asks.1 i.told
+
+  asks_next : AreNext S n p s (x ∷ rest) next
+  asks_next = subst (λ z. AreNext S n p s (asked z ++ rest) next) asks.1 i.places
+
+  pub owner_within : k < n
+  owner_within = subst (λ z. z < n) (sym k-is) (owned_within n x f.some)
+
+  turn-here : turn ≡ get_or next k 0
+  turn-here = turn-is ∙ get_or_default next k turn 0 (subst (λ z. k < z) (sym asks_next.long) owner_within)
+
+  mine : owned_by n k x ≡ true
+  mine = eq-eqb (owner n x) k (sym k-is)
+
+  found : (place : ℕ) × (slice_get ns turn ≡ Some place) × StandsWith S p k x place × AllZip (StandsWith S p k) (filter (owned_by n k) rest) (drop (suc turn) ns)
+  found = zip_next (StandsWith S p k) x (filter (owned_by n k) rest) ns turn
+      (subst (λ (z : ℕ × List ℕ). AllZip (StandsWith S p k) (x ∷ filter (owned_by n k) rest) (drop z.0 z.1)) (λ i. (sym turn-here i, sym ns-is i))
+      (subst (λ b. AllZip (StandsWith S p k) (cond b (x ∷ filter (owned_by n k) rest) (filter (owned_by n k) rest)) (drop (get_or next k 0) (noted_of p.noted k s))) mine (asks_next.each k owner_within)))
+
+  pub turn_within : turn < length ns
+  turn_within = slice_get_within ns turn found.0 found.1
+
+  place-is : get_or ns turn 0 ≡ found.0
+  place-is = get_or_from_slice_get ns turn found.0 0 found.1
+
+  stands : slice_get (map key_of (row_of p.rows k l)) (get_or ns turn 0) ≡ Some x
+  stands = subst (λ (z : ℕ × ℕ). slice_get (map key_of (row_of p.rows k z.0)) z.1 ≡ Some x) (λ i. (sym asks_told i, sym place-is i)) found.2
+
+  pub level_within : l < S.levels
+  level_within = subst (λ z. l < z) (f.levels k owner_within)
+      (row_there (get_or p.rows k []) l (get_or ns turn 0) (let w = slice_get_within (map key_of (row_of p.rows k l)) (get_or ns turn 0) x stands in let z = length-map (row_of p.rows k l) key_of in omega (arith, w, z)))
+
+  pub start_within : l * n + k < length starts
+  start_within = subst (λ z. l * n + k < length z) (sym f.starts_are) (starts_within S.levels n (row_of p.rows) l k level_within owner_within)
+
+  start-is : get_or starts (l * n + k) 0 ≡ length (level_of_rows k (row_of p.rows) l)
+  start-is = ap (λ z. get_or z (l * n + k) 0) f.starts_are ∙ starts_below_at S.levels n (row_of p.rows) l k level_within owner_within
+
+  in_level : slice_get (keys_at n p l) (get_or starts (l * n + k) 0 + get_or ns turn 0) ≡ Some x
+  in_level = subst (λ z. slice_get (keys_at n p l) (z + get_or ns turn 0) ≡ Some x) (sym start-is) (stands_in_level n p l k (get_or ns turn 0) x owner_within stands)
+
+  pub sum_fits : get_or starts (l * n + k) 0 + get_or ns turn 0 < 2 ^ 32
+  sum_fits =
+      let a = slice_get_within (keys_at n p l) (get_or starts (l * n + k) 0 + get_or ns turn 0) x in_level in
+      let b = length-map (level_of_rows n (row_of p.rows) l) key_of in
+      let c = f.few l level_within in
+      omega (arith, a, b, c)
+
+  pub child_placed : IsPlaced (keys_of n p S.levels) (by_number.Ask l (get_or starts (l * n + k) 0 + get_or ns turn 0) m) c
+  child_placed = (x, subst (λ z. slice_get z (get_or starts (l * n + k) 0 + get_or ns turn 0) ≡ Some x) (sym (keys_of_at n p S.levels l level_within)) in_level, asks.1)
+
+  pub one_asked : AreNext S n p s rest (set next k (turn + 1))
+  one_asked = record {
+    long = length-set next k (turn + 1) ∙ asks_next.long;
+    each = λ j jb. dite (ℕ_discrete j k)
+        (λ e.
+        let at : get_or (set next k (turn + 1)) j 0 ≡ suc turn = ap (λ z. get_or (set next k (turn + 1)) z 0) e ∙ get_or-set_same next k (turn + 1) 0 (subst (λ z. k < z) (sym asks_next.long) owner_within) ∙ omega arith in
+        subst (λ z. AllZip (StandsWith S p j) (filter (owned_by n j) rest) (drop z (noted_of p.noted j s))) (sym at)
+        (subst (λ z. AllZip (StandsWith S p z) (filter (owned_by n z) rest) (drop (suc turn) (noted_of p.noted z s))) (sym e)
+        (subst (λ z. AllZip (StandsWith S p k) (filter (owned_by n k) rest) (drop (suc turn) z)) ns-is found.3)))
+        (λ o.
+        let at = get_or-set_other next k j (turn + 1) 0 o in
+        let other : owned_by n j x ≡ false = ne_eqb (owner n x) j (λ e. o (sym (k-is ∙ e))) in
+        subst (λ z. AllZip (StandsWith S p j) (filter (owned_by n j) rest) (drop z (noted_of p.noted j s))) (sym at)
+        (subst (λ b. AllZip (StandsWith S p j) (cond b (x ∷ filter (owned_by n j) rest) (filter (owned_by n j) rest)) (drop (get_or next j 0) (noted_of p.noted j s))) other (asks_next.each j jb)));
+  }
+
+-- ---- records and their pairs
+-- what stands at a place of a list, made of what stands there in another
+pub made_of : {X Y : Type 0} (f : X → Y) (xs : List X) (i : ℕ) (y : Y) → slice_get (map f xs) i ≡ Some y → (x : X) × (slice_get xs i ≡ Some x) × (f x ≡ y)
+made_of f [] i y e = absurd (let l = slice_get_within [] i y e in omega (arith, l))
+made_of f (x ∷ xs) zero y e = (x, refl, (let z : f x ≡ y = cc in z))
+made_of f (x ∷ xs) (suc i) y e = made_of f xs i y e
+
+-- the list goes on with what stands at the place
+goes_on : {X : Type 0} (xs : List X) (i : ℕ) (x : X) → slice_get xs i ≡ Some x → drop i xs ≡ x ∷ drop (i + 1) xs
+goes_on xs i x e = drop_more xs i x (slice_get_within xs i x e) ∙ ap (λ z. z ∷ drop (i + 1) xs) (get_or_from_slice_get xs i x x e)
+
+ends_with : {X : Type 0} (xs : List X) (i : ℕ) (x : X) → slice_get xs i ≡ Some x → take (i + 1) xs ≡ take i xs ++ x ∷ []
+ends_with xs i x e = take_more xs i x (slice_get_within xs i x e) ∙ ap (λ z. take i xs ++ z ∷ []) (get_or_from_slice_get xs i x x e)
+
+-- what a level asks for is asked for before what is below it
+pub asked_first : (levels v : ℕ) (rows : ℕ → List Record) → v < levels → asked_from levels v rows ≡ asked_by (rows v) ++ asked_from levels (v + 1) rows
+asked_first levels v rows l =
+    let one : levels - v ≡ suc (levels - (v + 1)) = omega (arith, l) in
+    let up : suc v ≡ v + 1 = omega arith in
+    ap (λ z. asked_up z v rows) one ∙ ap (λ z. asked_by (rows v) ++ asked_up (levels - (v + 1)) z rows) up
+
+-- from a record on the worker asks for the record's children first
+record_first : (low high : List Key) (by later : List Key) → ((low ++ high) ++ by) ++ later ≡ low ++ (high ++ (by ++ later))
+record_first low high by later = append_assoc (low ++ high) by later ∙ append_assoc low high (by ++ later)
+
+-- a record of worker s of level v, of which the pair e tells the owners
+module _ (S : Nodes) (n : ℕ) (p : PartsView) (starts : List ℕ) (f : IsField S n p starts) (s : ℕ) (sb : s < n) (v : ℕ) (vb : v < S.levels) (pairs : List (Placed × Placed)) (pairs-are : pairs ≡ lean_row n (row_of p.rows s v))
+    (later : List Key) (i : ℕ) (e : Placed × Placed) (e-is : slice_get pairs i ≡ Some e) (next : List ℕ) (a : AreNext S n p s (asked_by (drop i (row_of p.rows s v)) ++ later) next) where
+  abbrev records : List Record
+  records = row_of p.rows s v
+
+  pub read : (r : Record) × (slice_get records i ≡ Some r) × ((lean n r.low, lean n r.high) ≡ e)
+  read = made_of (λ (r : Record). (lean n r.low, lean n r.high)) records i e (subst (λ z. slice_get z i ≡ Some e) pairs-are e-is)
+
+  abbrev pub the_record : Record
+  the_record = read.0
+
+  record_told : AreTold S the_record
+  record_told = subst (AreTold S) (get_or_from_slice_get records i the_record the_record read.1) (f.told s v sb vb i the_record (slice_get_within records i the_record read.1))
+
+  -- what is asked for behind the record, and behind its low child
+  abbrev pub behind : List Key
+  behind = asked_by (drop (i + 1) records) ++ later
+
+  abbrev pub behind_low : List Key
+  behind_low = asked the_record.high ++ behind
+
+  pub low_next : IsNext S n p s next e.0 the_record.low behind_low
+  low_next = record {
+    owned = sym (ap (λ z. z.0) read.2);
+    told = record_told.0;
+    places = subst (λ z. AreNext S n p s z next) (ap (λ z. asked_by z ++ later) (goes_on records i the_record read.1) ∙ record_first (asked the_record.low) (asked the_record.high) (asked_by (drop (i + 1) records)) later) a;
+  }
+
+  pub high_next : (next' : List ℕ) → AreNext S n p s behind_low next' → IsNext S n p s next' e.1 the_record.high behind
+  high_next next' b = record { owned = sym (ap (λ z. z.1) read.2); told = record_told.1; places = b }
+
+  pub pair_more : (old new : List (Placed × Placed)) (low high : Placed) → AllZip (IsNumbered (keys_of n p S.levels)) (take i records) old → IsPlaced (keys_of n p S.levels) low the_record.low → IsPlaced (keys_of n p S.levels) high the_record.high
+      → new ≡ old ++ (low, high) ∷ [] → AllZip (IsNumbered (keys_of n p S.levels)) (take (i + 1) records) new
+  pair_more old new low high z l h is = zip_grown (IsNumbered (keys_of n p S.levels)) (take i records) (take (i + 1) records) old new the_record (low, high) (ends_with records i the_record read.1) is z (l, h)
+
+-- all records of a level are gone over
+module _ (S : Nodes) (n : ℕ) (p : PartsView) (s v : ℕ) (lean-pairs : List (Placed × Placed)) (lean-are : lean-pairs ≡ lean_row n (row_of p.rows s v)) (i : ℕ) (all : i ≡ length lean-pairs) where
+  i-is : i ≡ length (row_of p.rows s v)
+  i-is = all ∙ ap length lean-are ∙ length-map (row_of p.rows s v) (λ (r : Record). (lean n r.low, lean n r.high))
+
+  pub pairs_all : (pairs : List (Placed × Placed)) → AllZip (IsNumbered (keys_of n p S.levels)) (take i (row_of p.rows s v)) pairs → IsRowNumbered S n p s v pairs
+  pairs_all pairs z = subst (λ (rs : List Record). AllZip (IsNumbered (keys_of n p S.levels)) rs pairs) (take_all i (row_of p.rows s v) (omega (arith, i-is))) z
+
+  pub asked_all : (later : List Key) (next : List ℕ) → AreNext S n p s (asked_by (drop i (row_of p.rows s v)) ++ later) next → AreNext S n p s later next
+  asked_all later next a = subst (λ z. AreNext S n p s (asked_by z ++ later) next) (ap (λ z. drop z (row_of p.rows s v)) i-is ∙ drop-length (row_of p.rows s v)) a
+
+-- a level is numbered
+module _ (S : Nodes) (n : ℕ) (p : PartsView) (s v : ℕ) (vb : v < S.levels) (rows : List (List (Placed × Placed))) (next : List ℕ) (a : IsNumberedTo S n p s v rows next) where
+  -- it had no requests
+  pub level_none : length (row rows v) ≡ 0 → IsNumberedTo S n p s (v + 1) rows next
+  level_none e =
+      let none : row_of p.rows s v ≡ [] = no_records (row_of p.rows s v) (sym (length-map (row_of p.rows s v) (λ (r : Record). (lean n r.low, lean n r.high))) ∙ ap length (sym (a.left v (omega arith) vb)) ∙ e) in
+      record {
+        levels = a.levels;
+        done = λ u l. dite (ℕ_discrete u v)
+            (λ q. subst (λ z. IsRowNumbered S n p s z (row rows z)) (sym q)
+            (subst (λ (z : List Record). AllZip (IsNumbered (keys_of n p S.levels)) z (row rows v)) (sym none)
+            (subst (λ z. AllZip (IsNumbered (keys_of n p S.levels)) [] z) (sym (no_pairs (row rows v) e)) tt)))
+            (λ o. a.done u (grind (arith, l, o)));
+        left = λ u l ub. a.left u (omega (arith, l)) ub;
+        places = subst (λ z. AreNext S n p s z next) (asked_first S.levels v (row_of p.rows s) vb ∙ ap (λ z. asked_by z ++ asked_from S.levels (v + 1) (row_of p.rows s)) none) a.places;
+      }
+    where
+      no_records : (xs : List Record) → length xs ≡ 0 → xs ≡ []
+      no_records [] e = refl
+      no_records (x ∷ xs) e = absurd (omega (arith, e))
+
+      no_pairs : (xs : List (Placed × Placed)) → length xs ≡ 0 → xs ≡ []
+      no_pairs [] e = refl
+      no_pairs (x ∷ xs) e = absurd (omega (arith, e))
+
+  -- its pairs are put in the place of what was there
+  pub level_more : (pairs : List (Placed × Placed)) (next' : List ℕ) → IsRowNumbered S n p s v pairs → AreNext S n p s (asked_from S.levels (v + 1) (row_of p.rows s)) next' → IsNumberedTo S n p s (v + 1) (set (set rows v []) v pairs) next'
+  level_more pairs next' z b =
+      let long : length (set rows v []) ≡ S.levels = length-set rows v [] ∙ a.levels in
+      record {
+        levels = length-set (set rows v []) v pairs ∙ long;
+        done = λ u l. dite (ℕ_discrete u v)
+            (λ q. subst (λ k. IsRowNumbered S n p s k (row (set (set rows v []) v pairs) k)) (sym q)
+            (subst (IsRowNumbered S n p s v) (sym (get_or-set_same (set rows v []) v pairs [] (subst (λ k. v < k) (sym long) vb))) z))
+            (λ o. subst (IsRowNumbered S n p s u) (sym (get_or-set_other (set rows v []) v u pairs [] o ∙ get_or-set_other rows v u [] [] o)) (a.done u (grind (arith, l, o))));
+        left = λ u l ub. (let o : u ≢ v = λ e. omega (arith, l, e) in get_or-set_other (set rows v []) v u pairs [] o ∙ get_or-set_other rows v u [] [] o ∙ a.left u (omega (arith, l)) ub);
+        places = b;
+      }

@@ -1,0 +1,270 @@
+-- Reduction by place: one request, one level, and one level after the other.
+use Rattle.std.proofs.Common.{◌≡◌, ◌≢◌, ℕ, ◌+◌, ◌<◌, ◌≤◌, ◌⊎◌, inl, inr, true, false, Bool, List, [], ◌∷◌, ◌++◌, length, Option, Some, None, slice_get, refl, sym, ◌∙◌, ap, subst, arith, Contains, All}
+use Rattle.std.proofs.Math.Nat.{eq-or-lt_of_le}
+use Rattle.std.proofs.lemmas.Bool.{cases_lt}
+use Rattle.std.proofs.lemmas.List.{length-append}
+use Rattle.std.proofs.lemmas.Option.{slice_get_within}
+use Rattle.dd_store.specs.declared.reference.Ref.{Ref}
+use Rattle.dd_store.specs.declared.StoreFault.{StoreFault}
+use Rattle.dd_store.specs.declared.StoreFault.TheVariants as store_faults
+use Rattle.dd_store.specs.Functions.{OfEither}
+use Rattle.dd_store.specs.Marks.{mark_by}
+use Rattle.dd_store.specs.Parts.Part.{node}
+use Rattle.dd_store.specs.Nodes.{Nodes, IsSound, den, count_of}
+use Rattle.dd_store.specs.View.{part, Has, Keeps}
+use Rattle.dd_store.proofs.Places.{slice_get_cases-push}
+use Rattle.dd_store.proofs.View.{keeps-trans}
+use Rattle.expand_work.specs.declared.fault.WaveFault.{WaveFault}
+use Rattle.expand_work.specs.declared.fault.WaveFault.TheVariants as wave_faults
+use Rattle.req_table.specs.declared.Key.{Key}
+use Rattle.req_table.specs.declared.Child.{Child}
+use Rattle.req_table.specs.declared.Child.TheVariants as child
+use Rattle.req_table.specs.declared.Record.{Record}
+use Rattle.req_table.specs.Keys.{child_of, record_of, meaning, wave_of}
+use Rattle.req_table.proofs.AsksFor.{AsksFor, asks_for}
+use Rattle.req_table.proofs.Waved.{is_wave, are_requests}
+use Rattle.expand_work.specs.Fault.{wave_fault}
+use Rattle.reduce_up.specs.Reducing.{IsKeyAt, IsAnswer, IsAnswerAt, IsChild, IsRecordAt, AreAnswers, AskedBy, AddsDescribed, IsRecordFault}
+use Rattle.reduce_up.specs.Waves.{Entry, IsEntry, HasRequest, IsWaveFault, requests_of}
+use Rattle.reduce_up.proofs.Reduction.{resolved, record_kept, kept_meaning, answer_kept, adds_none}
+use Rattle.reduce_up.proofs.Noting.{nothing, in_cases}
+use Rattle.reduce_up.proofs.Closed.{key_at, right}
+use Rattle.reduce_up.proofs.Opposite.{either_more, either_kept}
+use Rattle.reduce_up.proofs.Rooted.{of_entry, requests_good}
+use Rattle.req_table.specs.declared.placed.Placed.{Placed}
+use Rattle.req_table.specs.declared.placed.PlacedChild.TheVariants.{Done, Ask}
+use Rattle.req_table.specs.Places.{row, StandsAt, IsPlaced, AreNone, IsLastLevel}
+use Rattle.reduce_up.specs.ByPlace.{IsAdmitted, AreExpanded}
+use Rattle.reduce_up.specs.Up.{ComesTo, IsBelow, IsKnown, AskedAt, IsReadyAt, IsLevelReduced, IsLevelFault, AreReducedBelow}
+use Rattle.req_table.proofs.Standing.{some_same, stands_none, stands_some}
+use Rattle.reduce_up.proofs.Wanted.{level_adds, lacks_wanted}
+
+-- a key with two answers as its children
+abbrev pub rec : Key → Ref → Ref → Record
+rec k lo hi = record { key = k; low = child.Done lo; high = child.Done hi }
+
+-- what a child comes to is one reference
+pub one_answer : (A : List (List Ref)) (d : Placed) (r s : Ref) → ComesTo A d r → ComesTo A d s → r ≡ s
+one_answer A (Done x) r s e f = e ∙ sym f
+one_answer A (Ask l p m) r s e f = e.2 ∙ ap (mark_by m) (some_same (slice_get (row A l) p) e.0 f.0 e.1 f.1) ∙ sym f.2
+
+-- answers of another level leave it
+comes_on : (A B : List (List Ref)) (v : ℕ) → ((w : ℕ) → (w ≡ v → ⊥) → row B w ≡ row A w) → (d : Placed) → IsBelow v d → (r : Ref) → ComesTo A d r → ComesTo B d r
+comes_on A B v same (Done x) b r c = c
+comes_on A B v same (Ask l p m) b r c = (c.0, subst (λ (z : List Ref). slice_get z p ≡ Some c.0) (sym (same l (λ e. omega (arith, e, b)))) c.1, c.2)
+
+-- answers of a level leave it ready
+pub ready_beside : (s : Nodes) (T : List (List Key)) (pairs : List (Placed × Placed)) (A B : List (List Ref)) (v : ℕ) → ((w : ℕ) → (w ≡ v → ⊥) → row B w ≡ row A w) → IsReadyAt s T pairs A v → IsReadyAt s T pairs B v
+ready_beside s T pairs A B v same R = record {
+  bounded = R.bounded;
+  counts = R.counts;
+  keys = R.keys;
+  low = λ q k d h g. let n = R.low q k d h g in (n.0, (n.1.0, comes_on A B v same d.0 n.0 n.1.0 n.1.1, n.1.2));
+  high = λ q k d h g. let n = R.high q k d h g in (n.0, (n.1.0, comes_on A B v same d.1 n.0 n.1.0 n.1.1, n.1.2));
+}
+
+-- Of level v the first i requests are reduced, and one more is to be.
+module _ (s0 : Nodes) (sound : IsSound s0) (T : List (List Key)) (pairs : List (Placed × Placed)) (A : List (List Ref)) (v : ℕ) (R : IsReadyAt s0 T pairs A v)
+    (i : ℕ) (s : Nodes) (own : List Ref) (so : IsLevelReduced s0 T v i s own) (d : Placed × Placed) (at : slice_get pairs i ≡ Some d) where
+  -- the request at that place
+  pub here : (k : Key) × StandsAt T v i k
+  here = stands_some (row T v) i (let e : length pairs ≡ length (row T v) = R.counts in let lt : i < length pairs = slice_get_within pairs i d at in omega (arith, e, lt))
+
+  pub low_comes : (r : Ref) × ComesTo A d.0 r
+  low_comes = let k = R.low i here.0 d here.1 at in (k.1.0, k.1.1)
+
+  pub high_comes : (r : Ref) × ComesTo A d.1 r
+  high_comes = let k = R.high i here.0 d here.1 at in (k.1.0, k.1.1)
+
+  -- its children's answers make a record of it
+  pub is_record : (lo hi : Ref) → ComesTo A d.0 lo → ComesTo A d.1 hi → IsRecordAt s v (rec here.0 lo hi)
+  is_record lo hi cl ch =
+      let low = R.low i here.0 d here.1 at in
+      let high = R.high i here.0 d here.1 at in
+      let el : low.1.0 ≡ lo = one_answer A d.0 low.1.0 lo low.1.1 cl in
+      let eh : high.1.0 ≡ hi = one_answer A d.1 high.1.0 hi high.1.1 ch in
+      record_kept s0 s sound so.adds.keeps v (rec here.0 lo hi) (record {
+        key = R.keys i here.0 here.1;
+        low = subst (IsAnswerAt s0 v here.0 false) el low.1.2;
+        high = subst (IsAnswerAt s0 v here.0 true) eh high.1.2;
+      })
+
+  -- what its node adds
+  pub adds_one : (lo hi : Ref) (u : Nodes) → AddsDescribed s u (AskedBy s v (rec here.0 lo hi ∷ [])) → AddsDescribed s0 u (AskedAt s0 T v)
+  adds_one lo hi u j = record { keeps = keeps-trans s0 s u so.adds.keeps j.keeps; described = λ m h. later m (j.described m h) }
+    where
+      K : Keeps s0 s
+      K = so.adds.keeps
+
+      L : Keeps s u
+      L = j.keeps
+
+      key : IsKeyAt s0 v here.0
+      key = R.keys i here.0 here.1
+
+      earlier : (m : Ref) → Has s m → Has s0 m ⊎ ((w : ℕ) × (lo : Ref) × (hi : Ref) × (part s m ≡ node w lo hi) × OfEither (AskedAt s0 T v w) (den s m)) → Has s0 m ⊎ ((w : ℕ) × (lo : Ref) × (hi : Ref) × (part u m ≡ node w lo hi) × OfEither (AskedAt s0 T v w) (den u m))
+      earlier m h (inl k) = inl k
+      earlier m h (inr k) = inr (k.0, k.1, k.2, L.part_is m h ∙ k.3, either_kept s u so.held L (AskedAt s0 T v k.0) m h k.4)
+
+      only_entry : (r : Record) → Contains (rec here.0 lo hi ∷ []) r → r ≡ rec here.0 lo hi
+      only_entry r c = elim (in_cases (rec here.0 lo hi) r [] c) [ inl e ↦ sym e | inr n ↦ absurd (nothing r n) ]
+
+      of_level : (w : ℕ) (f : List Bool → Bool) → AskedBy s v (rec here.0 lo hi ∷ []) w f → AskedAt s0 T v w f
+      of_level w f (at, (r, c, e)) =
+          let same : r ≡ rec here.0 lo hi = only_entry r c in
+          (at, (i, here.0, here.1, λ x hx. e x (hx ∙ sym K.levels) ∙ ap (λ (r : Record). meaning s r.key x) same ∙ kept_meaning s0 s sound K here.0 key.first key.second x))
+
+      later : (m : Ref) → Has s m ⊎ ((w : ℕ) × (lo' : Ref) × (hi' : Ref) × (part u m ≡ node w lo' hi') × OfEither (AskedBy s v (rec here.0 lo hi ∷ []) w) (den u m)) → Has s0 m ⊎ ((w : ℕ) × (lo : Ref) × (hi : Ref) × (part u m ≡ node w lo hi) × OfEither (AskedAt s0 T v w) (den u m))
+      later m (inl h) = earlier m h (so.adds.described m h)
+      later m (inr k) = inr (k.0, k.1, k.2, k.3, either_more (AskedBy s v (rec here.0 lo hi ∷ []) k.0) (AskedAt s0 T v k.0) (of_level k.0) (den u m) k.4)
+
+  -- its answer stands next
+  pub one_more : (lo hi : Ref) (u : Nodes) → IsSound u → AddsDescribed s u (AskedBy s v (rec here.0 lo hi ∷ [])) → (r : Ref) → IsAnswer u here.0 r → (new : List Ref) → new ≡ own ++ r ∷ [] → IsLevelReduced s0 T v (i + 1) u new
+  one_more lo hi u su j r a new e = record {
+    held = su;
+    adds = adds_one lo hi u j;
+    count = ap length e ∙ simp length-append (omega (arith, so.count));
+    answered = λ q k x h g. by q k x h (slice_get_cases-push own r q x (subst (λ (z : List Ref). slice_get z q ≡ Some x) e g));
+  }
+    where
+      by : (q : ℕ) (k : Key) (x : Ref) → StandsAt T v q k → (slice_get own q ≡ Some x) ⊎ ((q ≡ length own) × (x ≡ r)) → IsAnswer u k x
+      by q k x h (inl g) = answer_kept s u so.held j.keeps k x (so.answered q k x h g)
+      by q k x h (inr g) =
+          let k-is : here.0 ≡ k = some_same (slice_get (row T v) i) here.0 k here.1 (subst (λ z. StandsAt T v z k) (g.0 ∙ so.count) h) in
+          subst (λ z. IsAnswer u z x) k-is (subst (IsAnswer u here.0) (sym g.1) a)
+
+  -- the cause of its refusal
+  pub one_fault : (u : Nodes) (f : StoreFault) → IsRecordFault u v here.0 f → IsLevelFault u T v (wave_fault f)
+  one_fault u store_faults.OutOfMemory x = tt
+  one_fault u store_faults.Full x = (i, here.0, here.1, elim (eq-or-lt_of_le x.0) [ inl e ↦ inr (sym e, x.1) | inr lt ↦ inl lt ])
+
+pub level_start : (s : Nodes) (T : List (List Key)) (pairs : List (Placed × Placed)) (A : List (List Ref)) (v : ℕ) → IsSound s → IsReadyAt s T pairs A v → IsLevelReduced s T v 0 s []
+level_start s T pairs A v S R = record {
+  held = S;
+  adds = adds_none s s (AskedAt s T v) refl;
+  count = refl;
+  answered = λ q k r h g. absurd (stands_none [] q r refl g);
+}
+
+-- a placed child whose request has its answer is known
+known : (s : Nodes) (T : List (List Key)) (A : List (List Ref)) (v : ℕ) (k : Key) (b : Bool) (d : Placed) (c : Child) → IsPlaced T d c → IsChild s v k b c →
+    ((w q : ℕ) (x : Key) → v < w → StandsAt T w q x → length (row A w) ≡ length (row T w)) → ((w q : ℕ) (x : Key) (r : Ref) → v < w → StandsAt T w q x → StandsAt A w q r → IsAnswer s x r) → IsKnown s A v k b d
+known s T A v k b (Done r) c p i counts answered = (tt, (r, refl, subst (IsChild s v k b) p i))
+known s T A v k b (Ask l p m) c h i counts answered =
+    let x : Key = h.0 in
+    let j : IsChild s v k b (child.Ask l x m) = subst (IsChild s v k b) h.2 i in
+    let within : p < length (row T l) = slice_get_within (row T l) p x h.1 in
+    let a = stands_some (row A l) p (let e : length (row A l) ≡ length (row T l) = counts l p x j.0 h.1 in omega (arith, e, within)) in
+    let answer : IsAnswer s x a.0 = answered l p x a.0 j.0 h.1 a.1 in
+    let only : AreAnswers s ((x, a.0) ∷ []) = λ y r c. elim (in_cases {X = Key × Ref} (x, a.0) (y, r) [] c) [
+      | inl e ↦ subst (λ (z : Key × Ref). IsAnswer s z.0 z.1) e answer
+      | inr n ↦ absurd (nothing {X = Key × Ref} (y, r) n)
+    ] in
+    (j.0, (mark_by m a.0, (a.0, a.1, refl), resolved s v k b (child.Ask l x m) ((x, a.0) ∷ []) (mark_by m a.0) j only (a.0, (0, omega arith, refl), refl)))
+
+-- the last level of lists that are the same before a level is the last of the others
+pub last_left : {X : Type 0} (old new : List (List X)) (u : ℕ) → ((w : ℕ) → w < u → row new w ≡ row old w) → (found : Option ℕ) → IsLastLevel new u found → IsLastLevel old u found
+last_left {X} old new u same None h = λ w q x ge lt at. h w q x ge lt (subst (λ (z : List X). slice_get z q ≡ Some x) (sym (same w lt)) at)
+last_left {X} old new u same (Some v) h = (
+  h.0,
+  subst (λ (z : List X). 0 < length z) (same v h.0) h.1,
+  λ w q x ge lt at. h.2 w q x ge lt (subst (λ (z : List X). slice_get z q ≡ Some x) (sym (same w lt)) at),
+)
+
+-- Of a wave over the store S.
+module _ (S : Nodes) (w : IsSound S) (entries : List Entry) (good : All (IsEntry S) entries) (roots : List Placed) (T : List (List Key)) (rows : List (List (Placed × Placed))) (from : ℕ) (E : AreExpanded S entries roots from T rows) where
+  splits : (v : ℕ) (k : Key) → IsAdmitted S entries v k → IsRecordAt S v (record_of S k)
+  splits v k a = subst (λ z. IsRecordAt S z (record_of S k)) a.level (record {
+    key = key_at S w 1 (requests_of entries) (requests_good S entries good) k a.key;
+    low = right S w 1 (requests_of entries) (requests_good S entries good) k false (child_of S k false) a.key refl;
+    high = right S w 1 (requests_of entries) (requests_good S entries good) k true (child_of S k true) a.key refl;
+  })
+
+  -- nothing stands where no children stand
+  pub none_split : (v u : ℕ) → u ≤ from → AreNone rows v u → AreNone T v u
+  none_split v u le none w q k ge lt h =
+      let c : length (row rows w) ≡ length (row T w) = E.counts w (omega (arith, lt, le)) in
+      let within : q < length (row T w) = slice_get_within (row T w) q k h in
+      let d = stands_some (row rows w) q (omega (arith, c, within)) in
+      none w q d.0 ge lt d.1
+
+  -- an expanded level whose deeper levels have their answers can be reduced
+  pub level_ready : (v : ℕ) (s : Nodes) (A : List (List Ref)) → v < from → v < S.levels → AreReducedBelow S entries T (v + 1) s A → IsReadyAt s T (row rows v) A v
+  level_ready v s A lt fit d = record {
+    bounded = let e : s.levels ≡ S.levels = d.adds.keeps.levels in omega (arith, e, fit);
+    counts = E.counts v lt;
+    keys = λ q k h. (at q k h).key;
+    low = λ q k p h g. known s T A v k false p.0 (child_of S k false) (E.split v q k p lt h g).0 (at q k h).low (λ u x y le. d.counts u x y (omega (arith, le))) (λ u x y r le. d.answered u x y r (omega (arith, le)));
+    high = λ q k p h g. known s T A v k true p.1 (child_of S k true) (E.split v q k p lt h g).1 (at q k h).high (λ u x y le. d.counts u x y (omega (arith, le))) (λ u x y r le. d.answered u x y r (omega (arith, le)));
+  }
+    where
+      at : (q : ℕ) (k : Key) → StandsAt T v q k → IsRecordAt s v (record_of S k)
+      at q k h = record_kept S s w d.adds.keeps v (record_of S k) (splits v k (E.admitted.keys v q k h))
+
+  -- one level more is reduced
+  pub level_next : (v : ℕ) (s : Nodes) (A : List (List Ref)) → v < from → AreReducedBelow S entries T (v + 1) s A → (u : Nodes) (own : List Ref) → IsLevelReduced s T v (length (row rows v)) u own → count_of u ≤ u.limit →
+      (B : List (List Ref)) → length B ≡ length A → row B v ≡ own → ((w : ℕ) → (w ≡ v → ⊥) → row B w ≡ row A w) → AreReducedBelow S entries T v u B
+  level_next v s A lt d u own so within B len here others = record {
+    held = so.held;
+    adds = level_adds S w entries good T v s u E.admitted d.held so.held d.adds so.adds;
+    levels = len ∙ d.levels;
+    counts = λ x q k le h. elim (eq-or-lt_of_le le) [
+      | inl e ↦ subst (λ z. length (row B z) ≡ length (row T z)) e (ap length here ∙ so.count ∙ E.counts v lt)
+      | inr l ↦ ap length (others x (λ e. omega (arith, e, l))) ∙ d.counts x q k (omega (arith, l)) h
+    ];
+    answered = λ x q k r le h g. elim (eq-or-lt_of_le le) [
+      | inl e ↦ so.answered q k r (subst (λ z. StandsAt T z q k) (sym e) h) (subst (λ (z : List Ref). slice_get z q ≡ Some r) here (subst (λ z. StandsAt B z q r) (sym e) g))
+      | inr l ↦ answer_kept s u d.held so.adds.keeps k r (d.answered x q k r (omega (arith, l)) h (subst (λ (z : List Ref). slice_get z q ≡ Some r) (others x (λ e. omega (arith, e, l))) g))
+    ];
+    within = inl within;
+  }
+
+  -- levels without requests are passed over
+  pub levels_left : (v u : ℕ) (s : Nodes) (A : List (List Ref)) → AreNone T v u → AreReducedBelow S entries T u s A → AreReducedBelow S entries T v s A
+  levels_left v u s A none d = record {
+    held = d.held;
+    adds = d.adds;
+    levels = d.levels;
+    counts = λ x q k le h. elim (cases_lt x u) [ inl lt ↦ absurd (none x q k le lt h) | inr ge ↦ d.counts x q k ge h ];
+    answered = λ x q k r le h g. elim (cases_lt x u) [ inl lt ↦ absurd (none x q k le lt h) | inr ge ↦ d.answered x q k r ge h g ];
+    within = elim d.within [
+      | inl le ↦ inl le
+      | inr n ↦ inr (λ x q k le h. elim (cases_lt x u) [ inl lt ↦ none x q k le lt h | inr ge ↦ n.0 x q k ge h ], n.1)
+    ];
+  }
+
+  -- a request that stands somewhere is one of the entries'
+  pub has_request : (v : ℕ) (k : Key) → IsAdmitted S entries v k → HasRequest entries
+  has_request v k i =
+      let a : AsksFor (wave_of S 1) (meaning S) (requests_of entries) k =
+      asks_for (wave_of S 1) (is_wave S w 1 (omega arith)) (part S) (Has S) (den S) (meaning S) (are_requests S w 1) (requests_of entries) (requests_good S entries good) k i.reached in
+      let e = of_entry entries a.from a.is_root in
+      (e.0, e.1, e.2)
+
+  -- the cause of a level's refusal is one of the wave
+  pub level_refused : (v : ℕ) (s : Nodes) → Keeps S s → (f : WaveFault) → IsLevelFault s T v f → IsWaveFault S entries s f
+  level_refused v s K wave_faults.OutOfMemory x = tt
+  level_refused v s K wave_faults.NoWorker x = tt
+  level_refused v s K wave_faults.TooManyRequests x = tt
+  level_refused v s K wave_faults.Full x =
+      let a : IsAdmitted S entries v x.1 = E.admitted.keys v x.0 x.1 x.2 in
+      (has_request v x.1 a, elim x.3 [ inl over ↦ inl over | inr full ↦ inr (full.0, lacks_wanted S w entries good v x.1 s K a full.1) ])
+
+-- a level with requests, of which the store is past its limit
+pub past_fault : (s : Nodes) (T : List (List Key)) (pairs : List (Placed × Placed)) (A : List (List Ref)) (v : ℕ) → IsReadyAt s T pairs A v → 0 < length pairs → (u : Nodes) → u.limit < count_of u → IsLevelFault u T v wave_faults.Full
+past_fault s T pairs A v R some u over =
+    let k = stands_some (row T v) 0 (let e : length pairs ≡ length (row T v) = R.counts in omega (arith, e, some)) in
+    (0, k.0, k.1, inl over)
+
+-- a level is not refused for want of a worker, nor for too many requests
+pub no_worker : (s : Nodes) (T : List (List Key)) (v : ℕ) (e : WaveFault) → IsLevelFault s T v e → e ≢ wave_faults.NoWorker
+no_worker s T v wave_faults.OutOfMemory h = λ e. absurd (cc)
+no_worker s T v wave_faults.NoWorker h = absurd h
+no_worker s T v wave_faults.TooManyRequests h = absurd h
+no_worker s T v wave_faults.Full h = λ e. absurd (cc)
+
+pub no_bound : (s : Nodes) (T : List (List Key)) (v : ℕ) (e : WaveFault) → IsLevelFault s T v e → e ≢ wave_faults.TooManyRequests
+no_bound s T v wave_faults.OutOfMemory h = λ e. absurd (cc)
+no_bound s T v wave_faults.NoWorker h = absurd h
+no_bound s T v wave_faults.TooManyRequests h = absurd h
+no_bound s T v wave_faults.Full h = λ e. absurd (cc)

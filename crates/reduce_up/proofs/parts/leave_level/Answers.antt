@@ -1,0 +1,25 @@
+use Rattle.std.proofs.Common.{◌≡◌, ◌<◌, ◌∙◌, ap, arith, List, [], length, get_or}
+use Rattle.std.proofs.Math.Seq.{map-set_same}
+use Rattle.std.proofs.lemmas.List.{length-set, get_or_default}
+use Rattle.req_table.specs.declared.placed.Placed.{Placed}
+use Rattle.req_table.specs.Places.{row}
+use Rattle.req_table.proofs.Standing.{row_other}
+use Rattle.reduce_up.proofs.OverParts.{all_long, left_more}
+use Rattle.reduce_up.proofs.parts.leave_level.Goals as goal
+
+pub leave-requires : goal.leave-requires
+leave-requires c =
+    all_long (λ n. c.args.level < n) c.loop-place.parts c.args.parts.now c.loop-place.invariant.levels c.requires c.loop-place.place c.index-parts-place.result (let a = c.loop-place.auto.place-end in let t = c.loop-place-test.true in omega (arith, t))
+
+pub loop-place-preserved : goal.loop-place-preserved
+loop-place-preserved c =
+    let ps = c.loop-place.parts in
+    let i = c.loop-place.place in
+    let own : List (List (Placed × Placed)) = get_or ps i c.index-parts-place.result in
+    let new : List (List (Placed × Placed)) = c.leave.new.self in
+    let lt : i < length ps = (let t = c.loop-place-test.true in omega (arith, t)) in
+    let read : own ≡ get_or ps i [] = get_or_default ps i c.index-parts-place.result [] lt in
+    record {
+      levels = map-set_same (λ (rows : List (List (Placed × Placed))). length rows) ps i new [] (ap length c.leave.ensures ∙ length-set own c.args.level [] ∙ ap length read) ∙ c.loop-place.invariant.levels;
+      others = λ w ne. left_more ps i new w lt (ap (λ (z : List (List (Placed × Placed))). row z w) c.leave.ensures ∙ row_other own c.args.level [] w ne ∙ ap (λ (z : List (List (Placed × Placed))). row z w) read) ∙ c.loop-place.invariant.others w ne;
+    }

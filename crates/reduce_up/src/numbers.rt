@@ -1,0 +1,366 @@
+//! Requests that workers asked each other for, told by place. A child of a worker's record names the request's owner alone; of what a
+//! worker asked of that owner, in order, it is the next, and the owner noted at which place of its own it stands. Here each child gets
+//! its place among all requests of its level, those of the workers one behind the other.
+ghost use Rattle.std.specs.Prelude.{◌≡◌, ℕ, ◌+◌, ◌++◌, ◌<◌, ◌≤◌, ◌^◌, [], length, replicate, slice_index_or, All, List, IfOk, IsOk, OnOk};
+ghost use Rattle.std.specs.List.{AllZip};
+ghost use Rattle.req_table.specs.declared.Key.{Key as KeyValue};
+ghost use Rattle.req_table.specs.declared.Child.{Child as ChildValue};
+ghost use Rattle.req_table.specs.declared.Record.{Record as RecordValue};
+ghost use Rattle.req_table.specs.Keys.{IsKey};
+ghost use Rattle.req_table.specs.Places.{IsPlaced};
+ghost use Rattle.req_table.specs.Settled.{level_of_rows};
+ghost use Rattle.expand_work.specs.Expanded.{row_of};
+ghost use Rattle.expand_work.specs.Gathered.{AreParts};
+ghost use Rattle.expand_work.specs.Lean.{lean_row, AreLean};
+ghost use Rattle.reduce_up.specs.Numbers.{keys_of, starts_at, starts_below, asked_from, AreFew, IsField, IsNext, AreNext};
+ghost use Rattle.reduce_up.specs.Numbers.{IsRowNumbered, IsNumberedTo, IsShareNumbered, AreNew, AreShares, IsRootPlaced, MayNumber, MayNumberAll};
+ghost use Rattle.reduce_up.specs.Numbers.{AreAllNumbered, AreRowsNumbered, AreNumbered};
+
+use crate::forks::fork_each;
+use dd_store::Store;
+use expand_work::Notes;
+use req_table::requests::{level_of, owner};
+use req_table::{Key, Placed, PlacedChild, Row, Rows};
+use std::alloc::{AllocError, Global};
+use std::marker::Sync;
+use std::mem;
+use std::thread::Threads;
+
+/// What is read while children are numbered: what the workers noted, and, level by level, how many requests of the level the workers
+/// before each have.
+#[derive(Clone, Copy)]
+pub(crate) struct Field<'a> {
+    alloc: Global,
+    store: &'a Store,
+    notes: &'a Notes,
+    starts: &'a [u32],
+    workers: u32,
+}
+
+/// A worker's share: its rows, how many requests it has asked of each worker so far, an empty row for the next level, how many requests
+/// had their children in the memory of that row, and whether there was memory.
+#[derive(Drop)]
+pub(crate) struct Share {
+    rows: Rows,
+    next: Vec<usize>,
+    room: Row,
+    room_size: usize,
+    done: Result<(), AllocError>,
+}
+
+/// A sender's child by its place: of what the sender asks of the child's owner it is the next.
+#[inline(always)]
+fn number(field: Field<'_>, sender: u32, next: &mut Vec<usize>, child: Placed) -> Placed
+    requires field { IsField field.store.now field.workers field.notes.now field.starts.now }
+    requires sender { sender < field.workers }
+    requires child { (c : ChildValue) × (rest : List KeyValue)
+        × IsNext field.store.now field.workers field.notes.now sender next.old.items child c rest }
+    ensures next { (c : ChildValue) (rest : List KeyValue)
+        → IsNext field.entry.store.now field.entry.workers field.entry.notes.now sender next.old.items child c rest
+        → AreNext field.entry.store.now field.entry.workers field.entry.notes.now sender rest next.new.items }
+    ensures placed { (c : ChildValue) (rest : List KeyValue)
+        → IsNext field.entry.store.now field.entry.workers field.entry.notes.now sender next.old.items child c rest
+        → IsPlaced (keys_of field.entry.workers field.entry.notes.now field.entry.store.now.levels) result c }
+{
+    match child.view() {
+        PlacedChild::Done(_) => child,
+        PlacedChild::Ask {
+            level,
+            number: owner,
+            mark,
+        } => {
+            let turn = next[owner as usize];
+            let place = field.notes.noted(owner, sender)[turn];
+            next[owner as usize] = turn + 1;
+            let start = field.starts[level as usize * field.workers as usize + owner as usize];
+            Placed::ask(level, start + place, mark)
+        }
+    }
+}
+
+/// The children of a sender's requests of a level by their places, put into an empty row.
+fn number_row(
+    field: Field<'_>,
+    sender: u32,
+    level: u16,
+    lean: &Row,
+    next: &mut Vec<usize>,
+    room: &mut Row,
+) -> Result<(), AllocError>
+    requires field { IsField field.store.now field.workers field.notes.now field.starts.now }
+    requires sender { sender < field.workers }
+    requires level { level < field.store.now.levels }
+    requires lean { lean.now ≡ lean_row field.workers (row_of field.notes.now.rows sender level) }
+    requires next { AreNext field.store.now field.workers field.notes.now sender
+        (asked_from field.store.now.levels level (row_of field.notes.now.rows sender)) next.old.items }
+    requires room { room.old ≡ [] }
+    ensures row { OnOk result (IsRowNumbered field.entry.store.now field.entry.workers field.entry.notes.now sender level room.new) }
+    ensures next { OnOk result (AreNext field.entry.store.now field.entry.workers field.entry.notes.now sender
+        (asked_from field.entry.store.now.levels (level + 1) (row_of field.entry.notes.now.rows sender)) next.new.items) }
+{
+    room.reserve(lean.len())?;
+    for place in 0..lean.len() {
+        let (low, high) = lean.at(place);
+        let low = number(field, sender, next, low);
+        let high = number(field, sender, next, high);
+        room.push((low, high))?;
+    }
+    Ok(())
+}
+
+/// An empty row for so many requests: the room, unless its memory is that of a row more than twice as large, which a small level would
+/// keep in vain.
+fn fitting_room(alloc: Global, room: Row, size: usize, count: usize) -> Row
+    requires { room ≡ [] }
+    ensures { result ≡ [] }
+{
+    if size / 2 > count {
+        return Row::new(alloc);
+    }
+    room
+}
+
+impl Share {
+    /// The children of a level by their places. The memory of its row is the next level's room.
+    fn number_level(&mut self, field: Field<'_>, sender: u32, level: u16) -> Result<(), AllocError>
+        requires field { IsField field.store.now field.workers field.notes.now field.starts.now }
+        requires sender { sender < field.workers }
+        requires level { level < field.store.now.levels }
+        requires rows { IsNumberedTo field.store.now field.workers field.notes.now sender level self.old.rows self.old.next.items }
+        requires room { self.old.room ≡ [] }
+        ensures rows { OnOk result (IsNumberedTo field.entry.store.now field.entry.workers field.entry.notes.now sender (level + 1)
+            self.new.rows self.new.next.items) }
+        ensures room { OnOk result (self.new.room ≡ []) }
+    {
+        let count = self.rows.row(level).len();
+        if count == 0 {
+            return Ok(());
+        }
+        let mut lean = self.rows.take(level);
+        let room = mem::replace(&mut self.room, Row::new(field.alloc));
+        let mut room = fitting_room(field.alloc, room, self.room_size, count);
+        number_row(field, sender, level, &lean, &mut self.next, &mut room)?;
+        self.rows.put(level, room);
+        lean.clear();
+        self.room = lean;
+        self.room_size = count;
+        Ok(())
+    }
+
+    /// The children of all levels by their places.
+    fn number_rows(&mut self, field: Field<'_>, sender: u32) -> Result<(), AllocError>
+        requires field { IsField field.store.now field.workers field.notes.now field.starts.now }
+        requires sender { sender < field.workers }
+        requires rows { IsNumberedTo field.store.now field.workers field.notes.now sender 0 self.old.rows self.old.next.items }
+        requires room { self.old.room ≡ [] }
+        ensures { OnOk result (IsNumberedTo field.entry.store.now field.entry.workers field.entry.notes.now sender
+            field.entry.store.now.levels self.new.rows self.new.next.items) }
+    {
+        for level in 0..field.store.levels() {
+            self.number_level(field, sender, level)?;
+        }
+        Ok(())
+    }
+
+    /// Numbers the children of the worker whose share this is, and notes whether there was memory.
+    fn run(&mut self, field: Field<'_>, sender: u32)
+        requires field { IsField field.store.now field.workers field.notes.now field.starts.now }
+        requires sender { sender < field.workers }
+        requires rows { IsNumberedTo field.store.now field.workers field.notes.now sender 0 self.old.rows self.old.next.items }
+        requires room { self.old.room ≡ [] }
+        ensures { IsShareNumbered field.entry.store.now field.entry.workers field.entry.notes.now sender self.new }
+    {
+        self.done = self.number_rows(field, sender);
+    }
+
+    /// The rows, where there was memory.
+    fn into_rows(self) -> Result<Rows, AllocError>
+        ensures { IfOk result (λ rows. (rows ≡ self.rows) × IsOk self.done) }
+    {
+        let Share {
+            rows,
+            next: _,
+            room: _,
+            room_size: _,
+            done,
+        } = self;
+        done?;
+        Ok(rows)
+    }
+}
+
+/// Adds how many requests of a level the workers before each have; OutOfMemory where 32 bits do not count them.
+fn push_starts(rows: &[Rows], level: u16, starts: &mut Vec<u32>) -> Result<(), AllocError>
+    requires levels { All (λ own. level < length own) rows.now }
+    ensures starts { (records : List (List (List RecordValue))) → AreLean records rows.now
+        → OnOk result (starts.new.items ≡ starts.old.items ++ starts_at (length records) (row_of records) level) }
+    ensures few { (records : List (List (List RecordValue))) → AreLean records rows.now
+        → OnOk result (length (level_of_rows (length records) (row_of records) level) < 2 ^ 32) }
+{
+    let mut start: u32 = 0;
+    for worker in 0..rows.len() {
+        starts.push(start)?;
+        let count = rows[worker].row(level).len();
+        if count > (u32::MAX - start) as usize {
+            return Err(AllocError);
+        }
+        start += count as u32;
+    }
+    Ok(())
+}
+
+/// How many requests of each level the workers before each have.
+fn all_starts(alloc: Global, rows: &[Rows], levels: u16) -> Result<Vec<u32>, AllocError>
+    requires levels { All (λ own. length own ≡ levels) rows.now }
+    ensures starts { (records : List (List (List RecordValue))) → AreLean records rows.now
+        → IfOk result (λ starts. starts.items ≡ starts_below levels (length records) (row_of records)) }
+    ensures few { (records : List (List (List RecordValue))) → AreLean records rows.now
+        → OnOk result (AreFew levels (length records) (row_of records)) }
+{
+    let mut starts = Vec::with_capacity(alloc, rows.len().saturating_mul(levels as usize))?;
+    for level in 0..levels {
+        push_starts(rows, level, &mut starts)?;
+    }
+    Ok(starts)
+}
+
+/// So many numbers fill two cache lines. That much stays unwritten behind each worker's, so that threads which count at the same time
+/// write to no line in common.
+const NUMBERS_APART: usize = 16;
+
+/// No requests of so many workers.
+fn no_requests(alloc: Global, workers: u32) -> Result<Vec<usize>, AllocError>
+    ensures { IfOk result (λ next. next.items ≡ replicate workers 0) }
+{
+    let mut next = Vec::with_capacity(alloc, workers as usize + NUMBERS_APART)?;
+    for made in 0..workers {
+        next.push(0)?;
+    }
+    Ok(next)
+}
+
+/// A share for each worker, in which nothing is asked for yet.
+fn new_shares(field: Field<'_>, rows: Vec<Rows>) -> Result<Vec<Share>, AllocError>
+    ensures { IfOk result (λ shares. AreNew field.entry.workers rows.items shares.items) }
+{
+    let mut shares = Vec::with_capacity(field.alloc, rows.len())?;
+    for own in rows {
+        let next = no_requests(field.alloc, field.workers)?;
+        shares.push(Share {
+            rows: own,
+            next,
+            room: Row::new(field.alloc),
+            room_size: 0,
+            done: Err(AllocError),
+        })?;
+    }
+    Ok(shares)
+}
+
+/// A root by its place: worker i modulo their number asks for root i.
+fn number_root(field: Field<'_>, roots: &[Key], root: usize, shares: &mut [Share]) -> Placed
+    requires field { IsField field.store.now field.workers field.notes.now field.starts.now }
+    requires root { root < length roots.now }
+    requires shares { AreShares field.store.now field.workers roots.now field.notes.now root shares.old }
+    ensures shares { AreShares field.entry.store.now field.entry.workers roots.now field.entry.notes.now (root + 1) shares.new }
+    ensures placed { (x : KeyValue) → IsRootPlaced field.entry.store.now field.entry.workers field.entry.notes.now
+        (slice_index_or roots.now root x) result }
+{
+    let key = roots[root];
+    let sender = (root % field.workers as usize) as u32;
+    let child = Placed::ask(level_of(field.store, key), owner(key, field.workers), false);
+    let share = &mut shares[sender as usize];
+    number(field, sender, &mut share.next, child)
+}
+
+/// The roots by their places.
+fn number_roots(
+    field: Field<'_>,
+    roots: &[Key],
+    shares: &mut [Share],
+) -> Result<Vec<Placed>, AllocError>
+    requires field { IsField field.store.now field.workers field.notes.now field.starts.now }
+    requires shares { AreShares field.store.now field.workers roots.now field.notes.now 0 shares.old }
+    ensures shares { OnOk result (AreShares field.entry.store.now field.entry.workers roots.now field.entry.notes.now
+        (length roots.now) shares.new) }
+    ensures placed { IfOk result (λ placed. AllZip (IsRootPlaced field.entry.store.now field.entry.workers field.entry.notes.now)
+        roots.now placed.items) }
+{
+    let mut placed = Vec::with_capacity(field.alloc, roots.len())?;
+    for root in 0..roots.len() {
+        let child = number_root(field, roots, root, shares);
+        placed.push(child)?;
+    }
+    Ok(placed)
+}
+
+/// Numbers the children of all workers, each worker's by a thread of its own.
+fn number_shares<R: Threads + Sync>(rt: &R, field: Field<'_>, shares: &mut [Share])
+    requires field { IsField field.store.now field.workers field.notes.now field.starts.now }
+    requires shares { MayNumberAll field.store.now field.workers field.notes.now shares.old }
+    ensures { AreAllNumbered field.entry.store.now field.entry.workers field.entry.notes.now shares.new }
+{
+    let run = |sender: usize, share: &mut Share|
+        requires { IsField field.store.now field.workers field.notes.now field.starts.now
+            × (sender < field.workers) × (sender < 2 ^ 32) × MayNumber field.store.now field.workers field.notes.now sender share.now }
+        ensures { IsShareNumbered field.entry.store.now field.entry.workers field.entry.notes.now sender share.exit.now }
+    { share.run(field, sender as u32) };
+    fork_each(rt, shares, &run);
+}
+
+/// The rows of the shares, where there was memory for all.
+fn shared_rows(field: Field<'_>, shares: Vec<Share>) -> Result<Vec<Rows>, AllocError>
+    requires { AreAllNumbered field.store.now field.workers field.notes.now shares.items }
+    ensures { IfOk result (λ rows. AreRowsNumbered field.entry.store.now field.entry.workers field.entry.notes.now field.entry.workers
+        rows.items) }
+{
+    let mut all = Vec::with_capacity(field.alloc, shares.len())?;
+    for share in shares {
+        all.push(share.into_rows()?)?;
+    }
+    Ok(all)
+}
+
+/// How many workers there are, where 32 bits count them.
+fn worker_count(rows: &Vec<Rows>) -> Result<u32, AllocError>
+    ensures { IfOk result (λ count. count ≡ length rows.now.items) }
+{
+    let count = rows.len();
+    if count > u32::MAX as usize {
+        return Err(AllocError);
+    }
+    Ok(count as u32)
+}
+
+/// Gives each child of the workers' requests its place among all requests of its level, those of the workers one behind the other, and
+/// tells what the roots come to. Each worker's rows are gone over by a thread of their own, from the first level down, in the order in
+/// which the worker asked. OutOfMemory, too, where a level has more requests than 32 bits count.
+pub(crate) fn number_all<R: Threads + Sync>(
+    rt: &R,
+    alloc: Global,
+    store: &Store,
+    notes: &Notes,
+    roots: &[Key],
+    rows: Vec<Rows>,
+) -> Result<(Vec<Rows>, Vec<Placed>), AllocError>
+    requires roots { All (IsKey store.now) roots.now }
+    requires some { 0 < length rows.items }
+    requires parts { AreParts store.now (length rows.items) roots.now notes.now }
+    requires lean { AreLean notes.now.rows rows.items }
+    ensures { IfOk result (λ r. AreNumbered store.now (length rows.items) roots.now notes.now r.0.items r.1.items) }
+{
+    let workers = worker_count(&rows)?;
+    let starts = all_starts(alloc, rows.as_slice(), store.levels())?;
+    let field = Field {
+        alloc,
+        store,
+        notes,
+        starts: starts.as_slice(),
+        workers,
+    };
+    let mut shares = new_shares(field, rows)?;
+    let all = shares.as_mut_slice();
+    let placed = number_roots(field, roots, all)?;
+    number_shares(rt, field, all);
+    Ok((shared_rows(field, shares)?, placed))
+}

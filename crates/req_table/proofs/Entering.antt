@@ -1,0 +1,61 @@
+-- A request that enters the table of its level.
+use Rattle.std.proofs.Common.{◌≡◌, ℕ, ◌<◌, ◌⊎◌, inl, inr, true, false, Bool, List, [], ◌∷◌, length, set, Some, slice_get, refl, sym, ◌∙◌, ap, subst}
+use Rattle.std.proofs.lemmas.List.{length-set}
+use Rattle.dd_store.proofs.Places.{slice_get-append, slice_get_cases-push}
+use Rattle.req_table.specs.declared.Key.{Key}
+use Rattle.req_table.specs.declared.Child.{Child}
+use Rattle.req_table.specs.declared.Child.TheVariants as child
+use Rattle.req_table.specs.Places.{row, StandsAt, Enters, Admits}
+use Rattle.req_table.specs.Tables.{Offers}
+use Rattle.req_table.proofs.Standing.{same_level, row_own, row_other}
+
+-- a key that was offered to a table, and its place there
+pub offered_enters : (old new : List Key) (k : Key) (p : ℕ) (fresh : Bool) → Offers old k fresh new → slice_get new p ≡ Some k → Enters old k p new
+offered_enters old new k p true o at = (at, inr o.1)
+offered_enters old new k p false o at = (at, inl o.1)
+
+-- the place of a key that entered
+entered_kept : (old new : List Key) (k : Key) (p : ℕ) → Enters old k p new → (q : ℕ) (x : Key) → slice_get old q ≡ Some x → slice_get new q ≡ Some x
+entered_kept old new k p e q x h =
+    elim e.1 [
+      | inl same ↦ subst (λ (z : List Key). slice_get z q ≡ Some x) (sym same) h
+      | inr more ↦ subst (λ (z : List Key). slice_get z q ≡ Some x) (sym more) (slice_get-append old (k ∷ []) q x h)
+    ]
+
+entered_only : (old new : List Key) (k : Key) (p : ℕ) → Enters old k p new → (q : ℕ) (x : Key) → slice_get new q ≡ Some x → (slice_get old q ≡ Some x) ⊎ (x ≡ k)
+entered_only old new k p e q x h =
+    elim e.1 [
+      | inl same ↦ inl (subst (λ (z : List Key). slice_get z q ≡ Some x) same h)
+      | inr more ↦ elim (slice_get_cases-push old k q x (subst (λ (z : List Key). slice_get z q ≡ Some x) more h)) [ inl o ↦ inl o | inr n ↦ inr n.1 ]
+    ]
+
+-- a request is placed
+pub ask_admits : (T : List (List Key)) (l : ℕ) (k : Key) (p : ℕ) (new : List Key) → l < length T → Enters (row T l) k p new → (m : Bool) → Admits T (child.Ask l k m) (set T l new)
+ask_admits T l k p new lt e m = record {
+  levels = length-set T l new;
+  kept = λ w q x h.
+      elim (same_level w l) [
+        | inl d ↦ subst (λ z. StandsAt (set T l new) z q x) (sym d)
+            (subst (λ (z : List Key). slice_get z q ≡ Some x) (sym (row_own T l new lt)) (entered_kept (row T l) new k p e q x (subst (λ z. StandsAt T z q x) d h)))
+        | inr d ↦ subst (λ (z : List Key). slice_get z q ≡ Some x) (sym (row_other T l new w d)) h
+      ];
+  only = λ w q x h.
+      elim (same_level w l) [
+        | inl d ↦
+            let at : slice_get new q ≡ Some x = subst (λ (z : List Key). slice_get z q ≡ Some x) (row_own T l new lt) (subst (λ z. StandsAt (set T l new) z q x) d h) in
+            elim (entered_only (row T l) new k p e q x at) [
+              | inl o ↦ inl (subst (λ z. StandsAt T z q x) (sym d) o)
+              | inr n ↦ inr (m, ap (λ z. child.Ask z k m) (sym d) ∙ ap (λ z. child.Ask w z m) (sym n))
+            ]
+        | inr d ↦ inl (subst (λ (z : List Key). slice_get z q ≡ Some x) (row_other T l new w d) h)
+      ];
+  others = λ w no. row_other T l new w (λ d. no k (m, ap (λ z. child.Ask z k m) (sym d)));
+}
+
+-- and stands at its place
+pub ask_placed : (T : List (List Key)) (l : ℕ) (k : Key) (p : ℕ) (new : List Key) → l < length T → Enters (row T l) k p new → StandsAt (set T l new) l p k
+ask_placed T l k p new lt e = subst (λ (z : List Key). slice_get z p ≡ Some k) (sym (row_own T l new lt)) e.0
+
+-- nothing is admitted
+pub none_admits : (T : List (List Key)) (c : Child) → Admits T c T
+none_admits T c = record { levels = refl; kept = λ w q x h. h; only = λ w q x h. inl h; others = λ w no. refl }

@@ -1,0 +1,6 @@
+use Rattle.std.proofs.Common.{rules}
+use Rattle.req_table.proofs.Standing.{made_empty}
+use Rattle.req_table.proofs.waiting.empty_tables.Goals as goal
+
+pub returns : goal.returns
+returns c = made_empty c.args.levels _ (search rules)

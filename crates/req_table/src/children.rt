@@ -1,0 +1,161 @@
+//! The children of a wave's requests, by level.
+ghost use Rattle.std.specs.Prelude.{◌≡◌, ◌<◌, ◌≤◌, ◌%◌, ◌^◌, [], length, replicate, set, IfOk, OnOk};
+ghost use Rattle.std.specs.List.{sum_by};
+ghost use Rattle.req_table.specs.Places.{row, AreEmpty, IsNextLevel, IsLastLevel};
+
+use crate::level_set::LevelSet;
+use crate::packed::Row;
+use std::alloc::{AllocError, Global};
+use std::marker::Model;
+use std::mem;
+
+/// The children of each expanded level's requests, by place. The levels that have some are known.
+#[derive(Drop)]
+pub struct Rows {
+    rows: Vec<Row>,
+    split: LevelSet,
+    /// A row of more requests gives its memory back when a level leaves it.
+    most_kept: usize,
+}
+
+impl Model for Rows {
+    ghost use Rattle.std.specs.Prelude.{List};
+    ghost use Rattle.req_table.specs.declared.placed.Placed.{Placed};
+
+    ghost Value = { List (List (Placed × Placed)) };
+
+    ghost use Rattle.req_table.specs.Places.{AreMembers};
+
+    ghost view = { λ r. r.rows.items };
+
+    ghost invariant = { λ r. AreMembers r.split r.rows.items };
+}
+
+/// So many empty rows.
+fn empty_rows(alloc: Global, levels: u16) -> Result<Vec<Row>, AllocError>
+    ensures { IfOk result (λ rows. AreEmpty rows.items levels) }
+{
+    let mut rows = Vec::new(alloc);
+    for made in 0..levels {
+        rows.push(Row::new(alloc))?;
+    }
+    Ok(rows)
+}
+
+impl Rows {
+    /// No levels. It takes no memory yet. A row of no more requests than `most_kept` is kept where its level leaves it, and a larger one
+    /// gives its memory back.
+    pub fn new(alloc: Global, most_kept: usize) -> Rows
+        ensures { result ≡ [] }
+    {
+        Rows {
+            rows: Vec::new(alloc),
+            split: LevelSet::new(alloc),
+            most_kept,
+        }
+    }
+
+    /// So many levels without children.
+    fn with_levels(alloc: Global, levels: u16, most_kept: usize) -> Result<Rows, AllocError>
+        ensures { IfOk result (λ r. AreEmpty r levels) }
+    {
+        Ok(Rows {
+            rows: empty_rows(alloc, levels)?,
+            split: LevelSet::with_room(alloc, levels)?,
+            most_kept,
+        })
+    }
+
+    /// Takes the children out of a level, with their memory.
+    pub fn take(&mut self, level: u16) -> Row
+        requires { level < length self.old }
+        ensures children { result ≡ row self.old level }
+        ensures rest { self.new ≡ set self.old level [] }
+    {
+        self.split.remove(level);
+        let fresh = Row::new(*self.rows.allocator());
+        mem::replace(&mut self.rows[level as usize], fresh)
+    }
+
+    /// Leaves a level without children. It keeps the memory of its row for the next wave, unless that is much.
+    pub fn leave(&mut self, level: u16)
+        requires { level < length self.old }
+        ensures { self.new ≡ set self.old level [] }
+    {
+        let mut used = self.take(level);
+        if used.len() > self.most_kept {
+            return;
+        }
+        used.clear();
+        self.rows[level as usize] = used;
+    }
+
+    /// Leaves so many levels without children. Only levels that had some are come to.
+    pub fn restart(&mut self, alloc: Global, levels: u16) -> Result<(), AllocError>
+        ensures { OnOk result (self.new ≡ replicate levels []) }
+    {
+        if self.rows.len() != levels as usize {
+            *self = Rows::with_levels(alloc, levels, self.most_kept)?;
+            return Ok(());
+        }
+        let mut from = 0;
+        while let Some(level) = self.next_level(from) {
+            self.leave(level);
+            from = level + 1;
+        }
+        Ok(())
+    }
+
+    /// Gives a level that has none its children.
+    pub fn put(&mut self, level: u16, children: Row)
+        requires bound { level < length self.old }
+        requires empty { row self.old level ≡ [] }
+        ensures { self.new ≡ set self.old level children }
+    {
+        let some = children.len() > 0;
+        self.rows[level as usize] = children;
+        if some {
+            self.split.insert(level);
+        }
+    }
+
+    /// The children of a level's requests, by place.
+    pub fn row(&self, level: u16) -> &Row
+        requires { level < length self.now }
+        ensures { result.now ≡ row self.now level }
+    {
+        &self.rows[level as usize]
+    }
+
+    /// How many requests all levels have, modulo 2^64.
+    pub fn count(&self) -> u64
+        ensures { result ≡ sum_by (λ row. length row) self.now % 2 ^ 64 }
+    {
+        let mut total: u64 = 0;
+        for row in &self.rows {
+            total = total.wrapping_add(row.len() as u64);
+        }
+        total
+    }
+
+    /// The first level from one on that has children.
+    fn next_level(&self, from: u16) -> Option<u16>
+        ensures { IsNextLevel self.now from result }
+    {
+        match self.split.next(from as usize) {
+            Some(level) => Some(level as u16),
+            None => None,
+        }
+    }
+
+    /// The last level before one that has children.
+    pub fn last_level(&self, end: u16) -> Option<u16>
+        requires { end ≤ length self.now }
+        ensures { IsLastLevel self.now end result }
+    {
+        match self.split.last(end as usize) {
+            Some(level) => Some(level as u16),
+            None => None,
+        }
+    }
+}

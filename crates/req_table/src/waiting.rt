@@ -1,0 +1,232 @@
+//! The requests of a wave, by level.
+ghost use Rattle.std.specs.Prelude.{◌≡◌, ◌<◌, [], Bool, length, set, IfOk, OnOk};
+ghost use Rattle.slot_table.specs.Lists.{IsOnce};
+ghost use Rattle.req_table.specs.declared.Child.TheVariants as child;
+ghost use Rattle.req_table.specs.Places.{row, StandsAt, Admits, AreEmpty, IsNextLevel};
+
+use crate::Key;
+use crate::level_set::LevelSet;
+use crate::spare::SpareTables;
+use crate::table::Table;
+use std::alloc::{AllocError, Global};
+use std::marker::Model;
+use std::mem;
+
+/// A table of more requests than these serves no other level: it gives its memory back, half a megabyte or more, which
+/// the children need.
+const MOST_LENT: usize = 1 << 14;
+
+/// A table of no more requests than these stays with its level: to hand it on takes as long as they do.
+const MOST_LEFT: usize = 64;
+
+/// The requests that wait at each level, each once. The levels that have some are known, so that those without are passed over.
+#[derive(Drop)]
+pub struct Waiting {
+    tables: Vec<Table>,
+    /// Tables of levels that were expanded. The next level that is asked for something takes the last of them, so a wave has as many
+    /// tables as levels that wait at once, but for small ones.
+    spare: SpareTables,
+    /// Whether a level has the memory of a small table.
+    left: Vec<bool>,
+    asked: LevelSet,
+}
+
+impl Model for Waiting {
+    ghost use Rattle.std.specs.Prelude.{List};
+    ghost use Rattle.req_table.specs.declared.Key.{Key};
+
+    ghost Value = { List (List Key) };
+
+    ghost use Rattle.req_table.specs.Places.{AreMembers};
+
+    ghost view = { λ r. r.tables.items };
+
+    ghost invariant = { λ r. AreMembers r.asked r.tables.items };
+}
+
+/// So many empty tables.
+fn empty_tables(alloc: Global, levels: u16) -> Result<Vec<Table>, AllocError>
+    ensures { IfOk result (λ tables. AreEmpty tables.items levels) }
+{
+    let mut tables = Vec::new(alloc);
+    for made in 0..levels {
+        tables.push(Table::new(alloc))?;
+    }
+    Ok(tables)
+}
+
+/// Keeps a table for another level, without its requests, unless it is large.
+fn keep_spare(spare: &mut SpareTables, table: Table) -> Result<(), AllocError> {
+    if table.len() > MOST_LENT {
+        return Ok(());
+    }
+    let mut table = table;
+    table.clear();
+    spare.put(table)
+}
+
+impl Waiting {
+    /// No levels. It takes no memory yet.
+    pub fn new(alloc: Global) -> Waiting
+        ensures { result ≡ [] }
+    {
+        Waiting {
+            tables: Vec::new(alloc),
+            spare: SpareTables::new(alloc),
+            left: Vec::new(alloc),
+            asked: LevelSet::new(alloc),
+        }
+    }
+
+    /// So many levels without requests.
+    fn with_levels(alloc: Global, levels: u16) -> Result<Waiting, AllocError>
+        ensures { IfOk result (λ r. AreEmpty r levels) }
+    {
+        let mut left = Vec::new(alloc);
+        left.resize(levels as usize, false)?;
+        Ok(Waiting {
+            tables: empty_tables(alloc, levels)?,
+            spare: SpareTables::new(alloc),
+            left,
+            asked: LevelSet::with_room(alloc, levels)?,
+        })
+    }
+
+    /// Notes whether a level has the memory of a small table.
+    fn note_left(&mut self, level: u16, has: bool)
+        ensures { self.new ≡ self.old }
+    {
+        if let Some(left) = self.left.get_mut(level as usize) {
+            *left = has;
+        }
+    }
+
+    /// Takes the requests from a level. Its table stays where it is small; else it serves another level, unless it is large.
+    pub fn empty_level(&mut self, level: u16) -> Result<(), AllocError>
+        requires { level < length self.old }
+        ensures { OnOk result (self.new ≡ set self.old level []) }
+    {
+        let small = self.count(level) <= MOST_LEFT;
+        self.note_left(level, small);
+        self.asked.remove(level);
+        if small {
+            self.tables[level as usize].clear();
+            return Ok(());
+        }
+        let fresh = Table::new(*self.tables.allocator());
+        let used = mem::replace(&mut self.tables[level as usize], fresh);
+        keep_spare(&mut self.spare, used)
+    }
+
+    /// Leaves so many levels without requests. Only levels that had some are come to.
+    pub fn restart(&mut self, alloc: Global, levels: u16) -> Result<(), AllocError>
+        ensures { OnOk result (AreEmpty self.new levels) }
+    {
+        if self.tables.len() != levels as usize {
+            *self = Waiting::with_levels(alloc, levels)?;
+            return Ok(());
+        }
+        let mut from = 0;
+        while let Some(level) = self.next_level(from) {
+            self.empty_level(level)?;
+            from = level + 1;
+        }
+        Ok(())
+    }
+
+    /// Gives a level without requests a spare table, unless it has the memory of a small one.
+    fn fit_table(&mut self, level: u16)
+        requires bound { level < length self.old }
+        requires first { row self.old level ≡ [] }
+        ensures { self.new ≡ self.old }
+    {
+        let left = match self.left.get(level as usize) {
+            Some(left) => *left,
+            None => false,
+        };
+        if !left && !self.spare.is_empty() {
+            self.tables[level as usize] = self.spare.take();
+        }
+    }
+
+    /// Admits the first request of a level.
+    #[inline(never)]
+    fn admit_first(&mut self, level: u16, key: Key) -> Result<u32, AllocError>
+        requires bound { level < length self.old }
+        requires first { row self.old level ≡ [] }
+        ensures stands { IfOk result (λ p. StandsAt self.new level p key) }
+        ensures admits { (mark : Bool) → Admits self.old (child.Ask level key mark) self.new }
+    {
+        self.fit_table(level);
+        let table = &mut self.tables[level as usize];
+        let (place, _) = table.admit(key)?;
+        self.asked.insert(level);
+        Ok(place)
+    }
+
+    /// The place of a request among those of its level, to which it is admitted if it was not there.
+    #[inline(always)]
+    pub fn admit(&mut self, level: u16, key: Key) -> Result<u32, AllocError>
+        requires { level < length self.old }
+        ensures stands { IfOk result (λ p. StandsAt self.new level p key) }
+        ensures admits { (mark : Bool) → Admits self.old (child.Ask level key mark) self.new }
+    {
+        if self.count(level) == 0 {
+            return self.admit_first(level, key);
+        }
+        let (place, _) = self.tables[level as usize].admit(key)?;
+        Ok(place)
+    }
+
+    /// The number of levels.
+    pub fn levels(&self) -> usize
+        ensures { result ≡ length self.now }
+    {
+        self.tables.len()
+    }
+
+    /// The number of requests of a level.
+    pub fn count(&self, level: u16) -> usize
+        requires { level < length self.now }
+        ensures value { result ≡ length (row self.now level) }
+        ensures once { IsOnce (row self.now level) }
+    {
+        self.tables[level as usize].len()
+    }
+
+    /// Whether so many requests or more wait at a level on average, from one on.
+    pub fn are_many(&self, from: u16, average: usize) -> bool {
+        let levels = self.tables.len();
+        let mut waiting: usize = 0;
+        for level in from as usize..levels {
+            waiting = waiting.saturating_add(self.tables[level].len());
+        }
+        waiting >= average.saturating_mul(levels.saturating_sub(from as usize))
+    }
+
+    /// The request at a place of a level.
+    pub fn key_at(&self, level: u16, place: usize) -> Key
+        requires { place < length (row self.now level) }
+        ensures { StandsAt self.now level place result }
+    {
+        self.tables[level as usize].key_at(place)
+    }
+
+    /// The requests of a level, by place.
+    pub fn keys(&self, level: usize) -> &Table
+        requires { level < length self.now }
+        ensures { result.now ≡ row self.now level }
+    {
+        &self.tables[level]
+    }
+
+    /// The first level from one on that has requests.
+    pub fn next_level(&self, from: u16) -> Option<u16>
+        ensures { IsNextLevel self.now from result }
+    {
+        match self.asked.next(from as usize) {
+            Some(level) => Some(level as u16),
+            None => None,
+        }
+    }
+}

@@ -1,5 +1,0 @@
-use Rattle.wave_engine.proofs.Fronting.{taken_all}
-use Rattle.wave_engine.proofs.rows.Rows.restart.Goals as goal
-
-pub returns : goal.returns
-returns c = taken_all c.loop-level.self c.args.levels c.loop-level.from c.loop-level.invariant.levels c.loop-level.invariant.before c.in_default.ensures
