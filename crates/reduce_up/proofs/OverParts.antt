@@ -1,7 +1,7 @@
 -- Lists by level that stand in several parts.
 use Rattle.std.proofs.Common.{◌≡◌, ℕ, zero, suc, ◌+◌, ◌<◌, ◌≤◌, max, ◌⊎◌, inl, inr, List, [], ◌∷◌, ◌++◌, length, map, set, take, get_or, slice_get, Option, Some, None, refl, sym, ◌∙◌, ap, subst, arith, append_assoc, append-nil, All}
 use Rattle.std.proofs.Math.Seq.{get_or-append_seam}
-use Rattle.std.proofs.lemmas.List.{length-append, take_more, get_or_append_left, get_or-map, length-map}
+use Rattle.std.proofs.lemmas.List.{length-append, take_more, take_more_set, get_or_append_left, get_or-map, length-map}
 use mathlib.Core.Logic.{dite}
 use native.Mathlib.Decide.{ℕ_discrete}
 use Rattle.dd_store.proofs.Places.{slice_get-append}
@@ -100,6 +100,9 @@ pub left_more : {X : Type 0} (ps : List (List (List X))) (i : ℕ) (new : List (
 left_more [] i new w lt e = absurd (omega (arith, lt))
 left_more (p ∷ ps) zero new w lt e = ap (λ z. z ++ level_over ps w) e
 left_more (p ∷ ps) (suc i) new w lt e = ap (λ z. row p w ++ z) (left_more ps i new w (omega (arith, lt)) e)
+
+pub left_first : {X : Type 0} (ps : List (List (List X))) (i : ℕ) (new : List (List X)) (v : ℕ) → i < length ps → level_over (take i ps) v ≡ [] → row new v ≡ [] → level_over (take (i + 1) (set ps i new)) v ≡ []
+left_first ps i new v lt before e = ap (λ z. level_over z v) (take_more_set ps i new lt) ∙ over_push (take i ps) new v ∙ ap (λ z. z ++ row new v) before ∙ e
 
 -- what is said of the lengths of parts holds of others that are as long
 pub all_long : {X : Type 0} (P : ℕ → Type 0) (ps qs : List (List (List X))) → map (λ (r : List (List X)). length r) ps ≡ map (λ (r : List (List X)). length r) qs → All (λ (r : List (List X)). P (length r)) qs → All (λ (r : List (List X)). P (length r)) ps

@@ -1,5 +1,5 @@
 //! Rows of several parts: the last level that any has, and a level that all leave.
-ghost use Rattle.std.specs.Prelude.{◌≡◌, ◌≢◌, ◌<◌, ◌≤◌, ℕ, length, map, All};
+ghost use Rattle.std.specs.Prelude.{◌≡◌, ◌≢◌, ◌<◌, ◌≤◌, ℕ, [], length, map, All};
 ghost use Rattle.req_table.specs.Places.{IsLastLevel};
 ghost use Rattle.reduce_up.specs.OverParts.{level_over, over_parts, later_of};
 
@@ -32,6 +32,7 @@ pub(crate) fn last_level(parts: &[Rows], end: u16) -> Option<u16>
 pub(crate) fn leave_level(parts: &mut [Rows], level: u16)
     requires { All (λ rows. level < length rows) parts.old }
     ensures levels { map (λ rows. length rows) parts.new ≡ map (λ rows. length rows) parts.old }
+    ensures left { level_over parts.new level ≡ [] }
     ensures others { (w : ℕ) → w ≢ level → level_over parts.new w ≡ level_over parts.old w }
 {
     for place in 0..parts.len() {

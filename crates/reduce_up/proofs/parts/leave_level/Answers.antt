@@ -1,10 +1,11 @@
-use Rattle.std.proofs.Common.{◌≡◌, ◌<◌, ◌∙◌, ap, arith, List, [], length, get_or}
+use Rattle.std.proofs.Common.{◌≡◌, ◌<◌, ◌∙◌, ap, sym, arith, List, [], length, get_or}
 use Rattle.std.proofs.Math.Seq.{map-set_same}
-use Rattle.std.proofs.lemmas.List.{length-set, get_or_default}
+use Rattle.std.proofs.lemmas.List.{length-set, get_or_default, take_all}
 use Rattle.req_table.specs.declared.placed.Placed.{Placed}
 use Rattle.req_table.specs.Places.{row}
-use Rattle.req_table.proofs.Standing.{row_other}
-use Rattle.reduce_up.proofs.OverParts.{all_long, left_more}
+use Rattle.req_table.proofs.Standing.{row_own, row_other}
+use Rattle.reduce_up.specs.OverParts.{level_over}
+use Rattle.reduce_up.proofs.OverParts.{all_long, left_first, left_more}
 use Rattle.reduce_up.proofs.parts.leave_level.Goals as goal
 
 pub leave-requires : goal.leave-requires
@@ -21,5 +22,15 @@ loop-place-preserved c =
     let read : own ≡ get_or ps i [] = get_or_default ps i c.index-parts-place.result [] lt in
     record {
       levels = map-set_same (λ (rows : List (List (Placed × Placed))). length rows) ps i new [] (ap length c.leave.ensures ∙ length-set own c.args.level [] ∙ ap length read) ∙ c.loop-place.invariant.levels;
+      left = left_first ps i new c.args.level lt c.loop-place.invariant.left (ap (λ (z : List (List (Placed × Placed))). row z c.args.level) c.leave.ensures ∙ row_own own c.args.level [] (all_long (λ n. c.args.level < n) ps c.args.parts.now c.loop-place.invariant.levels c.requires i c.index-parts-place.result lt));
       others = λ w ne. left_more ps i new w lt (ap (λ (z : List (List (Placed × Placed))). row z w) c.leave.ensures ∙ row_other own c.args.level [] w ne ∙ ap (λ (z : List (List (Placed × Placed))). row z w) read) ∙ c.loop-place.invariant.others w ne;
+    }
+
+pub returns : goal.returns
+returns c =
+    let ps = c.loop-place.parts in
+    record {
+      levels = c.loop-place.invariant.levels;
+      left = ap (λ (z : List (List (List (Placed × Placed)))). level_over z c.args.level) (sym (take_all c.loop-place.place ps (let t = c.loop-place-test.false in omega (arith, t)))) ∙ c.loop-place.invariant.left;
+      others = c.loop-place.invariant.others;
     }
