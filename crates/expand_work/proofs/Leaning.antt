@@ -1,17 +1,22 @@
 -- The records of keys, told by the keys alone.
-use Rattle.std.proofs.Common.{◌≡◌, ℕ, ◌+◌, ◌<◌, List, [], ◌∷◌, ◌++◌, length, get_or, map, take, filter, All, refl, sym, ap, ◌∙◌, arith}
+use Rattle.std.proofs.Common.{◌≡◌, ℕ, ◌+◌, ◌<◌, Bool, true, false, List, [], ◌∷◌, ◌++◌, length, get_or, map, filter, replicate, All, refl, sym, ap, subst, ◌∙◌, arith}
 use Rattle.std.specs.List.{sum_by}
 use Rattle.std.proofs.lemmas.List.Sums.{sum_by-cons}
-use Rattle.std.proofs.lemmas.List.{map_more, map_push, get_or-map, length-map}
-use Rattle.std.proofs.lemmas.List.Elements.{All-nil, All-cons}
+use Rattle.std.proofs.lemmas.List.{map_push, get_or-map, length-map, length-replicate, get_or-replicate}
+use Rattle.std.proofs.lemmas.List.Elements.{All-nil, All-cons, All-head, All-tail}
 use Rattle.std.proofs.Math.ListN as listn
-use Rattle.dd_store.specs.Nodes.{Nodes}
+use Rattle.dd_store.specs.Nodes.{Nodes, IsSound}
 use Rattle.req_table.specs.declared.Key.{Key}
 use Rattle.req_table.specs.declared.Record.{Record}
 use Rattle.req_table.specs.declared.placed.Placed.{Placed}
-use Rattle.req_table.specs.Keys.{record_of, wave_of, IsChildIn}
+use Rattle.req_table.specs.declared.Child.{Child}
+use Rattle.req_table.specs.Keys.{record_of, child_of, wave_of, IsKey, IsChildIn}
+use Rattle.req_table.proofs.Waved.{child_in}
 use Rattle.req_table.specs.Settled.{IsSplit, key_of, asked, asked_by}
-use Rattle.expand_work.specs.Due.{asked_of, due_by}
+use Rattle.expand_work.specs.declared.expand.ByOwner.{ByOwner}
+use Rattle.expand_work.specs.Due.{asked_of, due_by, Owes}
+use Rattle.expand_work.specs.Taken.{AreTaken}
+use Rattle.expand_work.proofs.InTurn.{along}
 use Rattle.expand_work.specs.Work.{at, owned_by, with_levels}
 use Rattle.expand_work.specs.Lean.{lean, lean_row, records_of, recorded, AreLean}
 use Rattle.expand_work.specs.Expanded.{row_of}
@@ -33,25 +38,55 @@ split_records S n (x ∷ xs) = All-cons (IsSplit (wave_of S n)) (record_of S x) 
 pub recorded-at : (S : Nodes) (tables : List (List Key)) (u : ℕ) → at (recorded S tables) u ≡ records_of S (at tables u)
 recorded-at S tables u = listn.get_or-map (records_of S) tables u []
 
--- one more key of a row
-pub row_more : (S : Nodes) (n : ℕ) (ps qs : List (Placed × Placed)) (x : Key) (r : Record) (low high : Placed) (keys : List Key) (i : ℕ) (xs ys zs : List (List (ℕ × Key))) → i < length keys
-    → (ps ≡ lean_row n (records_of S (take i keys))) × (length xs ≡ n) × ((k : ℕ) → k < n → at xs k ≡ with_levels S (filter (owned_by n k) (asked_by (records_of S (take i keys)))))
-    → x ≡ get_or keys i x → r ≡ record_of S x → IsChildIn S r.low × IsChildIn S r.high → qs ≡ ps ++ (low, high) ∷ [] → low ≡ lean n r.low → high ≡ lean n r.high
-    → ((k : ℕ) → k < n → at ys k ≡ at xs k ++ filter (asked_of n k) (due_by r.low)) → length zs ≡ n → ((k : ℕ) → k < n → at zs k ≡ at ys k ++ filter (asked_of n k) (due_by r.high))
-    → (qs ≡ lean_row n (records_of S (take (i + 1) keys))) × (length zs ≡ n) × ((k : ℕ) → k < n → at zs k ≡ with_levels S (filter (owned_by n k) (asked_by (records_of S (take (i + 1) keys)))))
-row_more S n ps qs x r low high keys i xs ys zs l h x-is r-is stands g low-is high-is lows long highs =
-    let rs : List Record = records_of S (take i keys) in
-    let more : rs ++ r ∷ [] ≡ records_of S (take (i + 1) keys) = ap (λ q. rs ++ q ∷ []) (r-is ∙ ap (record_of S) x-is) ∙ sym (map_more (record_of S) keys i x l) in (
-      g ∙ (λ j. h.0 j ++ (low-is j, high-is j) ∷ []) ∙ sym (map_push (λ (q : Record). (lean n q.low, lean n q.high)) rs r) ∙ ap (lean_row n) more,
-      long,
-      (λ k kb.
-          let before = filter (owned_by n k) (asked_by rs) in
-          let lower = filter (owned_by n k) (asked r.low) in
-          let upper = filter (owned_by n k) (asked r.high) in
-          highs k kb ∙ ap (λ m. m ++ filter (asked_of n k) (due_by r.high)) (lows k kb) ∙ (λ j. (h.2 k kb j ++ due_levels S n k r.low stands.0 j) ++ due_levels S n k r.high stands.1 j)
-          ∙ ap (λ m. m ++ with_levels S upper) (levels-append S before lower) ∙ levels-append S (before ++ lower) upper
-          ∙ ap (with_levels S) (asks_more (owned_by n k) rs r before refl ∙ ap (λ m. filter (owned_by n k) (asked_by m)) more)),
-    )
+-- what holds of all holds of one that stands among them
+among : (P : Key → Type 0) (ks rest : List Key) (x : Key) → All P (ks ++ x ∷ rest) → P x
+among P [] rest x h = All-head P x rest h
+among P (k ∷ ks) rest x h = among P ks rest x (All-tail P k (ks ++ x ∷ rest) h)
+
+-- Of so many workers.
+module _ (S : Nodes) (sound : IsSound S) (n : ℕ) where
+  -- the children of these requests became due from their owners, and the pairs tell them
+  pub record AreOwed (ks : List Key) (ds : List (Placed × Placed)) (a : ByOwner) : Type 0 where
+    pub workers : a.workers ≡ n
+    pub row : ds ≡ lean_row n (records_of S ks)
+    pub long : length a.due ≡ n
+    pub due : (k : ℕ) → k < n → at a.due k ≡ with_levels S (filter (owned_by n k) (asked_by (records_of S ks)))
+
+  -- one child more
+  grown_by : (a b : ByOwner) (c : Child) (d : Placed) → a.workers ≡ n → Owes a c d b → (k : ℕ) → k < n → at b.due k ≡ at a.due k ++ filter (asked_of n k) (due_by c)
+  grown_by a b c d w o = subst (λ z. (k : ℕ) → k < z → at b.due k ≡ at a.due k ++ filter (asked_of z k) (due_by c)) w o.grown
+
+  -- one request more
+  owed_more : (keys : List Key) → All (IsKey S) keys → (ks rest : List Key) (ds : List (Placed × Placed)) (a : ByOwner) → AreOwed ks ds a → (x : Key) → ks ++ x ∷ rest ≡ keys → (low high : Placed) (b c : ByOwner)
+      → Owes a (child_of S x false) low b → Owes b (child_of S x true) high c → AreOwed (ks ++ x ∷ []) (ds ++ (low, high) ∷ []) c
+  owed_more keys held ks rest ds a h x e low high b c lows highs =
+      let rs : List Record = records_of S ks in
+      let r : Record = record_of S x in
+      let more : rs ++ r ∷ [] ≡ records_of S (ks ++ x ∷ []) = sym (map_push (record_of S) ks x) in
+      let there : b.workers ≡ n = lows.workers ∙ h.workers in
+      let stands : (z : Bool) → IsChildIn S (child_of S x z) = child_in S sound x (among (IsKey S) ks rest x (subst (All (IsKey S)) (sym e) held)) in
+      record {
+        workers = highs.workers ∙ there;
+        row = (λ j. h.row j ++ ((lows.told ∙ ap (λ z. lean z r.low) h.workers) j, (highs.told ∙ ap (λ z. lean z r.high) there) j) ∷ []) ∙ sym (map_push (λ (q : Record). (lean n q.low, lean n q.high)) rs r) ∙ ap (lean_row n) more;
+        long = highs.long ∙ there;
+        due = λ k kb.
+            let before = filter (owned_by n k) (asked_by rs) in
+            let lower = filter (owned_by n k) (asked r.low) in
+            let upper = filter (owned_by n k) (asked r.high) in
+            grown_by b c r.high high there highs k kb ∙ ap (λ m. m ++ filter (asked_of n k) (due_by r.high)) (grown_by a b r.low low h.workers lows k kb)
+            ∙ (λ j. (h.due k kb j ++ due_levels S n k r.low (stands false) j) ++ due_levels S n k r.high (stands true) j)
+            ∙ ap (λ m. m ++ with_levels S upper) (levels-append S before lower) ∙ levels-append S (before ++ lower) upper
+            ∙ ap (with_levels S) (asks_more (owned_by n k) rs r before refl ∙ ap (λ m. filter (owned_by n k) (asked_by m)) more);
+      }
+
+  -- the requests of a level, whose children were taken one after the other
+  pub owed_all : (keys : List Key) → All (IsKey S) keys → (a : ByOwner) → a.workers ≡ n → a.due ≡ replicate n [] → (ds : List (Placed × Placed)) (b : ByOwner) → AreTaken Owes S a keys ds b → AreOwed keys ds b
+  owed_all keys held a w none ds b taken = along Owes S keys AreOwed (owed_more keys held) a ds b (record {
+    workers = w;
+    row = refl;
+    long = ap (λ (z : List (List (ℕ × Key))). length z) none ∙ length-replicate n [];
+    due = λ k kb. ap (λ (z : List (List (ℕ × Key))). at z k) none ∙ get_or-replicate n k [] [] kb;
+  }) taken
 
 -- a worker's keys of a level, among the records of all workers
 pub keys_of_all : (S : Nodes) (rs : List (List (List Record))) (spaces : List Space) (k v : ℕ) (own : Space) → rs ≡ map (records_in S) spaces → k < length rs → v < length (get_or rs k []) → own ≡ get_or spaces k own

@@ -1,9 +1,12 @@
 -- What is due from a worker, and how it is cut into bundles.
-use Rattle.std.specs.Prelude.{◌≡◌, ◌≢◌, ℕ, ◌<◌, Bool, List, [], ◌∷◌, take, drop, length, All, Option, None, Some}
+use Rattle.std.specs.Prelude.{◌≡◌, ◌≢◌, ℕ, ◌<◌, Bool, List, [], ◌∷◌, ◌++◌, take, drop, length, filter, All, Option, None, Some}
 use Rattle.req_table.specs.declared.Key.{Key}
 use Rattle.req_table.specs.declared.Child.{Child}
 use Rattle.req_table.specs.declared.Child.TheVariants.{Done, Ask}
+use Rattle.req_table.specs.declared.placed.Placed.{Placed}
 use Rattle.lane_queue.specs.declared.load.TheConstants.Bundle.{ROOM}
+use Rattle.expand_work.specs.declared.expand.ByOwner.{ByOwner}
+use Rattle.expand_work.specs.Lean.{lean}
 use Rattle.expand_work.specs.Work.{at, owned_by}
 
 -- the requests of the bundle in hand, of which there may be none
@@ -40,3 +43,10 @@ pub record IsLeft (s : ℕ) (due left : List (List (ℕ × Key))) : Type 0 where
   pub long : length left ≡ length due
   pub own : at left s ≡ at due s
   pub others : (k : ℕ) → k ≢ s → at left k ≡ []
+
+-- The child became due from the worker that owns it, which tells it, behind what was due from that worker; else nothing changed.
+pub record Owes (a : ByOwner) (c : Child) (d : Placed) (b : ByOwner) : Type 0 where
+  pub told : d ≡ lean a.workers c
+  pub workers : b.workers ≡ a.workers
+  pub long : length b.due ≡ a.workers
+  pub grown : (k : ℕ) → k < a.workers → at b.due k ≡ at a.due k ++ filter (asked_of a.workers k) (due_by c)

@@ -11,4 +11,5 @@ pub mod Lean
 pub mod Spaces
 pub mod Bounds
 pub mod Due
+pub mod Taken
 pub mod Held

@@ -1,115 +1,144 @@
-//! What a worker keeps of its requests' children, and what becomes due by that.
-ghost use Rattle.std.specs.Prelude.{◌≡◌, ℕ, ◌<◌, [], ◌∷◌, ◌++◌, length, filter, replicate, All, IfOk, OnOk};
-ghost use Rattle.req_table.specs.Keys.{IsKey, owner as owner_spec};
-ghost use Rattle.req_table.specs.Settled.{asked_by, dealt_from};
-ghost use Rattle.expand_work.specs.Due.{asked_of, due_by};
-ghost use Rattle.expand_work.specs.Lean.{lean, lean_row, records_of};
+//! Expansion of a level: its requests are split, and their children go where the wave has its next requests: on the caller's thread to
+//! the tables of their levels, with a worker to what is due from the workers that own them.
+ghost use Rattle.std.specs.Prelude.{◌≡◌, ℕ, ◌<◌, ◌+◌, ◌%◌, ◌^◌, [], ◌∷◌, ◌++◌, length, filter, replicate, All, IfOk, OnOk};
+ghost use Rattle.dd_store.specs.Nodes.{Nodes};
+ghost use Rattle.req_table.specs.declared.Child.{Child as ChildValue};
+ghost use Rattle.req_table.specs.declared.placed.Placed.{Placed as PlacedValue};
+ghost use Rattle.req_table.specs.Keys.{IsKey, IsChildIn, owner as owner_spec};
+ghost use Rattle.req_table.specs.Places.{IsPlaced, Admits};
+ghost use Rattle.req_table.specs.Settled.{dealt_from};
+ghost use Rattle.expand_work.specs.Due.{asked_of, Owes};
+ghost use Rattle.expand_work.specs.Taken.{AreTaken};
 ghost use Rattle.expand_work.specs.Work.{at, owned_by, with_levels};
 
 use crate::due::Due;
 use crate::{Spare, Splits};
 use dd_store::Store;
 use req_table::requests::{level_of, owner};
-use req_table::{Child, Key, Placed, Row, Table};
+use req_table::{Child, Key, Placed, Row, Table, Waiting};
 use std::alloc::AllocError;
 
-// The request becomes due from the key's owner, which is answered.
-fn push_key(
-    due: &mut Due,
-    spare: &mut Spare,
-    level: u16,
-    key: Key,
-    workers: u32,
-) -> Result<u32, AllocError>
-    requires long { length due.old ≡ workers }
-    requires some { 0 < workers }
-    ensures owner { IfOk result (λ o. o ≡ owner_spec workers key) }
-    ensures long { OnOk result (length due.new ≡ workers) }
-    ensures grown { OnOk result ((k : ℕ) → k < workers
-        → at due.new k ≡ at due.old k ++ filter (asked_of workers k) ((level, key) ∷ [])) }
-{
-    let owner = owner(key, workers);
-    due.push(spare, owner, level, key)?;
-    Ok(owner)
+/// Where the children of requests go that are expanded.
+pub trait Asking {
+    // It can take the children of this store's requests.
+    ghost accepts: { Self → Nodes → Type 0 };
+
+    // What it is once it has taken a child, and how a row tells this child.
+    ghost takes: { Self → ChildValue → PlacedValue → Self → Type 0 };
+
+    /// Takes a child. The answer tells it in its request's row.
+    fn ask(&mut self, store: &Store, asked: Child) -> Result<Placed, AllocError>
+        requires accepts { accepts self.old store.now }
+        requires stands { IsChildIn store.now asked }
+        ensures accepts { OnOk result (accepts self.new store.now) }
+        ensures takes { IfOk result (λ p. takes self.old asked p self.new) };
 }
 
-// A child as a worker keeps it. One that is asked for becomes due from its owner.
-fn push_child(
-    due: &mut Due,
-    spare: &mut Spare,
-    child: Child,
-    workers: u32,
-) -> Result<Placed, AllocError>
-    requires long { length due.old ≡ workers }
-    requires some { 0 < workers }
-    ensures lean { IfOk result (λ p. p ≡ lean workers child) }
-    ensures long { OnOk result (length due.new ≡ workers) }
-    ensures grown { OnOk result ((k : ℕ) → k < workers
-        → at due.new k ≡ at due.old k ++ filter (asked_of workers k) (due_by child)) }
-{
-    match child {
-        Child::Done(answer) => Ok(Placed::done(answer)),
-        Child::Ask { level, key, mark } => {
-            let owner = push_key(due, spare, level, key, workers)?;
-            Ok(Placed::ask(level, owner, mark))
+/// Requests that wait: a child is admitted to the table of its level, and told by its place.
+impl Asking for Waiting {
+    ghost accepts = { λ w s. length w ≡ s.levels };
+
+    ghost takes = { λ w c p u. IsPlaced u p c × Admits w c u };
+
+    #[inline(always)]
+    fn ask(&mut self, store: &Store, asked: Child) -> Result<Placed, AllocError> {
+        let _ = store.levels();
+        match asked {
+            Child::Done(answer) => Ok(Placed::done(answer)),
+            Child::Ask { level, key, mark } => {
+                let place = self.admit(level, key)?;
+                Ok(Placed::ask(level, place, mark))
+            }
         }
     }
 }
 
-/// The children of the keys, what they ask for, by owner, and how many requests were split for it. The children are put in the memory
-/// that is handed in.
-pub fn expand_row(
+/// What is due from each of so many workers, and the bundles that it is put into.
+#[derive(Drop)]
+pub struct ByOwner {
+    pub due: Due,
+    pub spare: Spare,
+    pub workers: u32,
+}
+
+impl ByOwner {
+    // The request becomes due from the key's owner, which is answered.
+    #[inline(always)]
+    fn push(&mut self, level: u16, key: Key) -> Result<u32, AllocError>
+        requires long { length self.old.due ≡ self.old.workers }
+        requires some { 0 < self.old.workers }
+        ensures owner { IfOk result (λ o. o ≡ owner_spec self.old.workers key) }
+        ensures workers { self.new.workers ≡ self.old.workers }
+        ensures long { OnOk result (length self.new.due ≡ self.old.workers) }
+        ensures grown { OnOk result ((k : ℕ) → k < self.old.workers
+            → at self.new.due k ≡ at self.old.due k ++ filter (asked_of self.old.workers k) ((level, key) ∷ [])) }
+    {
+        let owner = owner(key, self.workers);
+        self.due.push(&mut self.spare, owner, level, key)?;
+        Ok(owner)
+    }
+}
+
+/// What is due from workers: a child becomes due from the worker that owns it, by whose number it is told.
+impl Asking for ByOwner {
+    ghost accepts = { λ a _. (length a.due ≡ a.workers) × (0 < a.workers) };
+
+    ghost takes = { Owes };
+
+    #[inline(always)]
+    fn ask(&mut self, _store: &Store, asked: Child) -> Result<Placed, AllocError> {
+        match asked {
+            Child::Done(answer) => Ok(Placed::done(answer)),
+            Child::Ask { level, key, mark } => {
+                let owner = self.push(level, key)?;
+                Ok(Placed::ask(level, owner, mark))
+            }
+        }
+    }
+}
+
+/// Expands requests: splits each and asks for its children, the low one before the high one, which its row then tells.
+pub fn expand_row<A: Asking>(
     store: &Store,
     keys: &Table,
-    workers: u32,
-    row: Row,
-    due: Due,
-    spare: &mut Spare,
-) -> Result<(Row, Due, usize), AllocError>
+    asks: &mut A,
+    row: &mut Row,
+    splits: &mut Splits,
+) -> Result<(), AllocError>
     requires keys { All (IsKey store.now) keys.now }
-    requires some { 0 < workers }
-    requires empty { row ≡ [] }
-    requires none { due ≡ replicate workers [] }
-    ensures row { IfOk result (λ r. r.0 ≡ lean_row workers (records_of store.now keys.now)) }
-    ensures long { IfOk result (λ r. length r.1 ≡ workers) }
-    ensures count { IfOk result (λ r. r.2 ≡ length keys.now) }
-    ensures due { IfOk result (λ r. (k : ℕ) → k < workers
-        → at r.1 k ≡ with_levels store.now (filter (owned_by workers k) (asked_by (records_of store.now keys.now)))) }
+    requires accepts { A.accepts asks.old store.now }
+    requires empty { row.old ≡ [] }
+    ensures taken { OnOk result (AreTaken A.takes store.now asks.old keys.now row.new asks.new) }
+    ensures split { OnOk result (splits.new % 2 ^ 64 ≡ (splits.old + length keys.now) % 2 ^ 64) }
 {
-    let mut row = row;
-    let mut due = due;
-    let mut splits = Splits::new();
     let count = keys.len();
     row.reserve(count)?;
     for place in 0..count {
         let record = splits.split(store, keys.key_at(place));
-        let low = push_child(&mut due, spare, record.low, workers)?;
-        let high = push_child(&mut due, spare, record.high, workers)?;
+        let low = asks.ask(store, record.low)?;
+        let high = asks.ask(store, record.high)?;
         row.push((low, high))?;
     }
-    Ok((row, due, splits.count()))
+    Ok(())
 }
 
-/// The roots that the worker has to ask for, by owner: those at the places that are its number modulo the workers.
+/// Asks for the roots that a worker has to ask for: those at the places that are its number modulo the workers.
 pub fn deal_roots(
     store: &Store,
     roots: &[Key],
     number: u32,
-    workers: u32,
-    due: Due,
-    spare: &mut Spare,
-) -> Result<Due, AllocError>
-    requires number { number < workers }
-    requires none { due ≡ replicate workers [] }
-    ensures long { IfOk result (λ d. length d ≡ workers) }
-    ensures due { IfOk result (λ d. (k : ℕ) → k < workers
-        → at d k ≡ with_levels store.now (filter (owned_by workers k) (dealt_from workers number 0 roots.now))) }
+    asks: &mut ByOwner,
+) -> Result<(), AllocError>
+    requires number { number < asks.old.workers }
+    requires none { asks.old.due ≡ replicate asks.old.workers [] }
+    ensures long { OnOk result (length asks.new.due ≡ asks.old.workers) }
+    ensures due { OnOk result ((k : ℕ) → k < asks.old.workers
+        → at asks.new.due k ≡ with_levels store.now (filter (owned_by asks.old.workers k) (dealt_from asks.old.workers number 0 roots.now))) }
 {
-    let mut due = due;
     for (place, key) in roots.iter().enumerate() {
-        if place % workers as usize == number as usize {
-            push_key(&mut due, spare, level_of(store, *key), *key, workers)?;
+        if place % asks.workers as usize == number as usize {
+            asks.push(level_of(store, *key), *key)?;
         }
     }
-    Ok(due)
+    Ok(())
 }

@@ -32,6 +32,7 @@ mod team;
 mod worker;
 
 pub use crew::{Crew, Workers};
+pub use expand::{Asking, expand_row};
 pub use fault::{WaveFault, WorkFault};
 pub use lists::Noted;
 pub use monitor::{AttemptEnd, Free, Monitor};

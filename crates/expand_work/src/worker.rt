@@ -7,12 +7,12 @@ ghost use Rattle.expand_work.specs.Working.{IsWorking, HasSpoken, IsClosing};
 ghost use Rattle.expand_work.specs.Worked.{IsFresh, IsWorked};
 
 use crate::due::Due;
-use crate::expand::{deal_roots, expand_row};
+use crate::expand::{ByOwner, deal_roots, expand_row};
 use crate::listen::{Senders, keep_own, take_until_closed};
 use crate::say::{send_due, send_ends};
 use crate::site::Site;
 use crate::tables::Tables;
-use crate::{Monitor, Part, Space, WorkFault};
+use crate::{Monitor, Part, Space, Splits, WorkFault};
 use dd_store::Store;
 use lane_queue::Port;
 use level_close::Clock;
@@ -73,26 +73,34 @@ fn expand_level<G: Monitor>(
     let Senders {
         clock,
         noted,
-        mut spare,
+        spare,
     } = senders;
-    let workers = site.lanes.count();
     let mut row = rows.take(level);
     row.clear();
     let Some(keys) = tables.take(level) else {
         // No level is expanded twice.
         return Err(AllocError);
     };
-    let (row, due, count) = expand_row(site.store, &keys, workers, row, due, &mut spare)?;
+    let workers = site.lanes.count();
+    let mut asks = ByOwner {
+        due,
+        spare,
+        workers,
+    };
+    let mut splits = Splits::new();
+    expand_row(site.store, &keys, &mut asks, &mut row, &mut splits)?;
     tables.leave(level, keys, site.keeps)?;
-    monitor.at_requests(count);
+    monitor.at_requests(splits.count());
     rows.put(level, row);
+    let ByOwner { due, spare, .. } = asks;
+    let senders = Senders {
+        clock,
+        noted,
+        spare,
+    };
     Ok(Worker {
         port,
-        senders: Senders {
-            clock,
-            noted,
-            spare,
-        },
+        senders,
         tables,
         rows,
         due,
@@ -150,10 +158,15 @@ fn begin(site: Site<'_>, port: Port, used: Option<Space>) -> Result<Worker, Allo
         tables,
         rows,
         noted,
-        mut spare,
+        spare,
     } = Space::open(alloc, used, levels, workers)?;
-    let due = Due::new(alloc, workers)?;
-    let due = deal_roots(store, roots, number, workers, due, &mut spare)?;
+    let mut asks = ByOwner {
+        due: Due::new(alloc, workers)?,
+        spare,
+        workers,
+    };
+    deal_roots(store, roots, number, &mut asks)?;
+    let ByOwner { due, spare, .. } = asks;
     Ok(Worker {
         port,
         senders: Senders {

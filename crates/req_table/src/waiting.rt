@@ -101,21 +101,32 @@ impl Waiting {
         }
     }
 
-    /// Takes the requests from a level. Its table stays where it is small; else it serves another level, unless it is large.
-    pub fn empty_level(&mut self, level: u16) -> Result<(), AllocError>
+    /// Takes a level's table out, with its requests in order, for the level to be expanded.
+    pub fn take(&mut self, level: u16) -> Table
         requires { level < length self.old }
-        ensures { OnOk result (self.new ≡ set self.old level []) }
+        ensures keys { result ≡ row self.old level }
+        ensures rest { self.new ≡ set self.old level [] }
     {
-        let small = self.count(level) <= MOST_LEFT;
-        self.note_left(level, small);
         self.asked.remove(level);
-        if small {
-            self.tables[level as usize].clear();
-            return Ok(());
-        }
         let fresh = Table::new(*self.tables.allocator());
-        let used = mem::replace(&mut self.tables[level as usize], fresh);
-        keep_spare(&mut self.spare, used)
+        mem::replace(&mut self.tables[level as usize], fresh)
+    }
+
+    /// Is given the table of a level that was expanded. It stays where it is small; else it serves another level, unless it is large.
+    pub fn leave(&mut self, level: u16, keys: Table) -> Result<(), AllocError>
+        requires level { level < length self.old }
+        requires none { row self.old level ≡ [] }
+        ensures { self.new ≡ self.old }
+    {
+        let small = keys.len() <= MOST_LEFT;
+        self.note_left(level, small);
+        if !small {
+            return keep_spare(&mut self.spare, keys);
+        }
+        let mut keys = keys;
+        keys.clear();
+        self.tables[level as usize] = keys;
+        Ok(())
     }
 
     /// Leaves so many levels without requests. Only levels that had some are come to.
@@ -128,7 +139,8 @@ impl Waiting {
         }
         let mut from = 0;
         while let Some(level) = self.next_level(from) {
-            self.empty_level(level)?;
+            let keys = self.take(level);
+            self.leave(level, keys)?;
             from = level + 1;
         }
         Ok(())
@@ -202,14 +214,6 @@ impl Waiting {
             waiting = waiting.saturating_add(self.tables[level].len());
         }
         waiting >= average.saturating_mul(levels.saturating_sub(from as usize))
-    }
-
-    /// The request at a place of a level.
-    pub fn key_at(&self, level: u16, place: usize) -> Key
-        requires { place < length (row self.now level) }
-        ensures { StandsAt self.now level place result }
-    {
-        self.tables[level as usize].key_at(place)
     }
 
     /// The requests of a level, by place.

@@ -1,4 +1,5 @@
 pub mod Placing
+pub mod Children
 pub mod Waiting
 pub mod Fronting
 pub mod Whole

@@ -1,4 +1,4 @@
-//! Expansion, from the first level down: each request's children are placed in the tables of their levels at once.
+//! Expansion on the caller's thread, from the first level down: each request's children are placed in the tables of their levels at once.
 ghost use Rattle.std.specs.Prelude.{◌≡◌, ◌≢◌, ◌<◌, ◌≤◌, ◌+◌, ◌-◌, ◌%◌, ◌^◌, ℕ, [], length, replicate, Err, IfOk, IfErr, OnOk, All};
 ghost use Rattle.std.specs.List.{AllZip};
 ghost use Rattle.req_table.specs.Keys.{IsChildIn, child as child_spec};
@@ -10,28 +10,10 @@ ghost use Rattle.wave_engine.specs.Down.{IsRowExpanded, IsDown};
 
 use crate::workspace::Down;
 use dd_store::{Ref, Store};
-use expand_work::{Splits, WaveFault};
+use expand_work::{Asking, WaveFault, expand_row};
 use req_table::requests::child;
-use req_table::{Child, Op, Placed, Row, Waiting};
+use req_table::{Op, Placed, Waiting};
 use std::alloc::AllocError;
-
-/// Places a child: a request is admitted to the table of its level.
-#[inline(always)]
-fn place_child(store: &Store, requests: &mut Waiting, asked: Child) -> Result<Placed, AllocError>
-    requires levels { length requests.old ≡ store.now.levels }
-    requires stands { IsChildIn store.now asked }
-    ensures placed { IfOk result (λ p. IsPlaced requests.new p asked) }
-    ensures admits { Admits requests.old asked requests.new }
-{
-    let _ = store.levels();
-    match asked {
-        Child::Done(answer) => Ok(Placed::done(answer)),
-        Child::Ask { level, key, mark } => {
-            let place = requests.admit(level, key)?;
-            Ok(Placed::ask(level, place, mark))
-        }
-    }
-}
 
 /// Places what the entries come to.
 pub(crate) fn place_roots(
@@ -44,46 +26,14 @@ pub(crate) fn place_roots(
     requires levels { length requests.old ≡ store.now.levels }
     requires empty { (w : ℕ) → row requests.old w ≡ [] }
     requires fresh { roots.old.items ≡ [] }
-    ensures levels { length requests.new ≡ length requests.old }
     ensures admitted { OnOk result (AreAdmitted store.now entries.now requests.new) }
     ensures placed { OnOk result (AllZip (λ e p. IsPlaced requests.new p (child_spec store.now e.0 e.1 e.2)) entries.now roots.new.items) }
 {
     for entry in entries {
         let (op, f, g) = *entry;
         let asked = child(store, op, f, g);
-        let root = place_child(store, requests, asked)?;
+        let root = requests.ask(store, asked)?;
         roots.push(root)?;
-    }
-    Ok(())
-}
-
-/// Splits a level's requests, and places their children.
-fn expand_level(
-    store: &Store,
-    entries: &[(Op, Ref, Ref)],
-    requests: &mut Waiting,
-    pairs: &mut Row,
-    splits: &mut Splits,
-    level: u16,
-) -> Result<(), AllocError>
-    requires admitted { AreAdmitted store.now entries.now requests.old }
-    requires level { level < store.now.levels }
-    requires empty { pairs.old ≡ [] }
-    ensures levels { length requests.new ≡ length requests.old }
-    ensures expanded { OnOk result (IsRowExpanded store.now entries.now requests.old level
-        (length (row requests.old level)) requests.new pairs.new) }
-    ensures split { OnOk result (splits.new % 2 ^ 64 ≡ (splits.old + length (row requests.old level)) % 2 ^ 64) }
-{
-    let _ = store.levels();
-    let _ = entries.len();
-    let count = requests.count(level);
-    pairs.reserve(count)?;
-    for place in 0..count {
-        let key = requests.key_at(level, place);
-        let record = splits.split(store, key);
-        let low = place_child(store, requests, record.low)?;
-        let high = place_child(store, requests, record.high)?;
-        pairs.push((low, high))?;
     }
     Ok(())
 }
@@ -151,17 +101,17 @@ pub(crate) fn expand(
             return Ok(next);
         }
         left = left.saturating_sub(count);
+        let keys = down.requests.take(next);
         let mut pairs = down.rows.take(next);
-        expand_level(
+        expand_row(
             store,
-            entries,
+            &keys,
             &mut down.requests,
             &mut pairs,
             &mut down.splits,
-            next,
         )?;
         down.rows.put(next, pairs);
-        down.requests.empty_level(next)?;
+        down.requests.leave(next, keys)?;
         level = next + 1;
     }
     Ok(levels)

@@ -214,13 +214,15 @@ fn requests_wait_by_level(rt: HostRuntime) -> Result<(), Fail> {
     let again = waiting.admit(1, key)?;
     assert!(rt; first == 0 && again == 0 && waiting.count(1) == 1 && waiting.keys(1).len() == 1);
     assert!(rt;
-        waiting.key_at(1, 0) == key
+        waiting.keys(1).key_at(0) == key
             && waiting.next_level(0) == Some(1)
             && waiting.next_level(2).is_none()
     );
     assert!(rt; waiting.are_many(2, 0) && !waiting.are_many(0, 1));
-    waiting.empty_level(1)?;
-    assert!(rt; waiting.next_level(0).is_none());
+    let keys = waiting.take(1);
+    assert!(rt; keys.len() == 1 && keys.key_at(0) == key && waiting.next_level(0).is_none());
+    waiting.leave(1, keys)?;
+    assert!(rt; waiting.next_level(0).is_none() && waiting.count(1) == 0);
     Ok(())
 }
 

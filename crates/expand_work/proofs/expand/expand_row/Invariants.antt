@@ -1,12 +1,10 @@
-use Rattle.std.proofs.Common.{◌≡◌, ℕ, ◌<◌, take, filter, length}
-use Rattle.req_table.specs.Settled.{asked_by}
-use Rattle.expand_work.specs.Lean.{lean_row, records_of}
-use Rattle.expand_work.specs.Work.{at, owned_by, with_levels}
+use Rattle.std.proofs.Common.{◌≡◌, ◌+◌, ◌%◌, ◌^◌, take}
+use Rattle.expand_work.specs.Taken.{AreTaken}
 use Rattle.expand_work.proofs.expand.expand_row.Given as goal
 
 abbrev pub invariant-loop-place : goal.invariant-loop-place
-invariant-loop-place l =
-    ((l.row ≡ lean_row l.workers (records_of l.store (take l.place l.keys)))
-    × (length l.due ≡ l.workers)
-    × ((k : ℕ) → k < l.workers → at l.due k ≡ with_levels l.store (filter (owned_by l.workers k) (asked_by (records_of l.store (take l.place l.keys))))))
-    × (l.splits ≡ l.place)
+invariant-loop-place g l = record {
+  accepts : g.A.Asking.accepts l.asks l.store;
+  taken : AreTaken g.A.Asking.takes l.store l.fn.asks (take l.place l.keys) l.row l.asks;
+  split : l.splits % 2 ^ 64 ≡ (l.fn.splits + l.place) % 2 ^ 64;
+}

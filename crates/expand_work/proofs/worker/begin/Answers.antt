@@ -19,9 +19,9 @@ returns c =
     (subst (λ (m : ℕ). clock ≡ record { levels = c.levels-levels.result; ended = replicate m 0 }) w-is c.in_ok-clock.ensures) in
     let space = c.in_ok-tables.field-0 in
     let empty : IsEmptySpace s.levels (length l.lanes) space = subst (λ (y : ℕ × ℕ). IsEmptySpace y.0 y.1 space) (λ i. (n-is i, w-is i)) c.in_ok-tables.ensures in
-    let dealt = subst (λ n. (k : ℕ) → k < length l.lanes → at c.in_ok-due-2.due k ≡ with_levels s (filter (owned_by (length l.lanes) k) (dealt_from (length l.lanes) n 0 c.args.site.roots.now))) c.number-number.ensures.number
-    (subst (λ m. (k : ℕ) → k < m → at c.in_ok-due-2.due k ≡ with_levels s (filter (owned_by m k) (dealt_from m c.number-number.result 0 c.args.site.roots.now))) w-is c.in_ok-due-2.ensures.due) in (
-      starts_working l s c.args.site.roots.now p clock space.tables space.noted space.rows c.in_ok-due-2.due _ c.requires.port (subst (λ n. p.number < n) wide c.number-number.ensures.within) c.requires.fresh c.requires.sizes c.levels-levels.ensures.sound c.requires.roots
-          clock-is empty.tables empty.noted empty.rows (c.in_ok-due-2.ensures.long ∙ w-is) dealt,
+    let dealt = subst (λ n. (k : ℕ) → k < length l.lanes → at c.deal_roots.new.asks.due k ≡ with_levels s (filter (owned_by (length l.lanes) k) (dealt_from (length l.lanes) n 0 c.args.site.roots.now))) c.number-number.ensures.number
+    (subst (λ m. (k : ℕ) → k < m → at c.deal_roots.new.asks.due k ≡ with_levels s (filter (owned_by m k) (dealt_from m c.number-number.result 0 c.args.site.roots.now))) w-is c.in_ok-deal_roots.ensures.due) in (
+      starts_working l s c.args.site.roots.now p clock space.tables space.noted space.rows c.deal_roots.new.asks.due _ c.requires.port (subst (λ n. p.number < n) wide c.number-number.ensures.within) c.requires.fresh c.requires.sizes c.levels-levels.ensures.sound c.requires.roots
+          clock-is empty.tables empty.noted empty.rows (c.in_ok-deal_roots.ensures.long ∙ w-is) dealt,
       refl,
     )

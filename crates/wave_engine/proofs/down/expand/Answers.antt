@@ -1,266 +1,158 @@
-use Rattle.std.proofs.Common.{rules, ◌≡◌, ◌<◌, ◌≤◌, ◌-◌, ◌∙◌, ◌+◌, ◌^◌, ℕ, List, [], length, set, slice_get, Some, ap, subst, sym, arith}
-use Rattle.std.proofs.lemmas.List.{length-set, set-set}
+use Rattle.std.proofs.Common.{rules, ◌≡◌, ◌<◌, ◌≤◌, ◌-◌, ◌∙◌, ◌+◌, ◌%◌, ◌^◌, ℕ, List, [], length, set, slice_get, Some, All, ap, subst, sym, arith}
+use Rattle.std.proofs.lemmas.List.{length-set, set-set, set-get_or}
 use Rattle.slot_table.specs.Lists.{IsOnce}
 use Rattle.dd_store.specs.Nodes.{Nodes}
 use Rattle.req_table.specs.declared.Key.{Key}
-use Rattle.reduce_up.specs.Waves.{Entry}
 use Rattle.req_table.specs.declared.placed.Placed.{Placed}
-use Rattle.req_table.specs.Places.{IsNextLevel}
+use Rattle.req_table.specs.Keys.{IsKey}
+use Rattle.req_table.specs.Places.{row}
+use Rattle.req_table.proofs.Standing.{made_empty}
 use Rattle.reduce_up.specs.ByPlace.{AreExpanded}
+use Rattle.wave_engine.proofs.Children.{keys_stand, row_taken}
 use Rattle.wave_engine.proofs.Counting.{too_many, all_counted}
 use Rattle.wave_engine.proofs.Waiting.{IsGoing, going_start, going_passed, going_next, going_down, splice, waiting_admitted}
-use Rattle.req_table.proofs.Standing.{made_empty}
 use Rattle.wave_engine.proofs.down.expand.Goals.{else-limits-lt18446744073709551615-via-then-limits-lt18446744073709551615+else-count-left, else-limits-lt18446744073709551615-via-else-limits-lt18446744073709551615}
-use Rattle.req_table.proofs.Standing.{made_empty}
+use Rattle.wave_engine.proofs.down.expand.Goals.{In-Some, In_default}
 use Rattle.wave_engine.proofs.down.expand.Goals as goal
+
+-- what holds once the next level is known
+abbrev Going : In-Some → ℕ → Type 0
+Going c v =
+    IsGoing c.args.store.now c.args.entries.now c.loop-next.down.roots.items v c.loop-next.down.requests c.loop-next.down.rows c.args.limits.wave c.loop-next.left c.args.down.now.splits c.loop-next.down.splits c.loop-next.invariant.going.0
+
+here : (c : In-Some) → Going c c.in-Some.next
+here c = going_passed _ _ _ c.loop-next.level _ _ _ _ _ _ _ c.loop-next.invariant.going.1 c.in-Some.next c.in-Some.ensures.0 c.in-Some.ensures.3
+
+fit : (c : In-Some) → c.in-Some.next < c.args.store.now.levels
+fit c =
+    let g : Going c c.in-Some.next = here c in
+    let n = c.in-Some.ensures.1 in
+    let l = g.expanded.admitted.levels in
+    let m = g.waits.levels in
+    omega (arith, n, l, m)
+
+-- what holds behind the last level
+passed : (c : In_default) → IsGoing c.args.store.now c.args.entries.now c.loop-next.down.roots.items c.levels-levels.result c.loop-next.down.requests c.loop-next.down.rows c.args.limits.wave c.loop-next.left c.args.down.now.splits c.loop-next.down.splits
+    c.loop-next.invariant.going.0
+passed c = going_passed _ _ _ c.loop-next.level _ _ _ _ _ _ _ c.loop-next.invariant.going.1 c.levels-levels.result (let le = c.loop-next.invariant.bound in let l = c.levels-levels.ensures.value in omega (arith, le, l)) (λ w q k le lt h. c.in_default.ensures w q k le h)
 
 pub returns-then-count-most-clause-down : goal.returns-then-count-most-clause-down
 returns-then-count-most-clause-down c =
-    let S : Nodes = c.args.store.now in
-    let es : List Entry = c.args.entries.now in
-    let ps : List Placed = c.loop-next.down.roots.items in
-    let W : List (List Key) = c.loop-next.down.requests in
-    let rows : List (List (Placed × Placed)) = c.loop-next.down.rows in
-    let bound : ℕ = c.args.limits.wave in
-    let left : ℕ = c.loop-next.left in
-    let before : ℕ = c.args.down.now.splits in
-    let after : ℕ = c.loop-next.down.splits in
-    let T : List (List Key) = c.loop-next.invariant.going.0 in
-    let next : ℕ = c.in-Some.next in
-    let h : IsNextLevel W c.loop-next.level (Some next) = c.in-Some.ensures in
-    let g : IsGoing S es ps next W rows bound left before after T =
-    going_passed S es ps c.loop-next.level W rows bound left before after T c.loop-next.invariant.going.1 next h.0 h.3 in
-    let fit : next < S.levels = let n : next < length W = h.1 in let l : length T ≡ S.levels = g.expanded.admitted.levels in let m : length W ≡ length T = g.waits.levels in omega (arith, n, l, m) in
-    going_down S es ps next W rows bound left before after T g (omega (arith, fit))
+    let w = (goal.at.returns-then-count-most-clause-down c).In-Some in
+    going_down _ _ _ w.in-Some.next _ _ _ _ _ _ _ (here w) (let f = fit w in omega (arith, f))
 
 pub returns-then-count-left-clause-past : goal.returns-then-count-left-clause-past
 returns-then-count-left-clause-past c = λ _.
-    let S : Nodes = c.args.store.now in
-    let es : List Entry = c.args.entries.now in
-    let ps : List Placed = c.loop-next.down.roots.items in
-    let W : List (List Key) = c.loop-next.down.requests in
-    let rows : List (List (Placed × Placed)) = c.loop-next.down.rows in
-    let bound : ℕ = c.args.limits.wave in
-    let left : ℕ = c.loop-next.left in
-    let before : ℕ = c.args.down.now.splits in
-    let after : ℕ = c.loop-next.down.splits in
-    let T : List (List Key) = c.loop-next.invariant.going.0 in
-    let next : ℕ = c.in-Some.next in
-    let h : IsNextLevel W c.loop-next.level (Some next) = c.in-Some.ensures in
-    let g : IsGoing S es ps next W rows bound left before after T =
-    going_passed S es ps c.loop-next.level W rows bound left before after T c.loop-next.invariant.going.1 next h.0 h.3 in
-    let fit : next < S.levels = let n : next < length W = h.1 in let l : length T ≡ S.levels = g.expanded.admitted.levels in let m : length W ≡ length T = g.waits.levels in omega (arith, n, l, m) in
-    too_many S es T g.expanded.admitted bound left before after next g.counted next (omega arith) (subst IsOnce (g.waits.same next (omega arith)) c.count-count.ensures.once)
-    c.if-limits-lt18446744073709551615.true c.count-count.result (c.count-count.ensures.value ∙ ap length (g.waits.same next (omega arith))) c.if-count-left.true
+    let w = (goal.at.returns-then-count-left-clause-past c).In-Some in
+    let g : Going w w.in-Some.next = here w in
+    too_many c.args.store.now c.args.entries.now _ g.expanded.admitted c.args.limits.wave c.loop-next.left _ _ w.in-Some.next g.counted w.in-Some.next (omega arith) (subst IsOnce (g.waits.same w.in-Some.next (omega arith)) c.count-count.ensures.once)
+    c.if-limits-lt18446744073709551615.true c.count-count.result (c.count-count.ensures.value ∙ ap length (g.waits.same w.in-Some.next (omega arith))) c.if-count-left.true
 
 pub overflow_add-level : goal.overflow_add-level
 overflow_add-level c =
-    let S : Nodes = c.args.store.now in
-    let es : List Entry = c.args.entries.now in
-    let ps : List Placed = c.loop-next.down.roots.items in
-    let W : List (List Key) = c.loop-next.down.requests in
-    let rows : List (List (Placed × Placed)) = c.loop-next.down.rows in
-    let bound : ℕ = c.args.limits.wave in
-    let left : ℕ = c.loop-next.left in
-    let before : ℕ = c.args.down.now.splits in
-    let after : ℕ = c.loop-next.down.splits in
-    let T : List (List Key) = c.loop-next.invariant.going.0 in
-    let next : ℕ = c.in-Some.next in
-    let h : IsNextLevel W c.loop-next.level (Some next) = c.in-Some.ensures in
-    let g : IsGoing S es ps next W rows bound left before after T =
-    going_passed S es ps c.loop-next.level W rows bound left before after T c.loop-next.invariant.going.1 next h.0 h.3 in
-    let fit : next < S.levels = let n : next < length W = h.1 in let l : length T ≡ S.levels = g.expanded.admitted.levels in let m : length W ≡ length T = g.waits.levels in omega (arith, n, l, m) in
-    let few : S.levels < 2 ^ 16 = c.loop-next.invariant.few in
-    omega (arith, fit, few)
+    let f = fit (goal.at.overflow_add-level c).In-Some in
+    let few = c.loop-next.invariant.few in
+    omega (arith, f, few)
 
 pub take-pairs-requires : goal.take-pairs-requires
 take-pairs-requires c =
-    let S : Nodes = c.args.store.now in
-    let es : List Entry = c.args.entries.now in
-    let ps : List Placed = c.loop-next.down.roots.items in
-    let W : List (List Key) = c.loop-next.down.requests in
-    let rows : List (List (Placed × Placed)) = c.loop-next.down.rows in
-    let bound : ℕ = c.args.limits.wave in
-    let left : ℕ = c.loop-next.left in
-    let before : ℕ = c.args.down.now.splits in
-    let after : ℕ = c.loop-next.down.splits in
-    let T : List (List Key) = c.loop-next.invariant.going.0 in
-    let next : ℕ = c.in-Some.next in
-    let h : IsNextLevel W c.loop-next.level (Some next) = c.in-Some.ensures in
-    let g : IsGoing S es ps next W rows bound left before after T =
-    going_passed S es ps c.loop-next.level W rows bound left before after T c.loop-next.invariant.going.1 next h.0 h.3 in
-    let fit : next < S.levels = let n : next < length W = h.1 in let l : length T ≡ S.levels = g.expanded.admitted.levels in let m : length W ≡ length T = g.waits.levels in omega (arith, n, l, m) in
-    let l : length rows ≡ S.levels = g.expanded.levels in omega (arith, fit, l)
+    let w = (goal.at.take-pairs-requires c).In-Some in
+    let g : Going w w.in-Some.next = here w in
+    let f = fit w in
+    let l = g.expanded.levels in
+    omega (arith, f, l)
 
-pub expand_level-requires-clause-admitted : goal.expand_level-requires-clause-admitted
-expand_level-requires-clause-admitted c =
-    let S : Nodes = c.args.store.now in
-    let es : List Entry = c.args.entries.now in
-    let ps : List Placed = c.loop-next.down.roots.items in
-    let W : List (List Key) = c.loop-next.down.requests in
-    let rows : List (List (Placed × Placed)) = c.loop-next.down.rows in
-    let bound : ℕ = c.args.limits.wave in
-    let left : ℕ = c.loop-next.left in
-    let before : ℕ = c.args.down.now.splits in
-    let after : ℕ = c.loop-next.down.splits in
-    let T : List (List Key) = c.loop-next.invariant.going.0 in
-    let next : ℕ = c.in-Some.next in
-    let h : IsNextLevel W c.loop-next.level (Some next) = c.in-Some.ensures in
-    let g : IsGoing S es ps next W rows bound left before after T =
-    going_passed S es ps c.loop-next.level W rows bound left before after T c.loop-next.invariant.going.1 next h.0 h.3 in
-    let fit : next < S.levels = let n : next < length W = h.1 in let l : length T ≡ S.levels = g.expanded.admitted.levels in let m : length W ≡ length T = g.waits.levels in omega (arith, n, l, m) in
-    waiting_admitted T next W g.waits S es g.expanded.admitted
+pub expand_row-requires-clause-keys : goal.expand_row-requires-clause-keys
+expand_row-requires-clause-keys c =
+    let w = (goal.at.expand_row-requires-clause-keys c).In-Some in
+    let g : Going w w.in-Some.next = here w in
+    subst (All (IsKey c.args.store.now)) (sym c.take-keys.ensures.keys) (keys_stand c.args.store.now c.args.entries.now c.loop-next.down.requests w.in-Some.next (waiting_admitted _ _ _ g.waits _ _ g.expanded.admitted))
 
-pub expand_level-requires-clause-level : goal.expand_level-requires-clause-level
-expand_level-requires-clause-level c =
-    let S : Nodes = c.args.store.now in
-    let es : List Entry = c.args.entries.now in
-    let ps : List Placed = c.loop-next.down.roots.items in
-    let W : List (List Key) = c.loop-next.down.requests in
-    let rows : List (List (Placed × Placed)) = c.loop-next.down.rows in
-    let bound : ℕ = c.args.limits.wave in
-    let left : ℕ = c.loop-next.left in
-    let before : ℕ = c.args.down.now.splits in
-    let after : ℕ = c.loop-next.down.splits in
-    let T : List (List Key) = c.loop-next.invariant.going.0 in
-    let next : ℕ = c.in-Some.next in
-    let h : IsNextLevel W c.loop-next.level (Some next) = c.in-Some.ensures in
-    let g : IsGoing S es ps next W rows bound left before after T =
-    going_passed S es ps c.loop-next.level W rows bound left before after T c.loop-next.invariant.going.1 next h.0 h.3 in
-    let fit : next < S.levels = let n : next < length W = h.1 in let l : length T ≡ S.levels = g.expanded.admitted.levels in let m : length W ≡ length T = g.waits.levels in omega (arith, n, l, m) in
-    fit
+pub expand_row-requires-clause-accepts : goal.expand_row-requires-clause-accepts
+expand_row-requires-clause-accepts c =
+    let w = (goal.at.expand_row-requires-clause-accepts c).In-Some in
+    let g : Going w w.in-Some.next = here w in
+    ap length c.take-keys.ensures.rest ∙ length-set c.loop-next.down.requests w.in-Some.next [] ∙ g.waits.levels ∙ g.expanded.admitted.levels
 
-pub expand_level-requires-clause-empty : goal.expand_level-requires-clause-empty
-expand_level-requires-clause-empty c =
-    let S : Nodes = c.args.store.now in
-    let es : List Entry = c.args.entries.now in
-    let ps : List Placed = c.loop-next.down.roots.items in
-    let W : List (List Key) = c.loop-next.down.requests in
-    let rows : List (List (Placed × Placed)) = c.loop-next.down.rows in
-    let bound : ℕ = c.args.limits.wave in
-    let left : ℕ = c.loop-next.left in
-    let before : ℕ = c.args.down.now.splits in
-    let after : ℕ = c.loop-next.down.splits in
-    let T : List (List Key) = c.loop-next.invariant.going.0 in
-    let next : ℕ = c.in-Some.next in
-    let h : IsNextLevel W c.loop-next.level (Some next) = c.in-Some.ensures in
-    let g : IsGoing S es ps next W rows bound left before after T =
-    going_passed S es ps c.loop-next.level W rows bound left before after T c.loop-next.invariant.going.1 next h.0 h.3 in
-    let fit : next < S.levels = let n : next < length W = h.1 in let l : length T ≡ S.levels = g.expanded.admitted.levels in let m : length W ≡ length T = g.waits.levels in omega (arith, n, l, m) in
-    c.take-pairs.ensures.children ∙ g.later next (omega arith)
+pub expand_row-requires-clause-empty : goal.expand_row-requires-clause-empty
+expand_row-requires-clause-empty c =
+    let w = (goal.at.expand_row-requires-clause-empty c).In-Some in
+    let g : Going w w.in-Some.next = here w in
+    c.take-pairs.ensures.children ∙ g.later w.in-Some.next (omega arith)
 
 pub put-requires-clause-bound : goal.put-requires-clause-bound
 put-requires-clause-bound c =
-    let S : Nodes = c.args.store.now in
-    let es : List Entry = c.args.entries.now in
-    let ps : List Placed = c.loop-next.down.roots.items in
-    let W : List (List Key) = c.loop-next.down.requests in
-    let rows : List (List (Placed × Placed)) = c.loop-next.down.rows in
-    let bound : ℕ = c.args.limits.wave in
-    let left : ℕ = c.loop-next.left in
-    let before : ℕ = c.args.down.now.splits in
-    let after : ℕ = c.loop-next.down.splits in
-    let T : List (List Key) = c.loop-next.invariant.going.0 in
-    let next : ℕ = c.in-Some.next in
-    let h : IsNextLevel W c.loop-next.level (Some next) = c.in-Some.ensures in
-    let g : IsGoing S es ps next W rows bound left before after T =
-    going_passed S es ps c.loop-next.level W rows bound left before after T c.loop-next.invariant.going.1 next h.0 h.3 in
-    let fit : next < S.levels = let n : next < length W = h.1 in let l : length T ≡ S.levels = g.expanded.admitted.levels in let m : length W ≡ length T = g.waits.levels in omega (arith, n, l, m) in
-    let l : length rows ≡ S.levels = g.expanded.levels in let t : length c.take-pairs.new.self ≡ length rows = ap length c.take-pairs.ensures.rest ∙ length-set rows next [] in omega (arith, fit, l, t)
+    let w = (goal.at.put-requires-clause-bound c).In-Some in
+    let g : Going w w.in-Some.next = here w in
+    let f = fit w in
+    let l = g.expanded.levels in
+    let t : length c.take-pairs.new.self ≡ length c.loop-next.down.rows = ap length c.take-pairs.ensures.rest ∙ length-set c.loop-next.down.rows w.in-Some.next [] in
+    omega (arith, f, l, t)
 
-pub empty_level-requires : goal.empty_level-requires
-empty_level-requires c =
-    let S : Nodes = c.args.store.now in
-    let es : List Entry = c.args.entries.now in
-    let ps : List Placed = c.loop-next.down.roots.items in
-    let W : List (List Key) = c.loop-next.down.requests in
-    let rows : List (List (Placed × Placed)) = c.loop-next.down.rows in
-    let bound : ℕ = c.args.limits.wave in
-    let left : ℕ = c.loop-next.left in
-    let before : ℕ = c.args.down.now.splits in
-    let after : ℕ = c.loop-next.down.splits in
-    let T : List (List Key) = c.loop-next.invariant.going.0 in
-    let next : ℕ = c.in-Some.next in
-    let h : IsNextLevel W c.loop-next.level (Some next) = c.in-Some.ensures in
-    let g : IsGoing S es ps next W rows bound left before after T =
-    going_passed S es ps c.loop-next.level W rows bound left before after T c.loop-next.invariant.going.1 next h.0 h.3 in
-    let fit : next < S.levels = let n : next < length W = h.1 in let l : length T ≡ S.levels = g.expanded.admitted.levels in let m : length W ≡ length T = g.waits.levels in omega (arith, n, l, m) in
-    let l = c.expand_level.ensures.levels in let n = h.1 in omega (arith, l, n)
+pub leave-requires-clause-level : goal.leave-requires-clause-level
+leave-requires-clause-level c =
+    let w = (goal.at.leave-requires-clause-level c).In-Some in
+    let g : Going w w.in-Some.next = here w in
+    let u = row_taken c.args.store.now c.levels-levels.ensures.sound c.args.entries.now c.loop-next.down.requests w.in-Some.next w.in-Some.ensures.1 (waiting_admitted _ _ _ g.waits _ _ g.expanded.admitted) c.take-keys.new.self c.take-keys.result c.take-keys.ensures.rest c.take-keys.ensures.keys
+    c.expand_row.new.row c.expand_row.new.asks c.in_ok-expand_row.ensures.taken in
+    let l = u.levels in
+    let n = w.in-Some.ensures.1 in
+    omega (arith, l, n)
+
+pub leave-requires-clause-none : goal.leave-requires-clause-none
+leave-requires-clause-none c =
+    let w = (goal.at.leave-requires-clause-none c).In-Some in
+    let g : Going w w.in-Some.next = here w in
+    (row_taken c.args.store.now c.levels-levels.ensures.sound c.args.entries.now c.loop-next.down.requests w.in-Some.next w.in-Some.ensures.1 (waiting_admitted _ _ _ g.waits _ _ g.expanded.admitted) c.take-keys.new.self c.take-keys.result c.take-keys.ensures.rest c.take-keys.ensures.keys
+    c.expand_row.new.row c.expand_row.new.asks c.in_ok-expand_row.ensures.taken).none
 
 pub loop-next-preserved : goal.loop-next-preserved
 loop-next-preserved c =
+    let w = (goal.at.loop-next-preserved c).In-Some in
     let S : Nodes = c.args.store.now in
-    let es : List Entry = c.args.entries.now in
-    let ps : List Placed = c.loop-next.down.roots.items in
+    let es = c.args.entries.now in
     let W : List (List Key) = c.loop-next.down.requests in
     let rows : List (List (Placed × Placed)) = c.loop-next.down.rows in
-    let bound : ℕ = c.args.limits.wave in
-    let left : ℕ = c.loop-next.left in
-    let before : ℕ = c.args.down.now.splits in
-    let after : ℕ = c.loop-next.down.splits in
+    let next : ℕ = w.in-Some.next in
     let T : List (List Key) = c.loop-next.invariant.going.0 in
-    let next : ℕ = c.in-Some.next in
-    let h : IsNextLevel W c.loop-next.level (Some next) = c.in-Some.ensures in
-    let g : IsGoing S es ps next W rows bound left before after T =
-    going_passed S es ps c.loop-next.level W rows bound left before after T c.loop-next.invariant.going.1 next h.0 h.3 in
-    let fit : next < S.levels = let n : next < length W = h.1 in let l : length T ≡ S.levels = g.expanded.admitted.levels in let m : length W ≡ length T = g.waits.levels in omega (arith, n, l, m) in
-    let U : List (List Key) = c.expand_level.new.requests in
-    let pairs : List (Placed × Placed) = c.expand_level.new.pairs in
+    let g : Going w next = here w in
+    let keys : List Key = row W next in
+    let pairs : List (Placed × Placed) = c.expand_row.new.row in
+    let left : List (List Key) = c.expand_row.new.asks in
+    let u = row_taken S c.levels-levels.ensures.sound es W next w.in-Some.ensures.1 (waiting_admitted _ _ _ g.waits _ _ g.expanded.admitted) c.take-keys.new.self c.take-keys.result c.take-keys.ensures.rest c.take-keys.ensures.keys pairs left c.in_ok-expand_row.ensures.taken in
+    let U : List (List Key) = set left next keys in
     let put : c.put.new.self ≡ set rows next pairs = c.put.ensures ∙ ap (λ (z : List (List (Placed × Placed))). set z next pairs) c.take-pairs.ensures.rest ∙ set-set rows next [] pairs in
-    let gone : c.empty_level.new.self ≡ set U next [] = c.in_ok-empty_level.ensures in
+    let gone : c.leave.new.self ≡ set U next [] = c.leave.ensures ∙ sym (set-set left next keys [] ∙ ap (set left next) (sym u.none) ∙ set-get_or left next []) in
     let rest : ℕ = c.saturating_sub-left.result in
-    let more : ℕ = c.expand_level.new.splits in
+    let more : ℕ = c.expand_row.new.splits in
+    let bound : ℕ = c.args.limits.wave in
     record {
-      bound = omega (arith, fit);
+      bound = let f = fit w in omega (arith, f);
       few = c.loop-next.invariant.few;
       going = (
         splice next T U,
-        subst (λ (z : List (List Key)). IsGoing S es ps (next + 1) z c.put.new.self bound rest before more (splice next T U)) (sym gone)
-            (subst (λ (z : List (List (Placed × Placed))). IsGoing S es ps (next + 1) (set U next []) z bound rest before more (splice next T U)) (sym put)
-            (going_next S es ps next W rows bound left before after T g fit c.count-count.ensures.once U pairs c.in_ok-expand_level.ensures.expanded c.count-count.result rest more c.count-count.ensures.value
+        subst (λ (z : List (List Key)). IsGoing S es c.loop-next.down.roots.items (next + 1) z c.put.new.self bound rest c.args.down.now.splits more (splice next T U)) (sym gone)
+            (subst (λ (z : List (List (Placed × Placed))). IsGoing S es c.loop-next.down.roots.items (next + 1) (set U next []) z bound rest c.args.down.now.splits more (splice next T U)) (sym put)
+            (going_next S es c.loop-next.down.roots.items next W rows bound c.loop-next.left c.args.down.now.splits c.loop-next.down.splits T g (fit w) c.count-count.ensures.once U pairs u.expanded c.count-count.result rest more c.count-count.ensures.value
             (λ bounded. elim c.else-limits-lt18446744073709551615.branch [
-              | else-limits-lt18446744073709551615-via-then-limits-lt18446744073709551615+else-count-left w ↦
-                  let fits : c.count-count.result ≤ c.loop-next.left = let over = w.if-count-left.false in grind (arith, over) in
-                  let sub : c.saturating_sub-left.result ≡ c.loop-next.left - c.count-count.result = c.saturating_sub-left.ensures in
+              | else-limits-lt18446744073709551615-via-then-limits-lt18446744073709551615+else-count-left b ↦
+                  let fits : c.count-count.result ≤ c.loop-next.left = let over = b.if-count-left.false in grind (arith, over) in
+                  let sub : rest ≡ c.loop-next.left - c.count-count.result = c.saturating_sub-left.ensures in
                   omega (arith, fits, sub)
-              | else-limits-lt18446744073709551615-via-else-limits-lt18446744073709551615 w ↦ absurd (let free = w.if-limits-lt18446744073709551615.false in grind (arith, free, bounded))
-            ]) c.in_ok-expand_level.ensures.split)),
+              | else-limits-lt18446744073709551615-via-else-limits-lt18446744073709551615 b ↦ absurd (let free = b.if-limits-lt18446744073709551615.false in grind (arith, free, bounded))
+            ]) (c.in_ok-expand_row.ensures.split ∙ ap (λ (z : List Key). (c.loop-next.down.splits + length z) % 2 ^ 64) c.take-keys.ensures.keys))),
       );
     }
 
 pub returns-clause-down : goal.returns-clause-down
-returns-clause-down c =
-    let S : Nodes = c.args.store.now in
-    let es : List Entry = c.args.entries.now in
-    let ps : List Placed = c.loop-next.down.roots.items in
-    let W : List (List Key) = c.loop-next.down.requests in
-    let rows : List (List (Placed × Placed)) = c.loop-next.down.rows in
-    let bound : ℕ = c.args.limits.wave in
-    let left : ℕ = c.loop-next.left in
-    let before : ℕ = c.args.down.now.splits in
-    let after : ℕ = c.loop-next.down.splits in
-    let T : List (List Key) = c.loop-next.invariant.going.0 in
-    let g : IsGoing S es ps c.levels-levels.result W rows bound left before after T =
-    going_passed S es ps c.loop-next.level W rows bound left before after T c.loop-next.invariant.going.1 c.levels-levels.result
-    (let le = c.loop-next.invariant.bound in let l = c.levels-levels.ensures.value in omega (arith, le, l)) (λ w q k le lt h. c.in_default.ensures w q k le h) in
-    going_down S es ps c.levels-levels.result W rows bound left before after T g (let l = c.levels-levels.ensures.value in omega (arith, l))
+returns-clause-down c = going_down _ _ _ c.levels-levels.result _ _ _ _ _ _ _ (passed (goal.at.returns-clause-down c).In_default) (let l = c.levels-levels.ensures.value in omega (arith, l))
 
 pub returns-clause-within_bound : goal.returns-clause-within_bound
 returns-clause-within_bound c = λ bounded same.
     let S : Nodes = c.args.store.now in
-    let es : List Entry = c.args.entries.now in
-    let ps : List Placed = c.loop-next.down.roots.items in
-    let W : List (List Key) = c.loop-next.down.requests in
-    let rows : List (List (Placed × Placed)) = c.loop-next.down.rows in
-    let bound : ℕ = c.args.limits.wave in
-    let left : ℕ = c.loop-next.left in
-    let before : ℕ = c.args.down.now.splits in
-    let after : ℕ = c.loop-next.down.splits in
-    let T : List (List Key) = c.loop-next.invariant.going.0 in
-    let g : IsGoing S es ps c.levels-levels.result W rows bound left before after T =
-    going_passed S es ps c.loop-next.level W rows bound left before after T c.loop-next.invariant.going.1 c.levels-levels.result
-    (let le = c.loop-next.invariant.bound in let l = c.levels-levels.ensures.value in omega (arith, le, l)) (λ w q k le lt h. c.in_default.ensures w q k le h) in
-    all_counted S es ps T rows (subst (λ z. AreExpanded S es ps z T rows) c.levels-levels.ensures.value g.expanded) bound left before after c.levels-levels.result bounded g.counted
+    let g = passed (goal.at.returns-clause-within_bound c).In_default in
+    all_counted S c.args.entries.now c.loop-next.down.roots.items c.loop-next.invariant.going.0 c.loop-next.down.rows (subst (λ z. AreExpanded S c.args.entries.now c.loop-next.down.roots.items z c.loop-next.invariant.going.0 c.loop-next.down.rows) c.levels-levels.ensures.value g.expanded)
+    c.args.limits.wave c.loop-next.left c.args.down.now.splits c.loop-next.down.splits c.levels-levels.result bounded g.counted
     (λ w q k le h. c.in_default.ensures w q k (let b = c.loop-next.invariant.bound in let l = c.levels-levels.ensures.value in omega (arith, b, l, le)) (subst (λ (z : List Key). slice_get z q ≡ Some k) (sym (g.waits.same w le)) h))
 
 pub loop-next-init : goal.loop-next-init

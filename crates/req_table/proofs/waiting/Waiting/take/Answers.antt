@@ -1,0 +1,15 @@
+use Rattle.std.proofs.Common.{◌≡◌, ◌∙◌, ◌<◌, ℕ, List, [], length, set, sym, ap, subst, arith}
+use Rattle.req_table.specs.declared.Key.{Key}
+use Rattle.req_table.specs.Places.{AreMembers}
+use Rattle.req_table.proofs.Members.{member_gone}
+use Rattle.req_table.proofs.waiting.Waiting.take.Goals as goal
+
+pub invariant_of-self : goal.invariant_of-self
+invariant_of-self c =
+    let T : List (List Key) = c.self.inside.tables.items in
+    let l : ℕ = c.args.level in
+    let long : length T ≡ length c.args.self.now = ap length c.self.view_is in
+    let fits : l < length T = omega (arith, long, c.requires) in
+    let empty : c.replace.new.dest ≡ [] = c.replace.ensures.after ∙ c.new-fresh.ensures in
+    subst (λ (z : List Key). AreMembers c.remove.new.self (set T l z)) (sym empty)
+    (member_gone c.self.inside.asked c.remove.new.self T l c.self.invariant fits c.remove.ensures.room c.remove.ensures.own c.remove.ensures.others)
