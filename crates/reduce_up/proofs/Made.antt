@@ -2,6 +2,8 @@
 use Rattle.std.proofs.Common.{◌≡◌, ◌≢◌, ℕ, ◌<◌, ◌⊎◌, inl, inr, true, false, Bool, List, [], ◌∷◌, ◌+◌, ◌*◌, ◌≤◌, zero, suc, length, get_or, slice_get, Some, All, refl, sym, ◌∙◌, subst, arith}
 use Rattle.std.specs.Prelude.{Err}
 use Rattle.std.specs.List.{AllZip}
+use Rattle.std.specs.declared.vec.Vec.{Vec}
+use Rattle.std.specs.declared.alloc.Global.{Global}
 use Rattle.std.proofs.Math.Nat.{eq-or-lt_of_le}
 use Rattle.std.proofs.lemmas.List.{get_or_default}
 use Rattle.std.proofs.lemmas.Option.{slice_get_within, slice_get-get_or}
@@ -11,7 +13,7 @@ use Rattle.dd_store.specs.declared.StoreFault.TheVariants.{Full, OutOfMemory}
 use Rattle.dd_store.specs.Graph.{Pair}
 use Rattle.dd_store.specs.Functions.{Agree, OfEither}
 use Rattle.dd_store.specs.Growing.{IsIn}
-use Rattle.dd_store.specs.Levels.{plain_lists}
+use Rattle.dd_store.specs.Levels.{all_at, plain_lists}
 use Rattle.dd_store.specs.Parts.Part.{node}
 use Rattle.dd_store.specs.Nodes.{Nodes, IsSound, den, shard_at, count_of}
 use Rattle.dd_store.specs.View.{part, Has, Keeps}
@@ -25,17 +27,18 @@ use Rattle.req_table.specs.declared.Key.{Key}
 use Rattle.req_table.specs.declared.placed.Placed.{Placed}
 use Rattle.req_table.specs.Places.{row, StandsAt}
 use Rattle.req_table.proofs.Standing.{some_same, stands_some}
+use Rattle.reduce_up.specs.declared.division.Homes.{Homes}
 use Rattle.reduce_up.specs.Reducing.{IsAnswer, IsAnswerAt, IsRecordAt, AddsDescribed}
 use Rattle.reduce_up.specs.Sharing.{IsOfPair}
 use Rattle.reduce_up.specs.OverParts.{level_over}
-use Rattle.reduce_up.specs.Up.{AskedAt, IsReadyAt, IsLevelReduced, IsLevelFault}
-use Rattle.reduce_up.specs.Steps.{BothComeTo, IsMadeOf, MayReadLevel}
+use Rattle.reduce_up.specs.Up.{AskedAt, IsReadyAt, IsLevelReduced, IsLevelFault, ReducesLevel}
+use Rattle.reduce_up.specs.Steps.{BothComeTo, IsMadeOf, MayReadLevel, AreRead}
 use Rattle.reduce_up.proofs.Naming.{grown_of_pair, there_part}
 use Rattle.reduce_up.proofs.Opposite.{one_node_either, one_node_part}
 use Rattle.reduce_up.proofs.Reduction.{made_answer, kept_meaning, record_kept}
 use Rattle.reduce_up.proofs.Missing.{record_fault}
 use Rattle.reduce_up.proofs.Raising.{rec, one_answer}
-use Rattle.reduce_up.proofs.Joined.{AreListed, over_in}
+use Rattle.reduce_up.proofs.Joined.{AreListed, listed_level, over_in}
 
 -- the item beside one at a place
 zip_beside : {X Y : Type 0} (R : X → Y → Type 0) (xs : List X) (ys : List Y) (i : ℕ) (y : Y) → AllZip R xs ys → slice_get ys i ≡ Some y → (x : X) × (slice_get xs i ≡ Some x) × R x y
@@ -45,7 +48,11 @@ zip_beside R (x ∷ xs) [] i y h e = absurd h
 zip_beside R (x ∷ xs) (z ∷ ys) zero y h e = (x, refl, subst (R x) (some_same (slice_get (z ∷ ys) zero) z y refl e) h.0)
 zip_beside R (x ∷ xs) (z ∷ ys) (suc i) y h e = zip_beside R xs ys i y h.1 e
 
-module _ (S : Nodes) (T : List (List Key)) (children : List (Placed × Placed)) (A : List (List Ref)) (v : ℕ) (R : IsReadyAt S T children A v) where
+-- Of a level that is ready.
+module _ (S : Nodes) (T : List (List Key)) (rows : List (List (List (Placed × Placed)))) (A : List (List Ref)) (v : ℕ) (R : IsReadyAt S T (level_over rows v) A v) where
+  abbrev children : List (Placed × Placed)
+  children = level_over rows v
+
   -- the request at a place
   key_at : (i : ℕ) (d : Placed × Placed) → slice_get children i ≡ Some d → (k : Key) × StandsAt T v i k
   key_at i d at = stands_some (row T v) i (let e = R.counts in let l = slice_get_within children i d at in omega (arith, e, l))
@@ -68,7 +75,14 @@ module _ (S : Nodes) (T : List (List Key)) (children : List (Placed × Placed)) 
       let high = R.high i k.0 d k.1 at in
       ((low.1.0, high.1.0), (low.1.1, high.1.1))
 
-  module _ (lists : ℕ → List Pair) (are : AreListed A children lists) where
+  -- its parts were read and divided
+  module _ (parts : List (Vec (Vec Pair Global) Global)) (homes : List Homes) (D : AreRead A v rows (length rows) parts homes) where
+    abbrev lists : ℕ → List Pair
+    lists = all_at parts
+
+    are : AreListed A children lists
+    are = listed_level A v rows parts homes D
+
     -- a listed pair makes a record of a request
     of_list : (s : ℕ) (p : Pair) → IsIn (lists s) p → (i : ℕ) × (k : Key) × StandsAt T v i k × IsRecordAt S v (rec k p.0 p.1)
     of_list s p w =
@@ -115,25 +129,28 @@ module _ (S : Nodes) (T : List (List Key)) (children : List (Placed × Placed)) 
       }
 
       -- or why some are missing
-      pub refused_all : (f : StoreFault) → IsMakeFault U v (plain_lists lists) f → IsLevelFault U T v (wave_fault f)
-      refused_all OutOfMemory h = tt
-      refused_all Full h =
-          let s : ℕ = h.0 in
-          let full = h.2 in
-          let enough : length (shard_at U v s) ≤ count_of U = shard-le-count U (16 * v + s) in
-          let m = lacking_absent U v s (lists s) sound (λ p i. (are s p i).5) h.3 in
-          let o = of_list s m.0 m.1 in
-          let k : Key = o.1 in
-          let i : IsRecordAt U v (rec k m.0.0 m.0.1) = record_kept S U held kept v (rec k m.0.0 m.0.1) o.3 in
-          let x = record_fault U U v k m.0.0 m.0.1 (Err Full) sound i.key i.low i.high refl (omega (arith, full, enough), (are s m.0 m.1).4, absent U v m.0.0 m.0.1 m.2) in
-          (o.0, k, o.2, elim (eq-or-lt_of_le x.0) [ inl e ↦ inr (sym e, x.1) | inr lt ↦ inl lt ])
+      pub refused_all : (own : List Ref) (f : StoreFault) → IsMakeFault U v (plain_lists lists) f → ReducesLevel S T v (Err (wave_fault f)) U own
+      refused_all own f h = record { adds = adds_all; whole = tt; fault = by f h }
+        where
+          by : (f : StoreFault) → IsMakeFault U v (plain_lists lists) f → IsLevelFault U T v (wave_fault f)
+          by OutOfMemory h = tt
+          by Full h =
+              let s : ℕ = h.0 in
+              let full = h.2 in
+              let enough : length (shard_at U v s) ≤ count_of U = shard-le-count U (16 * v + s) in
+              let m = lacking_absent U v s (lists s) sound (λ p i. (are s p i).5) h.3 in
+              let o = of_list s m.0 m.1 in
+              let k : Key = o.1 in
+              let i : IsRecordAt U v (rec k m.0.0 m.0.1) = record_kept S U held kept v (rec k m.0.0 m.0.1) o.3 in
+              let x = record_fault U U v k m.0.0 m.0.1 (Err Full) sound i.key i.low i.high refl (omega (arith, full, enough), (are s m.0 m.1).4, absent U v m.0.0 m.0.1 m.2) in
+              (o.0, k, o.2, elim (eq-or-lt_of_le x.0) [ inl e ↦ inr (sym e, x.1) | inr lt ↦ inl lt ])
 
       -- all have their answers
-      pub whole_all : (own : List Ref) → AllZip (IsMadeOf A U v) children own → IsLevelReduced S T v (length children) U own
+      pub whole_all : (own : List Ref) → AllZip (IsMadeOf A U v) children own → IsLevelReduced S T v (length (row T v)) U own
       whole_all own made = record {
         held = sound;
         adds = adds_all;
-        count = sym (zip_long (IsMadeOf A U v) children own made);
+        count = sym (zip_long (IsMadeOf A U v) children own made) ∙ R.counts;
         answered = λ q k r st g. by q k r st (zip_beside (IsMadeOf A U v) children own q r made g);
       }
         where
@@ -155,4 +172,4 @@ may_read S T rows A v R levels k d l = record { level = levels k d l; come = com
         let at : slice_get (row (row rows k) v) j ≡ Some (get_or (row (get_or rows k d) v) j e) =
         subst (λ (z : List (List (Placed × Placed))). slice_get (row z v) j ≡ Some (get_or (row (get_or rows k d) v) j e)) same (slice_get-get_or (row (get_or rows k d) v) j e lj) in
         let w = over_in rows k v j (get_or (row (get_or rows k d) v) j e) l at in
-        comes S T (level_over rows v) A v R w.0 (get_or (row (get_or rows k d) v) j e) w.1
+        comes S T rows A v R w.0 (get_or (row (get_or rows k d) v) j e) w.1

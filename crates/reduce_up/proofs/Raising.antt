@@ -1,5 +1,6 @@
 -- Reduction by place: one request, one level, and one level after the other.
 use Rattle.std.proofs.Common.{◌≡◌, ◌≢◌, ℕ, ◌+◌, ◌<◌, ◌≤◌, ◌⊎◌, inl, inr, true, false, Bool, List, [], ◌∷◌, ◌++◌, length, Option, Some, None, slice_get, refl, sym, ◌∙◌, ap, subst, arith, Contains, All}
+use Rattle.std.specs.Prelude.{Ok, Err}
 use Rattle.std.proofs.Math.Nat.{eq-or-lt_of_le}
 use Rattle.std.proofs.lemmas.Bool.{cases_lt}
 use Rattle.std.proofs.lemmas.List.{length-append}
@@ -11,7 +12,7 @@ use Rattle.dd_store.specs.Functions.{OfEither}
 use Rattle.dd_store.specs.Marks.{mark_by}
 use Rattle.dd_store.specs.Parts.Part.{node}
 use Rattle.dd_store.specs.Nodes.{Nodes, IsSound, den, count_of}
-use Rattle.dd_store.specs.View.{part, Has, Keeps}
+use Rattle.dd_store.specs.View.{part, Has, Keeps, IsMade, IsFull}
 use Rattle.dd_store.proofs.Places.{slice_get_cases-push}
 use Rattle.dd_store.proofs.View.{keeps-trans}
 use Rattle.expand_work.specs.declared.fault.WaveFault.{WaveFault}
@@ -26,7 +27,8 @@ use Rattle.req_table.proofs.Waved.{is_wave, are_requests}
 use Rattle.expand_work.specs.Fault.{wave_fault}
 use Rattle.reduce_up.specs.Reducing.{IsKeyAt, IsAnswer, IsAnswerAt, IsChild, IsRecordAt, AreAnswers, AskedBy, AddsDescribed, IsRecordFault}
 use Rattle.reduce_up.specs.Waves.{Entry, IsEntry, HasRequest, IsWaveFault, requests_of}
-use Rattle.reduce_up.proofs.Reduction.{resolved, record_kept, kept_meaning, answer_kept, adds_none}
+use Rattle.reduce_up.proofs.Missing.{record_fault}
+use Rattle.reduce_up.proofs.Reduction.{resolved, record_kept, record_done, kept_meaning, answer_kept, adds_none}
 use Rattle.reduce_up.proofs.Noting.{nothing, in_cases}
 use Rattle.reduce_up.proofs.Closed.{key_at, right}
 use Rattle.reduce_up.proofs.Opposite.{either_more, either_kept}
@@ -35,7 +37,7 @@ use Rattle.req_table.specs.declared.placed.Placed.{Placed}
 use Rattle.req_table.specs.declared.placed.PlacedChild.TheVariants.{Done, Ask}
 use Rattle.req_table.specs.Places.{row, StandsAt, IsPlaced, AreNone, IsLastLevel}
 use Rattle.reduce_up.specs.ByPlace.{IsAdmitted, AreExpanded}
-use Rattle.reduce_up.specs.Up.{ComesTo, IsBelow, IsKnown, AskedAt, IsReadyAt, IsLevelReduced, IsLevelFault, AreReducedBelow}
+use Rattle.reduce_up.specs.Up.{ComesTo, IsBelow, IsKnown, AskedAt, IsReadyAt, IsLevelReduced, IsLevelFault, ReducesLevel, AreReducedBelow}
 use Rattle.req_table.proofs.Standing.{some_same, stands_none, stands_some}
 use Rattle.reduce_up.proofs.Wanted.{level_adds, lacks_wanted}
 
@@ -76,67 +78,81 @@ module _ (s0 : Nodes) (sound : IsSound s0) (T : List (List Key)) (pairs : List (
   pub high_comes : (r : Ref) × ComesTo A d.1 r
   high_comes = let k = R.high i here.0 d here.1 at in (k.1.0, k.1.1)
 
-  -- its children's answers make a record of it
-  pub is_record : (lo hi : Ref) → ComesTo A d.0 lo → ComesTo A d.1 hi → IsRecordAt s v (rec here.0 lo hi)
-  is_record lo hi cl ch =
-      let low = R.low i here.0 d here.1 at in
-      let high = R.high i here.0 d here.1 at in
-      let el : low.1.0 ≡ lo = one_answer A d.0 low.1.0 lo low.1.1 cl in
-      let eh : high.1.0 ≡ hi = one_answer A d.1 high.1.0 hi high.1.1 ch in
-      record_kept s0 s sound so.adds.keeps v (rec here.0 lo hi) (record {
-        key = R.keys i here.0 here.1;
-        low = subst (IsAnswerAt s0 v here.0 false) el low.1.2;
-        high = subst (IsAnswerAt s0 v here.0 true) eh high.1.2;
-      })
+  -- its children's answers
+  module _ (lo hi : Ref) (cl : ComesTo A d.0 lo) (ch : ComesTo A d.1 hi) where
+    -- they make a record of it
+    pub is_record : IsRecordAt s v (rec here.0 lo hi)
+    is_record =
+        let low = R.low i here.0 d here.1 at in
+        let high = R.high i here.0 d here.1 at in
+        let el : low.1.0 ≡ lo = one_answer A d.0 low.1.0 lo low.1.1 cl in
+        let eh : high.1.0 ≡ hi = one_answer A d.1 high.1.0 hi high.1.1 ch in
+        record_kept s0 s sound so.adds.keeps v (rec here.0 lo hi) (record {
+          key = R.keys i here.0 here.1;
+          low = subst (IsAnswerAt s0 v here.0 false) el low.1.2;
+          high = subst (IsAnswerAt s0 v here.0 true) eh high.1.2;
+        })
 
-  -- what its node adds
-  pub adds_one : (lo hi : Ref) (u : Nodes) → AddsDescribed s u (AskedBy s v (rec here.0 lo hi ∷ [])) → AddsDescribed s0 u (AskedAt s0 T v)
-  adds_one lo hi u j = record { keeps = keeps-trans s0 s u so.adds.keeps j.keeps; described = λ m h. later m (j.described m h) }
-    where
-      K : Keeps s0 s
-      K = so.adds.keeps
+    -- the cause of its refusal
+    pub refused_one : (u : Nodes) → u ≡ s → (f : StoreFault) → IsFull s v lo hi f → ReducesLevel s0 T v (Err (wave_fault f)) u own
+    refused_one u same f full = record {
+      adds = subst (λ z. AddsDescribed s0 z (AskedAt s0 T v)) (sym same) so.adds;
+      whole = tt;
+      fault = by f (record_fault s u v here.0 lo hi (Err f) so.held is_record.key is_record.low is_record.high same full);
+    }
+      where
+        by : (f : StoreFault) → IsRecordFault u v here.0 f → IsLevelFault u T v (wave_fault f)
+        by store_faults.OutOfMemory x = tt
+        by store_faults.Full x = (i, here.0, here.1, elim (eq-or-lt_of_le x.0) [ inl e ↦ inr (sym e, x.1) | inr lt ↦ inl lt ])
 
-      L : Keeps s u
-      L = j.keeps
+    -- its node is made
+    module _ (u : Nodes) (su : IsSound u) (r : Ref) (m : IsMade s u v lo hi r) where
+      done : IsAnswer u here.0 r × AddsDescribed s u (AskedBy s v (rec here.0 lo hi ∷ []))
+      done = record_done s u v (rec here.0 lo hi) lo hi (Ok r) so.held su is_record.key is_record.low is_record.high m tt
 
-      key : IsKeyAt s0 v here.0
-      key = R.keys i here.0 here.1
+      -- what it adds
+      pub adds_one : AddsDescribed s0 u (AskedAt s0 T v)
+      adds_one = record { keeps = keeps-trans s0 s u K L; described = λ m h. later m (done.1.described m h) }
+        where
+          K : Keeps s0 s
+          K = so.adds.keeps
 
-      earlier : (m : Ref) → Has s m → Has s0 m ⊎ ((w : ℕ) × (lo : Ref) × (hi : Ref) × (part s m ≡ node w lo hi) × OfEither (AskedAt s0 T v w) (den s m)) → Has s0 m ⊎ ((w : ℕ) × (lo : Ref) × (hi : Ref) × (part u m ≡ node w lo hi) × OfEither (AskedAt s0 T v w) (den u m))
-      earlier m h (inl k) = inl k
-      earlier m h (inr k) = inr (k.0, k.1, k.2, L.part_is m h ∙ k.3, either_kept s u so.held L (AskedAt s0 T v k.0) m h k.4)
+          L : Keeps s u
+          L = done.1.keeps
 
-      only_entry : (r : Record) → Contains (rec here.0 lo hi ∷ []) r → r ≡ rec here.0 lo hi
-      only_entry r c = elim (in_cases (rec here.0 lo hi) r [] c) [ inl e ↦ sym e | inr n ↦ absurd (nothing r n) ]
+          key : IsKeyAt s0 v here.0
+          key = R.keys i here.0 here.1
 
-      of_level : (w : ℕ) (f : List Bool → Bool) → AskedBy s v (rec here.0 lo hi ∷ []) w f → AskedAt s0 T v w f
-      of_level w f (at, (r, c, e)) =
-          let same : r ≡ rec here.0 lo hi = only_entry r c in
-          (at, (i, here.0, here.1, λ x hx. e x (hx ∙ sym K.levels) ∙ ap (λ (r : Record). meaning s r.key x) same ∙ kept_meaning s0 s sound K here.0 key.first key.second x))
+          earlier : (m : Ref) → Has s m → Has s0 m ⊎ ((w : ℕ) × (lo : Ref) × (hi : Ref) × (part s m ≡ node w lo hi) × OfEither (AskedAt s0 T v w) (den s m)) → Has s0 m ⊎ ((w : ℕ) × (lo : Ref) × (hi : Ref) × (part u m ≡ node w lo hi) × OfEither (AskedAt s0 T v w) (den u m))
+          earlier m h (inl k) = inl k
+          earlier m h (inr k) = inr (k.0, k.1, k.2, L.part_is m h ∙ k.3, either_kept s u so.held L (AskedAt s0 T v k.0) m h k.4)
 
-      later : (m : Ref) → Has s m ⊎ ((w : ℕ) × (lo' : Ref) × (hi' : Ref) × (part u m ≡ node w lo' hi') × OfEither (AskedBy s v (rec here.0 lo hi ∷ []) w) (den u m)) → Has s0 m ⊎ ((w : ℕ) × (lo : Ref) × (hi : Ref) × (part u m ≡ node w lo hi) × OfEither (AskedAt s0 T v w) (den u m))
-      later m (inl h) = earlier m h (so.adds.described m h)
-      later m (inr k) = inr (k.0, k.1, k.2, k.3, either_more (AskedBy s v (rec here.0 lo hi ∷ []) k.0) (AskedAt s0 T v k.0) (of_level k.0) (den u m) k.4)
+          only_entry : (r : Record) → Contains (rec here.0 lo hi ∷ []) r → r ≡ rec here.0 lo hi
+          only_entry r c = elim (in_cases (rec here.0 lo hi) r [] c) [ inl e ↦ sym e | inr n ↦ absurd (nothing r n) ]
 
-  -- its answer stands next
-  pub one_more : (lo hi : Ref) (u : Nodes) → IsSound u → AddsDescribed s u (AskedBy s v (rec here.0 lo hi ∷ [])) → (r : Ref) → IsAnswer u here.0 r → (new : List Ref) → new ≡ own ++ r ∷ [] → IsLevelReduced s0 T v (i + 1) u new
-  one_more lo hi u su j r a new e = record {
-    held = su;
-    adds = adds_one lo hi u j;
-    count = ap length e ∙ simp length-append (omega (arith, so.count));
-    answered = λ q k x h g. by q k x h (slice_get_cases-push own r q x (subst (λ (z : List Ref). slice_get z q ≡ Some x) e g));
-  }
-    where
-      by : (q : ℕ) (k : Key) (x : Ref) → StandsAt T v q k → (slice_get own q ≡ Some x) ⊎ ((q ≡ length own) × (x ≡ r)) → IsAnswer u k x
-      by q k x h (inl g) = answer_kept s u so.held j.keeps k x (so.answered q k x h g)
-      by q k x h (inr g) =
-          let k-is : here.0 ≡ k = some_same (slice_get (row T v) i) here.0 k here.1 (subst (λ z. StandsAt T v z k) (g.0 ∙ so.count) h) in
-          subst (λ z. IsAnswer u z x) k-is (subst (IsAnswer u here.0) (sym g.1) a)
+          of_level : (w : ℕ) (f : List Bool → Bool) → AskedBy s v (rec here.0 lo hi ∷ []) w f → AskedAt s0 T v w f
+          of_level w f (at, (r, c, e)) =
+              let same : r ≡ rec here.0 lo hi = only_entry r c in
+              (at, (i, here.0, here.1, λ x hx. e x (hx ∙ sym K.levels) ∙ ap (λ (r : Record). meaning s r.key x) same ∙ kept_meaning s0 s sound K here.0 key.first key.second x))
 
-  -- the cause of its refusal
-  pub one_fault : (u : Nodes) (f : StoreFault) → IsRecordFault u v here.0 f → IsLevelFault u T v (wave_fault f)
-  one_fault u store_faults.OutOfMemory x = tt
-  one_fault u store_faults.Full x = (i, here.0, here.1, elim (eq-or-lt_of_le x.0) [ inl e ↦ inr (sym e, x.1) | inr lt ↦ inl lt ])
+          later : (m : Ref) → Has s m ⊎ ((w : ℕ) × (lo' : Ref) × (hi' : Ref) × (part u m ≡ node w lo' hi') × OfEither (AskedBy s v (rec here.0 lo hi ∷ []) w) (den u m)) → Has s0 m ⊎ ((w : ℕ) × (lo : Ref) × (hi : Ref) × (part u m ≡ node w lo hi) × OfEither (AskedAt s0 T v w) (den u m))
+          later m (inl h) = earlier m h (so.adds.described m h)
+          later m (inr k) = inr (k.0, k.1, k.2, k.3, either_more (AskedBy s v (rec here.0 lo hi ∷ []) k.0) (AskedAt s0 T v k.0) (of_level k.0) (den u m) k.4)
+
+      -- its answer stands next
+      pub one_more : (new : List Ref) → new ≡ own ++ r ∷ [] → IsLevelReduced s0 T v (i + 1) u new
+      one_more new e = record {
+        held = su;
+        adds = adds_one;
+        count = ap length e ∙ simp length-append (omega (arith, so.count));
+        answered = λ q k x h g. by q k x h (slice_get_cases-push own r q x (subst (λ (z : List Ref). slice_get z q ≡ Some x) e g));
+      }
+        where
+          by : (q : ℕ) (k : Key) (x : Ref) → StandsAt T v q k → (slice_get own q ≡ Some x) ⊎ ((q ≡ length own) × (x ≡ r)) → IsAnswer u k x
+          by q k x h (inl g) = answer_kept s u so.held done.1.keeps k x (so.answered q k x h g)
+          by q k x h (inr g) =
+              let k-is : here.0 ≡ k = some_same (slice_get (row T v) i) here.0 k here.1 (subst (λ z. StandsAt T v z k) (g.0 ∙ so.count) h) in
+              subst (λ z. IsAnswer u z x) k-is (subst (IsAnswer u here.0) (sym g.1) done.0)
 
 pub level_start : (s : Nodes) (T : List (List Key)) (pairs : List (Placed × Placed)) (A : List (List Ref)) (v : ℕ) → IsSound s → IsReadyAt s T pairs A v → IsLevelReduced s T v 0 s []
 level_start s T pairs A v S R = record {
@@ -145,6 +161,13 @@ level_start s T pairs A v S R = record {
   count = refl;
   answered = λ q k r h g. absurd (stands_none [] q r refl g);
 }
+
+-- what is left of a level that is given up, and of one whose keys all have their answers
+pub level_given_up : (s u : Nodes) (T : List (List Key)) (v : ℕ) (own : List Ref) → AddsDescribed s u (AskedAt s T v) → ReducesLevel s T v (Err wave_faults.OutOfMemory) u own
+level_given_up s u T v own a = record { adds = a; whole = tt; fault = tt }
+
+pub level_whole : (s u : Nodes) (T : List (List Key)) (v : ℕ) (own : List Ref) → IsLevelReduced s T v (length (row T v)) u own → ReducesLevel s T v (Ok tt) u own
+level_whole s u T v own so = record { adds = so.adds; whole = so; fault = tt }
 
 -- a placed child whose request has its answer is known
 known : (s : Nodes) (T : List (List Key)) (A : List (List Ref)) (v : ℕ) (k : Key) (b : Bool) (d : Placed) (c : Child) → IsPlaced T d c → IsChild s v k b c →
@@ -202,14 +225,14 @@ module _ (S : Nodes) (w : IsSound S) (entries : List Entry) (good : All (IsEntry
       at q k h = record_kept S s w d.adds.keeps v (record_of S k) (splits v k (E.admitted.keys v q k h))
 
   -- one level more is reduced
-  pub level_next : (v : ℕ) (s : Nodes) (A : List (List Ref)) → v < from → AreReducedBelow S entries T (v + 1) s A → (u : Nodes) (own : List Ref) → IsLevelReduced s T v (length (row rows v)) u own → count_of u ≤ u.limit →
+  pub level_next : (v : ℕ) (s : Nodes) (A : List (List Ref)) → AreReducedBelow S entries T (v + 1) s A → (u : Nodes) (own : List Ref) → IsLevelReduced s T v (length (row T v)) u own → count_of u ≤ u.limit →
       (B : List (List Ref)) → length B ≡ length A → row B v ≡ own → ((w : ℕ) → (w ≡ v → ⊥) → row B w ≡ row A w) → AreReducedBelow S entries T v u B
-  level_next v s A lt d u own so within B len here others = record {
+  level_next v s A d u own so within B len here others = record {
     held = so.held;
     adds = level_adds S w entries good T v s u E.admitted d.held so.held d.adds so.adds;
     levels = len ∙ d.levels;
     counts = λ x q k le h. elim (eq-or-lt_of_le le) [
-      | inl e ↦ subst (λ z. length (row B z) ≡ length (row T z)) e (ap length here ∙ so.count ∙ E.counts v lt)
+      | inl e ↦ subst (λ z. length (row B z) ≡ length (row T z)) e (ap length here ∙ so.count)
       | inr l ↦ ap length (others x (λ e. omega (arith, e, l))) ∙ d.counts x q k (omega (arith, l)) h
     ];
     answered = λ x q k r le h g. elim (eq-or-lt_of_le le) [
@@ -257,14 +280,8 @@ past_fault s T pairs A v R some u over =
     (0, k.0, k.1, inl over)
 
 -- a level is not refused for want of a worker, nor for too many requests
-pub no_worker : (s : Nodes) (T : List (List Key)) (v : ℕ) (e : WaveFault) → IsLevelFault s T v e → e ≢ wave_faults.NoWorker
-no_worker s T v wave_faults.OutOfMemory h = λ e. absurd (cc)
-no_worker s T v wave_faults.NoWorker h = absurd h
-no_worker s T v wave_faults.TooManyRequests h = absurd h
-no_worker s T v wave_faults.Full h = λ e. absurd (cc)
-
-pub no_bound : (s : Nodes) (T : List (List Key)) (v : ℕ) (e : WaveFault) → IsLevelFault s T v e → e ≢ wave_faults.TooManyRequests
-no_bound s T v wave_faults.OutOfMemory h = λ e. absurd (cc)
-no_bound s T v wave_faults.NoWorker h = absurd h
-no_bound s T v wave_faults.TooManyRequests h = absurd h
-no_bound s T v wave_faults.Full h = λ e. absurd (cc)
+pub no_other_cause : (s : Nodes) (T : List (List Key)) (v : ℕ) (e : WaveFault) → IsLevelFault s T v e → (e ≢ wave_faults.NoWorker) × (e ≢ wave_faults.TooManyRequests)
+no_other_cause s T v wave_faults.OutOfMemory h = (λ e. absurd (cc), λ e. absurd (cc))
+no_other_cause s T v wave_faults.NoWorker h = absurd h
+no_other_cause s T v wave_faults.TooManyRequests h = absurd h
+no_other_cause s T v wave_faults.Full h = (λ e. absurd (cc), λ e. absurd (cc))

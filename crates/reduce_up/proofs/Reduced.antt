@@ -1,5 +1,5 @@
 -- How many requests are reduced on the way up, and that none is missed.
-use Rattle.std.proofs.Common.{◌≡◌, ℕ, ◌+◌, ◌%◌, ◌^◌, ◌<◌, ◌≤◌, inl, inr, List, [], ◌∷◌, ◌++◌, suc, length, sym, subst, arith}
+use Rattle.std.proofs.Common.{◌≡◌, ℕ, ◌+◌, ◌<◌, ◌≤◌, inl, inr, List, [], ◌∷◌, ◌++◌, suc, length, sym, subst, arith}
 use Rattle.std.proofs.Math.Nat.{eq-or-lt_of_le}
 use Rattle.std.proofs.lemmas.Bool.{cases_lt}
 use Rattle.std.proofs.lemmas.List.{length-append}
@@ -13,7 +13,7 @@ use Rattle.expand_work.proofs.Once.{append_cases, once_append}
 use Rattle.reduce_up.specs.Waves.{Entry}
 use Rattle.reduce_up.specs.ByPlace.{AreAdmitted}
 use Rattle.req_table.specs.Places.{row, StandsAt, AreNone}
-use Rattle.reduce_up.specs.Up.{AreCounted}
+use Rattle.reduce_up.specs.Up.{AreMore, AreCounted}
 use Rattle.slot_table.specs.Lists.{IsIn}
 
 pub in_back : {X : Type 0} (a b : List X) (x : X) → IsIn b x → IsIn (a ++ b) x
@@ -32,7 +32,7 @@ none_reduced T v count = record {
 
 -- the requests of a level are reduced too, where none stands between it and those that were
 pub level_reduced : (s : Nodes) (entries : List Entry) (T : List (List Key)) → AreAdmitted s entries T → (u end v before after later : ℕ) →
-    AreCounted T end v before after → u < end → end ≤ v → AreNone T (u + 1) end → IsOnce (row T u) → later % 2 ^ 64 ≡ (after + length (row T u)) % 2 ^ 64 → AreCounted T u v before later
+    AreCounted T end v before after → u < end → end ≤ v → AreNone T (u + 1) end → IsOnce (row T u) → AreMore (length (row T u)) after later → AreCounted T u v before later
 level_reduced s entries T admitted u end v before after later m lt le none own b = record {
   requests = row T u ++ m.requests;
   once = once_append (row T u) m.requests own m.once (λ k a b.

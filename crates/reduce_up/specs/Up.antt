@@ -1,5 +1,5 @@
 -- The reduction of requests by place, from the last level up.
-use Rattle.std.specs.Prelude.{◌≡◌, ℕ, ◌+◌, ◌%◌, ◌^◌, ◌<◌, ◌≤◌, ◌⊎◌, Bool, true, false, List, length, slice_get, Some, All}
+use Rattle.std.specs.Prelude.{◌≡◌, ℕ, ◌+◌, ◌%◌, ◌^◌, ◌<◌, ◌≤◌, ◌⊎◌, Bool, true, false, List, length, slice_get, Some, All, Result, IfErr, OnOk}
 use Rattle.slot_table.specs.Lists.{IsIn, IsOnce}
 use Rattle.dd_store.specs.declared.reference.Ref.{Ref}
 use Rattle.dd_store.specs.Functions.{Agree}
@@ -15,6 +15,7 @@ use Rattle.req_table.specs.declared.placed.Placed.{Placed}
 use Rattle.req_table.specs.declared.placed.PlacedChild.TheVariants.{Done, Ask}
 use Rattle.req_table.specs.Places.{row, StandsAt}
 use Rattle.reduce_up.specs.ByPlace.{AreExpanded}
+use Rattle.reduce_up.specs.OverParts.{level_over}
 
 -- what a placed child comes to by the answers
 abbrev pub ComesTo : List (List Ref) → Placed → Ref → Type 0
@@ -63,6 +64,27 @@ IsLevelFault s tables v wave_faults.TooManyRequests = ⊥
 IsLevelFault s tables v wave_faults.Full =
     (q : ℕ) × (k : Key) × StandsAt tables v q k × ((s.limit < count_of s) ⊎ ((count_of s ≡ s.limit) × LacksAnswer s v k))
 
+-- level v of the parts may be reduced: the store is sound, each part has the level, and it is ready for some tables
+pub record MayReduceLevel (s : Nodes) (parts : List (List (List (Placed × Placed)))) (answers : List (List Ref)) (v : ℕ) : Type 0 where
+  pub held : IsSound s
+  pub levels : All (λ rows. v < length rows) parts
+  pub tables : List (List Key)
+  pub ready : IsReadyAt s tables (level_over parts v) answers v
+
+-- what the reduction of level v comes to and leaves
+pub record ReducesLevel (old : Nodes) (tables : List (List Key)) (v : ℕ) (result : Result (Unit {0}) WaveFault) (new : Nodes)
+    (own : List Ref) : Type 0 where
+  -- even where it is refused, nothing is added but what the level's keys ask for
+  pub adds : AddsDescribed old new (AskedAt old tables v)
+  -- all keys have their answers
+  pub whole : OnOk result (IsLevelReduced old tables v (length (row tables v)) new own)
+  -- or else there is a cause
+  pub fault : IfErr result (λ e. IsLevelFault new tables v e)
+
+-- modulo 2^64, so many more are counted
+abbrev pub AreMore : (more before after : ℕ) → Type 0
+AreMore more before after = after % 2 ^ 64 ≡ (before + more) % 2 ^ 64
+
 -- the store is within its limit, or no level from v on has a key and the store is still `start`
 abbrev pub IsWithinBelow : Nodes → List (List Key) → ℕ → Nodes → Type 0
 IsWithinBelow start tables v s =
@@ -86,7 +108,7 @@ pub record AreCounted (tables : List (List Key)) (u v : ℕ) (before after : ℕ
   pub once : IsOnce requests
   pub stands : (k : Key) → IsIn requests k → (w : ℕ) × (q : ℕ) × (u ≤ w) × (w < v) × StandsAt tables w q k
   pub whole : (w q : ℕ) (k : Key) → u ≤ w → w < v → StandsAt tables w q k → IsIn requests k
-  pub count : after % 2 ^ 64 ≡ (before + length requests) % 2 ^ 64
+  pub count : AreMore (length requests) before after
 
 -- ---- what a reduction begins with
 -- the levels before v are expanded, none has a request twice, and those from v on have their answers

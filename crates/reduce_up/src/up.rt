@@ -8,7 +8,7 @@ ghost use Rattle.req_table.specs.declared.Key.{Key};
 ghost use Rattle.req_table.specs.Places.{row};
 ghost use Rattle.reduce_up.specs.OverParts.{level_over, over_parts};
 ghost use Rattle.reduce_up.specs.Reducing.{AddsDescribed};
-ghost use Rattle.reduce_up.specs.Up.{ComesTo, IsReadyAt, AskedAt, IsLevelReduced, IsLevelFault, AreReducedBelow, AreCounted, MayReduce};
+ghost use Rattle.reduce_up.specs.Up.{ComesTo, IsReadyAt, MayReduceLevel, ReducesLevel, AreMore, AreReducedBelow, AreCounted, MayReduce};
 ghost use Rattle.reduce_up.specs.Waves.{Entry, IsWanted, IsWaveFault};
 
 use crate::parts::{last_level, leave_level};
@@ -106,20 +106,11 @@ fn reduce_level(
     own: &mut Refs,
     reductions: &mut Reductions,
 ) -> Result<(), WaveFault>
-    requires held { IsSound store.old }
-    requires levels { All (λ rows. level.now.number < length rows) level.now.parts.now }
-    requires ready { (tables : List (List Key)) × IsReadyAt store.old tables (level_over level.now.parts.now level.now.number)
-        level.now.answers.now level.now.number }
+    requires { MayReduceLevel store.old level.now.parts.now level.now.answers.now level.now.number }
     ensures sound { IsSound store.new }
-    ensures adds { (tables : List (List Key)) → IsReadyAt store.old tables (level_over level.now.parts.now level.now.number)
-        level.now.answers.now level.now.number → AddsDescribed store.old store.new (AskedAt store.old tables level.now.number) }
-    ensures whole { (tables : List (List Key)) → IsReadyAt store.old tables (level_over level.now.parts.now level.now.number)
-        level.now.answers.now level.now.number → OnOk result (IsLevelReduced store.old tables level.now.number
-        (length (level_over level.now.parts.now level.now.number)) store.new own.new) }
-    ensures counted { OnOk result (reductions.new % 2 ^ 64
-        ≡ (reductions.old + length (level_over level.now.parts.now level.now.number)) % 2 ^ 64) }
-    ensures fault { (tables : List (List Key)) → IsReadyAt store.old tables (level_over level.now.parts.now level.now.number)
-        level.now.answers.now level.now.number → IfErr result (λ e. IsLevelFault store.new tables level.now.number e) }
+    ensures level { (tables : List (List Key)) → IsReadyAt store.old tables (level_over level.now.parts.now level.now.number)
+        level.now.answers.now level.now.number → ReducesLevel store.old tables level.now.number result store.new own.new }
+    ensures counted { OnOk result (AreMore (length (level_over level.now.parts.now level.now.number)) reductions.old reductions.new) }
 {
     if own.restart(level.len() as usize).is_err() {
         return Err(WaveFault::OutOfMemory);
@@ -154,20 +145,11 @@ fn answer_level<R: Threads + Sync, G: Monitor>(
     reductions: &mut Reductions,
     spare: &mut Spare,
 ) -> Result<(), WaveFault>
-    requires held { IsSound store.old }
-    requires levels { All (λ rows. level.now.number < length rows) level.now.parts.now }
-    requires ready { (tables : List (List Key)) × IsReadyAt store.old tables (level_over level.now.parts.now level.now.number)
-        level.now.answers.now level.now.number }
+    requires { MayReduceLevel store.old level.now.parts.now level.now.answers.now level.now.number }
     ensures sound { IsSound store.new }
-    ensures adds { (tables : List (List Key)) → IsReadyAt store.old tables (level_over level.now.parts.now level.now.number)
-        level.now.answers.now level.now.number → AddsDescribed store.old store.new (AskedAt store.old tables level.now.number) }
-    ensures whole { (tables : List (List Key)) → IsReadyAt store.old tables (level_over level.now.parts.now level.now.number)
-        level.now.answers.now level.now.number → OnOk result (IsLevelReduced store.old tables level.now.number
-        (length (level_over level.now.parts.now level.now.number)) store.new own.new) }
-    ensures counted { OnOk result (reductions.new % 2 ^ 64
-        ≡ (reductions.old + length (level_over level.now.parts.now level.now.number)) % 2 ^ 64) }
-    ensures fault { (tables : List (List Key)) → IsReadyAt store.old tables (level_over level.now.parts.now level.now.number)
-        level.now.answers.now level.now.number → IfErr result (λ e. IsLevelFault store.new tables level.now.number e) }
+    ensures level { (tables : List (List Key)) → IsReadyAt store.old tables (level_over level.now.parts.now level.now.number)
+        level.now.answers.now level.now.number → ReducesLevel store.old tables level.now.number result store.new own.new }
+    ensures counted { OnOk result (AreMore (length (level_over level.now.parts.now level.now.number)) reductions.old reductions.new) }
 {
     if level.parts.len() < 2 || level.len() < FEWEST_SHARED {
         return reduce_level(store, level, own, reductions);
@@ -186,23 +168,16 @@ fn reduce_at<R: Threads + Sync, G: Monitor>(
     up: &mut Up,
     number: u16,
 ) -> Result<(), WaveFault>
-    requires held { IsSound store.old }
-    requires levels { All (λ rows. number < length rows) parts.now }
+    requires may { MayReduceLevel store.old parts.now up.old.answers.items number }
     requires known { number < length up.old.answers.items }
     requires some { 0 < length (level_over parts.now number) }
-    requires ready { (tables : List (List Key)) × IsReadyAt store.old tables (level_over parts.now number) up.old.answers.items number }
     ensures sound { IsSound store.new }
-    ensures adds { (tables : List (List Key)) → IsReadyAt store.old tables (level_over parts.now number) up.old.answers.items number
-        → AddsDescribed store.old store.new (AskedAt store.old tables number) }
-    ensures whole { (tables : List (List Key)) → IsReadyAt store.old tables (level_over parts.now number) up.old.answers.items number
-        → OnOk result (IsLevelReduced store.old tables number (length (level_over parts.now number)) store.new
-        (row up.new.answers.items number)) }
+    ensures level { (tables : List (List Key)) → IsReadyAt store.old tables (level_over parts.now number) up.old.answers.items number
+        → ReducesLevel store.old tables number result store.new (row up.new.answers.items number) }
     ensures others { (w : ℕ) → w ≢ number → row up.new.answers.items w ≡ row up.old.answers.items w }
     ensures lists { length up.new.answers.items ≡ length up.old.answers.items }
-    ensures counted { OnOk result (up.new.reductions % 2 ^ 64 ≡ (up.old.reductions + length (level_over parts.now number)) % 2 ^ 64) }
+    ensures counted { OnOk result (AreMore (length (level_over parts.now number)) up.old.reductions up.new.reductions) }
     ensures within { OnOk result (count_of store.new ≤ store.new.limit) }
-    ensures fault { (tables : List (List Key)) → IsReadyAt store.old tables (level_over parts.now number) up.old.answers.items number
-        → IfErr result (λ e. IsLevelFault store.new tables number e) }
     ensures memory { result ≡ Err WaveFault.OutOfMemory → count_of store.new ≤ store.new.limit }
 {
     // the level's own list is taken out, since the lists below it are read meanwhile

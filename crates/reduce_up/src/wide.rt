@@ -1,10 +1,9 @@
 //! A level with many requests, which threads reduce in three steps: each reads a part's children and divides the pairs of
 //! their diagrams by shard, the store makes the nodes of all pairs, and each picks its part's diagrams. No pair is sought twice.
-ghost use Rattle.std.specs.Prelude.{◌<◌, List, length, All, IfErr, OnOk};
+ghost use Rattle.std.specs.Prelude.{List};
 ghost use Rattle.dd_store.specs.Nodes.{IsSound};
 ghost use Rattle.req_table.specs.declared.Key.{Key};
-ghost use Rattle.reduce_up.specs.Reducing.{AddsDescribed};
-ghost use Rattle.reduce_up.specs.Up.{AskedAt, IsReadyAt, IsLevelReduced, IsLevelFault};
+ghost use Rattle.reduce_up.specs.Up.{IsReadyAt, MayReduceLevel, ReducesLevel};
 ghost use Rattle.reduce_up.specs.OverParts.{level_over};
 
 use crate::division::{Divided, Homes};
@@ -33,18 +32,10 @@ pub(crate) fn share_level<R: Threads + Sync, G: Monitor>(
     own: &mut Refs,
     spare: &mut Spare,
 ) -> Result<(), WaveFault>
-    requires held { IsSound store.old }
-    requires levels { All (λ rows. level.now.number < length rows) level.now.parts.now }
-    requires ready { (tables : List (List Key)) × IsReadyAt store.old tables (level_over level.now.parts.now level.now.number)
-        level.now.answers.now level.now.number }
+    requires { MayReduceLevel store.old level.now.parts.now level.now.answers.now level.now.number }
     ensures sound { IsSound store.new }
-    ensures adds { (tables : List (List Key)) → IsReadyAt store.old tables (level_over level.now.parts.now level.now.number)
-        level.now.answers.now level.now.number → AddsDescribed store.old store.new (AskedAt store.old tables level.now.number) }
-    ensures whole { (tables : List (List Key)) → IsReadyAt store.old tables (level_over level.now.parts.now level.now.number)
-        level.now.answers.now level.now.number → OnOk result (IsLevelReduced store.old tables level.now.number
-        (length (level_over level.now.parts.now level.now.number)) store.new own.new) }
-    ensures fault { (tables : List (List Key)) → IsReadyAt store.old tables (level_over level.now.parts.now level.now.number)
-        level.now.answers.now level.now.number → IfErr result (λ e. IsLevelFault store.new tables level.now.number e) }
+    ensures level { (tables : List (List Key)) → IsReadyAt store.old tables (level_over level.now.parts.now level.now.number)
+        level.now.answers.now level.now.number → ReducesLevel store.old tables level.now.number result store.new own.new }
 {
     let Ok(read) = read_level(crew.rt, crew.alloc, level, spare) else {
         return Err(WaveFault::OutOfMemory);

@@ -1,8 +1,8 @@
-use Rattle.std.proofs.Common.{◌≡◌, ◌+◌, ◌%◌, ◌^◌, List, length, take}
+use Rattle.std.proofs.Common.{◌+◌, List, length, take}
 use Rattle.dd_store.specs.Nodes.{IsSound}
 use Rattle.req_table.specs.declared.Key.{Key}
 use Rattle.reduce_up.specs.OverParts.{level_over}
-use Rattle.reduce_up.specs.Up.{IsReadyAt, IsLevelReduced}
+use Rattle.reduce_up.specs.Up.{IsReadyAt, IsLevelReduced, AreMore}
 use Rattle.reduce_up.proofs.up.reduce_level.Given as goal
 
 abbrev pub invariant-loop-part : goal.invariant-loop-part
@@ -10,7 +10,7 @@ invariant-loop-part l = record {
   held : IsSound l.store;
   reduced : (T : List (List Key)) → IsReadyAt l.fn.store T (level_over l.level.parts.now l.level.number) l.level.answers.now l.level.number
       → IsLevelReduced l.fn.store T l.level.number (length (level_over (take l.part-index l.level.parts.now) l.level.number)) l.store l.own;
-  counted : l.reductions % 2 ^ 64 ≡ (l.fn.reductions + length (level_over (take l.part-index l.level.parts.now) l.level.number)) % 2 ^ 64;
+  counted : AreMore (length (level_over (take l.part-index l.level.parts.now) l.level.number)) l.fn.reductions l.reductions;
 }
 
 abbrev pub invariant-loop-place : goal.invariant-loop-place
@@ -18,5 +18,5 @@ invariant-loop-place l = record {
   held : IsSound l.store;
   reduced : (T : List (List Key)) → IsReadyAt l.fn.store T (level_over l.level.parts.now l.level.number) l.level.answers.now l.level.number
       → IsLevelReduced l.fn.store T l.level.number (length (level_over (take l.part-index l.level.parts.now) l.level.number) + l.place) l.store l.own;
-  counted : l.reductions % 2 ^ 64 ≡ (l.fn.reductions + (length (level_over (take l.part-index l.level.parts.now) l.level.number) + l.place)) % 2 ^ 64;
+  counted : AreMore (length (level_over (take l.part-index l.level.parts.now) l.level.number) + l.place) l.fn.reductions l.reductions;
 }

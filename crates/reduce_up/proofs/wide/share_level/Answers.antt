@@ -1,86 +1,62 @@
-use Rattle.std.proofs.Common.{◌≡◌, ℕ, ◌<◌, ◌∙◌, List, length, refl, sym, subst}
+use Rattle.std.proofs.Common.{◌≡◌, ℕ, ◌<◌, ◌∙◌, length, sym}
 use Rattle.std.specs.List.{AllZip}
-use Rattle.std.specs.declared.vec.Vec.{Vec}
-use Rattle.std.specs.declared.alloc.Global.{Global}
-use Rattle.dd_store.specs.declared.reference.Ref.{Ref}
 use Rattle.dd_store.specs.Graph.{Pair}
 use Rattle.dd_store.specs.Levels.{all_at, refs_at}
 use Rattle.dd_store.specs.Nodes.{IsThere}
-use Rattle.req_table.specs.declared.placed.Placed.{Placed}
-use Rattle.reduce_up.specs.declared.division.Homes.{Homes}
-use Rattle.reduce_up.specs.OverParts.{level_over}
-use Rattle.reduce_up.specs.Up.{IsLevelFault}
 use Rattle.reduce_up.specs.Division.{AreInTurn}
 use Rattle.reduce_up.specs.Steps.{AreRead}
 use Rattle.reduce_up.proofs.Noting.{on_ok}
-use Rattle.reduce_up.proofs.Joined.{AreListed, listed_level, all_sixteen, may_pick, all_made}
+use Rattle.reduce_up.proofs.Joined.{all_sixteen, may_pick, all_made}
 use Rattle.reduce_up.proofs.Made.{may_read, ready_all, adds_all, refused_all, whole_all}
+use Rattle.reduce_up.proofs.Raising.{level_given_up, level_whole}
+use Rattle.reduce_up.proofs.wide.share_level.Given.{Over}
 use Rattle.reduce_up.proofs.wide.share_level.Goals as goal
+use Rattle.reduce_up.proofs.wide.share_level.Goals.{After-as_slice, After-as_slice-lists}
 
--- the same of lists that are read as slices
-read_as : (A : List (List Ref)) (v : ℕ) (rows : List (List (List (Placed × Placed)))) (parts parts' : List (Vec (Vec Pair Global) Global)) (homes homes' : List Homes) → parts' ≡ parts → homes' ≡ homes → AreRead A v rows (length rows) parts homes → AreRead A v rows (length rows) parts' homes'
-read_as A v rows parts parts' homes homes' x y D = subst (λ (z : List (Vec (Vec Pair Global) Global) × List Homes). AreRead A v rows (length rows) z.0 z.1) (λ i. (sym x i, sym y i)) D
+-- what was read of the level, in slices
+read : (g : Over) (c : After-as_slice-lists g) → AreRead c.args.level.now.answers.now c.args.level.now.number c.args.level.now.parts.now (length c.args.level.now.parts.now) c.as_slice-lists.result.now c.in-Ok.read.homes.items
+read g c = rw c.as_slice-lists.ensures.value c.in-Ok.ensures
 
-listed_as : (A : List (List Ref)) (v : ℕ) (rows : List (List (List (Placed × Placed)))) (parts parts' : List (Vec (Vec Pair Global) Global)) (homes : List Homes) → parts' ≡ parts → AreRead A v rows (length rows) parts homes → AreListed A (level_over rows v) (all_at parts')
-listed_as A v rows parts parts' homes x D = listed_level A v rows parts' homes (read_as A v rows parts parts' homes homes x refl D)
+-- the references of all pairs, in slices
+module _ (g : Over) (c : After-as_slice g) where
+  whole : AreRead c.args.level.now.answers.now c.args.level.now.number c.args.level.now.parts.now (length c.args.level.now.parts.now) c.as_slice-lists.result.now c.as_slice-homes.result.now
+  whole = rw (c.as_slice-lists.ensures.value, c.as_slice-homes.ensures.value) c.in-Ok.ensures
+
+  sixteen : length c.as_slice.result.now ≡ 16
+  sixteen = rw c.as_slice.ensures.value c.in-Ok-make_by.ensures.sixteen
+
+  there : (s : ℕ) → s < 16 → AllZip (λ (q : Pair) r. IsThere c.make_by.new.self c.args.level.now.number q.0 q.1 r) (all_at c.as_slice-lists.result.now s) (refs_at c.as_slice.result.now s)
+  there s l = rw c.as_slice.ensures.value (c.in-Ok-make_by.ensures.answers s l)
 
 pub read_level-requires-after_bounds : goal.read_level-requires-after_bounds
-read_level-requires-after_bounds g c κs within =
-    let L = c.args.level.now in
-    may_read c.args.store.now c.requires.ready.0 L.parts.now L.answers.now L.number c.requires.ready.1 c.requires.levels
+read_level-requires-after_bounds g c κs within = may_read _ _ _ _ _ c.requires.ready c.requires.levels
 
 pub make_by-requires-clause-lists : goal.make_by-requires-clause-lists
-make_by-requires-clause-lists g c κs within =
-    let L = c.args.level.now in let read = c.in-Ok.read in let parts = c.as_slice-lists.result.now in
-    all_sixteen L.answers.now L.number L.parts.now parts read.homes.items (read_as L.answers.now L.number L.parts.now read.parts.items parts read.homes.items read.homes.items c.as_slice-lists.ensures.value refl c.in-Ok.ensures)
+make_by-requires-clause-lists g c κs within = all_sixteen _ _ _ _ _ (read g (goal.at.make_by-requires-clause-lists g c).After-as_slice-lists)
 
 pub make_by-requires-clause-ready : goal.make_by-requires-clause-ready
-make_by-requires-clause-ready g c κs within =
-    let L = c.args.level.now in let read = c.in-Ok.read in let parts = c.as_slice-lists.result.now in
-    let listed = listed_as L.answers.now L.number L.parts.now read.parts.items parts read.homes.items c.as_slice-lists.ensures.value c.in-Ok.ensures in
-    ready_all c.args.store.now c.requires.ready.0 (level_over L.parts.now L.number) L.answers.now L.number c.requires.ready.1 (all_at parts) listed
+make_by-requires-clause-ready g c κs within = ready_all _ _ _ _ _ c.requires.ready _ _ (read g (goal.at.make_by-requires-clause-ready g c).After-as_slice-lists)
 
-pub returns-in-Err-clause-adds : goal.returns-in-Err-clause-adds
-returns-in-Err-clause-adds g c = λ T R.
-    let L = c.args.level.now in let read = c.in-Ok.read in let parts = c.as_slice-lists.result.now in
-    let listed = listed_as L.answers.now L.number L.parts.now read.parts.items parts read.homes.items c.as_slice-lists.ensures.value c.in-Ok.ensures in
-    adds_all c.args.store.now T (level_over L.parts.now L.number) L.answers.now L.number R (all_at parts) listed c.make_by.new.self c.requires.held c.make_by.ensures.sound c.make_by.ensures.grows
-
-pub returns-in-Err-clause-fault : goal.returns-in-Err-clause-fault
-returns-in-Err-clause-fault g c = λ T R.
-    let L = c.args.level.now in let read = c.in-Ok.read in let parts = c.as_slice-lists.result.now in
-    let listed = listed_as L.answers.now L.number L.parts.now read.parts.items parts read.homes.items c.as_slice-lists.ensures.value c.in-Ok.ensures in
-    subst (IsLevelFault c.make_by.new.self T L.number) (sym c.from.ensures)
-    (refused_all c.args.store.now T (level_over L.parts.now L.number) L.answers.now L.number R (all_at parts) listed c.make_by.new.self c.requires.held c.make_by.ensures.sound c.make_by.ensures.grows c.in-Err.fault c.in-Err.ensures.fault)
+pub returns-in-Err-clause-level : goal.returns-in-Err-clause-level
+returns-in-Err-clause-level g c = λ T R.
+    let w = (goal.at.returns-in-Err-clause-level g c).After-as_slice-lists in
+    rw c.from.ensures
+    (refused_all _ _ _ _ _ R _ _ (read g w) c.make_by.new.self c.requires.held c.make_by.ensures.sound c.make_by.ensures.grows _ c.in-Err.fault c.in-Err.ensures.fault)
 
 pub pick_level-requires-clause-may : goal.pick_level-requires-clause-may
 pick_level-requires-clause-may g c κs within =
-    let L = c.args.level.now in let read = c.in-Ok.read in let parts = c.as_slice-lists.result.now in let homes = c.as_slice-homes.result.now in let refs = c.as_slice.result.now in
-    let D = read_as L.answers.now L.number L.parts.now read.parts.items parts read.homes.items homes c.as_slice-lists.ensures.value c.as_slice-homes.ensures.value c.in-Ok.ensures in
-    let sixteen : length refs ≡ 16 = subst (λ (z : List (Vec Ref Global)). length z ≡ 16) (sym c.as_slice.ensures.value) c.in-Ok-make_by.ensures.sixteen in
-    let there = λ (s : ℕ) (l : s < 16). subst (λ (z : List (Vec Ref Global)). AllZip (λ (q : Pair) r. IsThere c.make_by.new.self L.number q.0 q.1 r) (all_at parts s) (refs_at z s)) (sym c.as_slice.ensures.value) (c.in-Ok-make_by.ensures.answers s l) in
-    may_pick L.answers.now L.number L.parts.now parts homes D c.make_by.new.self refs sixteen there
+    let w = (goal.at.pick_level-requires-clause-may g c).After-as_slice in
+    may_pick _ _ _ _ _ (whole g w) c.make_by.new.self c.as_slice.result.now (sixteen g w) (there g w)
 
-pub returns-then-is_err-clause-adds : goal.returns-then-is_err-clause-adds
-returns-then-is_err-clause-adds g c = λ T R.
-    let L = c.args.level.now in let read = c.in-Ok.read in let parts = c.as_slice-lists.result.now in
-    let listed = listed_as L.answers.now L.number L.parts.now read.parts.items parts read.homes.items c.as_slice-lists.ensures.value c.in-Ok.ensures in
-    adds_all c.args.store.now T (level_over L.parts.now L.number) L.answers.now L.number R (all_at parts) listed c.make_by.new.self c.requires.held c.make_by.ensures.sound c.make_by.ensures.grows
+pub returns-then-is_err-clause-level : goal.returns-then-is_err-clause-level
+returns-then-is_err-clause-level g c = λ T R.
+    let w = (goal.at.returns-then-is_err-clause-level g c).After-as_slice in
+    level_given_up _ _ _ _ _ (adds_all _ _ _ _ _ R _ _ (whole g w) c.make_by.new.self c.requires.held c.make_by.ensures.sound c.make_by.ensures.grows)
 
-pub returns-clause-adds : goal.returns-clause-adds
-returns-clause-adds g c = λ T R.
-    let L = c.args.level.now in let read = c.in-Ok.read in let parts = c.as_slice-lists.result.now in
-    let listed = listed_as L.answers.now L.number L.parts.now read.parts.items parts read.homes.items c.as_slice-lists.ensures.value c.in-Ok.ensures in
-    adds_all c.args.store.now T (level_over L.parts.now L.number) L.answers.now L.number R (all_at parts) listed c.make_by.new.self c.requires.held c.make_by.ensures.sound c.make_by.ensures.grows
-
-pub returns-clause-whole : goal.returns-clause-whole
-returns-clause-whole g c = λ T R.
-    let L = c.args.level.now in let read = c.in-Ok.read in let parts = c.as_slice-lists.result.now in let homes = c.as_slice-homes.result.now in let refs = c.as_slice.result.now in
-    let U = c.make_by.new.self in
-    let own : List Ref = c.pick_level.new.own in
-    let D = read_as L.answers.now L.number L.parts.now read.parts.items parts read.homes.items homes c.as_slice-lists.ensures.value c.as_slice-homes.ensures.value c.in-Ok.ensures in
-    let sixteen : length refs ≡ 16 = subst (λ (z : List (Vec Ref Global)). length z ≡ 16) (sym c.as_slice.ensures.value) c.in-Ok-make_by.ensures.sixteen in
-    let there = λ (s : ℕ) (l : s < 16). subst (λ (z : List (Vec Ref Global)). AllZip (λ (q : Pair) r. IsThere U L.number q.0 q.1 r) (all_at parts s) (refs_at z s)) (sym c.as_slice.ensures.value) (c.in-Ok-make_by.ensures.answers s l) in
-    let picked : AreInTurn parts homes refs own = on_ok c.pick_level.result (sym c.is_err.ensures.value ∙ c.if-is_err.false) c.pick_level.ensures in
-    whole_all c.args.store.now T (level_over L.parts.now L.number) L.answers.now L.number R (all_at parts) (listed_level L.answers.now L.number L.parts.now parts homes D) U c.requires.held c.make_by.ensures.sound c.make_by.ensures.grows own
-    (all_made L.answers.now L.number L.parts.now parts homes D U refs sixteen there own picked)
+pub returns-clause-level : goal.returns-clause-level
+returns-clause-level g c = λ T R.
+    let w = (goal.at.returns-clause-level g c).After-as_slice in
+    let picked : AreInTurn c.as_slice-lists.result.now c.as_slice-homes.result.now c.as_slice.result.now c.pick_level.new.own = on_ok c.pick_level.result (sym c.is_err.ensures.value ∙ c.if-is_err.false) c.pick_level.ensures in
+    level_whole _ _ _ _ _
+    (whole_all _ _ _ _ _ R _ _ (whole g w) c.make_by.new.self c.requires.held c.make_by.ensures.sound c.make_by.ensures.grows c.pick_level.new.own
+    (all_made _ _ _ _ _ (whole g w) c.make_by.new.self c.as_slice.result.now (sixteen g w) (there g w) c.pick_level.new.own picked))
