@@ -9,7 +9,7 @@ use Rattle.std.proofs.Math.Nat.{mod-lt}
 use Rattle.std.proofs.Math.Seq.{get_or-append_seam, drop-length}
 use mathlib.Core.Logic.{dite}
 use native.Mathlib.Decide.{ℕ_discrete}
-use Rattle.dd_store.specs.Nodes.{Nodes, IsSound}
+use Rattle.dd_store.specs.Nodes.{IsSound}
 use Rattle.req_table.specs.declared.Key.{Key}
 use Rattle.req_table.specs.declared.Child.TheVariants.{Ask}
 use Rattle.req_table.specs.declared.Record.{Record}
@@ -19,12 +19,13 @@ use Rattle.req_table.specs.Keys.{level_of, owner}
 use Rattle.req_table.specs.Places.{row, IsPlaced}
 use Rattle.req_table.specs.Settled.{asked_by, asked_below, dealt_from}
 use Rattle.expand_work.specs.Expanded.{row_of}
-use Rattle.expand_work.specs.Gathered.{PartsView, AreParts, noted_of}
+use Rattle.expand_work.specs.Gathered.{AreParts, noted_of}
 use Rattle.expand_work.specs.Lean.{lean_row, AreLean}
 use Rattle.expand_work.specs.Work.{owned_by}
 use Rattle.expand_work.proofs.Zips.{zip_at, zip_long, zip_grown}
+use Rattle.reduce_up.specs.declared.numbers.Field.{Field}
 use Rattle.reduce_up.specs.declared.numbers.Share.{Share}
-use Rattle.reduce_up.specs.Numbers.{keys_of, starts_below, AreFew, IsField, StandsWith, AreNext, IsNext, IsNumberedTo, asked_up, asked_from, IsNew, AreNew, IsShare, asked_behind, AreShares, IsRootPlaced, MayNumber, MayNumberAll, IsShareNumbered, AreAllNumbered, AreLevelsNumbered, AreRowsNumbered, AreNumbered}
+use Rattle.reduce_up.specs.Numbers.{keys_in, starts_below, AreFew, IsField, StandsWith, AreNext, IsNext, IsNumberedTo, asked_up, asked_from, IsNew, AreNew, IsShare, asked_behind, AreShares, IsRootPlaced, MayNumberAll, IsShareNumbered, AreAllNumbered, AreLevelsNumbered, AreRowsNumbered, AreNumbered}
 use Rattle.reduce_up.proofs.Numbering.{told_rows}
 
 -- ---- what is asked for, told from the first level on
@@ -34,89 +35,90 @@ asked_whole (suc m) v rows =
     let e : suc v + m ≡ v + suc m = omega arith in
     sym (append_assoc (asked_below v rows) (asked_by (rows v)) (asked_up m (suc v) rows)) ∙ asked_whole m (suc v) rows ∙ ap (λ z. asked_below z rows) e
 
-asked_all : (levels : ℕ) (rows : ℕ → List Record) → asked_below levels rows ≡ asked_from levels 0 rows
-asked_all levels rows =
-    let e : 0 + (levels - 0) ≡ levels = omega arith in
-    ap (λ z. asked_below z rows) (sym e) ∙ sym (asked_whole (levels - 0) 0 rows)
+asked_all : (f : Field) (s : ℕ) → asked_below f.store.now.levels (row_of f.notes.now.rows s) ≡ asked_from f s 0
+asked_all f s =
+    let rows : ℕ → List Record = row_of f.notes.now.rows s in
+    let e : 0 + (f.store.now.levels - 0) ≡ f.store.now.levels = omega arith in
+    ap (λ z. asked_below z rows) (sym e) ∙ sym (asked_whole (f.store.now.levels - 0) 0 rows)
 
 -- ---- before anything is asked for
-module _ (S : Nodes) (n : ℕ) (roots : List Key) (p : PartsView) (parts : AreParts S n roots p) where
+module _ (f : Field) (roots : List Key) (parts : AreParts f.store.now f.workers roots f.notes.now) where
   -- what is read while children are numbered
-  pub field_is : IsSound S → 0 < n → (starts : List ℕ) → starts ≡ starts_below S.levels n (row_of p.rows) → AreFew S.levels n (row_of p.rows) → IsField S n p starts
-  field_is sound some starts e few = record {
+  pub field_is : IsSound f.store.now → 0 < f.workers → f.starts.now ≡ starts_below f.store.now.levels f.workers (row_of f.notes.now.rows) → AreFew f.store.now.levels f.workers (row_of f.notes.now.rows) → IsField f
+  field_is sound some e few = record {
     some = some;
     levels = parts.levels;
     many_noted = parts.many_noted;
     senders = parts.senders;
-    told = told_rows S n roots p sound parts;
+    told = told_rows f.store.now f.workers roots f.notes.now sound parts;
     starts_are = e;
     few = few;
   }
 
-  none_asked : (s : ℕ) → s < n → AreNext S n p s (asked_behind S n roots p s 0) (replicate n 0)
+  none_asked : (s : ℕ) → s < f.workers → AreNext f s (asked_behind f roots s 0) (replicate f.workers 0)
   none_asked s sb = record {
-    long = length-replicate n 0;
-    each = λ k kb. subst (λ z. AllZip (StandsWith S p k) (filter (owned_by n k) (asked_behind S n roots p s 0)) (drop z (noted_of p.noted k s))) (sym (get_or-replicate n k 0 0 kb)) (parts.places s k sb kb);
+    long = length-replicate f.workers 0;
+    each = λ k kb. subst (λ z. AllZip (StandsWith f k) (filter (owned_by f.workers k) (asked_behind f roots s 0)) (drop z (noted_of f.notes.now.noted k s))) (sym (get_or-replicate f.workers k 0 0 kb)) (parts.places s k sb kb);
   }
 
-  pub shares_begin : (rows : List (List (List (Placed × Placed)))) (shares : List Share) → AreLean p.rows rows → AreNew n rows shares → AreShares S n roots p 0 shares
+  pub shares_begin : (rows : List (List (List (Placed × Placed)))) (shares : List Share) → AreLean f.notes.now.rows rows → AreNew f.workers rows shares → AreShares f roots 0 shares
   shares_begin rows shares lean new =
-      let many : length rows ≡ n = ap length lean ∙ length-map p.rows (map (lean_row (length p.rows))) ∙ parts.many_rows in
+      let many : length rows ≡ f.workers = ap length lean ∙ length-map f.notes.now.rows (map (lean_row (length f.notes.now.rows))) ∙ parts.many_rows in
       record {
-        long = sym (zip_long (IsNew n) rows shares new) ∙ many;
+        long = sym (zip_long (IsNew f.workers) rows shares new) ∙ many;
         each = λ s d sb.
-            let at = zip_at (IsNew n) rows shares s [] d new (subst (λ z. s < z) (sym many) sb) in
-            let own : get_or rows s [] ≡ map (lean_row n) (get_or p.rows s []) =
-            ap (λ z. get_or z s []) lean ∙ get_or-map (map (lean_row (length p.rows))) p.rows s [] ∙ ap (λ z. map (lean_row z) (get_or p.rows s [])) parts.many_rows in
+            let at = zip_at (IsNew f.workers) rows shares s [] d new (subst (λ z. s < z) (sym many) sb) in
+            let own : get_or rows s [] ≡ map (lean_row f.workers) (get_or f.notes.now.rows s []) =
+            ap (λ z. get_or z s []) lean ∙ get_or-map (map (lean_row (length f.notes.now.rows))) f.notes.now.rows s [] ∙ ap (λ z. map (lean_row z) (get_or f.notes.now.rows s [])) parts.many_rows in
             record {
               same = at.same ∙ own;
               room = at.room;
-              places = subst (AreNext S n p s (asked_behind S n roots p s 0)) (sym at.none) (none_asked s sb);
+              places = subst (AreNext f s (asked_behind f roots s 0)) (sym at.none) (none_asked s sb);
             };
       }
 
 -- ---- a root is asked for
-module _ (S : Nodes) (n : ℕ) (some : 0 < n) (roots : List Key) (p : PartsView) (i : ℕ) (shares : List Share) (a : AreShares S n roots p i shares) (ib : i < length roots) (x : Key) (x-is : x ≡ get_or roots i x) where
+module _ (f : Field) (some : 0 < f.workers) (roots : List Key) (i : ℕ) (shares : List Share) (a : AreShares f roots i shares) (ib : i < length roots) (x : Key) (x-is : x ≡ get_or roots i x) where
   abbrev s : ℕ
-  s = i % n
+  s = i % f.workers
 
-  sb : s < n
+  sb : s < f.workers
   sb = mod-lt i some
 
   left : drop i roots ≡ x ∷ drop (i + 1) roots
   left = drop_more roots i x ib ∙ ap (λ z. z ∷ drop (i + 1) roots) (sym x-is)
 
   -- its sender asks for it first
-  asked_own : asked_behind S n roots p s i ≡ x ∷ asked_behind S n roots p s (i + 1)
+  asked_own : asked_behind f roots s i ≡ x ∷ asked_behind f roots s (i + 1)
   asked_own =
-      ap (λ z. dealt_from n s i z ++ asked_below S.levels (row_of p.rows s)) left
-      ∙ ap (λ b. cond b (x ∷ dealt_from n s (i + 1) (drop (i + 1) roots)) (dealt_from n s (i + 1) (drop (i + 1) roots)) ++ asked_below S.levels (row_of p.rows s)) (eq-eqb s s refl)
+      ap (λ z. dealt_from f.workers s i z ++ asked_below f.store.now.levels (row_of f.notes.now.rows s)) left
+      ∙ ap (λ b. cond b (x ∷ dealt_from f.workers s (i + 1) (drop (i + 1) roots)) (dealt_from f.workers s (i + 1) (drop (i + 1) roots)) ++ asked_below f.store.now.levels (row_of f.notes.now.rows s)) (eq-eqb s s refl)
 
-  asked_other : (t : ℕ) → t ≢ s → asked_behind S n roots p t i ≡ asked_behind S n roots p t (i + 1)
+  asked_other : (t : ℕ) → t ≢ s → asked_behind f roots t i ≡ asked_behind f roots t (i + 1)
   asked_other t o =
-      ap (λ z. dealt_from n t i z ++ asked_below S.levels (row_of p.rows t)) left
-      ∙ ap (λ b. cond b (x ∷ dealt_from n t (i + 1) (drop (i + 1) roots)) (dealt_from n t (i + 1) (drop (i + 1) roots)) ++ asked_below S.levels (row_of p.rows t)) (ne_eqb s t (λ e. o (sym e)))
+      ap (λ z. dealt_from f.workers t i z ++ asked_below f.store.now.levels (row_of f.notes.now.rows t)) left
+      ∙ ap (λ b. cond b (x ∷ dealt_from f.workers t (i + 1) (drop (i + 1) roots)) (dealt_from f.workers t (i + 1) (drop (i + 1) roots)) ++ asked_below f.store.now.levels (row_of f.notes.now.rows t)) (ne_eqb s t (λ e. o (sym e)))
 
   module _ (share : Share) (share-is : share ≡ get_or shares s share) where
-    own : IsShare S n p s (asked_behind S n roots p s i) share
-    own = subst (IsShare S n p s (asked_behind S n roots p s i)) (sym share-is) (a.each s share sb)
+    own : IsShare f s (asked_behind f roots s i) share
+    own = subst (IsShare f s (asked_behind f roots s i)) (sym share-is) (a.each s share sb)
 
-    pub root_next : (l : ℕ) (child : Placed) → l ≡ level_of S x → child ≡ by_number.Ask l (owner n x) false → IsNext S n p s share.next.items child (Ask l x false) (asked_behind S n roots p s (i + 1))
-    root_next l child l-is child-is = record { owned = child-is; told = l-is; places = subst (λ z. AreNext S n p s z share.next.items) asked_own own.places }
+    pub root_next : (l : ℕ) (child : Placed) → l ≡ level_of f.store.now x → child ≡ by_number.Ask l (owner f.workers x) false → IsNext f s share.next.items child (Ask l x false) (asked_behind f roots s (i + 1))
+    root_next l child l-is child-is = record { owned = child-is; told = l-is; places = subst (λ z. AreNext f s z share.next.items) asked_own own.places }
 
-    pub shares_next : (new : Share) → new.rows ≡ share.rows → new.room ≡ share.room → AreNext S n p s (asked_behind S n roots p s (i + 1)) new.next.items → AreShares S n roots p (i + 1) (set shares s new)
+    pub shares_next : (new : Share) → new.rows ≡ share.rows → new.room ≡ share.room → AreNext f s (asked_behind f roots s (i + 1)) new.next.items → AreShares f roots (i + 1) (set shares s new)
     shares_next new rows-are room-is next = record {
       long = length-set shares s new ∙ a.long;
       each = λ t d tb. dite (ℕ_discrete t s)
-          (λ e. subst (λ z. IsShare S n p z (asked_behind S n roots p z (i + 1)) (get_or (set shares s new) z d)) (sym e)
-          (subst (IsShare S n p s (asked_behind S n roots p s (i + 1))) (sym (get_or-set_same shares s new d (subst (λ z. s < z) (sym a.long) sb)))
+          (λ e. subst (λ z. IsShare f z (asked_behind f roots z (i + 1)) (get_or (set shares s new) z d)) (sym e)
+          (subst (IsShare f s (asked_behind f roots s (i + 1))) (sym (get_or-set_same shares s new d (subst (λ z. s < z) (sym a.long) sb)))
           (record { same = rows-are ∙ own.same; room = room-is ∙ own.room; places = next })))
-          (λ o. subst (IsShare S n p t (asked_behind S n roots p t (i + 1))) (sym (get_or-set_other shares s t new d o))
-          (subst (λ z. IsShare S n p t z (get_or shares t d)) (asked_other t o) (a.each t d tb)));
+          (λ o. subst (IsShare f t (asked_behind f roots t (i + 1))) (sym (get_or-set_other shares s t new d o))
+          (subst (λ z. IsShare f t z (get_or shares t d)) (asked_other t o) (a.each t d tb)));
     }
 
-  pub root_placed : (l : ℕ) (d : Placed) → l ≡ level_of S x → IsPlaced (keys_of n p S.levels) d (Ask l x false) → (y : Key) → IsRootPlaced S n p (get_or roots i y) d
-  root_placed l d l-is h y = subst (λ z. IsRootPlaced S n p z d) (x-is ∙ get_or_default roots i x y ib) (subst (λ z. IsPlaced (keys_of n p S.levels) d (Ask z x false)) l-is h)
+  pub root_placed : (l : ℕ) (d : Placed) → l ≡ level_of f.store.now x → IsPlaced (keys_in f) d (Ask l x false) → (y : Key) → IsRootPlaced f (get_or roots i y) d
+  root_placed l d l-is h y = subst (λ z. IsRootPlaced f z d) (x-is ∙ get_or_default roots i x y ib) (subst (λ z. IsPlaced (keys_in f) d (Ask z x false)) l-is h)
 
 -- one root more is placed
 pub next_placed : {A B : Type 0} (R : A → B → Type 0) (xs : List A) (i : ℕ) (ys new : List B) (y : B) → i < length xs → new ≡ ys ++ y ∷ [] → AllZip R (take i xs) ys → ((d : A) → R (get_or xs i d) y) → AllZip R (take (i + 1) xs) new
@@ -124,20 +126,18 @@ next_placed R [] i ys new y l is z h = absurd (omega (arith, l))
 next_placed R (x ∷ xs) i ys new y l is z h = zip_grown R (take i (x ∷ xs)) (take (i + 1) (x ∷ xs)) ys new (get_or (x ∷ xs) i x) y (take_more (x ∷ xs) i x l) is z (h x)
 
 -- ---- all roots are asked for
-module _ (S : Nodes) (n : ℕ) (roots : List Key) (p : PartsView) (starts : List ℕ) (f : IsField S n p starts) where
-  pub ready : (s : ℕ) → s < n → (share : Share) → IsShare S n p s (asked_behind S n roots p s (length roots)) share → MayNumber S n p s share
-  ready s sb share h = (
-    record {
-      levels = ap length h.same ∙ length-map (get_or p.rows s []) (lean_row n) ∙ f.levels s sb;
-      done = λ u l. absurd (omega (arith, l));
-      left = λ u l ub. ap (λ z. row z u) h.same ∙ get_or-map (lean_row n) (get_or p.rows s []) u [];
-      places = subst (λ z. AreNext S n p s z share.next.items)
-          (ap (λ z. dealt_from n s (length roots) z ++ asked_below S.levels (row_of p.rows s)) (drop-length roots) ∙ asked_all S.levels (row_of p.rows s)) h.places;
-    },
-    h.room,
-  )
+module _ (f : Field) (F : IsField f) (roots : List Key) where
+  pub ready : (s : ℕ) → s < f.workers → (share : Share) → IsShare f s (asked_behind f roots s (length roots)) share → IsNumberedTo f s 0 share
+  ready s sb share h = record {
+    levels = ap length h.same ∙ length-map (get_or f.notes.now.rows s []) (lean_row f.workers) ∙ F.levels s sb;
+    done = λ u l. absurd (omega (arith, l));
+    left = λ u l ub. ap (λ z. row z u) h.same ∙ get_or-map (lean_row f.workers) (get_or f.notes.now.rows s []) u [];
+    places = subst (λ z. AreNext f s z share.next.items)
+        (ap (λ z. dealt_from f.workers s (length roots) z ++ asked_below f.store.now.levels (row_of f.notes.now.rows s)) (drop-length roots) ∙ asked_all f s) h.places;
+    room = h.room;
+  }
 
-  pub all_ready : (shares : List Share) → AreShares S n roots p (length roots) shares → MayNumberAll S n p shares
+  pub all_ready : (shares : List Share) → AreShares f roots (length roots) shares → MayNumberAll f shares
   all_ready shares h = record { long = h.long; each = λ s d sb. ready s sb (get_or shares s d) (h.each s d sb) }
 
 -- ---- rows out of the shares
@@ -146,36 +146,36 @@ each_more P xs y h own k d l = dite (ℕ_discrete k (length xs))
     (λ e. subst (λ z. P z (get_or (xs ++ y ∷ []) z d)) (sym e) (subst (P (length xs)) (sym (get_or-append_seam xs y [] d)) own))
     (λ o. let lt : k < length xs = grind (arith, l, o) in subst (P k) (sym (get_or_append_left xs (y ∷ []) d k lt)) (h k d lt))
 
-pub rows_none : (S : Nodes) (n : ℕ) (p : PartsView) (rows : List (List (List (Placed × Placed)))) → rows ≡ [] → AreRowsNumbered S n p 0 rows
-rows_none S n p rows e = record { many = ap length e; each = λ k d l. absurd (omega (arith, l)) }
+pub rows_none : (f : Field) (rows : List (List (List (Placed × Placed)))) → rows ≡ [] → AreRowsNumbered f 0 rows
+rows_none f rows e = record { many = ap length e; each = λ k d l. absurd (omega (arith, l)) }
 
-pub rows_more : (S : Nodes) (n : ℕ) (p : PartsView) (m : ℕ) (rows rows' : List (List (List (Placed × Placed)))) (own : List (List (Placed × Placed))) → AreRowsNumbered S n p m rows → AreLevelsNumbered S n p m own → rows' ≡ rows ++ own ∷ [] → AreRowsNumbered S n p (m + 1) rows'
-rows_more S n p m rows rows' own a h e =
-    subst (AreRowsNumbered S n p (m + 1)) (sym e)
+pub rows_more : (f : Field) (m : ℕ) (rows rows' : List (List (List (Placed × Placed)))) (own : List (List (Placed × Placed))) → AreRowsNumbered f m rows → AreLevelsNumbered f m own → rows' ≡ rows ++ own ∷ [] → AreRowsNumbered f (m + 1) rows'
+rows_more f m rows rows' own a h e =
+    subst (AreRowsNumbered f (m + 1)) (sym e)
     (record {
       many = length-append rows (own ∷ []) ∙ ap (λ z. z + 1) a.many;
-      each = λ k d l. each_more (AreLevelsNumbered S n p) rows own (λ j b lt. a.each j b (subst (λ z. j < z) a.many lt)) (subst (λ z. AreLevelsNumbered S n p z own) (sym a.many) h) k d (subst (λ z. k < z + 1) (sym a.many) l);
+      each = λ k d l. each_more (AreLevelsNumbered f) rows own (λ j b lt. a.each j b (subst (λ z. j < z) a.many lt)) (subst (λ z. AreLevelsNumbered f z own) (sym a.many) h) k d (subst (λ z. k < z + 1) (sym a.many) l);
     })
 
 -- the rows of a share that was worked
-pub share_rows : (S : Nodes) (n : ℕ) (p : PartsView) (k : ℕ) (share : Share) → IsNumberedTo S n p k S.levels share.rows share.next.items → AreLevelsNumbered S n p k share.rows
-share_rows S n p k share h = (h.levels, h.done)
+pub share_rows : (f : Field) (k : ℕ) (share : Share) → IsNumberedTo f k f.store.now.levels share → AreLevelsNumbered f k share.rows
+share_rows f k share h = (h.levels, h.done)
 
 -- the rows that a loop has got of a share
-pub share_at : (S : Nodes) (n : ℕ) (p : PartsView) (shares done rest : List Share) (share : Share) (rows : List (List (Placed × Placed))) → AreAllNumbered S n p shares → (done ++ share ∷ []) ++ rest ≡ shares → (rows ≡ share.rows) × IsOk share.done → AreLevelsNumbered S n p (length done) rows
-share_at S n p shares done rest share rows a e got =
+pub share_at : (f : Field) (shares done rest : List Share) (share : Share) (rows : List (List (Placed × Placed))) → AreAllNumbered f shares → (done ++ share ∷ []) ++ rest ≡ shares → (rows ≡ share.rows) × IsOk share.done → AreLevelsNumbered f (length done) rows
+share_at f shares done rest share rows a e got =
     let at : get_or shares (length done) share ≡ share = ap (λ z. get_or z (length done) share) (sym e ∙ append_assoc done (share ∷ []) rest) ∙ get_or-append_seam done share rest share in
-    let many : length done < n =
+    let many : length done < f.workers =
     (let x = ap length e in let y = length-append (done ++ share ∷ []) rest in let z = length-append done (share ∷ []) in let w = a.long in omega (arith, x, y, z, w)) in
-    let h : IsShareNumbered S n p (length done) share = subst (IsShareNumbered S n p (length done)) at (a.each (length done) share many) in
-    subst (AreLevelsNumbered S n p (length done)) (sym got.0) (share_rows S n p (length done) share (on_ok share.done got.1 h))
+    let h : IsShareNumbered f (length done) share = subst (IsShareNumbered f (length done)) at (a.each (length done) share many) in
+    subst (AreLevelsNumbered f (length done)) (sym got.0) (share_rows f (length done) share (on_ok share.done got.1 h))
   where
     on_ok : {P : Type 0} (r : Result (Unit {0}) AllocError) → IsOk r → OnOk r P → P
     on_ok (Ok u) i h = h
     on_ok (Err e) i h = absurd (cc)
 
-pub all_numbered : (S : Nodes) (n : ℕ) (roots : List Key) (p : PartsView) (rows : List (List (List (Placed × Placed)))) (placed : List Placed) → AreRowsNumbered S n p n rows → AllZip (IsRootPlaced S n p) roots placed → AreNumbered S n roots p rows placed
-all_numbered S n roots p rows placed h z = record {
+pub all_numbered : (f : Field) (roots : List Key) (rows : List (List (List (Placed × Placed)))) (placed : List Placed) → AreRowsNumbered f f.workers rows → AllZip (IsRootPlaced f) roots placed → AreNumbered f.store.now f.workers roots f.notes.now rows placed
+all_numbered f roots rows placed h z = record {
   many = h.many;
   levels = λ k d l. (h.each k d l).0;
   each = λ k v l b. (h.each k [] l).1 v b;

@@ -30,7 +30,9 @@ use Rattle.expand_work.specs.Lean.{lean, lean_row, AreLean}
 use Rattle.std.proofs.Math.ListN as listn
 use Rattle.expand_work.specs.Work.{owned_by}
 use Rattle.expand_work.proofs.Zips.{zip_grown}
-use Rattle.reduce_up.specs.Numbers.{keys_at, keys_of, starts_at, starts_below, IsTold, AreTold, IsField, StandsWith, AreNext, IsNext, IsNumbered, IsRowNumbered, IsNumberedTo, asked_up, asked_from}
+use Rattle.reduce_up.specs.declared.numbers.Field.{Field}
+use Rattle.reduce_up.specs.declared.numbers.Share.{Share}
+use Rattle.reduce_up.specs.Numbers.{keys_at, keys_of, keys_in, starts_at, starts_below, IsTold, AreTold, IsField, IsSender, StandsWith, AreNext, IsNext, IsNumbered, IsRowNumbered, IsNumberedTo, asked_up, asked_from}
 use Rattle.dd_store.proofs.Places.{slice_get-append}
 use Rattle.reduce_up.proofs.OverParts.{slice_get-behind}
 use Rattle.reduce_up.proofs.Placing.{in_left, in_right}
@@ -199,36 +201,36 @@ asked_child n e (Ask l x b) level k m is f =
     (x, (λ i. Ask (sym at i) x (sym mark i)), own)
 
 -- a child of worker s that asks worker k at level l; turn is how much s asked of k before
-module _ (S : Nodes) (n : ℕ) (p : PartsView) (starts : List ℕ) (f : IsField S n p starts) (s : ℕ) (next : List ℕ) (child : Placed) (c : Child) (rest : List Key) (i : IsNext S n p s next child c rest)
-    (l k : ℕ) (m : Bool) (is : child ≡ by_number.Ask l k m) (turn : ℕ) (turn-is : turn ≡ get_or next k turn) (ns : List ℕ) (ns-is : ns ≡ noted_of p.noted k s) where
-  asks : (x : Key) × (c ≡ Ask l x m) × (k ≡ owner n x)
-  asks = asked_child n child c l k m is i.owned
+module _ (f : Field) (F : IsField f) (s : ℕ) (next : List ℕ) (child : Placed) (c : Child) (rest : List Key) (i : IsNext f s next child c rest)
+    (l k : ℕ) (m : Bool) (is : child ≡ by_number.Ask l k m) (turn : ℕ) (turn-is : turn ≡ get_or next k turn) (ns : List ℕ) (ns-is : ns ≡ noted_of f.notes.now.noted k s) where
+  asks : (x : Key) × (c ≡ Ask l x m) × (k ≡ owner f.workers x)
+  asks = asked_child f.workers child c l k m is i.owned
 
   abbrev x : Key
   x = asks.0
 
-  k-is : k ≡ owner n x
+  k-is : k ≡ owner f.workers x
   k-is = asks.2
 
-  asks_told : l ≡ level_of S x
-  asks_told = subst (IsTold S) asks.1 i.told
+  asks_told : l ≡ level_of f.store.now x
+  asks_told = subst (IsTold f.store.now) asks.1 i.told
 
-  asks_next : AreNext S n p s (x ∷ rest) next
-  asks_next = subst (λ z. AreNext S n p s (asked z ++ rest) next) asks.1 i.places
+  asks_next : AreNext f s (x ∷ rest) next
+  asks_next = subst (λ z. AreNext f s (asked z ++ rest) next) asks.1 i.places
 
-  pub owner_within : k < n
-  owner_within = subst (λ z. z < n) (sym k-is) (owned_within n x f.some)
+  pub owner_within : k < f.workers
+  owner_within = subst (λ z. z < f.workers) (sym k-is) (owned_within f.workers x F.some)
 
   turn-here : turn ≡ get_or next k 0
   turn-here = turn-is ∙ get_or_default next k turn 0 (subst (λ z. k < z) (sym asks_next.long) owner_within)
 
-  mine : owned_by n k x ≡ true
-  mine = eq-eqb (owner n x) k (sym k-is)
+  mine : owned_by f.workers k x ≡ true
+  mine = eq-eqb (owner f.workers x) k (sym k-is)
 
-  found : (place : ℕ) × (slice_get ns turn ≡ Some place) × StandsWith S p k x place × AllZip (StandsWith S p k) (filter (owned_by n k) rest) (drop (suc turn) ns)
-  found = zip_next (StandsWith S p k) x (filter (owned_by n k) rest) ns turn
-      (subst (λ (z : ℕ × List ℕ). AllZip (StandsWith S p k) (x ∷ filter (owned_by n k) rest) (drop z.0 z.1)) (λ i. (sym turn-here i, sym ns-is i))
-      (subst (λ b. AllZip (StandsWith S p k) (cond b (x ∷ filter (owned_by n k) rest) (filter (owned_by n k) rest)) (drop (get_or next k 0) (noted_of p.noted k s))) mine (asks_next.each k owner_within)))
+  found : (place : ℕ) × (slice_get ns turn ≡ Some place) × StandsWith f k x place × AllZip (StandsWith f k) (filter (owned_by f.workers k) rest) (drop (suc turn) ns)
+  found = zip_next (StandsWith f k) x (filter (owned_by f.workers k) rest) ns turn
+      (subst (λ (z : ℕ × List ℕ). AllZip (StandsWith f k) (x ∷ filter (owned_by f.workers k) rest) (drop z.0 z.1)) (λ i. (sym turn-here i, sym ns-is i))
+      (subst (λ b. AllZip (StandsWith f k) (cond b (x ∷ filter (owned_by f.workers k) rest) (filter (owned_by f.workers k) rest)) (drop (get_or next k 0) (noted_of f.notes.now.noted k s))) mine (asks_next.each k owner_within)))
 
   pub turn_within : turn < length ns
   turn_within = slice_get_within ns turn found.0 found.1
@@ -236,46 +238,46 @@ module _ (S : Nodes) (n : ℕ) (p : PartsView) (starts : List ℕ) (f : IsField 
   place-is : get_or ns turn 0 ≡ found.0
   place-is = get_or_from_slice_get ns turn found.0 0 found.1
 
-  stands : slice_get (map key_of (row_of p.rows k l)) (get_or ns turn 0) ≡ Some x
-  stands = subst (λ (z : ℕ × ℕ). slice_get (map key_of (row_of p.rows k z.0)) z.1 ≡ Some x) (λ i. (sym asks_told i, sym place-is i)) found.2
+  stands : slice_get (map key_of (row_of f.notes.now.rows k l)) (get_or ns turn 0) ≡ Some x
+  stands = subst (λ (z : ℕ × ℕ). slice_get (map key_of (row_of f.notes.now.rows k z.0)) z.1 ≡ Some x) (λ i. (sym asks_told i, sym place-is i)) found.2
 
-  pub level_within : l < S.levels
-  level_within = subst (λ z. l < z) (f.levels k owner_within)
-      (row_there (get_or p.rows k []) l (get_or ns turn 0) (let w = slice_get_within (map key_of (row_of p.rows k l)) (get_or ns turn 0) x stands in let z = length-map (row_of p.rows k l) key_of in omega (arith, w, z)))
+  pub level_within : l < f.store.now.levels
+  level_within = subst (λ z. l < z) (F.levels k owner_within)
+      (row_there (get_or f.notes.now.rows k []) l (get_or ns turn 0) (let w = slice_get_within (map key_of (row_of f.notes.now.rows k l)) (get_or ns turn 0) x stands in let z = length-map (row_of f.notes.now.rows k l) key_of in omega (arith, w, z)))
 
-  pub start_within : l * n + k < length starts
-  start_within = subst (λ z. l * n + k < length z) (sym f.starts_are) (starts_within S.levels n (row_of p.rows) l k level_within owner_within)
+  pub start_within : l * f.workers + k < length f.starts.now
+  start_within = subst (λ z. l * f.workers + k < length z) (sym F.starts_are) (starts_within f.store.now.levels f.workers (row_of f.notes.now.rows) l k level_within owner_within)
 
-  start-is : get_or starts (l * n + k) 0 ≡ length (level_of_rows k (row_of p.rows) l)
-  start-is = ap (λ z. get_or z (l * n + k) 0) f.starts_are ∙ starts_below_at S.levels n (row_of p.rows) l k level_within owner_within
+  start-is : get_or f.starts.now (l * f.workers + k) 0 ≡ length (level_of_rows k (row_of f.notes.now.rows) l)
+  start-is = ap (λ z. get_or z (l * f.workers + k) 0) F.starts_are ∙ starts_below_at f.store.now.levels f.workers (row_of f.notes.now.rows) l k level_within owner_within
 
-  in_level : slice_get (keys_at n p l) (get_or starts (l * n + k) 0 + get_or ns turn 0) ≡ Some x
-  in_level = subst (λ z. slice_get (keys_at n p l) (z + get_or ns turn 0) ≡ Some x) (sym start-is) (stands_in_level n p l k (get_or ns turn 0) x owner_within stands)
+  in_level : slice_get (keys_at f.workers f.notes.now l) (get_or f.starts.now (l * f.workers + k) 0 + get_or ns turn 0) ≡ Some x
+  in_level = subst (λ z. slice_get (keys_at f.workers f.notes.now l) (z + get_or ns turn 0) ≡ Some x) (sym start-is) (stands_in_level f.workers f.notes.now l k (get_or ns turn 0) x owner_within stands)
 
-  pub sum_fits : get_or starts (l * n + k) 0 + get_or ns turn 0 < 2 ^ 32
+  pub sum_fits : get_or f.starts.now (l * f.workers + k) 0 + get_or ns turn 0 < 2 ^ 32
   sum_fits =
-      let a = slice_get_within (keys_at n p l) (get_or starts (l * n + k) 0 + get_or ns turn 0) x in_level in
-      let b = length-map (level_of_rows n (row_of p.rows) l) key_of in
-      let c = f.few l level_within in
+      let a = slice_get_within (keys_at f.workers f.notes.now l) (get_or f.starts.now (l * f.workers + k) 0 + get_or ns turn 0) x in_level in
+      let b = length-map (level_of_rows f.workers (row_of f.notes.now.rows) l) key_of in
+      let c = F.few l level_within in
       omega (arith, a, b, c)
 
-  pub child_placed : IsPlaced (keys_of n p S.levels) (by_number.Ask l (get_or starts (l * n + k) 0 + get_or ns turn 0) m) c
-  child_placed = (x, subst (λ z. slice_get z (get_or starts (l * n + k) 0 + get_or ns turn 0) ≡ Some x) (sym (keys_of_at n p S.levels l level_within)) in_level, asks.1)
+  pub child_placed : IsPlaced (keys_in f) (by_number.Ask l (get_or f.starts.now (l * f.workers + k) 0 + get_or ns turn 0) m) c
+  child_placed = (x, subst (λ z. slice_get z (get_or f.starts.now (l * f.workers + k) 0 + get_or ns turn 0) ≡ Some x) (sym (keys_of_at f.workers f.notes.now f.store.now.levels l level_within)) in_level, asks.1)
 
-  pub one_asked : AreNext S n p s rest (set next k (turn + 1))
+  pub one_asked : AreNext f s rest (set next k (turn + 1))
   one_asked = record {
     long = length-set next k (turn + 1) ∙ asks_next.long;
     each = λ j jb. dite (ℕ_discrete j k)
         (λ e.
         let at : get_or (set next k (turn + 1)) j 0 ≡ suc turn = ap (λ z. get_or (set next k (turn + 1)) z 0) e ∙ get_or-set_same next k (turn + 1) 0 (subst (λ z. k < z) (sym asks_next.long) owner_within) ∙ omega arith in
-        subst (λ z. AllZip (StandsWith S p j) (filter (owned_by n j) rest) (drop z (noted_of p.noted j s))) (sym at)
-        (subst (λ z. AllZip (StandsWith S p z) (filter (owned_by n z) rest) (drop (suc turn) (noted_of p.noted z s))) (sym e)
-        (subst (λ z. AllZip (StandsWith S p k) (filter (owned_by n k) rest) (drop (suc turn) z)) ns-is found.3)))
+        subst (λ z. AllZip (StandsWith f j) (filter (owned_by f.workers j) rest) (drop z (noted_of f.notes.now.noted j s))) (sym at)
+        (subst (λ z. AllZip (StandsWith f z) (filter (owned_by f.workers z) rest) (drop (suc turn) (noted_of f.notes.now.noted z s))) (sym e)
+        (subst (λ z. AllZip (StandsWith f k) (filter (owned_by f.workers k) rest) (drop (suc turn) z)) ns-is found.3)))
         (λ o.
         let at = get_or-set_other next k j (turn + 1) 0 o in
-        let other : owned_by n j x ≡ false = ne_eqb (owner n x) j (λ e. o (sym (k-is ∙ e))) in
-        subst (λ z. AllZip (StandsWith S p j) (filter (owned_by n j) rest) (drop z (noted_of p.noted j s))) (sym at)
-        (subst (λ b. AllZip (StandsWith S p j) (cond b (x ∷ filter (owned_by n j) rest) (filter (owned_by n j) rest)) (drop (get_or next j 0) (noted_of p.noted j s))) other (asks_next.each j jb)));
+        let other : owned_by f.workers j x ≡ false = ne_eqb (owner f.workers x) j (λ e. o (sym (k-is ∙ e))) in
+        subst (λ z. AllZip (StandsWith f j) (filter (owned_by f.workers j) rest) (drop z (noted_of f.notes.now.noted j s))) (sym at)
+        (subst (λ b. AllZip (StandsWith f j) (cond b (x ∷ filter (owned_by f.workers j) rest) (filter (owned_by f.workers j) rest)) (drop (get_or next j 0) (noted_of f.notes.now.noted j s))) other (asks_next.each j jb)));
   }
 
 -- ---- records and their pairs
@@ -293,30 +295,31 @@ ends_with : {X : Type 0} (xs : List X) (i : ℕ) (x : X) → slice_get xs i ≡ 
 ends_with xs i x e = take_more xs i x (slice_get_within xs i x e) ∙ ap (λ z. take i xs ++ z ∷ []) (get_or_from_slice_get xs i x x e)
 
 -- what a level asks for is asked for before what is below it
-pub asked_first : (levels v : ℕ) (rows : ℕ → List Record) → v < levels → asked_from levels v rows ≡ asked_by (rows v) ++ asked_from levels (v + 1) rows
-asked_first levels v rows l =
-    let one : levels - v ≡ suc (levels - (v + 1)) = omega (arith, l) in
+pub asked_first : (f : Field) (s v : ℕ) → v < f.store.now.levels → asked_from f s v ≡ asked_by (row_of f.notes.now.rows s v) ++ asked_from f s (v + 1)
+asked_first f s v l =
+    let rows : ℕ → List Record = row_of f.notes.now.rows s in
+    let one : f.store.now.levels - v ≡ suc (f.store.now.levels - (v + 1)) = omega (arith, l) in
     let up : suc v ≡ v + 1 = omega arith in
-    ap (λ z. asked_up z v rows) one ∙ ap (λ z. asked_by (rows v) ++ asked_up (levels - (v + 1)) z rows) up
+    ap (λ z. asked_up z v rows) one ∙ ap (λ z. asked_by (rows v) ++ asked_up (f.store.now.levels - (v + 1)) z rows) up
 
 -- from a record on the worker asks for the record's children first
 record_first : (low high : List Key) (by later : List Key) → ((low ++ high) ++ by) ++ later ≡ low ++ (high ++ (by ++ later))
 record_first low high by later = append_assoc (low ++ high) by later ∙ append_assoc low high (by ++ later)
 
 -- a record of worker s of level v, of which the pair e tells the owners
-module _ (S : Nodes) (n : ℕ) (p : PartsView) (starts : List ℕ) (f : IsField S n p starts) (s : ℕ) (sb : s < n) (v : ℕ) (vb : v < S.levels) (pairs : List (Placed × Placed)) (pairs-are : pairs ≡ lean_row n (row_of p.rows s v))
-    (later : List Key) (i : ℕ) (e : Placed × Placed) (e-is : slice_get pairs i ≡ Some e) (next : List ℕ) (a : AreNext S n p s (asked_by (drop i (row_of p.rows s v)) ++ later) next) where
+module _ (f : Field) (s : ℕ) (sender : IsSender f s) (v : ℕ) (vb : v < f.store.now.levels) (pairs : List (Placed × Placed)) (pairs-are : pairs ≡ lean_row f.workers (row_of f.notes.now.rows s v))
+    (later : List Key) (i : ℕ) (e : Placed × Placed) (e-is : slice_get pairs i ≡ Some e) (next : List ℕ) (a : AreNext f s (asked_by (drop i (row_of f.notes.now.rows s v)) ++ later) next) where
   abbrev records : List Record
-  records = row_of p.rows s v
+  records = row_of f.notes.now.rows s v
 
-  pub read : (r : Record) × (slice_get records i ≡ Some r) × ((lean n r.low, lean n r.high) ≡ e)
-  read = made_of (λ (r : Record). (lean n r.low, lean n r.high)) records i e (subst (λ z. slice_get z i ≡ Some e) pairs-are e-is)
+  pub read : (r : Record) × (slice_get records i ≡ Some r) × ((lean f.workers r.low, lean f.workers r.high) ≡ e)
+  read = made_of (λ (r : Record). (lean f.workers r.low, lean f.workers r.high)) records i e (subst (λ z. slice_get z i ≡ Some e) pairs-are e-is)
 
   abbrev pub the_record : Record
   the_record = read.0
 
-  record_told : AreTold S the_record
-  record_told = subst (AreTold S) (get_or_from_slice_get records i the_record the_record read.1) (f.told s v sb vb i the_record (slice_get_within records i the_record read.1))
+  record_told : AreTold f.store.now the_record
+  record_told = subst (AreTold f.store.now) (get_or_from_slice_get records i the_record the_record read.1) (sender.field.told s v sender.within vb i the_record (slice_get_within records i the_record read.1))
 
   -- what is asked for behind the record, and behind its low child
   abbrev pub behind : List Key
@@ -325,46 +328,47 @@ module _ (S : Nodes) (n : ℕ) (p : PartsView) (starts : List ℕ) (f : IsField 
   abbrev pub behind_low : List Key
   behind_low = asked the_record.high ++ behind
 
-  pub low_next : IsNext S n p s next e.0 the_record.low behind_low
+  pub low_next : IsNext f s next e.0 the_record.low behind_low
   low_next = record {
     owned = sym (ap (λ z. z.0) read.2);
     told = record_told.0;
-    places = subst (λ z. AreNext S n p s z next) (ap (λ z. asked_by z ++ later) (goes_on records i the_record read.1) ∙ record_first (asked the_record.low) (asked the_record.high) (asked_by (drop (i + 1) records)) later) a;
+    places = subst (λ z. AreNext f s z next) (ap (λ z. asked_by z ++ later) (goes_on records i the_record read.1) ∙ record_first (asked the_record.low) (asked the_record.high) (asked_by (drop (i + 1) records)) later) a;
   }
 
-  pub high_next : (next' : List ℕ) → AreNext S n p s behind_low next' → IsNext S n p s next' e.1 the_record.high behind
+  pub high_next : (next' : List ℕ) → AreNext f s behind_low next' → IsNext f s next' e.1 the_record.high behind
   high_next next' b = record { owned = sym (ap (λ z. z.1) read.2); told = record_told.1; places = b }
 
-  pub pair_more : (old new : List (Placed × Placed)) (low high : Placed) → AllZip (IsNumbered (keys_of n p S.levels)) (take i records) old → IsPlaced (keys_of n p S.levels) low the_record.low → IsPlaced (keys_of n p S.levels) high the_record.high
-      → new ≡ old ++ (low, high) ∷ [] → AllZip (IsNumbered (keys_of n p S.levels)) (take (i + 1) records) new
-  pair_more old new low high z l h is = zip_grown (IsNumbered (keys_of n p S.levels)) (take i records) (take (i + 1) records) old new the_record (low, high) (ends_with records i the_record read.1) is z (l, h)
+  pub pair_more : (old new : List (Placed × Placed)) (low high : Placed) → AllZip (IsNumbered (keys_in f)) (take i records) old → IsPlaced (keys_in f) low the_record.low → IsPlaced (keys_in f) high the_record.high
+      → new ≡ old ++ (low, high) ∷ [] → AllZip (IsNumbered (keys_in f)) (take (i + 1) records) new
+  pair_more old new low high z l h is = zip_grown (IsNumbered (keys_in f)) (take i records) (take (i + 1) records) old new the_record (low, high) (ends_with records i the_record read.1) is z (l, h)
 
 -- all records of a level are gone over
-module _ (S : Nodes) (n : ℕ) (p : PartsView) (s v : ℕ) (lean-pairs : List (Placed × Placed)) (lean-are : lean-pairs ≡ lean_row n (row_of p.rows s v)) (i : ℕ) (all : i ≡ length lean-pairs) where
-  i-is : i ≡ length (row_of p.rows s v)
-  i-is = all ∙ ap length lean-are ∙ length-map (row_of p.rows s v) (λ (r : Record). (lean n r.low, lean n r.high))
+module _ (f : Field) (s v : ℕ) (lean-pairs : List (Placed × Placed)) (lean-are : lean-pairs ≡ lean_row f.workers (row_of f.notes.now.rows s v)) (i : ℕ) (all : i ≡ length lean-pairs) where
+  i-is : i ≡ length (row_of f.notes.now.rows s v)
+  i-is = all ∙ ap length lean-are ∙ length-map (row_of f.notes.now.rows s v) (λ (r : Record). (lean f.workers r.low, lean f.workers r.high))
 
-  pub pairs_all : (pairs : List (Placed × Placed)) → AllZip (IsNumbered (keys_of n p S.levels)) (take i (row_of p.rows s v)) pairs → IsRowNumbered S n p s v pairs
-  pairs_all pairs z = subst (λ (rs : List Record). AllZip (IsNumbered (keys_of n p S.levels)) rs pairs) (take_all i (row_of p.rows s v) (omega (arith, i-is))) z
+  pub pairs_all : (pairs : List (Placed × Placed)) → AllZip (IsNumbered (keys_in f)) (take i (row_of f.notes.now.rows s v)) pairs → IsRowNumbered f s v pairs
+  pairs_all pairs z = subst (λ (rs : List Record). AllZip (IsNumbered (keys_in f)) rs pairs) (take_all i (row_of f.notes.now.rows s v) (omega (arith, i-is))) z
 
-  pub asked_all : (later : List Key) (next : List ℕ) → AreNext S n p s (asked_by (drop i (row_of p.rows s v)) ++ later) next → AreNext S n p s later next
-  asked_all later next a = subst (λ z. AreNext S n p s (asked_by z ++ later) next) (ap (λ z. drop z (row_of p.rows s v)) i-is ∙ drop-length (row_of p.rows s v)) a
+  pub asked_all : (later : List Key) (next : List ℕ) → AreNext f s (asked_by (drop i (row_of f.notes.now.rows s v)) ++ later) next → AreNext f s later next
+  asked_all later next a = subst (λ z. AreNext f s (asked_by z ++ later) next) (ap (λ z. drop z (row_of f.notes.now.rows s v)) i-is ∙ drop-length (row_of f.notes.now.rows s v)) a
 
 -- a level is numbered
-module _ (S : Nodes) (n : ℕ) (p : PartsView) (s v : ℕ) (vb : v < S.levels) (rows : List (List (Placed × Placed))) (next : List ℕ) (a : IsNumberedTo S n p s v rows next) where
+module _ (f : Field) (s v : ℕ) (vb : v < f.store.now.levels) (old : Share) (a : IsNumberedTo f s v old) where
   -- it had no requests
-  pub level_none : length (row rows v) ≡ 0 → IsNumberedTo S n p s (v + 1) rows next
+  pub level_none : length (row old.rows v) ≡ 0 → IsNumberedTo f s (v + 1) old
   level_none e =
-      let none : row_of p.rows s v ≡ [] = no_records (row_of p.rows s v) (sym (length-map (row_of p.rows s v) (λ (r : Record). (lean n r.low, lean n r.high))) ∙ ap length (sym (a.left v (omega arith) vb)) ∙ e) in
+      let none : row_of f.notes.now.rows s v ≡ [] = no_records (row_of f.notes.now.rows s v) (sym (length-map (row_of f.notes.now.rows s v) (λ (r : Record). (lean f.workers r.low, lean f.workers r.high))) ∙ ap length (sym (a.left v (omega arith) vb)) ∙ e) in
       record {
         levels = a.levels;
         done = λ u l. dite (ℕ_discrete u v)
-            (λ q. subst (λ z. IsRowNumbered S n p s z (row rows z)) (sym q)
-            (subst (λ (z : List Record). AllZip (IsNumbered (keys_of n p S.levels)) z (row rows v)) (sym none)
-            (subst (λ z. AllZip (IsNumbered (keys_of n p S.levels)) [] z) (sym (no_pairs (row rows v) e)) tt)))
+            (λ q. subst (λ z. IsRowNumbered f s z (row old.rows z)) (sym q)
+            (subst (λ (z : List Record). AllZip (IsNumbered (keys_in f)) z (row old.rows v)) (sym none)
+            (subst (λ z. AllZip (IsNumbered (keys_in f)) [] z) (sym (no_pairs (row old.rows v) e)) tt)))
             (λ o. a.done u (grind (arith, l, o)));
         left = λ u l ub. a.left u (omega (arith, l)) ub;
-        places = subst (λ z. AreNext S n p s z next) (asked_first S.levels v (row_of p.rows s) vb ∙ ap (λ z. asked_by z ++ asked_from S.levels (v + 1) (row_of p.rows s)) none) a.places;
+        places = subst (λ z. AreNext f s z old.next.items) (asked_first f s v vb ∙ ap (λ z. asked_by z ++ asked_from f s (v + 1)) none) a.places;
+        room = a.room;
       }
     where
       no_records : (xs : List Record) → length xs ≡ 0 → xs ≡ []
@@ -376,15 +380,17 @@ module _ (S : Nodes) (n : ℕ) (p : PartsView) (s v : ℕ) (vb : v < S.levels) (
       no_pairs (x ∷ xs) e = absurd (omega (arith, e))
 
   -- its pairs are put in the place of what was there
-  pub level_more : (pairs : List (Placed × Placed)) (next' : List ℕ) → IsRowNumbered S n p s v pairs → AreNext S n p s (asked_from S.levels (v + 1) (row_of p.rows s)) next' → IsNumberedTo S n p s (v + 1) (set (set rows v []) v pairs) next'
-  level_more pairs next' z b =
-      let long : length (set rows v []) ≡ S.levels = length-set rows v [] ∙ a.levels in
+  pub level_more : (pairs : List (Placed × Placed)) (new : Share) → new.rows ≡ set (set old.rows v []) v pairs → new.room ≡ [] → IsRowNumbered f s v pairs → AreNext f s (asked_from f s (v + 1)) new.next.items → IsNumberedTo f s (v + 1) new
+  level_more pairs new is empty z b =
+      let long : length (set old.rows v []) ≡ f.store.now.levels = length-set old.rows v [] ∙ a.levels in
+      let other : (u : ℕ) → u ≢ v → row new.rows u ≡ row old.rows u = (λ u o. ap (λ (r : List (List (Placed × Placed))). row r u) is ∙ get_or-set_other (set old.rows v []) v u pairs [] o ∙ get_or-set_other old.rows v u [] [] o) in
       record {
-        levels = length-set (set rows v []) v pairs ∙ long;
+        levels = ap length is ∙ length-set (set old.rows v []) v pairs ∙ long;
         done = λ u l. dite (ℕ_discrete u v)
-            (λ q. subst (λ k. IsRowNumbered S n p s k (row (set (set rows v []) v pairs) k)) (sym q)
-            (subst (IsRowNumbered S n p s v) (sym (get_or-set_same (set rows v []) v pairs [] (subst (λ k. v < k) (sym long) vb))) z))
-            (λ o. subst (IsRowNumbered S n p s u) (sym (get_or-set_other (set rows v []) v u pairs [] o ∙ get_or-set_other rows v u [] [] o)) (a.done u (grind (arith, l, o))));
-        left = λ u l ub. (let o : u ≢ v = λ e. omega (arith, l, e) in get_or-set_other (set rows v []) v u pairs [] o ∙ get_or-set_other rows v u [] [] o ∙ a.left u (omega (arith, l)) ub);
+            (λ q. subst (λ k. IsRowNumbered f s k (row new.rows k)) (sym q)
+            (subst (IsRowNumbered f s v) (sym (ap (λ (r : List (List (Placed × Placed))). row r v) is ∙ get_or-set_same (set old.rows v []) v pairs [] (subst (λ k. v < k) (sym long) vb))) z))
+            (λ o. subst (IsRowNumbered f s u) (sym (other u o)) (a.done u (grind (arith, l, o))));
+        left = λ u l ub. other u (λ e. omega (arith, l, e)) ∙ a.left u (omega (arith, l)) ub;
         places = b;
+        room = empty;
       }

@@ -14,6 +14,7 @@ use Rattle.expand_work.specs.Expanded.{row_of}
 use Rattle.expand_work.specs.Gathered.{PartsView, noted_of}
 use Rattle.expand_work.specs.Lean.{lean, lean_row}
 use Rattle.expand_work.specs.Work.{owned_by}
+use Rattle.reduce_up.specs.declared.numbers.Field.{Field}
 use Rattle.reduce_up.specs.declared.numbers.Share.{Share}
 
 -- the keys of a level, of the first n workers one behind the other
@@ -62,51 +63,53 @@ IsTold S (Ask l x m) = l ≡ level_of S x
 abbrev pub AreTold : Nodes → Record → Type 0
 AreTold S r = IsTold S r.low × IsTold S r.high
 
+-- the keys of all levels of a field
+abbrev pub keys_in : Field → List (List Key)
+keys_in f = keys_of f.workers f.notes.now f.store.now.levels
+
 -- what is read while children are numbered
-pub record IsField (S : Nodes) (n : ℕ) (p : PartsView) (starts : List ℕ) : Type 0 where
-  pub some : 0 < n
-  pub levels : (k : ℕ) → k < n → length (slice_index_or p.rows k []) ≡ S.levels
-  pub many_noted : length p.noted ≡ n
-  pub senders : (k : ℕ) → k < n → length (slice_index_or p.noted k []) ≡ n
-  pub told : (k v : ℕ) → k < n → v < S.levels → All (AreTold S) (row_of p.rows k v)
-  pub starts_are : starts ≡ starts_below S.levels n (row_of p.rows)
-  pub few : AreFew S.levels n (row_of p.rows)
+pub record IsField (f : Field) : Type 0 where
+  pub some : 0 < f.workers
+  pub levels : (k : ℕ) → k < f.workers → length (slice_index_or f.notes.now.rows k []) ≡ f.store.now.levels
+  pub many_noted : length f.notes.now.noted ≡ f.workers
+  pub senders : (k : ℕ) → k < f.workers → length (slice_index_or f.notes.now.noted k []) ≡ f.workers
+  pub told : (k v : ℕ) → k < f.workers → v < f.store.now.levels → All (AreTold f.store.now) (row_of f.notes.now.rows k v)
+  pub starts_are : f.starts.now ≡ starts_below f.store.now.levels f.workers (row_of f.notes.now.rows)
+  pub few : AreFew f.store.now.levels f.workers (row_of f.notes.now.rows)
+
+-- s is one of its workers
+pub record IsSender (f : Field) (s : ℕ) : Type 0 where
+  pub field : IsField f
+  pub within : s < f.workers
 
 -- the request stands at this place of worker k's of its level
-abbrev pub StandsWith : Nodes → PartsView → ℕ → Key → ℕ → Type 0
-StandsWith S p k x m = slice_get (map key_of (row_of p.rows k (level_of S x))) m ≡ Some x
+abbrev pub StandsWith : Field → ℕ → Key → ℕ → Type 0
+StandsWith f k x m = slice_get (map key_of (row_of f.notes.now.rows k (level_of f.store.now x))) m ≡ Some x
 
--- of what s has still to ask for, each of n workers noted the places behind those of the requests that s has asked of it
-pub record AreNext (S : Nodes) (n : ℕ) (p : PartsView) (s : ℕ) (rest : List Key) (next : List ℕ) : Type 0 where
-  pub long : length next ≡ n
-  pub each : (k : ℕ) → k < n
-      → AllZip (StandsWith S p k) (filter (owned_by n k) rest) (drop (slice_index_or next k 0) (noted_of p.noted k s))
+-- of what s has still to ask for, each worker noted the places behind those of the requests that s has asked of it
+pub record AreNext (f : Field) (s : ℕ) (rest : List Key) (next : List ℕ) : Type 0 where
+  pub long : length next ≡ f.workers
+  pub each : (k : ℕ) → k < f.workers
+      → AllZip (StandsWith f k) (filter (owned_by f.workers k) rest) (drop (slice_index_or next k 0) (noted_of f.notes.now.noted k s))
 
 -- the child, which is told by its owner, is what s asks for next
-pub record IsNext (S : Nodes) (n : ℕ) (p : PartsView) (s : ℕ) (next : List ℕ) (placed : Placed) (c : Child) (rest : List Key) : Type 0 where
-  pub owned : placed ≡ lean n c
-  pub told : IsTold S c
-  pub places : AreNext S n p s (asked c ++ rest) next
+pub record IsNext (f : Field) (s : ℕ) (next : List ℕ) (placed : Placed) (c : Child) (rest : List Key) : Type 0 where
+  pub owned : placed ≡ lean f.workers c
+  pub told : IsTold f.store.now c
+  pub places : AreNext f s (asked c ++ rest) next
 
 -- what records of so many levels from v on ask for
 abbrev pub asked_up : ℕ → ℕ → (ℕ → List Record) → List Key
 asked_up zero v rows = []
 asked_up (suc m) v rows = asked_by (rows v) ++ asked_up m (suc v) rows
 
--- what the records of a store of so many levels ask for, from level v on
-abbrev pub asked_from : ℕ → ℕ → (ℕ → List Record) → List Key
-asked_from levels v rows = asked_up (levels - v) v rows
+-- what the records of worker s ask for, from level v on
+abbrev pub asked_from : Field → ℕ → ℕ → List Key
+asked_from f s v = asked_up (f.store.now.levels - v) v (row_of f.notes.now.rows s)
 
 -- the pairs stand for the children of worker s's records of level v
-abbrev pub IsRowNumbered : Nodes → ℕ → PartsView → ℕ → ℕ → List (Placed × Placed) → Type 0
-IsRowNumbered S n p s v pairs = AllZip (IsNumbered (keys_of n p S.levels)) (row_of p.rows s v) pairs
-
--- the rows of worker s before level v are numbered, and those from there on are as it recorded them
-pub record IsNumberedTo (S : Nodes) (n : ℕ) (p : PartsView) (s v : ℕ) (rows : List (List (Placed × Placed))) (next : List ℕ) : Type 0 where
-  pub levels : length rows ≡ S.levels
-  pub done : (u : ℕ) → u < v → IsRowNumbered S n p s u (row rows u)
-  pub left : (u : ℕ) → v ≤ u → u < S.levels → row rows u ≡ lean_row n (row_of p.rows s u)
-  pub places : AreNext S n p s (asked_from S.levels v (row_of p.rows s)) next
+abbrev pub IsRowNumbered : Field → ℕ → ℕ → List (Placed × Placed) → Type 0
+IsRowNumbered f s v pairs = AllZip (IsNumbered (keys_in f)) (row_of f.notes.now.rows s v) pairs
 
 -- ---- shares of workers
 -- a share as it is made, of a worker with these rows, where there are n workers
@@ -120,45 +123,50 @@ abbrev pub AreNew : ℕ → List (List (List (Placed × Placed))) → List Share
 AreNew n rows shares = AllZip (IsNew n) rows shares
 
 -- the share of worker s, which recorded its rows and has still to ask for rest
-pub record IsShare (S : Nodes) (n : ℕ) (p : PartsView) (s : ℕ) (rest : List Key) (share : Share) : Type 0 where
-  pub same : share.rows ≡ map (lean_row n) (slice_index_or p.rows s [])
+pub record IsShare (f : Field) (s : ℕ) (rest : List Key) (share : Share) : Type 0 where
+  pub same : share.rows ≡ map (lean_row f.workers) (slice_index_or f.notes.now.rows s [])
   pub room : share.room ≡ []
-  pub places : AreNext S n p s rest share.next.items
+  pub places : AreNext f s rest share.next.items
 
 -- all that worker s asks for from root i on
-abbrev pub asked_behind : Nodes → ℕ → List Key → PartsView → ℕ → ℕ → List Key
-asked_behind S n roots p s i = dealt_from n s i (drop i roots) ++ asked_below S.levels (row_of p.rows s)
+abbrev pub asked_behind : Field → List Key → ℕ → ℕ → List Key
+asked_behind f roots s i = dealt_from f.workers s i (drop i roots) ++ asked_below f.store.now.levels (row_of f.notes.now.rows s)
 
 -- the shares of all workers, which have asked for the roots before i
-pub record AreShares (S : Nodes) (n : ℕ) (roots : List Key) (p : PartsView) (i : ℕ) (shares : List Share) : Type 0 where
-  pub long : length shares ≡ n
-  pub each : (s : ℕ) (d : Share) → s < n → IsShare S n p s (asked_behind S n roots p s i) (slice_index_or shares s d)
+pub record AreShares (f : Field) (roots : List Key) (i : ℕ) (shares : List Share) : Type 0 where
+  pub long : length shares ≡ f.workers
+  pub each : (s : ℕ) (d : Share) → s < f.workers → IsShare f s (asked_behind f roots s i) (slice_index_or shares s d)
 
 -- a root stands for its request
-abbrev pub IsRootPlaced : Nodes → ℕ → PartsView → Key → Placed → Type 0
-IsRootPlaced S n p x d = IsPlaced (keys_of n p S.levels) d (Ask (level_of S x) x false)
+abbrev pub IsRootPlaced : Field → Key → Placed → Type 0
+IsRootPlaced f x d = IsPlaced (keys_in f) d (Ask (level_of f.store.now x) x false)
 
--- the rows of worker s may be numbered in its share
-abbrev pub MayNumber : Nodes → ℕ → PartsView → ℕ → Share → Type 0
-MayNumber S n p s share = IsNumberedTo S n p s 0 share.rows share.next.items × (share.room ≡ [])
+-- in the share of worker s the rows before level v are numbered, and those from there on are as it recorded them
+pub record IsNumberedTo (f : Field) (s v : ℕ) (share : Share) : Type 0 where
+  pub levels : length share.rows ≡ f.store.now.levels
+  pub done : (u : ℕ) → u < v → IsRowNumbered f s u (row share.rows u)
+  pub left : (u : ℕ) → v ≤ u → u < f.store.now.levels → row share.rows u ≡ lean_row f.workers (row_of f.notes.now.rows s u)
+  pub places : AreNext f s (asked_from f s v) share.next.items
+  pub room : share.room ≡ []
 
-pub record MayNumberAll (S : Nodes) (n : ℕ) (p : PartsView) (shares : List Share) : Type 0 where
-  pub long : length shares ≡ n
-  pub each : (s : ℕ) (d : Share) → s < n → MayNumber S n p s (slice_index_or shares s d)
+-- each worker's rows may be numbered in the worker's share
+pub record MayNumberAll (f : Field) (shares : List Share) : Type 0 where
+  pub long : length shares ≡ f.workers
+  pub each : (s : ℕ) (d : Share) → s < f.workers → IsNumberedTo f s 0 (slice_index_or shares s d)
 
 -- the rows of worker s are numbered in its share, where there was memory
-abbrev pub IsShareNumbered : Nodes → ℕ → PartsView → ℕ → Share → Type 0
-IsShareNumbered S n p s share = OnOk share.done (IsNumberedTo S n p s S.levels share.rows share.next.items)
+abbrev pub IsShareNumbered : Field → ℕ → Share → Type 0
+IsShareNumbered f s share = OnOk share.done (IsNumberedTo f s f.store.now.levels share)
 
-pub record AreAllNumbered (S : Nodes) (n : ℕ) (p : PartsView) (shares : List Share) : Type 0 where
-  pub long : length shares ≡ n
-  pub each : (s : ℕ) (d : Share) → s < n → IsShareNumbered S n p s (slice_index_or shares s d)
+pub record AreAllNumbered (f : Field) (shares : List Share) : Type 0 where
+  pub long : length shares ≡ f.workers
+  pub each : (s : ℕ) (d : Share) → s < f.workers → IsShareNumbered f s (slice_index_or shares s d)
 
 -- all rows of worker s are numbered
-abbrev pub AreLevelsNumbered : Nodes → ℕ → PartsView → ℕ → List (List (Placed × Placed)) → Type 0
-AreLevelsNumbered S n p s rows = (length rows ≡ S.levels) × ((v : ℕ) → v < S.levels → IsRowNumbered S n p s v (row rows v))
+abbrev pub AreLevelsNumbered : Field → ℕ → List (List (Placed × Placed)) → Type 0
+AreLevelsNumbered f s rows = (length rows ≡ f.store.now.levels) × ((v : ℕ) → v < f.store.now.levels → IsRowNumbered f s v (row rows v))
 
--- those of the first m of n workers are
-pub record AreRowsNumbered (S : Nodes) (n : ℕ) (p : PartsView) (m : ℕ) (rows : List (List (List (Placed × Placed)))) : Type 0 where
+-- those of the first m workers are
+pub record AreRowsNumbered (f : Field) (m : ℕ) (rows : List (List (List (Placed × Placed)))) : Type 0 where
   pub many : length rows ≡ m
-  pub each : (k : ℕ) (d : List (List (Placed × Placed))) → k < m → AreLevelsNumbered S n p k (slice_index_or rows k d)
+  pub each : (k : ℕ) (d : List (List (Placed × Placed))) → k < m → AreLevelsNumbered f k (slice_index_or rows k d)

@@ -1,7 +1,7 @@
 //! Requests that workers asked each other for, told by place. A child of a worker's record names the request's owner alone; of what a
 //! worker asked of that owner, in order, it is the next, and the owner noted at which place of its own it stands. Here each child gets
 //! its place among all requests of its level, those of the workers one behind the other.
-ghost use Rattle.std.specs.Prelude.{◌≡◌, ℕ, ◌+◌, ◌++◌, ◌<◌, ◌≤◌, ◌^◌, [], length, replicate, slice_index_or, All, List, IfOk, IsOk, OnOk};
+ghost use Rattle.std.specs.Prelude.{◌≡◌, ◌+◌, ◌++◌, ◌<◌, ◌^◌, [], length, replicate, slice_index_or, All, List, IfOk, IsOk, OnOk};
 ghost use Rattle.std.specs.List.{AllZip};
 ghost use Rattle.req_table.specs.declared.Key.{Key as KeyValue};
 ghost use Rattle.req_table.specs.declared.Child.{Child as ChildValue};
@@ -12,8 +12,8 @@ ghost use Rattle.req_table.specs.Settled.{level_of_rows};
 ghost use Rattle.expand_work.specs.Expanded.{row_of};
 ghost use Rattle.expand_work.specs.Gathered.{AreParts};
 ghost use Rattle.expand_work.specs.Lean.{lean_row, AreLean};
-ghost use Rattle.reduce_up.specs.Numbers.{keys_of, starts_at, starts_below, asked_from, AreFew, IsField, IsNext, AreNext};
-ghost use Rattle.reduce_up.specs.Numbers.{IsRowNumbered, IsNumberedTo, IsShareNumbered, AreNew, AreShares, IsRootPlaced, MayNumber, MayNumberAll};
+ghost use Rattle.reduce_up.specs.Numbers.{keys_in, starts_at, starts_below, asked_from, AreFew, IsField, IsSender, IsNext, AreNext};
+ghost use Rattle.reduce_up.specs.Numbers.{IsRowNumbered, IsNumberedTo, IsShareNumbered, AreNew, AreShares, IsRootPlaced, MayNumberAll};
 ghost use Rattle.reduce_up.specs.Numbers.{AreAllNumbered, AreRowsNumbered, AreNumbered};
 
 use crate::forks::fork_each;
@@ -51,16 +51,12 @@ pub(crate) struct Share {
 /// A sender's child by its place: of what the sender asks of the child's owner it is the next.
 #[inline(always)]
 fn number(field: Field<'_>, sender: u32, next: &mut Vec<usize>, child: Placed) -> Placed
-    requires field { IsField field.store.now field.workers field.notes.now field.starts.now }
-    requires sender { sender < field.workers }
-    requires child { (c : ChildValue) × (rest : List KeyValue)
-        × IsNext field.store.now field.workers field.notes.now sender next.old.items child c rest }
-    ensures next { (c : ChildValue) (rest : List KeyValue)
-        → IsNext field.entry.store.now field.entry.workers field.entry.notes.now sender next.old.items child c rest
-        → AreNext field.entry.store.now field.entry.workers field.entry.notes.now sender rest next.new.items }
-    ensures placed { (c : ChildValue) (rest : List KeyValue)
-        → IsNext field.entry.store.now field.entry.workers field.entry.notes.now sender next.old.items child c rest
-        → IsPlaced (keys_of field.entry.workers field.entry.notes.now field.entry.store.now.levels) result c }
+    requires sender { IsSender field sender }
+    requires child { (c : ChildValue) × (rest : List KeyValue) × IsNext field sender next.old.items child c rest }
+    ensures next { (c : ChildValue) (rest : List KeyValue) → IsNext field.entry sender next.old.items child c rest
+        → AreNext field.entry sender rest next.new.items }
+    ensures placed { (c : ChildValue) (rest : List KeyValue) → IsNext field.entry sender next.old.items child c rest
+        → IsPlaced (keys_in field.entry) result c }
 {
     match child.view() {
         PlacedChild::Done(_) => child,
@@ -87,16 +83,13 @@ fn number_row(
     next: &mut Vec<usize>,
     room: &mut Row,
 ) -> Result<(), AllocError>
-    requires field { IsField field.store.now field.workers field.notes.now field.starts.now }
-    requires sender { sender < field.workers }
+    requires sender { IsSender field sender }
     requires level { level < field.store.now.levels }
     requires lean { lean.now ≡ lean_row field.workers (row_of field.notes.now.rows sender level) }
-    requires next { AreNext field.store.now field.workers field.notes.now sender
-        (asked_from field.store.now.levels level (row_of field.notes.now.rows sender)) next.old.items }
+    requires next { AreNext field sender (asked_from field sender level) next.old.items }
     requires room { room.old ≡ [] }
-    ensures row { OnOk result (IsRowNumbered field.entry.store.now field.entry.workers field.entry.notes.now sender level room.new) }
-    ensures next { OnOk result (AreNext field.entry.store.now field.entry.workers field.entry.notes.now sender
-        (asked_from field.entry.store.now.levels (level + 1) (row_of field.entry.notes.now.rows sender)) next.new.items) }
+    ensures row { OnOk result (IsRowNumbered field.entry sender level room.new) }
+    ensures next { OnOk result (AreNext field.entry sender (asked_from field.entry sender (level + 1)) next.new.items) }
 {
     room.reserve(lean.len())?;
     for place in 0..lean.len() {
@@ -123,14 +116,10 @@ fn fitting_room(alloc: Global, room: Row, size: usize, count: usize) -> Row
 impl Share {
     /// The children of a level by their places. The memory of its row is the next level's room.
     fn number_level(&mut self, field: Field<'_>, sender: u32, level: u16) -> Result<(), AllocError>
-        requires field { IsField field.store.now field.workers field.notes.now field.starts.now }
-        requires sender { sender < field.workers }
+        requires sender { IsSender field sender }
         requires level { level < field.store.now.levels }
-        requires rows { IsNumberedTo field.store.now field.workers field.notes.now sender level self.old.rows self.old.next.items }
-        requires room { self.old.room ≡ [] }
-        ensures rows { OnOk result (IsNumberedTo field.entry.store.now field.entry.workers field.entry.notes.now sender (level + 1)
-            self.new.rows self.new.next.items) }
-        ensures room { OnOk result (self.new.room ≡ []) }
+        requires share { IsNumberedTo field sender level self.old }
+        ensures { OnOk result (IsNumberedTo field.entry sender (level + 1) self.new) }
     {
         let count = self.rows.row(level).len();
         if count == 0 {
@@ -149,12 +138,9 @@ impl Share {
 
     /// The children of all levels by their places.
     fn number_rows(&mut self, field: Field<'_>, sender: u32) -> Result<(), AllocError>
-        requires field { IsField field.store.now field.workers field.notes.now field.starts.now }
-        requires sender { sender < field.workers }
-        requires rows { IsNumberedTo field.store.now field.workers field.notes.now sender 0 self.old.rows self.old.next.items }
-        requires room { self.old.room ≡ [] }
-        ensures { OnOk result (IsNumberedTo field.entry.store.now field.entry.workers field.entry.notes.now sender
-            field.entry.store.now.levels self.new.rows self.new.next.items) }
+        requires sender { IsSender field sender }
+        requires share { IsNumberedTo field sender 0 self.old }
+        ensures { OnOk result (IsNumberedTo field.entry sender field.entry.store.now.levels self.new) }
     {
         for level in 0..field.store.levels() {
             self.number_level(field, sender, level)?;
@@ -164,11 +150,9 @@ impl Share {
 
     /// Numbers the children of the worker whose share this is, and notes whether there was memory.
     fn run(&mut self, field: Field<'_>, sender: u32)
-        requires field { IsField field.store.now field.workers field.notes.now field.starts.now }
-        requires sender { sender < field.workers }
-        requires rows { IsNumberedTo field.store.now field.workers field.notes.now sender 0 self.old.rows self.old.next.items }
-        requires room { self.old.room ≡ [] }
-        ensures { IsShareNumbered field.entry.store.now field.entry.workers field.entry.notes.now sender self.new }
+        requires sender { IsSender field sender }
+        requires share { IsNumberedTo field sender 0 self.old }
+        ensures { IsShareNumbered field.entry sender self.new }
     {
         self.done = self.number_rows(field, sender);
     }
@@ -259,12 +243,11 @@ fn new_shares(field: Field<'_>, rows: Vec<Rows>) -> Result<Vec<Share>, AllocErro
 
 /// A root by its place: worker i modulo their number asks for root i.
 fn number_root(field: Field<'_>, roots: &[Key], root: usize, shares: &mut [Share]) -> Placed
-    requires field { IsField field.store.now field.workers field.notes.now field.starts.now }
+    requires field { IsField field }
     requires root { root < length roots.now }
-    requires shares { AreShares field.store.now field.workers roots.now field.notes.now root shares.old }
-    ensures shares { AreShares field.entry.store.now field.entry.workers roots.now field.entry.notes.now (root + 1) shares.new }
-    ensures placed { (x : KeyValue) → IsRootPlaced field.entry.store.now field.entry.workers field.entry.notes.now
-        (slice_index_or roots.now root x) result }
+    requires shares { AreShares field roots.now root shares.old }
+    ensures shares { AreShares field.entry roots.now (root + 1) shares.new }
+    ensures placed { (x : KeyValue) → IsRootPlaced field.entry (slice_index_or roots.now root x) result }
 {
     let key = roots[root];
     let sender = (root % field.workers as usize) as u32;
@@ -279,12 +262,10 @@ fn number_roots(
     roots: &[Key],
     shares: &mut [Share],
 ) -> Result<Vec<Placed>, AllocError>
-    requires field { IsField field.store.now field.workers field.notes.now field.starts.now }
-    requires shares { AreShares field.store.now field.workers roots.now field.notes.now 0 shares.old }
-    ensures shares { OnOk result (AreShares field.entry.store.now field.entry.workers roots.now field.entry.notes.now
-        (length roots.now) shares.new) }
-    ensures placed { IfOk result (λ placed. AllZip (IsRootPlaced field.entry.store.now field.entry.workers field.entry.notes.now)
-        roots.now placed.items) }
+    requires field { IsField field }
+    requires shares { AreShares field roots.now 0 shares.old }
+    ensures shares { OnOk result (AreShares field.entry roots.now (length roots.now) shares.new) }
+    ensures placed { IfOk result (λ placed. AllZip (IsRootPlaced field.entry) roots.now placed.items) }
 {
     let mut placed = Vec::with_capacity(field.alloc, roots.len())?;
     for root in 0..roots.len() {
@@ -296,23 +277,21 @@ fn number_roots(
 
 /// Numbers the children of all workers, each worker's by a thread of its own.
 fn number_shares<R: Threads + Sync>(rt: &R, field: Field<'_>, shares: &mut [Share])
-    requires field { IsField field.store.now field.workers field.notes.now field.starts.now }
-    requires shares { MayNumberAll field.store.now field.workers field.notes.now shares.old }
-    ensures { AreAllNumbered field.entry.store.now field.entry.workers field.entry.notes.now shares.new }
+    requires field { IsField field }
+    requires shares { MayNumberAll field shares.old }
+    ensures { AreAllNumbered field.entry shares.new }
 {
     let run = |sender: usize, share: &mut Share|
-        requires { IsField field.store.now field.workers field.notes.now field.starts.now
-            × (sender < field.workers) × (sender < 2 ^ 32) × MayNumber field.store.now field.workers field.notes.now sender share.now }
-        ensures { IsShareNumbered field.entry.store.now field.entry.workers field.entry.notes.now sender share.exit.now }
+        requires { IsSender field sender × (sender < 2 ^ 32) × IsNumberedTo field sender 0 share.now }
+        ensures { IsShareNumbered field.entry sender share.exit.now }
     { share.run(field, sender as u32) };
     fork_each(rt, shares, &run);
 }
 
 /// The rows of the shares, where there was memory for all.
 fn shared_rows(field: Field<'_>, shares: Vec<Share>) -> Result<Vec<Rows>, AllocError>
-    requires { AreAllNumbered field.store.now field.workers field.notes.now shares.items }
-    ensures { IfOk result (λ rows. AreRowsNumbered field.entry.store.now field.entry.workers field.entry.notes.now field.entry.workers
-        rows.items) }
+    requires { AreAllNumbered field shares.items }
+    ensures { IfOk result (λ rows. AreRowsNumbered field.entry field.entry.workers rows.items) }
 {
     let mut all = Vec::with_capacity(field.alloc, shares.len())?;
     for share in shares {

@@ -5,6 +5,6 @@ use Rattle.reduce_up.proofs.numbers.number_roots.Given as goal
 
 abbrev pub invariant-loop-root : goal.invariant-loop-root
 invariant-loop-root l = record {
-  shares : AreShares l.field.store.now l.field.workers l.roots l.field.notes.now l.root l.shares;
-  placed : AllZip (IsRootPlaced l.field.store.now l.field.workers l.field.notes.now) (take l.root l.roots) l.placed.items;
+  shares : AreShares l.field l.roots l.root l.shares;
+  placed : AllZip (IsRootPlaced l.field) (take l.root l.roots) l.placed.items;
 }

@@ -1,68 +1,60 @@
-use Rattle.std.proofs.Common.{arith, ◌≡◌, ℕ, ◌+◌, [], sym, ◌∙◌, subst}
+use Rattle.std.proofs.Common.{arith, ◌≡◌, ◌+◌, List, [], sym, ◌∙◌, subst}
 use Rattle.std.specs.List.{AllZip}
+use Rattle.req_table.specs.declared.Key.{Key}
 use Rattle.req_table.specs.declared.Record.{Record}
-use Rattle.expand_work.specs.Expanded.{row_of}
-use Rattle.reduce_up.specs.Numbers.{AreNext, asked_from, IsNumbered, keys_of}
-use Rattle.reduce_up.proofs.Numbering.{asked_first, the_record, behind, behind_low, low_next, high_next, pair_more, pairs_all, asked_all}
+use Rattle.reduce_up.specs.Numbers.{AreNext, IsNext, asked_from, IsNumbered, keys_in}
+use Rattle.reduce_up.proofs.Numbering.{asked_first, the_record, behind_low, low_next, high_next, pair_more, pairs_all, asked_all}
 use Rattle.reduce_up.proofs.numbers.number_row.Goals as goal
+use Rattle.reduce_up.proofs.numbers.number_row.Goals.{After-at-low, After-number-low, After-loop-place}
+
+-- the next record, and what is asked for behind its low child
+module _ (c : After-at-low) where
+  abbrev entry : Record
+  entry = the_record _ _ c.requires.sender _ c.requires.level _ c.requires.lean _ _ _ c.at-low.ensures _ c.loop-place.invariant.places
+
+  abbrev rest : List Key
+  rest = behind_low _ _ c.requires.sender _ c.requires.level _ c.requires.lean _ _ _ c.at-low.ensures _ c.loop-place.invariant.places
+
+  low_is : IsNext c.args.field c.args.sender c.loop-place.next.items c.at-low.result.0 entry.low rest
+  low_is = low_next _ _ c.requires.sender _ c.requires.level _ c.requires.lean _ _ _ c.at-low.ensures _ c.loop-place.invariant.places
 
 pub loop-place-init : goal.loop-place-init
-loop-place-init c =
-    let f = c.args.field in let rows = row_of f.notes.now.rows c.args.sender in
-    record {
-      pairs = subst (AllZip (IsNumbered (keys_of f.workers f.notes.now f.store.now.levels)) []) (sym (c.in_ok-reserve.ensures ∙ c.requires.room)) tt;
-      places = subst (λ z. AreNext f.store.now f.workers f.notes.now c.args.sender z c.args.next.now.items) (asked_first f.store.now.levels c.args.level rows c.requires.level) c.requires.next;
-    }
+loop-place-init c = record {
+  pairs = subst (AllZip (IsNumbered (keys_in c.args.field)) []) (sym (c.in_ok-reserve.ensures ∙ c.requires.room)) tt;
+  places = subst (λ z. AreNext c.args.field c.args.sender z c.args.next.now.items) (asked_first c.args.field c.args.sender c.args.level c.requires.level) c.requires.next;
+}
 
 pub number-low-requires-clause-child : goal.number-low-requires-clause-child
-number-low-requires-clause-child c =
-    let f = c.args.field in let rows = row_of f.notes.now.rows c.args.sender in
-    let later = asked_from f.store.now.levels (c.args.level + 1) rows in
-    let v = c.args.level in let s = c.args.sender in let i : ℕ = c.loop-place.place in (
-      (the_record f.store.now f.workers f.notes.now f.starts.now c.requires.field s c.requires.sender v c.requires.level c.args.lean.now c.requires.lean later i c.at-low.result c.at-low.ensures c.loop-place.next.items c.loop-place.invariant.places).low,
-      behind_low f.store.now f.workers f.notes.now f.starts.now c.requires.field s c.requires.sender v c.requires.level c.args.lean.now c.requires.lean later i c.at-low.result c.at-low.ensures c.loop-place.next.items c.loop-place.invariant.places,
-      low_next f.store.now f.workers f.notes.now f.starts.now c.requires.field s c.requires.sender v c.requires.level c.args.lean.now c.requires.lean later i c.at-low.result c.at-low.ensures c.loop-place.next.items c.loop-place.invariant.places,
-    )
+number-low-requires-clause-child c = let w = (goal.at.number-low-requires-clause-child c).After-at-low in ((entry w).low, _, low_is w)
 
 pub number-high-requires-clause-child : goal.number-high-requires-clause-child
 number-high-requires-clause-child c =
-    let f = c.args.field in let rows = row_of f.notes.now.rows c.args.sender in
-    let later = asked_from f.store.now.levels (c.args.level + 1) rows in
-    let v = c.args.level in let s = c.args.sender in let i : ℕ = c.loop-place.place in
-    let r : Record = the_record f.store.now f.workers f.notes.now f.starts.now c.requires.field s c.requires.sender v c.requires.level c.args.lean.now c.requires.lean later i c.at-low.result c.at-low.ensures c.loop-place.next.items c.loop-place.invariant.places in
-    let low = low_next f.store.now f.workers f.notes.now f.starts.now c.requires.field s c.requires.sender v c.requires.level c.args.lean.now c.requires.lean later i c.at-low.result c.at-low.ensures c.loop-place.next.items c.loop-place.invariant.places in (
-      r.high,
-      behind f.store.now f.workers f.notes.now f.starts.now c.requires.field s c.requires.sender v c.requires.level c.args.lean.now c.requires.lean later i c.at-low.result c.at-low.ensures c.loop-place.next.items c.loop-place.invariant.places,
-      high_next f.store.now f.workers f.notes.now f.starts.now c.requires.field s c.requires.sender v c.requires.level c.args.lean.now c.requires.lean later i c.at-low.result c.at-low.ensures c.loop-place.next.items c.loop-place.invariant.places
-          c.number-low.new.next.items (c.number-low.ensures.next r.low _ low),
+    let w = (goal.at.number-high-requires-clause-child c).After-at-low in (
+      (entry w).high,
+      _,
+      high_next _ _ c.requires.sender _ c.requires.level _ c.requires.lean _ _ _ c.at-low.ensures _ c.loop-place.invariant.places c.number-low.new.next.items (c.number-low.ensures.next (entry w).low _ (low_is w)),
     )
 
 pub loop-place-preserved : goal.loop-place-preserved
 loop-place-preserved c =
-    let f = c.args.field in let rows = row_of f.notes.now.rows c.args.sender in
-    let later = asked_from f.store.now.levels (c.args.level + 1) rows in
-    let v = c.args.level in let s = c.args.sender in let i : ℕ = c.loop-place.place in
-    let r : Record = the_record f.store.now f.workers f.notes.now f.starts.now c.requires.field s c.requires.sender v c.requires.level c.args.lean.now c.requires.lean later i c.at-low.result c.at-low.ensures c.loop-place.next.items c.loop-place.invariant.places in
-    let low = low_next f.store.now f.workers f.notes.now f.starts.now c.requires.field s c.requires.sender v c.requires.level c.args.lean.now c.requires.lean later i c.at-low.result c.at-low.ensures c.loop-place.next.items c.loop-place.invariant.places in
-    let high = high_next f.store.now f.workers f.notes.now f.starts.now c.requires.field s c.requires.sender v c.requires.level c.args.lean.now c.requires.lean later i c.at-low.result c.at-low.ensures c.loop-place.next.items c.loop-place.invariant.places
-    c.number-low.new.next.items (c.number-low.ensures.next r.low _ low) in
+    let w = (goal.at.loop-place-preserved c).After-at-low in
+    let high = high_next _ _ c.requires.sender _ c.requires.level _ c.requires.lean _ _ _ c.at-low.ensures _ c.loop-place.invariant.places c.number-low.new.next.items (c.number-low.ensures.next (entry w).low _ (low_is w)) in
     record {
-      pairs = pair_more f.store.now f.workers f.notes.now f.starts.now c.requires.field s c.requires.sender v c.requires.level c.args.lean.now c.requires.lean later i c.at-low.result c.at-low.ensures c.loop-place.next.items c.loop-place.invariant.places
-          c.loop-place.room c.push.new.self c.number-low.result c.number-high.result c.loop-place.invariant.pairs (c.number-low.ensures.placed r.low _ low) (c.number-high.ensures.placed r.high _ high) c.in_ok-push.ensures.done;
-      places = c.number-high.ensures.next r.high _ high;
+      pairs = pair_more _ _ c.requires.sender _ c.requires.level _ c.requires.lean _ _ _ c.at-low.ensures _ c.loop-place.invariant.places
+          c.loop-place.room c.push.new.self c.number-low.result c.number-high.result c.loop-place.invariant.pairs
+          (c.number-low.ensures.placed (entry w).low _ (low_is w)) (c.number-high.ensures.placed (entry w).high _ high) c.in_ok-push.ensures.done;
+      places = c.number-high.ensures.next (entry w).high _ high;
     }
+
+-- all records are gone over
+ended : (c : After-loop-place) → c.loop-place.place ≡ c.len-place-end.result
+ended c = let past = c.loop-place-test.false in let within = c.loop-place.auto.place-end in omega (arith, past, within)
 
 pub returns-clause-row : goal.returns-clause-row
 returns-clause-row c =
-    let f = c.args.field in
-    let past = c.loop-place-test.false in let within = c.loop-place.auto.place-end in
-    let end : c.loop-place.place ≡ c.len-place-end.result = omega (arith, past, within) in
-    pairs_all f.store.now f.workers f.notes.now c.args.sender c.args.level c.args.lean.now c.requires.lean c.loop-place.place (end ∙ c.len-place-end.ensures) c.loop-place.room c.loop-place.invariant.pairs
+    pairs_all c.args.field c.args.sender c.args.level c.args.lean.now c.requires.lean c.loop-place.place (ended (goal.at.returns-clause-row c).After-loop-place ∙ c.len-place-end.ensures) c.loop-place.room c.loop-place.invariant.pairs
 
 pub returns-clause-next : goal.returns-clause-next
 returns-clause-next c =
-    let f = c.args.field in
-    let past = c.loop-place-test.false in let within = c.loop-place.auto.place-end in
-    let end : c.loop-place.place ≡ c.len-place-end.result = omega (arith, past, within) in
-    asked_all f.store.now f.workers f.notes.now c.args.sender c.args.level c.args.lean.now c.requires.lean c.loop-place.place (end ∙ c.len-place-end.ensures)
-    (asked_from f.store.now.levels (c.args.level + 1) (row_of f.notes.now.rows c.args.sender)) c.loop-place.next.items c.loop-place.invariant.places
+    asked_all c.args.field c.args.sender c.args.level c.args.lean.now c.requires.lean c.loop-place.place (ended (goal.at.returns-clause-next c).After-loop-place ∙ c.len-place-end.ensures)
+    (asked_from c.args.field c.args.sender (c.args.level + 1)) c.loop-place.next.items c.loop-place.invariant.places

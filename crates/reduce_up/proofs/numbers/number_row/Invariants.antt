@@ -2,12 +2,11 @@ use Rattle.std.proofs.Common.{◌+◌, ◌++◌, take, drop}
 use Rattle.std.specs.List.{AllZip}
 use Rattle.req_table.specs.Settled.{asked_by}
 use Rattle.expand_work.specs.Expanded.{row_of}
-use Rattle.reduce_up.specs.Numbers.{keys_of, IsNumbered, AreNext, asked_from}
+use Rattle.reduce_up.specs.Numbers.{keys_in, IsNumbered, AreNext, asked_from}
 use Rattle.reduce_up.proofs.numbers.number_row.Given as goal
 
 abbrev pub invariant-loop-place : goal.invariant-loop-place
 invariant-loop-place l = record {
-  pairs : AllZip (IsNumbered (keys_of l.field.workers l.field.notes.now l.field.store.now.levels)) (take l.place (row_of l.field.notes.now.rows l.sender l.level)) l.room;
-  places : AreNext l.field.store.now l.field.workers l.field.notes.now l.sender
-      (asked_by (drop l.place (row_of l.field.notes.now.rows l.sender l.level)) ++ asked_from l.field.store.now.levels (l.level + 1) (row_of l.field.notes.now.rows l.sender)) l.next.items;
+  pairs : AllZip (IsNumbered (keys_in l.field)) (take l.place (row_of l.field.notes.now.rows l.sender l.level)) l.room;
+  places : AreNext l.field l.sender (asked_by (drop l.place (row_of l.field.notes.now.rows l.sender l.level)) ++ asked_from l.field l.sender (l.level + 1)) l.next.items;
 }
