@@ -28,7 +28,9 @@ use Rattle.reduce_up.specs.declared.division.Divided.{Divided}
 use Rattle.reduce_up.specs.declared.division.Homes.{Homes}
 use Rattle.reduce_up.specs.declared.reads.ReadShare.{ReadShare}
 use Rattle.reduce_up.specs.declared.picking.PickShare.{PickShare}
+use Rattle.reduce_up.specs.declared.up.Level.{Level}
 use Rattle.reduce_up.specs.OverParts.{level_over}
+use Rattle.reduce_up.specs.Up.{children_of}
 use Rattle.reduce_up.specs.Division.{chosen, span, source, begin_of, twice, in_turn, IsPicked, IsPickedOf, ArePicked, AreHomes, AreRefsOf, AreInTurn, MayPick}
 use Rattle.reduce_up.specs.Steps.{BothComeTo, IsMadeOf, IsPartRead, IsShareRead, AreAllRead, AreRead, IsSharePicked, AreAllPicked}
 use Rattle.reduce_up.proofs.Shared.{zip_right, zip_through}
@@ -135,35 +137,35 @@ listed_part A children lists homes r s q w =
     (z.1.0, z.0, slice_get_read children (length children) z.1.0 z.0 refl z.1.1 (sym z.1.2), z.2, own.0, own.1)
 
 -- the parts of a level were read and divided
-module _ (A : List (List Ref)) (v : ℕ) (rows : List (List (List (Placed × Placed)))) (parts : List (Vec (Vec Pair Global) Global)) (homes : List Homes) (D : AreRead A v rows (length rows) parts homes) where
-  pub listed_level : AreListed A (level_over rows v) (all_at parts)
+module _ (L : Level) (parts : List (Vec (Vec Pair Global) Global)) (homes : List Homes) (D : AreRead L (length L.parts.now) parts homes) where
+  pub listed_level : AreListed L.answers.now (children_of L) (all_at parts)
   listed_level s q w =
       let m = part_in parts s q w in
       let k : ℕ = m.0 in
-      let kb : k < length rows = (let e = D.many_lists in let l = m.1 in omega (arith, e, l)) in
+      let kb : k < length L.parts.now = (let e = D.many_lists in let l = m.1 in omega (arith, e, l)) in
       let d = some_of parts (let l = m.1 in omega (arith, l)) in
       let h = some_of homes (let e = D.many_homes in omega (arith, e, kb)) in
-      let o = listed_part A (row (row rows k) v) (get_or parts k d) (get_or homes k h) (D.each k d h kb) s q (m.2 d) in
-      let at = over_in rows k v o.0 o.1 kb o.2 in
+      let o = listed_part L.answers.now (row (row L.parts.now k) L.number) (get_or parts k d) (get_or homes k h) (D.each k d h kb) s q (m.2 d) in
+      let at = over_in L.parts.now k L.number o.0 o.1 kb o.2 in
       (at.0, o.1, at.1, o.3, o.4, o.5)
 
   pub all_sixteen : All (λ (part : Vec (Vec Pair Global) Global). length part.items ≡ 16) parts
-  all_sixteen k d l = let lb : k < length rows = (let e = D.many_lists in omega (arith, e, l)) in (D.each k d (some_of homes (let e = D.many_homes in omega (arith, e, lb))) lb).sixteen
+  all_sixteen k d l = let lb : k < length L.parts.now = (let e = D.many_lists in omega (arith, e, l)) in (D.each k d (some_of homes (let e = D.many_homes in omega (arith, e, lb))) lb).sixteen
 
   all_homes : (k : ℕ) (d : Vec (Vec Pair Global) Global) (h : Homes) → k < length homes → AreHomes (get_or homes k h) (list_at (get_or parts k d).items)
   all_homes k d h l = let r = D.each k d h (let e = D.many_homes in omega (arith, e, l)) in homes_of r.pairs (get_or homes k h) (list_at (get_or parts k d).items) r.divided
 
-  module _ (T : Nodes) (refs : List (Vec Ref Global)) (sixteen : length refs ≡ 16) (there : (s : ℕ) → s < 16 → AllZip (λ (q : Pair) r. IsThere T v q.0 q.1 r) (all_at parts s) (refs_at refs s)) where
+  module _ (T : Nodes) (refs : List (Vec Ref Global)) (sixteen : length refs ≡ 16) (there : (s : ℕ) → s < 16 → AllZip (λ (q : Pair) r. IsThere T L.number q.0 q.1 r) (all_at parts s) (refs_at refs s)) where
     pub may_pick : MayPick parts homes refs
     may_pick = record {
       many = D.many_lists ∙ sym D.many_homes;
       sixteen = all_sixteen;
-      refs_of = record { sixteen = sixteen; many = λ s l. sym (zip_long (λ (q : Pair) r. IsThere T v q.0 q.1 r) (all_at parts s) (refs_at refs s) (there s l)) };
+      refs_of = record { sixteen = sixteen; many = λ s l. sym (zip_long (λ (q : Pair) r. IsThere T L.number q.0 q.1 r) (all_at parts s) (refs_at refs s) (there s l)) };
       homes_of = all_homes;
     }
 
     -- the diagrams that were picked of one part
-    module _ (k : ℕ) (kb : k < length rows) (h : Homes) (h-is : (e : Homes) → get_or homes k e ≡ h) (answers : List Ref) (picked : IsPickedOf parts refs k h answers) where
+    module _ (k : ℕ) (kb : k < length L.parts.now) (h : Homes) (h-is : (e : Homes) → get_or homes k e ≡ h) (answers : List Ref) (picked : IsPickedOf parts refs k h answers) where
       abbrev hs : List ℕ
       hs = h.numbers.items
 
@@ -173,29 +175,29 @@ module _ (A : List (List Ref)) (v : ℕ) (rows : List (List (List (Placed × Pla
       abbrev here : Vec (Vec Pair Global) Global
       here = get_or parts k (some_of parts (omega (arith, kp)))
 
-      own_part : IsPartRead A (row (row rows k) v) here h
-      own_part = subst (IsPartRead A (row (row rows k) v) here) (h-is h) (D.each k (some_of parts (omega (arith, kp))) h kb)
+      own_part : IsPartRead L.answers.now (row (row L.parts.now k) L.number) here h
+      own_part = subst (IsPartRead L.answers.now (row (row L.parts.now k) L.number) here) (h-is h) (D.each k (some_of parts (omega (arith, kp))) h kb)
 
       as-many : (s : ℕ) → length (chosen s hs answers) ≡ length (chosen s hs own_part.pairs)
       as-many s = chosen-many s hs answers own_part.pairs picked.long (sym own_part.divided.long)
 
       -- the references of a shard
-      of_shard : (s : ℕ) → s < 16 → AllZip (λ (q : Pair) r. IsThere T v q.0 q.1 r) (chosen s hs own_part.pairs) (chosen s hs answers)
+      of_shard : (s : ℕ) → s < 16 → AllZip (λ (q : Pair) r. IsThere T L.number q.0 q.1 r) (chosen s hs own_part.pairs) (chosen s hs answers)
       of_shard s l =
           let list = list_at here.items s in
-          let own : AllZip (λ (q : Pair) r. IsThere T v q.0 q.1 r) list (span (begin_of parts k s) (length list) (refs_at refs s)) =
-          zip_span (λ (q : Pair) r. IsThere T v q.0 q.1 r) (all_at (take k parts) s) list (all_at (drop (suc k) parts) s) (refs_at refs s)
-          (subst (λ z. AllZip (λ (q : Pair) r. IsThere T v q.0 q.1 r) z (refs_at refs s)) (all_split parts k s (some_of parts (omega (arith, kp))) kp) (there s l)) in
+          let own : AllZip (λ (q : Pair) r. IsThere T L.number q.0 q.1 r) list (span (begin_of parts k s) (length list) (refs_at refs s)) =
+          zip_span (λ (q : Pair) r. IsThere T L.number q.0 q.1 r) (all_at (take k parts) s) list (all_at (drop (suc k) parts) s) (refs_at refs s)
+          (subst (λ z. AllZip (λ (q : Pair) r. IsThere T L.number q.0 q.1 r) z (refs_at refs s)) (all_split parts k s (some_of parts (omega (arith, kp))) kp) (there s l)) in
           let is : list ≡ chosen s hs own_part.pairs = sym (own_part.divided.differ s l) in
           let many : length list ≡ length (chosen s hs answers) = ap (λ z. length z) is ∙ sym (as-many s) in
           let from : refs_at refs s ≡ source refs h s = sym (ap (λ b. cond b h.equal.items (refs_at refs s)) (ne_eqb s 16 (λ e. absurd (omega (arith, l, e))))) in
           let at : chosen s hs answers ≡ span (begin_of parts k s) (length list) (refs_at refs s) =
           picked.each s (omega (arith, l)) ∙ ap (λ z. span (begin_of parts k s) z (source refs h s)) (sym many) ∙ ap (λ z. span (begin_of parts k s) (length list) z) (sym from) in
-          subst (λ z. AllZip (λ (q : Pair) r. IsThere T v q.0 q.1 r) (chosen s hs own_part.pairs) z) (sym at)
-          (subst (λ z. AllZip (λ (q : Pair) r. IsThere T v q.0 q.1 r) z (span (begin_of parts k s) (length list) (refs_at refs s))) is own)
+          subst (λ z. AllZip (λ (q : Pair) r. IsThere T L.number q.0 q.1 r) (chosen s hs own_part.pairs) z) (sym at)
+          (subst (λ z. AllZip (λ (q : Pair) r. IsThere T L.number q.0 q.1 r) z (span (begin_of parts k s) (length list) (refs_at refs s))) is own)
 
       -- the diagrams of equal children
-      of_equal : AllZip (λ (q : Pair) r. IsThere T v q.0 q.1 r) (chosen 16 hs own_part.pairs) (chosen 16 hs answers)
+      of_equal : AllZip (λ (q : Pair) r. IsThere T L.number q.0 q.1 r) (chosen 16 hs own_part.pairs) (chosen 16 hs answers)
       of_equal =
           let equal = h.equal.items in
           let many : length (chosen 16 hs answers) ≡ length equal = as-many 16 ∙ ap (λ z. length z) own_part.divided.same ∙ length-map equal (λ (r : Ref). (r, r)) in
@@ -203,18 +205,18 @@ module _ (A : List (List Ref)) (v : ℕ) (rows : List (List (List (Placed × Pla
           picked.each 16 (omega arith)
           ∙ ap (λ z. span z (length (chosen 16 hs answers)) (source refs h 16)) (begin_none parts k all_sixteen)
           ∙ ap (λ z. take z equal) many ∙ take_all (length equal) equal (omega arith) in
-          subst (λ z. AllZip (λ (q : Pair) r. IsThere T v q.0 q.1 r) (chosen 16 hs own_part.pairs) z) (sym is)
-          (subst (λ z. AllZip (λ (q : Pair) r. IsThere T v q.0 q.1 r) z equal) (sym own_part.divided.same) (zip_twice T v equal))
+          subst (λ z. AllZip (λ (q : Pair) r. IsThere T L.number q.0 q.1 r) (chosen 16 hs own_part.pairs) z) (sym is)
+          (subst (λ z. AllZip (λ (q : Pair) r. IsThere T L.number q.0 q.1 r) z equal) (sym own_part.divided.same) (zip_twice T L.number equal))
 
-      part_made : AllZip (IsMadeOf A T v) (row (row rows k) v) answers
-      part_made = zip_through (BothComeTo A) (λ (q : Pair) r. IsThere T v q.0 q.1 r) (row (row rows k) v) own_part.pairs answers own_part.read
-          (zip_chosen (λ (q : Pair) r. IsThere T v q.0 q.1 r) hs own_part.pairs answers (sym own_part.divided.long) picked.long own_part.divided.within
-          (λ s l. dite (ℕ_discrete s 16) (λ e. subst (λ z. AllZip (λ (q : Pair) r. IsThere T v q.0 q.1 r) (chosen z hs own_part.pairs) (chosen z hs answers)) (sym e) of_equal) (λ m. of_shard s (grind (arith, l, m)))))
+      part_made : AllZip (IsMadeOf L.answers.now T L.number) (row (row L.parts.now k) L.number) answers
+      part_made = zip_through (BothComeTo L.answers.now) (λ (q : Pair) r. IsThere T L.number q.0 q.1 r) (row (row L.parts.now k) L.number) own_part.pairs answers own_part.read
+          (zip_chosen (λ (q : Pair) r. IsThere T L.number q.0 q.1 r) hs own_part.pairs answers (sym own_part.divided.long) picked.long own_part.divided.within
+          (λ s l. dite (ℕ_discrete s 16) (λ e. subst (λ z. AllZip (λ (q : Pair) r. IsThere T L.number q.0 q.1 r) (chosen z hs own_part.pairs) (chosen z hs answers)) (sym e) of_equal) (λ m. of_shard s (grind (arith, l, m)))))
 
     -- the diagrams that were picked of all parts
-    pub all_made : (own : List Ref) → AreInTurn parts homes refs own → AllZip (IsMadeOf A T v) (level_over rows v) own
-    all_made own (answers, q, is) = subst (λ z. AllZip (IsMadeOf A T v) (level_over rows v) z) (sym is)
-        (over_all (IsMadeOf A T v) rows v answers (q.long ∙ D.many_homes) (λ k l.
+    pub all_made : (own : List Ref) → AreInTurn parts homes refs own → AllZip (IsMadeOf L.answers.now T L.number) (children_of L) own
+    all_made own (answers, q, is) = subst (λ z. AllZip (IsMadeOf L.answers.now T L.number) (children_of L) z) (sym is)
+        (over_all (IsMadeOf L.answers.now T L.number) L.parts.now L.number answers (q.long ∙ D.many_homes) (λ k l.
         let lh : k < length homes = (let e = D.many_homes in omega (arith, e, l)) in
         let h = get_or homes k (some_of homes (omega (arith, lh))) in
         part_made k l h (λ e. get_or_default homes k e (some_of homes (omega (arith, lh))) lh) (get_or answers k []) (q.each k [] (some_of homes (omega (arith, lh))) lh)))
@@ -254,26 +256,26 @@ at_left xs xs' x d m s e l is = ap (λ z. get_or z s d) is ∙ get_or_append_lef
 one_longer : {X : Type 0} (xs xs' : List X) (x : X) (m : ℕ) → length xs ≡ m → xs' ≡ xs ++ x ∷ [] → length xs' ≡ m + 1
 one_longer xs xs' x m e is = ap (λ z. length z) is ∙ length-append xs (x ∷ []) ∙ ap (λ z. z + 1) e
 
-pub reads_more : (A : List (List Ref)) (v : ℕ) (rows : List (List (List (Placed × Placed)))) (m : ℕ) (parts : List (Vec (Vec Pair Global) Global)) (homes : List Homes) → AreRead A v rows m parts homes
-    → (d : Divided) → IsPartRead A (row (row rows m) v) d.lists d.homes → (parts' : List (Vec (Vec Pair Global) Global)) (homes' : List Homes) → parts' ≡ parts ++ d.lists ∷ [] → homes' ≡ homes ++ d.homes ∷ [] → AreRead A v rows (m + 1) parts' homes'
-reads_more A v rows m parts homes o d r parts' homes' x y = record {
+pub reads_more : (L : Level) (m : ℕ) (parts : List (Vec (Vec Pair Global) Global)) (homes : List Homes) → AreRead L m parts homes
+    → (d : Divided) → IsPartRead L.answers.now (row (row L.parts.now m) L.number) d.lists d.homes → (parts' : List (Vec (Vec Pair Global) Global)) (homes' : List Homes) → parts' ≡ parts ++ d.lists ∷ [] → homes' ≡ homes ++ d.homes ∷ [] → AreRead L (m + 1) parts' homes'
+reads_more L m parts homes o d r parts' homes' x y = record {
   many_lists = one_longer parts parts' d.lists m o.many_lists x;
   many_homes = one_longer homes homes' d.homes m o.many_homes y;
   each = λ s e h l. dite (ℕ_discrete s m)
-      (λ q. subst (λ k. IsPartRead A (row (row rows k) v) (get_or parts' k e) (get_or homes' k h)) (sym q)
-      (subst (λ (u : Homes × Vec (Vec Pair Global) Global). IsPartRead A (row (row rows m) v) u.1 u.0) (λ i. (sym (at_seam homes homes' d.homes h m o.many_homes y) i, sym (at_seam parts parts' d.lists e m o.many_lists x) i)) r))
+      (λ q. subst (λ k. IsPartRead L.answers.now (row (row L.parts.now k) L.number) (get_or parts' k e) (get_or homes' k h)) (sym q)
+      (subst (λ (u : Homes × Vec (Vec Pair Global) Global). IsPartRead L.answers.now (row (row L.parts.now m) L.number) u.1 u.0) (λ i. (sym (at_seam homes homes' d.homes h m o.many_homes y) i, sym (at_seam parts parts' d.lists e m o.many_lists x) i)) r))
       (λ q. let lt : s < m = grind (arith, l, q) in
-      subst (λ (u : Homes × Vec (Vec Pair Global) Global). IsPartRead A (row (row rows s) v) u.1 u.0) (λ i. (sym (at_left homes homes' d.homes h m s o.many_homes lt y) i, sym (at_left parts parts' d.lists e m s o.many_lists lt x) i)) (o.each s e h lt));
+      subst (λ (u : Homes × Vec (Vec Pair Global) Global). IsPartRead L.answers.now (row (row L.parts.now s) L.number) u.1 u.0) (λ i. (sym (at_left homes homes' d.homes h m s o.many_homes lt y) i, sym (at_left parts parts' d.lists e m s o.many_lists lt x) i)) (o.each s e h lt));
 }
 
 -- what was read of one part
-pub read_one : (A : List (List Ref)) (v : ℕ) (rows : List (List (List (Placed × Placed)))) (shares done rest : List ReadShare) (t : ReadShare) (x : Unit {0})
-    → AreAllRead A v rows shares → (done ++ t ∷ []) ++ rest ≡ shares → t.done ≡ Ok x → IsPartRead A (row (row rows (length done)) v) t.divided.lists t.divided.homes
-read_one A v rows shares done rest t x f whole is =
+pub read_one : (L : Level) (shares done rest : List ReadShare) (t : ReadShare) (x : Unit {0})
+    → AreAllRead L shares → (done ++ t ∷ []) ++ rest ≡ shares → t.done ≡ Ok x → IsPartRead L.answers.now (row (row L.parts.now (length done)) L.number) t.divided.lists t.divided.homes
+read_one L shares done rest t x f whole is =
     let at : shares ≡ done ++ t ∷ rest = sym whole ∙ append_assoc done (t ∷ []) rest in
     let long = ap (λ z. length z) at ∙ length-append done (t ∷ rest) in
-    let own = subst (IsShareRead A v rows (length done)) (ap (λ (z : List ReadShare). get_or z (length done) t) at ∙ get_or-append_seam done t rest t) (f (length done) t (omega (arith, long))) in
-    subst (λ (z : Result (Unit {0}) AllocError). OnOk z (IsPartRead A (row (row rows (length done)) v) t.divided.lists t.divided.homes)) is own
+    let own = subst (IsShareRead L (length done)) (ap (λ (z : List ReadShare). get_or z (length done) t) at ∙ get_or-append_seam done t rest t) (f (length done) t (omega (arith, long))) in
+    subst (λ (z : Result (Unit {0}) AllocError). OnOk z (IsPartRead L.answers.now (row (row L.parts.now (length done)) L.number) t.divided.lists t.divided.homes)) is own
 
 pub picked_more : (parts : List (Vec (Vec Pair Global) Global)) (homes : List Homes) (refs : List (Vec Ref Global)) (m : ℕ) (answers answers' : List (List Ref)) (x : List Ref) → ArePicked parts homes refs m answers → ((h : Homes) → IsPickedOf parts refs m (get_or homes m h) x) → answers' ≡ answers ++ x ∷ [] → ArePicked parts homes refs (m + 1) answers'
 picked_more parts homes refs m answers answers' x o own is = record {

@@ -30,8 +30,8 @@ use Rattle.req_table.proofs.Standing.{some_same, stands_some}
 use Rattle.reduce_up.specs.declared.division.Homes.{Homes}
 use Rattle.reduce_up.specs.Reducing.{IsAnswer, IsAnswerAt, IsRecordAt, AddsDescribed}
 use Rattle.reduce_up.specs.Sharing.{IsOfPair}
-use Rattle.reduce_up.specs.OverParts.{level_over}
-use Rattle.reduce_up.specs.Up.{AskedAt, IsReadyAt, IsLevelReduced, IsLevelFault, ReducesLevel}
+use Rattle.reduce_up.specs.declared.up.Level.{Level}
+use Rattle.reduce_up.specs.Up.{children_of, AskedAt, IsReadyAt, IsLevelReduced, IsLevelFault, ReducesLevel}
 use Rattle.reduce_up.specs.Steps.{BothComeTo, IsMadeOf, MayReadLevel, AreRead}
 use Rattle.reduce_up.proofs.Naming.{grown_of_pair, there_part}
 use Rattle.reduce_up.proofs.Opposite.{one_node_either, one_node_part}
@@ -49,9 +49,15 @@ zip_beside R (x ∷ xs) (z ∷ ys) zero y h e = (x, refl, subst (R x) (some_same
 zip_beside R (x ∷ xs) (z ∷ ys) (suc i) y h e = zip_beside R xs ys i y h.1 e
 
 -- Of a level that is ready.
-module _ (S : Nodes) (T : List (List Key)) (rows : List (List (List (Placed × Placed)))) (A : List (List Ref)) (v : ℕ) (R : IsReadyAt S T (level_over rows v) A v) where
+module _ (S : Nodes) (T : List (List Key)) (L : Level) (R : IsReadyAt S T (children_of L) L.answers.now L.number) where
+  abbrev A : List (List Ref)
+  A = L.answers.now
+
+  abbrev v : ℕ
+  v = L.number
+
   abbrev children : List (Placed × Placed)
-  children = level_over rows v
+  children = children_of L
 
   -- the request at a place
   key_at : (i : ℕ) (d : Placed × Placed) → slice_get children i ≡ Some d → (k : Key) × StandsAt T v i k
@@ -76,12 +82,12 @@ module _ (S : Nodes) (T : List (List Key)) (rows : List (List (List (Placed × P
       ((low.1.0, high.1.0), (low.1.1, high.1.1))
 
   -- its parts were read and divided
-  module _ (parts : List (Vec (Vec Pair Global) Global)) (homes : List Homes) (D : AreRead A v rows (length rows) parts homes) where
+  module _ (parts : List (Vec (Vec Pair Global) Global)) (homes : List Homes) (D : AreRead L (length L.parts.now) parts homes) where
     abbrev lists : ℕ → List Pair
     lists = all_at parts
 
     are : AreListed A children lists
-    are = listed_level A v rows parts homes D
+    are = listed_level L parts homes D
 
     -- a listed pair makes a record of a request
     of_list : (s : ℕ) (p : Pair) → IsIn (lists s) p → (i : ℕ) × (k : Key) × StandsAt T v i k × IsRecordAt S v (rec k p.0 p.1)
@@ -161,15 +167,15 @@ module _ (S : Nodes) (T : List (List Key)) (rows : List (List (List (Placed × P
               answered k p r i h.0 h.1
 
 -- a level that is ready may be read, part by part
-pub may_read : (S : Nodes) (T : List (List Key)) (rows : List (List (List (Placed × Placed)))) (A : List (List Ref)) (v : ℕ) → IsReadyAt S T (level_over rows v) A v → All (λ (part : List (List (Placed × Placed))). v < length part) rows → MayReadLevel A v rows
-may_read S T rows A v R levels k d l = record { level = levels k d l; come = come }
+pub may_read : (S : Nodes) (T : List (List Key)) (L : Level) → IsReadyAt S T (children_of L) L.answers.now L.number → All (λ (part : List (List (Placed × Placed))). L.number < length part) L.parts.now → MayReadLevel L
+may_read S T L R levels k d l = record { level = levels k d l; come = come }
   where
-    same : get_or rows k d ≡ row rows k
-    same = get_or_default rows k d [] l
+    same : get_or L.parts.now k d ≡ row L.parts.now k
+    same = get_or_default L.parts.now k d [] l
 
-    come : (j : ℕ) (e : Placed × Placed) → j < length (row (get_or rows k d) v) → (p : Pair) × BothComeTo A (get_or (row (get_or rows k d) v) j e) p
+    come : (j : ℕ) (e : Placed × Placed) → j < length (row (get_or L.parts.now k d) L.number) → (p : Pair) × BothComeTo L.answers.now (get_or (row (get_or L.parts.now k d) L.number) j e) p
     come j e lj =
-        let at : slice_get (row (row rows k) v) j ≡ Some (get_or (row (get_or rows k d) v) j e) =
-        subst (λ (z : List (List (Placed × Placed))). slice_get (row z v) j ≡ Some (get_or (row (get_or rows k d) v) j e)) same (slice_get-get_or (row (get_or rows k d) v) j e lj) in
-        let w = over_in rows k v j (get_or (row (get_or rows k d) v) j e) l at in
-        comes S T rows A v R w.0 (get_or (row (get_or rows k d) v) j e) w.1
+        let at : slice_get (row (row L.parts.now k) L.number) j ≡ Some (get_or (row (get_or L.parts.now k d) L.number) j e) =
+        subst (λ (z : List (List (Placed × Placed))). slice_get (row z L.number) j ≡ Some (get_or (row (get_or L.parts.now k d) L.number) j e)) same (slice_get-get_or (row (get_or L.parts.now k d) L.number) j e lj) in
+        let w = over_in L.parts.now k L.number j (get_or (row (get_or L.parts.now k d) L.number) j e) l at in
+        comes S T L R w.0 (get_or (row (get_or L.parts.now k d) L.number) j e) w.1

@@ -10,6 +10,7 @@ use Rattle.dd_store.specs.declared.reference.Ref.{Ref}
 use Rattle.req_table.specs.declared.placed.Placed.{Placed}
 use Rattle.req_table.specs.Places.{row}
 use Rattle.reduce_up.specs.Up.{ComesTo}
+use Rattle.reduce_up.specs.declared.up.Level.{Level}
 use Rattle.reduce_up.specs.declared.division.Homes.{Homes}
 use Rattle.reduce_up.specs.declared.reads.ReadShare.{ReadShare}
 use Rattle.reduce_up.specs.declared.picking.PickShare.{PickShare}
@@ -29,8 +30,8 @@ pub record MayRead (answers : List (List Ref)) (v : ℕ) (part : List (List (Pla
   pub come : All (λ d. (p : Pair) × BothComeTo answers d p) (row part v)
 
 -- each part may be read
-abbrev pub MayReadLevel : List (List Ref) → ℕ → List (List (List (Placed × Placed))) → Type 0
-MayReadLevel answers v parts = All (MayRead answers v) parts
+abbrev pub MayReadLevel : Level → Type 0
+MayReadLevel l = All (MayRead l.answers.now l.number) l.parts.now
 
 -- the pairs that children come to, divided
 pub record IsPartRead (answers : List (List Ref)) (children : List (Placed × Placed)) (lists : Vec (Vec Pair Global) Global)
@@ -40,23 +41,20 @@ pub record IsPartRead (answers : List (List Ref)) (children : List (Placed × Pl
   pub sixteen : length lists.items ≡ 16
   pub divided : IsDivided pairs homes (list_at lists.items)
 
--- part k of level v is read in a share, where there was memory
-abbrev pub IsShareRead : List (List Ref) → ℕ → List (List (List (Placed × Placed))) → ℕ → ReadShare → Type 0
-IsShareRead answers v parts k share = OnOk share.done
-    (IsPartRead answers (row (row parts k) v) share.divided.lists share.divided.homes)
+-- part k of a level is read in a share, where there was memory
+abbrev pub IsShareRead : Level → ℕ → ReadShare → Type 0
+IsShareRead l k share = OnOk share.done (IsPartRead l.answers.now (row (row l.parts.now k) l.number) share.divided.lists share.divided.homes)
 
 -- each part is read, in the part's share
-abbrev pub AreAllRead : List (List Ref) → ℕ → List (List (List (Placed × Placed))) → List ReadShare → Type 0
-AreAllRead answers v parts shares = (k : ℕ) (d : ReadShare) → k < length shares
-    → IsShareRead answers v parts k (slice_index_or shares k d)
+abbrev pub AreAllRead : Level → List ReadShare → Type 0
+AreAllRead l shares = (k : ℕ) (d : ReadShare) → k < length shares → IsShareRead l k (slice_index_or shares k d)
 
 -- the first m parts are read
-pub record AreRead (answers : List (List Ref)) (v : ℕ) (parts : List (List (List (Placed × Placed)))) (m : ℕ)
-    (lists : List (Vec (Vec Pair Global) Global)) (homes : List Homes) : Type 0 where
+pub record AreRead (l : Level) (m : ℕ) (lists : List (Vec (Vec Pair Global) Global)) (homes : List Homes) : Type 0 where
   pub many_lists : length lists ≡ m
   pub many_homes : length homes ≡ m
   pub each : (k : ℕ) (d : Vec (Vec Pair Global) Global) (h : Homes) → k < m
-      → IsPartRead answers (row (row parts k) v) (slice_index_or lists k d) (slice_index_or homes k h)
+      → IsPartRead l.answers.now (row (row l.parts.now k) l.number) (slice_index_or lists k d) (slice_index_or homes k h)
 
 -- the diagrams of part k are picked in a share, where there was memory
 abbrev pub IsSharePicked : List (Vec (Vec Pair Global) Global) → List Homes → List (Vec Ref Global) → ℕ → PickShare → Type 0

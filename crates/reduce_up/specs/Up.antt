@@ -17,6 +17,7 @@ use Rattle.req_table.specs.declared.placed.PlacedChild.TheVariants.{Done, Ask}
 use Rattle.req_table.specs.Places.{row, StandsAt}
 use Rattle.reduce_up.specs.ByPlace.{AreExpanded}
 use Rattle.reduce_up.specs.OverParts.{level_over}
+use Rattle.reduce_up.specs.declared.up.Level.{Level}
 
 -- what a placed child comes to by the answers
 abbrev pub ComesTo : List (List Ref) → Placed → Ref → Type 0
@@ -35,6 +36,10 @@ IsKnown s answers v k b d = IsBelow v d × ((r : Ref) × ComesTo answers d r × 
 -- the key at place q of level w has its answer
 abbrev pub IsAnswered : Nodes → List (List Ref) → ℕ → ℕ → Key → Type 0
 IsAnswered s answers w q k = (r : Ref) × StandsAt answers w q r × IsAnswer s k r
+
+-- the children of a level's requests, those of all parts one behind the other
+abbrev pub children_of : Level → List (Placed × Placed)
+children_of l = level_over l.parts.now l.number
 
 -- the functions that the keys of level v ask for
 abbrev pub AskedAt : Nodes → List (List Key) → ℕ → ℕ → (List Bool → Bool) → Type 0

@@ -51,8 +51,8 @@ impl ReadShare {
     /// Reads the part whose share this is.
     fn read(&mut self, alloc: Global, level: &Level<'_>, part: usize)
         requires part { part < length level.now.parts.now }
-        requires may { MayReadLevel level.now.answers.now level.now.number level.now.parts.now }
-        ensures { IsShareRead level.now.answers.now level.now.number level.now.parts.now part self.new }
+        requires may { MayReadLevel level.now }
+        ensures { IsShareRead level.now part self.new }
     {
         let children = level.parts[part].row(level.number);
         self.done = read_part(alloc, level.answers, children, &mut self.divided);
@@ -76,12 +76,12 @@ fn read_shares(alloc: Global, parts: usize, spare: &mut Spare) -> Result<Vec<Rea
 /// Reads all parts, each in the part's share and by a thread of its own.
 fn read_all<R: Threads + Sync>(rt: &R, alloc: Global, level: &Level<'_>, shares: &mut [ReadShare])
     requires long { length shares.old ≡ length level.now.parts.now }
-    requires may { MayReadLevel level.now.answers.now level.now.number level.now.parts.now }
-    ensures { AreAllRead level.now.answers.now level.now.number level.now.parts.now shares.new }
+    requires may { MayReadLevel level.now }
+    ensures { AreAllRead level.now shares.new }
 {
     let read = |part: usize, share: &mut ReadShare|
-        requires { (part < length level.now.parts.now) × MayReadLevel level.now.answers.now level.now.number level.now.parts.now }
-        ensures { IsShareRead level.entry.now.answers.now level.entry.now.number level.entry.now.parts.now part share.exit.now }
+        requires { (part < length level.now.parts.now) × MayReadLevel level.now }
+        ensures { IsShareRead level.entry.now part share.exit.now }
     { share.read(alloc, level, part) };
     fork_each(rt, shares, &read);
 }
@@ -92,9 +92,8 @@ fn join_reads(
     level: &Level<'_>,
     shares: Vec<ReadShare>,
 ) -> Result<LevelRead, AllocError>
-    requires { AreAllRead level.now.answers.now level.now.number level.now.parts.now shares.items }
-    ensures { IfOk result (λ r. AreRead level.now.answers.now level.now.number level.now.parts.now (length shares.items) r.parts.items
-        r.homes.items) }
+    requires { AreAllRead level.now shares.items }
+    ensures { IfOk result (λ r. AreRead level.now (length shares.items) r.parts.items r.homes.items) }
 {
     let _ = level.number;
     let mut parts = Vec::with_capacity(alloc, shares.len())?;
@@ -115,9 +114,8 @@ pub(crate) fn read_level<R: Threads + Sync>(
     level: &Level<'_>,
     spare: &mut Spare,
 ) -> Result<LevelRead, AllocError>
-    requires { MayReadLevel level.now.answers.now level.now.number level.now.parts.now }
-    ensures { IfOk result (λ r. AreRead level.now.answers.now level.now.number level.now.parts.now (length level.now.parts.now)
-        r.parts.items r.homes.items) }
+    requires { MayReadLevel level.now }
+    ensures { IfOk result (λ r. AreRead level.now (length level.now.parts.now) r.parts.items r.homes.items) }
 {
     let mut shares = read_shares(alloc, level.parts.len(), spare)?;
     read_all(rt, alloc, level, shares.as_mut_slice());

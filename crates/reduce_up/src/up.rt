@@ -8,7 +8,7 @@ ghost use Rattle.req_table.specs.declared.Key.{Key};
 ghost use Rattle.req_table.specs.Places.{row};
 ghost use Rattle.reduce_up.specs.OverParts.{level_over, over_parts};
 ghost use Rattle.reduce_up.specs.Reducing.{AddsDescribed};
-ghost use Rattle.reduce_up.specs.Up.{ComesTo, IsReadyAt, MayReduceLevel, ReducesLevel, AreMore, AreReducedBelow, AreCounted, MayReduce};
+ghost use Rattle.reduce_up.specs.Up.{ComesTo, children_of, IsReadyAt, MayReduceLevel, ReducesLevel, AreMore, AreReducedBelow, AreCounted, MayReduce};
 ghost use Rattle.reduce_up.specs.Waves.{Entry, IsWanted, IsWaveFault};
 
 use crate::parts::{last_level, leave_level};
@@ -89,7 +89,7 @@ impl<'a> Level<'a> {
     /// How many requests it has, modulo 2^64.
     pub(crate) fn len(&self) -> u64
         requires { All (λ rows. self.now.number < length rows) self.now.parts.now }
-        ensures { result ≡ length (level_over self.now.parts.now self.now.number) % 2 ^ 64 }
+        ensures { result ≡ length (children_of self.now) % 2 ^ 64 }
     {
         let mut total: u64 = 0;
         for part in self.parts {
@@ -108,9 +108,9 @@ fn reduce_level(
 ) -> Result<(), WaveFault>
     requires { MayReduceLevel store.old level.now.parts.now level.now.answers.now level.now.number }
     ensures sound { IsSound store.new }
-    ensures level { (tables : List (List Key)) → IsReadyAt store.old tables (level_over level.now.parts.now level.now.number)
-        level.now.answers.now level.now.number → ReducesLevel store.old tables level.now.number result store.new own.new }
-    ensures counted { OnOk result (AreMore (length (level_over level.now.parts.now level.now.number)) reductions.old reductions.new) }
+    ensures level { (tables : List (List Key)) → IsReadyAt store.old tables (children_of level.now) level.now.answers.now level.now.number
+        → ReducesLevel store.old tables level.now.number result store.new own.new }
+    ensures counted { OnOk result (AreMore (length (children_of level.now)) reductions.old reductions.new) }
 {
     if own.restart(level.len() as usize).is_err() {
         return Err(WaveFault::OutOfMemory);
@@ -147,9 +147,9 @@ fn answer_level<R: Threads + Sync, G: Monitor>(
 ) -> Result<(), WaveFault>
     requires { MayReduceLevel store.old level.now.parts.now level.now.answers.now level.now.number }
     ensures sound { IsSound store.new }
-    ensures level { (tables : List (List Key)) → IsReadyAt store.old tables (level_over level.now.parts.now level.now.number)
-        level.now.answers.now level.now.number → ReducesLevel store.old tables level.now.number result store.new own.new }
-    ensures counted { OnOk result (AreMore (length (level_over level.now.parts.now level.now.number)) reductions.old reductions.new) }
+    ensures level { (tables : List (List Key)) → IsReadyAt store.old tables (children_of level.now) level.now.answers.now level.now.number
+        → ReducesLevel store.old tables level.now.number result store.new own.new }
+    ensures counted { OnOk result (AreMore (length (children_of level.now)) reductions.old reductions.new) }
 {
     if level.parts.len() < 2 || level.len() < FEWEST_SHARED {
         return reduce_level(store, level, own, reductions);

@@ -3,8 +3,7 @@
 ghost use Rattle.std.specs.Prelude.{List};
 ghost use Rattle.dd_store.specs.Nodes.{IsSound};
 ghost use Rattle.req_table.specs.declared.Key.{Key};
-ghost use Rattle.reduce_up.specs.Up.{IsReadyAt, MayReduceLevel, ReducesLevel};
-ghost use Rattle.reduce_up.specs.OverParts.{level_over};
+ghost use Rattle.reduce_up.specs.Up.{children_of, IsReadyAt, MayReduceLevel, ReducesLevel};
 
 use crate::division::{Divided, Homes};
 use crate::picking::pick_level;
@@ -34,8 +33,8 @@ pub(crate) fn share_level<R: Threads + Sync, G: Monitor>(
 ) -> Result<(), WaveFault>
     requires { MayReduceLevel store.old level.now.parts.now level.now.answers.now level.now.number }
     ensures sound { IsSound store.new }
-    ensures level { (tables : List (List Key)) → IsReadyAt store.old tables (level_over level.now.parts.now level.now.number)
-        level.now.answers.now level.now.number → ReducesLevel store.old tables level.now.number result store.new own.new }
+    ensures level { (tables : List (List Key)) → IsReadyAt store.old tables (children_of level.now) level.now.answers.now level.now.number
+        → ReducesLevel store.old tables level.now.number result store.new own.new }
 {
     let Ok(read) = read_level(crew.rt, crew.alloc, level, spare) else {
         return Err(WaveFault::OutOfMemory);

@@ -6,4 +6,4 @@ pub returns : goal.returns
 returns g c = λ k d lt.
     let same = c.fork_each.auto.s in
     let at = (c.fork_each.ensures k d (omega (arith, lt, same))).1 in
-    subst (IsShareRead c.args.level.now.answers.now c.args.level.now.number c.args.level.now.parts.now k) at.left at.call
+    subst (IsShareRead c.args.level.now k) at.left at.call

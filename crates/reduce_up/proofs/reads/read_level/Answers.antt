@@ -10,7 +10,7 @@ join_reads-requires g c =
     let L = c.args.level.now in
     let shares = c.in_ok-shares.shares in
     let stored : (with_items shares c.read_all.new.shares).items ≡ c.read_all.new.shares = with_items_is shares c.read_all.new.shares (search rules) in
-    subst (AreAllRead L.answers.now L.number L.parts.now) (sym stored) c.read_all.ensures
+    subst (AreAllRead L) (sym stored) c.read_all.ensures
 
 pub returns : goal.returns
 returns g c =
@@ -18,4 +18,4 @@ returns g c =
     let shares = c.in_ok-shares.shares in
     let stored : (with_items shares c.read_all.new.shares).items ≡ c.read_all.new.shares = with_items_is shares c.read_all.new.shares (search rules) in
     let long : length (with_items shares c.read_all.new.shares).items ≡ length L.parts.now = search rules in
-    subst (λ z. IfOk c.join_reads.result (λ r. AreRead L.answers.now L.number L.parts.now z r.parts.items r.homes.items)) long c.join_reads.ensures
+    subst (λ z. IfOk c.join_reads.result (λ r. AreRead L z r.parts.items r.homes.items)) long c.join_reads.ensures
