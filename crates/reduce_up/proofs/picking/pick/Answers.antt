@@ -1,8 +1,35 @@
 use Rattle.std.proofs.Common.{rules, ◌≡◌, ℕ, ◌+◌, ◌<◌, ◌≤◌, ◌++◌, ◌∷◌, [], List, length, get_or, set, slice_get, Some, sym, ap, ◌∙◌, subst, arith}
 use Rattle.std.proofs.lemmas.List.{get_or_default}
+use Rattle.dd_store.specs.declared.reference.Ref.{Ref}
 use Rattle.reduce_up.specs.Division.{source}
 use Rattle.reduce_up.proofs.Picked.{ArePicking, picking_none, picking_more, place_room, small}
 use Rattle.reduce_up.proofs.picking.pick.Goals as goal
+use Rattle.reduce_up.proofs.picking.pick.Goals.{After-index-place}
+
+-- the next home, and the place of its next diagram
+module _ (c : After-index-place) where
+  abbrev numbers : List ℕ
+  numbers = c.args.homes.now.numbers.items
+
+  abbrev sources : ℕ → List Ref
+  sources = source c.args.refs.now c.args.homes.now
+
+  abbrev h : ℕ
+  h = get_or c.deref-home-items.result.now c.loop-home.home-index 0
+
+  same : c.deref-home-items.result.now ≡ numbers
+  same = search rules
+
+  ib : c.loop-home.home-index < length numbers
+  ib = subst (λ (z : List ℕ). c.loop-home.home-index < length z) same c.loop-home-test.true
+
+  h-is : h ≡ get_or numbers c.loop-home.home-index h
+  h-is = ap (λ (z : List ℕ). get_or z c.loop-home.home-index 0) same ∙ get_or_default numbers c.loop-home.home-index 0 h ib
+
+  at : c.index-place.result.now ≡ get_or c.loop-home.places.items h 0
+  at =
+      let hb : h ≤ 16 = small numbers _ h ib h-is _ sources _ _ c.loop-home.invariant c.requires.homes c.requires.room in
+      c.index-place.ensures ∙ get_or_default c.loop-home.places.items h c.index-place.result.now 0 (let z = c.loop-home.invariant.seventeen in omega (arith, z, hb))
 
 pub loop-home-init : goal.loop-home-init
 loop-home-init c =
@@ -12,32 +39,14 @@ loop-home-init c =
 
 pub diagram_at-requires-clause-place : goal.diagram_at-requires-clause-place
 diagram_at-requires-clause-place c =
-    let numbers = c.args.homes.now.numbers.items in let sources = source c.args.refs.now c.args.homes.now in let starts = λ (s : ℕ). get_or c.args.starts.now s 0 in
-    let i : ℕ = c.loop-home.home-index in
-    let d : c.deref-home-items.result.now ≡ numbers = search rules in
-    let ib : i < length numbers = subst (λ (z : List ℕ). i < length z) d c.loop-home-test.true in
-    let h : ℕ = get_or c.deref-home-items.result.now i 0 in
-    let h-is : h ≡ get_or numbers i h = ap (λ (z : List ℕ). get_or z i 0) d ∙ get_or_default numbers i 0 h ib in
-    let k = c.loop-home.invariant in
-    let hb : h ≤ 16 = small numbers i h ib h-is starts sources c.loop-home.places.items c.loop-home.answers k c.requires.homes c.requires.room in
-    let room = place_room numbers i h ib h-is starts sources c.loop-home.places.items c.loop-home.answers k c.requires.homes c.requires.room in
-    let at : c.index-place.result.now ≡ get_or c.loop-home.places.items h 0 = c.index-place.ensures ∙ get_or_default c.loop-home.places.items h c.index-place.result.now 0 (let z = k.seventeen in omega (arith, z, hb)) in
-    subst (λ z. z < length (sources h)) (sym at) room
+    let w = (goal.at.diagram_at-requires-clause-place c).After-index-place in
+    subst (λ z. z < length (sources w (h w))) (sym (at w)) (place_room (numbers w) _ (h w) (ib w) (h-is w) _ (sources w) _ _ c.loop-home.invariant c.requires.homes c.requires.room)
 
 pub loop-home-preserved : goal.loop-home-preserved
 loop-home-preserved c =
-    let numbers = c.args.homes.now.numbers.items in let sources = source c.args.refs.now c.args.homes.now in let starts = λ (s : ℕ). get_or c.args.starts.now s 0 in
-    let i : ℕ = c.loop-home.home-index in
-    let d : c.deref-home-items.result.now ≡ numbers = search rules in
-    let ib : i < length numbers = subst (λ (z : List ℕ). i < length z) d c.loop-home-test.true in
-    let h : ℕ = get_or c.deref-home-items.result.now i 0 in
-    let h-is : h ≡ get_or numbers i h = ap (λ (z : List ℕ). get_or z i 0) d ∙ get_or_default numbers i 0 h ib in
-    let k = c.loop-home.invariant in
-    let hb : h ≤ 16 = small numbers i h ib h-is starts sources c.loop-home.places.items c.loop-home.answers k c.requires.homes c.requires.room in
-    let room = place_room numbers i h ib h-is starts sources c.loop-home.places.items c.loop-home.answers k c.requires.homes c.requires.room in
-    let at : c.index-place.result.now ≡ get_or c.loop-home.places.items h 0 = c.index-place.ensures ∙ get_or_default c.loop-home.places.items h c.index-place.result.now 0 (let z = k.seventeen in omega (arith, z, hb)) in
+    let w = (goal.at.loop-home-preserved c).After-index-place in
     let next : c.in-Some.next ≡ c.index-place.result.now + 1 = search rules in
-    let got = subst (λ z. slice_get (sources h) z ≡ Some c.diagram_at.result) at c.diagram_at.ensures in
+    let got = subst (λ z. slice_get (sources w (h w)) z ≡ Some c.diagram_at.result) (at w) c.diagram_at.ensures in
     let answers : c.push.new.self ≡ c.loop-home.answers ++ c.diagram_at.result ∷ [] = search rules in
-    picking_more numbers i h ib h-is starts sources c.loop-home.places.items c.loop-home.answers k c.requires.homes c.requires.room c.diagram_at.result got
-    (set c.loop-home.places.items h c.in-Some.next) (ap (set c.loop-home.places.items h) (next ∙ ap (λ z. z + 1) at)) c.push.new.self answers
+    picking_more (numbers w) _ (h w) (ib w) (h-is w) _ (sources w) _ _ c.loop-home.invariant c.requires.homes c.requires.room c.diagram_at.result got
+    (set c.loop-home.places.items (h w) c.in-Some.next) (ap (set c.loop-home.places.items (h w)) (next ∙ ap (λ z. z + 1) (at w))) c.push.new.self answers

@@ -5,29 +5,28 @@ use Rattle.dd_store.specs.Levels.{list_at}
 use Rattle.reduce_up.specs.Division.{chosen, source, AreHomes, IsPickedOf}
 use Rattle.reduce_up.proofs.Joined.{some_of, pick_room, picked_from}
 use Rattle.reduce_up.proofs.picking.pick_part.Goals as goal
+use Rattle.reduce_up.proofs.picking.pick_part.Goals.{After-index-homes-part}
+
+-- the part has a home for each of its pairs
+module _ (c : After-index-homes-part) where
+  there : c.args.part < length c.args.parts.now
+  there = let e = c.requires.may.many in let kh = c.requires.part in omega (arith, e, kh)
+
+  are : AreHomes c.index-homes-part.result (list_at (get_or c.args.parts.now c.args.part (some_of c.args.parts.now (omega (arith, there)))).items)
+  are =
+      let p = some_of c.args.parts.now (omega (arith, there)) in
+      subst (λ z. AreHomes z (list_at (get_or c.args.parts.now c.args.part p).items)) (sym c.index-homes-part.is) (c.requires.may.homes_of c.args.part p c.index-homes-part.result c.requires.part)
 
 pub pick-requires-clause-homes : goal.pick-requires-clause-homes
-pick-requires-clause-homes c =
-    let parts = c.args.parts.now in let k = c.args.part in let refs = c.args.refs.now in
-    let kh = c.requires.part in
-    let kp : k < length parts = (let e = c.requires.may.many in omega (arith, e, kh)) in
-    let p = some_of parts (omega (arith, kp)) in
-    let h = c.index-homes-part.result in
-    let are = subst (λ z. AreHomes z (list_at (get_or parts k p).items)) (sym c.index-homes-part.is) (c.requires.may.homes_of k p h kh) in
-    let slice = c.as_slice.ensures.value in
-    are.within
+pick-requires-clause-homes c = (are (goal.at.pick-requires-clause-homes c).After-index-homes-part).within
 
 pub pick-requires-clause-room : goal.pick-requires-clause-room
 pick-requires-clause-room c =
-    let parts = c.args.parts.now in let k = c.args.part in let refs = c.args.refs.now in
-    let kh = c.requires.part in
-    let kp : k < length parts = (let e = c.requires.may.many in omega (arith, e, kh)) in
-    let p = some_of parts (omega (arith, kp)) in
+    let w = (goal.at.pick-requires-clause-room c).After-index-homes-part in
     let h = c.index-homes-part.result in
-    let are = subst (λ z. AreHomes z (list_at (get_or parts k p).items)) (sym c.index-homes-part.is) (c.requires.may.homes_of k p h kh) in
-    let slice = c.as_slice.ensures.value in
-    λ s l. subst (λ z. get_or z s 0 + length (chosen s h.numbers.items h.numbers.items) ≤ length (source refs h s)) (sym slice)
-    (subst (λ z. z + length (chosen s h.numbers.items h.numbers.items) ≤ length (source refs h s)) (sym (c.in_ok-starts.ensures.starts s l)) (pick_room parts refs k h p kp c.requires.may.sixteen c.requires.may.refs_of are s l))
+    λ s l. subst (λ z. get_or z s 0 + length (chosen s h.numbers.items h.numbers.items) ≤ length (source c.args.refs.now h s)) (sym c.as_slice.ensures.value)
+    (subst (λ z. z + length (chosen s h.numbers.items h.numbers.items) ≤ length (source c.args.refs.now h s)) (sym (c.in_ok-starts.ensures.starts s l))
+    (pick_room c.args.parts.now c.args.refs.now c.args.part h _ (there w) c.requires.may.sixteen c.requires.may.refs_of (are w) s l))
 
 pub returns : goal.returns
 returns c = λ hd.

@@ -1,10 +1,18 @@
-use Rattle.std.proofs.Common.{◌≡◌, ◌≤◌, length, slice_get, Some, subst, arith}
+use Rattle.std.proofs.Common.{◌≤◌, length, subst, arith}
 use Rattle.std.proofs.lemmas.Option.{slice_get_within, get_or_from_slice_get}
 use Rattle.dd_store.specs.Graph.{Pair}
 use Rattle.req_table.specs.declared.placed.Placed.{Placed}
 use Rattle.reduce_up.specs.Steps.{BothComeTo}
 use Rattle.reduce_up.proofs.Parted.{read_none, read_more, read_whole}
 use Rattle.reduce_up.proofs.reads.read_part.Goals as goal
+use Rattle.reduce_up.proofs.reads.read_part.Goals.{After-at-pair}
+
+-- what the next children come to
+comes : (c : After-at-pair) → (p : Pair) × BothComeTo c.args.answers.now c.at-pair.result p
+comes c =
+    let x : Placed × Placed = c.at-pair.result in
+    subst (λ z. (p : Pair) × BothComeTo c.args.answers.now z p) (get_or_from_slice_get c.args.children.now c.loop-place.place x x c.at-pair.ensures)
+    (c.requires.come c.loop-place.place x (slice_get_within c.args.children.now c.loop-place.place x c.at-pair.ensures))
 
 pub loop-place-init : goal.loop-place-init
 loop-place-init c = record {
@@ -13,20 +21,10 @@ loop-place-init c = record {
 }
 
 pub resolve-low-requires : goal.resolve-low-requires
-resolve-low-requires c =
-    let x : Placed × Placed = c.at-pair.result in
-    let at : slice_get c.args.children.now c.loop-place.place ≡ Some x = c.at-pair.ensures in
-    let of : (p : Pair) × BothComeTo c.args.answers.now x p = subst (λ z. (p : Pair) × BothComeTo c.args.answers.now z p) (get_or_from_slice_get c.args.children.now c.loop-place.place x x at)
-    (c.requires.come c.loop-place.place x (slice_get_within c.args.children.now c.loop-place.place x at)) in
-    (of.0.0, of.1.0)
+resolve-low-requires c = let of = comes (goal.at.resolve-low-requires c).After-at-pair in (of.0.0, of.1.0)
 
 pub resolve-high-requires : goal.resolve-high-requires
-resolve-high-requires c =
-    let x : Placed × Placed = c.at-pair.result in
-    let at : slice_get c.args.children.now c.loop-place.place ≡ Some x = c.at-pair.ensures in
-    let of : (p : Pair) × BothComeTo c.args.answers.now x p = subst (λ z. (p : Pair) × BothComeTo c.args.answers.now z p) (get_or_from_slice_get c.args.children.now c.loop-place.place x x at)
-    (c.requires.come c.loop-place.place x (slice_get_within c.args.children.now c.loop-place.place x at)) in
-    (of.0.1, of.1.1)
+resolve-high-requires c = let of = comes (goal.at.resolve-high-requires c).After-at-pair in (of.0.1, of.1.1)
 
 pub loop-place-preserved : goal.loop-place-preserved
 loop-place-preserved c = record {
