@@ -6,6 +6,7 @@ ghost use Rattle.reduce_up.specs.Forks.{AcceptsFrom, ChangesFrom};
 
 use rayon::join_mut;
 use std::marker::{Send, Sync};
+use std::thread;
 use std::thread::Threads;
 
 /// Calls `f` at each place of `s`, with the place: at the last on the caller's thread, at each other in a thread of its own where one can
@@ -19,6 +20,23 @@ pub fn fork_each<R: Threads + Sync, T: Send, F: Fn(usize, &mut T) + Sync>(
     ensures { ChangesEach F.Fn f.now s.old s.new }
 {
     fork_from(rt, f, 0, s);
+}
+
+/// Calls `f` at each place of `s`, with the place: as `fork_each` does where there is much to do, and else on the caller's thread alone.
+pub(crate) fn fork_where_much<R: Threads + Sync, T: Send, F: Fn(usize, &mut T) + Sync>(
+    rt: &R,
+    much: bool,
+    s: &mut [T],
+    f: &F,
+)
+    requires { AcceptsEach F.Fn f.now s.old }
+    ensures { ChangesEach F.Fn f.now s.old s.new }
+{
+    if much {
+        fork_each(rt, s, f);
+    } else {
+        thread::for_each_mut(rt, s, 1, f);
+    }
 }
 
 /// Calls `f` at the place of a slice that has one, if it does.

@@ -16,7 +16,7 @@ ghost use Rattle.reduce_up.specs.Numbers.{keys_in, starts_at, starts_below, aske
 ghost use Rattle.reduce_up.specs.Numbers.{IsRowNumbered, IsNumberedTo, IsShareNumbered, AreNew, AreShares, IsRootPlaced, MayNumberAll};
 ghost use Rattle.reduce_up.specs.Numbers.{AreAllNumbered, AreRowsNumbered, AreNumbered};
 
-use crate::forks::fork_each;
+use crate::forks::fork_where_much;
 use dd_store::Store;
 use expand_work::Notes;
 use req_table::requests::{level_of, owner};
@@ -275,7 +275,19 @@ fn number_roots(
     Ok(placed)
 }
 
-/// Numbers the children of all workers, each worker's by a thread of its own.
+/// The children of fewer requests are numbered on the caller's thread: to start the threads takes as long.
+const FEWEST_NUMBERED: u64 = 1 << 16;
+
+/// How many requests all workers have, or as many as can be counted.
+fn request_count(shares: &[Share]) -> u64 {
+    let mut total: u64 = 0;
+    for share in shares {
+        total = total.saturating_add(share.rows.count());
+    }
+    total
+}
+
+/// Numbers the children of all workers, where there are many each worker's by a thread of its own.
 fn number_shares<R: Threads + Sync>(rt: &R, field: Field<'_>, shares: &mut [Share])
     requires field { IsField field }
     requires shares { MayNumberAll field shares.old }
@@ -285,7 +297,7 @@ fn number_shares<R: Threads + Sync>(rt: &R, field: Field<'_>, shares: &mut [Shar
         requires { IsSender field sender × (sender < 2 ^ 32) × IsNumberedTo field sender 0 share.now }
         ensures { IsShareNumbered field.entry sender share.exit.now }
     { share.run(field, sender as u32) };
-    fork_each(rt, shares, &run);
+    fork_where_much(rt, request_count(shares) >= FEWEST_NUMBERED, shares, &run);
 }
 
 /// The rows of the shares, where there was memory for all.
@@ -312,8 +324,8 @@ fn worker_count(rows: &Vec<Rows>) -> Result<u32, AllocError>
 }
 
 /// Gives each child of the workers' requests its place among all requests of its level, those of the workers one behind the other, and
-/// tells what the roots come to. Each worker's rows are gone over by a thread of their own, from the first level down, in the order in
-/// which the worker asked. OutOfMemory, too, where a level has more requests than 32 bits count.
+/// tells what the roots come to. Each worker's rows are gone over from the first level down, in the order in which the worker asked, and
+/// where there are many by a thread of their own. OutOfMemory, too, where a level has more requests than 32 bits count.
 pub(crate) fn number_all<R: Threads + Sync>(
     rt: &R,
     alloc: Global,

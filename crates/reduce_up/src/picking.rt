@@ -10,12 +10,11 @@ ghost use Rattle.reduce_up.specs.Division.{AreRefsOf, MayPick};
 ghost use Rattle.reduce_up.specs.Steps.{IsSharePicked, AreAllPicked};
 
 use crate::division::{EQUAL, Homes};
-use crate::forks::fork_each;
+use crate::forks::fork_where_much;
 use crate::spare::Spare;
 use dd_store::{Ref, SHARDS};
 use req_table::Refs;
 use std::alloc::{AllocError, Global};
-use std::thread;
 use std::thread::Threads;
 
 /// A part's share of a level: the diagrams of its requests, and whether there was memory to pick these.
@@ -179,11 +178,7 @@ fn pick_each<R: Threads + Sync>(
         requires { (part < length homes.now) × MayPick parts.now homes.now refs.now }
         ensures { IsSharePicked parts.entry.now homes.entry.now refs.entry.now part share.exit.now }
     { share.pick(parts, homes, refs, part) };
-    if request_count(homes) < FEWEST_PICKED {
-        thread::for_each_mut(rt, shares, 1, &pick);
-    } else {
-        fork_each(rt, shares, &pick);
-    }
+    fork_where_much(rt, request_count(homes) >= FEWEST_PICKED, shares, &pick);
 }
 
 /// The answers of all parts, where each had memory.
@@ -219,23 +214,6 @@ fn add_all(own: &mut Refs, picked: &[Refs]) -> Result<(), AllocError>
     Ok(())
 }
 
-/// The diagrams of all parts, where there are many each part's by a thread of its own.
-fn pick_all<R: Threads + Sync>(
-    rt: &R,
-    parts: &[Vec<Vec<(Ref, Ref)>>],
-    homes: &[Homes],
-    refs: &[Vec<Ref>],
-    shares: Vec<PickShare>,
-) -> Result<Vec<Refs>, AllocError>
-    requires long { length shares.items ≡ length homes.now }
-    requires may { MayPick parts.now homes.now refs.now }
-    ensures { IfOk result (λ answers. ArePicked parts.now homes.now refs.now (length homes.now) answers.items) }
-{
-    let mut shares = shares;
-    pick_each(rt, parts, homes, refs, shares.as_mut_slice());
-    join_picked(parts, homes, refs, shares)
-}
-
 /// The diagrams of all parts, one part behind the other, in the memory of `own`.
 pub(crate) fn pick_level<R: Threads + Sync>(
     rt: &R,
@@ -248,8 +226,9 @@ pub(crate) fn pick_level<R: Threads + Sync>(
     requires may { MayPick parts.now homes.now refs.now }
     ensures { OnOk result (AreInTurn parts.now homes.now refs.now own.new) }
 {
-    let shares = pick_shares(spare.allocator(), homes.len(), spare)?;
-    let picked = pick_all(rt, parts, homes, refs, shares)?;
+    let mut shares = pick_shares(spare.allocator(), homes.len(), spare)?;
+    pick_each(rt, parts, homes, refs, shares.as_mut_slice());
+    let picked = join_picked(parts, homes, refs, shares)?;
     own.restart(request_count(homes))?;
     add_all(own, picked.as_slice())?;
     for part in picked {

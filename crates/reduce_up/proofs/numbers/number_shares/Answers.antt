@@ -4,5 +4,5 @@ use Rattle.dd_store.proofs.store.Store.TheSendSync as store
 use Rattle.expand_work.proofs.Sent.{notes_sync}
 use Rattle.reduce_up.proofs.numbers.number_shares.Goals as goal
 
-pub fork_each-requires-sync-F : goal.fork_each-requires-sync-F
-fork_each-requires-sync-F g c κs within = search (sendable, notes_sync, store.the_sync, crosses, frees) depth 60 fits 20000
+pub fork_where_much-requires-sync-F : goal.fork_where_much-requires-sync-F
+fork_where_much-requires-sync-F g c κs within = search (sendable, notes_sync, store.the_sync, crosses, frees) depth 60 fits 20000
