@@ -16,7 +16,8 @@ use std::mem;
 /// the children need.
 const MOST_LENT: usize = 1 << 14;
 
-/// A table of no more requests than these stays with its level: to hand it on takes as long as they do.
+/// A table of no more requests than these keeps its memory, and changes places with that of the next level: to hand it on takes as long as
+/// they do.
 const MOST_LEFT: usize = 64;
 
 /// The requests that wait at each level, each once. The levels that have some are known, so that those without are passed over.
@@ -26,8 +27,6 @@ pub struct Waiting {
     /// Tables of levels that were expanded. The next level that is asked for something takes the last of them, so a wave has as many
     /// tables as levels that wait at once, but for small ones.
     spare: SpareTables,
-    /// Whether a level has the memory of a small table.
-    left: Vec<bool>,
     asked: LevelSet,
 }
 
@@ -73,7 +72,6 @@ impl Waiting {
         Waiting {
             tables: Vec::new(alloc),
             spare: SpareTables::new(alloc),
-            left: Vec::new(alloc),
             asked: LevelSet::new(alloc),
         }
     }
@@ -82,51 +80,38 @@ impl Waiting {
     fn with_levels(alloc: Global, levels: u16) -> Result<Waiting, AllocError>
         ensures { IfOk result (λ r. AreEmpty r levels) }
     {
-        let mut left = Vec::new(alloc);
-        left.resize(levels as usize, false)?;
         Ok(Waiting {
             tables: empty_tables(alloc, levels)?,
             spare: SpareTables::new(alloc),
-            left,
             asked: LevelSet::with_room(alloc, levels)?,
         })
     }
 
-    /// Notes whether a level has the memory of a small table.
-    fn note_left(&mut self, level: u16, has: bool)
-        ensures { self.new ≡ self.old }
-    {
-        if let Some(left) = self.left.get_mut(level as usize) {
-            *left = has;
-        }
-    }
-
-    /// Takes a level's table out, with its requests in order, for the level to be expanded.
-    pub fn take(&mut self, level: u16) -> Table
-        requires { level < length self.old }
-        ensures keys { result ≡ row self.old level }
+    /// Takes a level's requests out, in order, into an empty table, for the level to be expanded. The level has that table's memory now.
+    #[inline(always)]
+    pub fn take(&mut self, level: u16, keys: &mut Table)
+        requires level { level < length self.old }
+        requires empty { keys.old ≡ [] }
+        ensures keys { keys.new ≡ row self.old level }
         ensures rest { self.new ≡ set self.old level [] }
     {
         self.asked.remove(level);
-        let fresh = Table::new(*self.tables.allocator());
-        mem::replace(&mut self.tables[level as usize], fresh)
+        mem::swap(&mut self.tables[level as usize], keys);
     }
 
-    /// Is given the table of a level that was expanded. It stays where it is small; else it serves another level, unless it is large.
-    pub fn leave(&mut self, level: u16, keys: Table) -> Result<(), AllocError>
-        requires level { level < length self.old }
-        requires none { row self.old level ≡ [] }
-        ensures { self.new ≡ self.old }
+    /// Empties the table of a level that was expanded. Where it is small it keeps its memory; else this serves another level, unless it
+    /// is large.
+    pub fn leave(&mut self, keys: &mut Table) -> Result<(), AllocError>
+        ensures same { self.new ≡ self.old }
+        ensures empty { keys.new ≡ [] }
     {
-        let small = keys.len() <= MOST_LEFT;
-        self.note_left(level, small);
-        if !small {
-            return keep_spare(&mut self.spare, keys);
+        if keys.len() <= MOST_LEFT {
+            keys.empty();
+            return Ok(());
         }
-        let mut keys = keys;
-        keys.clear();
-        self.tables[level as usize] = keys;
-        Ok(())
+        let fresh = Table::new(*self.tables.allocator());
+        let used = mem::replace(keys, fresh);
+        keep_spare(&mut self.spare, used)
     }
 
     /// Leaves so many levels without requests. Only levels that had some are come to.
@@ -137,10 +122,11 @@ impl Waiting {
             *self = Waiting::with_levels(alloc, levels)?;
             return Ok(());
         }
+        let mut keys = Table::new(alloc);
         let mut from = 0;
         while let Some(level) = self.next_level(from) {
-            let keys = self.take(level);
-            self.leave(level, keys)?;
+            self.take(level, &mut keys);
+            self.leave(&mut keys)?;
             from = level + 1;
         }
         Ok(())
@@ -152,11 +138,7 @@ impl Waiting {
         requires first { row self.old level ≡ [] }
         ensures { self.new ≡ self.old }
     {
-        let left = match self.left.get(level as usize) {
-            Some(left) => *left,
-            None => false,
-        };
-        if !left && !self.spare.is_empty() {
+        if !self.spare.is_empty() && self.tables[level as usize].room() == 0 {
             self.tables[level as usize] = self.spare.take();
         }
     }

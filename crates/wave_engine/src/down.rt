@@ -12,7 +12,7 @@ use crate::workspace::Down;
 use dd_store::{Ref, Store};
 use expand_work::{Asking, WaveFault, expand_row};
 use req_table::requests::child;
-use req_table::{Op, Placed, Waiting};
+use req_table::{Op, Placed, Table, Waiting};
 use std::alloc::AllocError;
 
 /// Places what the entries come to.
@@ -89,6 +89,7 @@ pub(crate) fn expand(
 {
     let _ = entries.len();
     let levels = store.levels();
+    let mut keys = Table::new(*down.roots.allocator());
     let mut level = 0;
     let mut left = limits.wave;
     while let Some(next) = down.requests.next_level(level) {
@@ -101,7 +102,7 @@ pub(crate) fn expand(
             return Ok(next);
         }
         left = left.saturating_sub(count);
-        let keys = down.requests.take(next);
+        down.requests.take(next, &mut keys);
         let mut pairs = down.rows.take(next);
         expand_row(
             store,
@@ -111,7 +112,7 @@ pub(crate) fn expand(
             &mut down.splits,
         )?;
         down.rows.put(next, pairs);
-        down.requests.leave(next, keys)?;
+        down.requests.leave(&mut keys)?;
         level = next + 1;
     }
     Ok(levels)

@@ -219,10 +219,11 @@ fn requests_wait_by_level(rt: HostRuntime) -> Result<(), Fail> {
             && waiting.next_level(2).is_none()
     );
     assert!(rt; waiting.are_many(2, 0) && !waiting.are_many(0, 1));
-    let keys = waiting.take(1);
-    assert!(rt; keys.len() == 1 && keys.key_at(0) == key && waiting.next_level(0).is_none());
-    waiting.leave(1, keys)?;
-    assert!(rt; waiting.next_level(0).is_none() && waiting.count(1) == 0);
+    let mut keys = Table::new(rt.alloc());
+    waiting.take(1, &mut keys);
+    assert!(rt; keys.len() == 1 && keys.key_at(0) == key && waiting.count(1) == 0);
+    waiting.leave(&mut keys)?;
+    assert!(rt; keys.len() == 0 && waiting.next_level(0).is_none());
     Ok(())
 }
 

@@ -66,13 +66,13 @@ pub expand_row-requires-clause-keys : goal.expand_row-requires-clause-keys
 expand_row-requires-clause-keys c =
     let w = (goal.at.expand_row-requires-clause-keys c).In-Some in
     let g : Going w w.in-Some.next = here w in
-    subst (All (IsKey c.args.store.now)) (sym c.take-keys.ensures.keys) (keys_stand c.args.store.now c.args.entries.now c.loop-next.down.requests w.in-Some.next (waiting_admitted _ _ _ g.waits _ _ g.expanded.admitted))
+    subst (All (IsKey c.args.store.now)) (sym c.take.ensures.keys) (keys_stand c.args.store.now c.args.entries.now c.loop-next.down.requests w.in-Some.next (waiting_admitted _ _ _ g.waits _ _ g.expanded.admitted))
 
 pub expand_row-requires-clause-accepts : goal.expand_row-requires-clause-accepts
 expand_row-requires-clause-accepts c =
     let w = (goal.at.expand_row-requires-clause-accepts c).In-Some in
     let g : Going w w.in-Some.next = here w in
-    ap length c.take-keys.ensures.rest ∙ length-set c.loop-next.down.requests w.in-Some.next [] ∙ g.waits.levels ∙ g.expanded.admitted.levels
+    ap length c.take.ensures.rest ∙ length-set c.loop-next.down.requests w.in-Some.next [] ∙ g.waits.levels ∙ g.expanded.admitted.levels
 
 pub expand_row-requires-clause-empty : goal.expand_row-requires-clause-empty
 expand_row-requires-clause-empty c =
@@ -89,23 +89,6 @@ put-requires-clause-bound c =
     let t : length c.take-pairs.new.self ≡ length c.loop-next.down.rows = ap length c.take-pairs.ensures.rest ∙ length-set c.loop-next.down.rows w.in-Some.next [] in
     omega (arith, f, l, t)
 
-pub leave-requires-clause-level : goal.leave-requires-clause-level
-leave-requires-clause-level c =
-    let w = (goal.at.leave-requires-clause-level c).In-Some in
-    let g : Going w w.in-Some.next = here w in
-    let u = row_taken c.args.store.now c.levels-levels.ensures.sound c.args.entries.now c.loop-next.down.requests w.in-Some.next w.in-Some.ensures.1 (waiting_admitted _ _ _ g.waits _ _ g.expanded.admitted) c.take-keys.new.self c.take-keys.result c.take-keys.ensures.rest c.take-keys.ensures.keys
-    c.expand_row.new.row c.expand_row.new.asks c.in_ok-expand_row.ensures.taken in
-    let l = u.levels in
-    let n = w.in-Some.ensures.1 in
-    omega (arith, l, n)
-
-pub leave-requires-clause-none : goal.leave-requires-clause-none
-leave-requires-clause-none c =
-    let w = (goal.at.leave-requires-clause-none c).In-Some in
-    let g : Going w w.in-Some.next = here w in
-    (row_taken c.args.store.now c.levels-levels.ensures.sound c.args.entries.now c.loop-next.down.requests w.in-Some.next w.in-Some.ensures.1 (waiting_admitted _ _ _ g.waits _ _ g.expanded.admitted) c.take-keys.new.self c.take-keys.result c.take-keys.ensures.rest c.take-keys.ensures.keys
-    c.expand_row.new.row c.expand_row.new.asks c.in_ok-expand_row.ensures.taken).none
-
 pub loop-next-preserved : goal.loop-next-preserved
 loop-next-preserved c =
     let w = (goal.at.loop-next-preserved c).In-Some in
@@ -119,16 +102,17 @@ loop-next-preserved c =
     let keys : List Key = row W next in
     let pairs : List (Placed × Placed) = c.expand_row.new.row in
     let left : List (List Key) = c.expand_row.new.asks in
-    let u = row_taken S c.levels-levels.ensures.sound es W next w.in-Some.ensures.1 (waiting_admitted _ _ _ g.waits _ _ g.expanded.admitted) c.take-keys.new.self c.take-keys.result c.take-keys.ensures.rest c.take-keys.ensures.keys pairs left c.in_ok-expand_row.ensures.taken in
+    let u = row_taken S c.levels-levels.ensures.sound es W next w.in-Some.ensures.1 (waiting_admitted _ _ _ g.waits _ _ g.expanded.admitted) c.take.new.self c.take.new.keys c.take.ensures.rest c.take.ensures.keys pairs left c.in_ok-expand_row.ensures.taken in
     let U : List (List Key) = set left next keys in
     let put : c.put.new.self ≡ set rows next pairs = c.put.ensures ∙ ap (λ (z : List (List (Placed × Placed))). set z next pairs) c.take-pairs.ensures.rest ∙ set-set rows next [] pairs in
-    let gone : c.leave.new.self ≡ set U next [] = c.leave.ensures ∙ sym (set-set left next keys [] ∙ ap (set left next) (sym u.none) ∙ set-get_or left next []) in
+    let gone : c.leave.new.self ≡ set U next [] = c.leave.ensures.same ∙ sym (set-set left next keys [] ∙ ap (set left next) (sym u.none) ∙ set-get_or left next []) in
     let rest : ℕ = c.saturating_sub-left.result in
     let more : ℕ = c.expand_row.new.splits in
     let bound : ℕ = c.args.limits.wave in
     record {
       bound = let f = fit w in omega (arith, f);
       few = c.loop-next.invariant.few;
+      keys = c.leave.ensures.empty;
       going = (
         splice next T U,
         subst (λ (z : List (List Key)). IsGoing S es c.loop-next.down.roots.items (next + 1) z c.put.new.self bound rest c.args.down.now.splits more (splice next T U)) (sym gone)
@@ -140,7 +124,7 @@ loop-next-preserved c =
                   let sub : rest ≡ c.loop-next.left - c.count-count.result = c.saturating_sub-left.ensures in
                   omega (arith, fits, sub)
               | else-limits-lt18446744073709551615-via-else-limits-lt18446744073709551615 b ↦ absurd (let free = b.if-limits-lt18446744073709551615.false in grind (arith, free, bounded))
-            ]) (c.in_ok-expand_row.ensures.split ∙ ap (λ (z : List Key). (c.loop-next.down.splits + length z) % 2 ^ 64) c.take-keys.ensures.keys))),
+            ]) (c.in_ok-expand_row.ensures.split ∙ ap (λ (z : List Key). (c.loop-next.down.splits + length z) % 2 ^ 64) c.take.ensures.keys))),
       );
     }
 
@@ -159,5 +143,6 @@ pub loop-next-init : goal.loop-next-init
 loop-next-init c = record {
   bound = omega arith;
   few = search rules;
+  keys = search rules;
   going = (c.args.down.now.requests, going_start c.args.store.now c.args.entries.now c.args.down.now.roots.items c.args.down.now.requests c.args.down.now.rows c.args.store.now.levels c.args.limits.wave c.args.down.now.splits c.requires.start (made_empty c.args.store.now.levels c.args.down.now.rows c.requires.rows));
 }

@@ -1,4 +1,4 @@
-use Rattle.std.proofs.Common.{◌≡◌, ◌≤◌, ◌-◌, length}
+use Rattle.std.proofs.Common.{◌≡◌, [], ◌≤◌, ◌-◌, length}
 use Rattle.req_table.specs.Places.{AreNone}
 use Rattle.req_table.proofs.waiting.Waiting.restart.Given as goal
 
@@ -6,6 +6,7 @@ abbrev pub invariant-loop-level : goal.invariant-loop-level
 invariant-loop-level l = record {
   levels : length l.self ≡ l.levels;
   bound : l.from ≤ l.levels;
+  keys : l.keys ≡ [];
   before : AreNone l.self 0 l.from;
 }
 

@@ -9,7 +9,7 @@ invariant_of-self c =
     let T : List (List Key) = c.self.inside.tables.items in
     let l : ℕ = c.args.level in
     let long : length T ≡ length c.args.self.now = ap length c.self.view_is in
-    let fits : l < length T = omega (arith, long, c.requires) in
-    let empty : c.replace.new.dest ≡ [] = c.replace.ensures.after ∙ c.new-fresh.ensures in
+    let fits : l < length T = omega (arith, long, c.requires.level) in
+    let empty : c.swap.new.x ≡ [] = c.swap.ensures.x_after ∙ c.requires.empty in
     subst (λ (z : List Key). AreMembers c.remove.new.self (set T l z)) (sym empty)
     (member_gone c.self.inside.asked c.remove.new.self T l c.self.invariant fits c.remove.ensures.room c.remove.ensures.own c.remove.ensures.others)
