@@ -1,9 +1,10 @@
 -- The shares in which the workers' children are numbered.
-use Rattle.std.proofs.Common.{◌≡◌, ◌≢◌, ℕ, zero, suc, ◌+◌, ◌-◌, ◌%◌, ◌<◌, false, cond, List, [], ◌∷◌, ◌++◌, length, map, filter, take, drop, get_or, set, replicate, Ok, refl, sym, ap, ◌∙◌, subst, arith, append_assoc, append-nil, eq-eqb, ne_eqb, get_or-set_same, get_or-set_other, length-append}
+use Rattle.std.proofs.Common.{◌≡◌, ◌≢◌, ℕ, zero, suc, ◌+◌, ◌-◌, ◌%◌, ◌<◌, false, cond, List, [], ◌∷◌, ◌++◌, length, map, filter, take, drop, get_or, set, Ok, refl, sym, ap, ◌∙◌, subst, arith, append_assoc, append-nil, eq-eqb, ne_eqb, get_or-set_same, get_or-set_other, length-append}
+use denote.Ref.{Bor}
 use Rattle.std.specs.List.{AllZip}
 use Rattle.std.specs.Prelude.{Result, Ok, Err, IsOk, OnOk}
 use Rattle.std.specs.declared.alloc.AllocError.{AllocError}
-use Rattle.std.proofs.lemmas.List.{length-set, length-map, length-replicate, get_or-replicate, get_or_append_left, get_or_default, drop_more, take_more}
+use Rattle.std.proofs.lemmas.List.{length-set, length-map, get_or_append_left, get_or_default, drop_more, take_more}
 use Rattle.std.proofs.Math.ListN.{get_or-map}
 use Rattle.std.proofs.Math.Nat.{mod-lt}
 use Rattle.std.proofs.Math.Seq.{get_or-append_seam, drop-length}
@@ -19,13 +20,13 @@ use Rattle.req_table.specs.Keys.{level_of, owner}
 use Rattle.req_table.specs.Places.{row, IsPlaced}
 use Rattle.req_table.specs.Settled.{asked_by, asked_below, dealt_from}
 use Rattle.expand_work.specs.Expanded.{row_of}
-use Rattle.expand_work.specs.Gathered.{AreParts, noted_of}
+use Rattle.expand_work.specs.Gathered.{AreParts}
 use Rattle.expand_work.specs.Lean.{lean_row, AreLean}
 use Rattle.expand_work.specs.Work.{owned_by}
-use Rattle.expand_work.proofs.Zips.{zip_at, zip_long, zip_grown}
+use Rattle.expand_work.proofs.Zips.{zip_grown}
 use Rattle.reduce_up.specs.declared.numbers.Field.{Field}
 use Rattle.reduce_up.specs.declared.numbers.Share.{Share}
-use Rattle.reduce_up.specs.Numbers.{keys_in, starts_below, AreFew, IsField, StandsWith, AreNext, IsNext, IsNumberedTo, asked_up, asked_from, IsNew, AreNew, IsShare, asked_behind, AreShares, IsRootPlaced, MayNumberAll, IsShareNumbered, AreAllNumbered, AreLevelsNumbered, AreRowsNumbered, AreNumbered}
+use Rattle.reduce_up.specs.Numbers.{keys_in, starts_below, AreFew, IsField, StandsWith, AreNext, IsNext, AreNoted, IsNumberedTo, asked_up, asked_from, IsNew, AreNew, IsShare, asked_behind, AreShares, IsRootPlaced, MayNumberAll, IsShareNumbered, AreAllNumbered, AreLevelsNumbered, AreRowsNumbered, AreNumbered}
 use Rattle.reduce_up.proofs.Numbering.{told_rows}
 
 -- ---- what is asked for, told from the first level on
@@ -55,27 +56,39 @@ module _ (f : Field) (roots : List Key) (parts : AreParts f.store.now f.workers 
     few = few;
   }
 
-  none_asked : (s : ℕ) → s < f.workers → AreNext f s (asked_behind f roots s 0) (replicate f.workers 0)
-  none_asked s sb = record {
-    long = length-replicate f.workers 0;
-    each = λ k kb. subst (λ z. AllZip (StandsWith f k) (filter (owned_by f.workers k) (asked_behind f roots s 0)) (drop z (noted_of f.notes.now.noted k s))) (sym (get_or-replicate f.workers k 0 0 kb)) (parts.places s k sb kb);
+  none_asked : (s : ℕ) → s < f.workers → (left : List (Bor (List ℕ))) → AreNoted f s left → AreNext f (asked_behind f roots s 0) left
+  none_asked s sb left noted = record {
+    long = noted.long;
+    each = λ k d kb. subst (λ (z : List ℕ). AllZip (StandsWith f k) (filter (owned_by f.workers k) (asked_behind f roots s 0)) z) (sym (noted.each k d kb)) (parts.places s k sb kb);
   }
 
-  pub shares_begin : (rows : List (List (List (Placed × Placed)))) (shares : List Share) → AreLean f.notes.now.rows rows → AreNew f.workers rows shares → AreShares f roots 0 shares
+  pub shares_begin : (rows : List (List (List (Placed × Placed)))) (shares : List Share) → AreLean f.notes.now.rows rows → AreNew f (length rows) rows shares → AreShares f roots 0 shares
   shares_begin rows shares lean new =
       let many : length rows ≡ f.workers = ap length lean ∙ length-map f.notes.now.rows (map (lean_row (length f.notes.now.rows))) ∙ parts.many_rows in
       record {
-        long = sym (zip_long (IsNew f.workers) rows shares new) ∙ many;
+        long = new.long ∙ many;
         each = λ s d sb.
-            let at = zip_at (IsNew f.workers) rows shares s [] d new (subst (λ z. s < z) (sym many) sb) in
+            let at = new.each s d (subst (λ z. s < z) (sym many) sb) in
             let own : get_or rows s [] ≡ map (lean_row f.workers) (get_or f.notes.now.rows s []) =
             ap (λ z. get_or z s []) lean ∙ get_or-map (map (lean_row (length f.notes.now.rows))) f.notes.now.rows s [] ∙ ap (λ z. map (lean_row z) (get_or f.notes.now.rows s [])) parts.many_rows in
-            record {
-              same = at.same ∙ own;
-              room = at.room;
-              places = subst (AreNext f s (asked_behind f roots s 0)) (sym at.none) (none_asked s sb);
-            };
+            record { same = at.same ∙ own; room = at.room; places = none_asked s sb (get_or shares s d).left.items at.noted };
       }
+
+-- one item more, behind those of which something holds at each place
+pub each_more : {X : Type 0} (P : ℕ → X → Type 0) (xs : List X) (y : X) → ((k : ℕ) (d : X) → k < length xs → P k (get_or xs k d)) → P (length xs) y → (k : ℕ) (d : X) → k < length xs + 1 → P k (get_or (xs ++ y ∷ []) k d)
+each_more P xs y h own k d l = dite (ℕ_discrete k (length xs))
+    (λ e. subst (λ z. P z (get_or (xs ++ y ∷ []) z d)) (sym e) (subst (P (length xs)) (sym (get_or-append_seam xs y [] d)) own))
+    (λ o. let lt : k < length xs = grind (arith, l, o) in subst (P k) (sym (get_or_append_left xs (y ∷ []) d k lt)) (h k d lt))
+
+-- one share more is made
+pub new_more : (f : Field) (done : List (List (List (Placed × Placed)))) (rows : List (List (Placed × Placed))) (shares shares' : List Share) (share : Share) → AreNew f (length done) done shares → IsNew f (length done) rows share → shares' ≡ shares ++ share ∷ [] → AreNew f (length (done ++ rows ∷ [])) (done ++ rows ∷ []) shares'
+new_more f done rows shares shares' share a h e = subst (AreNew f (length (done ++ rows ∷ [])) (done ++ rows ∷ [])) (sym e) (record {
+  long = length-append shares (share ∷ []) ∙ ap (λ z. z + 1) a.long ∙ sym (length-append done (rows ∷ []));
+  each = λ k d l. each_more (λ j (x : Share). IsNew f j (get_or (done ++ rows ∷ []) j []) x) shares share
+      (λ j b lt. let jb : j < length done = subst (λ z. j < z) a.long lt in subst (λ z. IsNew f j z (get_or shares j b)) (sym (get_or_append_left done (rows ∷ []) [] j jb)) (a.each j b jb))
+      (subst (λ z. IsNew f z (get_or (done ++ rows ∷ []) z []) share) (sym a.long) (subst (λ z. IsNew f (length done) z share) (sym (get_or-append_seam done rows [] [])) h))
+      k d (let m = length-append done (rows ∷ []) in let g = a.long in omega (arith, l, m, g));
+})
 
 -- ---- a root is asked for
 module _ (f : Field) (some : 0 < f.workers) (roots : List Key) (i : ℕ) (shares : List Share) (a : AreShares f roots i shares) (ib : i < length roots) (x : Key) (x-is : x ≡ get_or roots i x) where
@@ -103,10 +116,10 @@ module _ (f : Field) (some : 0 < f.workers) (roots : List Key) (i : ℕ) (shares
     own : IsShare f s (asked_behind f roots s i) share
     own = subst (IsShare f s (asked_behind f roots s i)) (sym share-is) (a.each s share sb)
 
-    pub root_next : (l : ℕ) (child : Placed) → l ≡ level_of f.store.now x → child ≡ by_number.Ask l (owner f.workers x) false → IsNext f s share.next.items child (Ask l x false) (asked_behind f roots s (i + 1))
-    root_next l child l-is child-is = record { owned = child-is; told = l-is; places = subst (λ z. AreNext f s z share.next.items) asked_own own.places }
+    pub root_next : (l : ℕ) (child : Placed) → l ≡ level_of f.store.now x → child ≡ by_number.Ask l (owner f.workers x) false → IsNext f share.left.items child (Ask l x false) (asked_behind f roots s (i + 1))
+    root_next l child l-is child-is = record { owned = child-is; told = l-is; places = subst (λ z. AreNext f z share.left.items) asked_own own.places }
 
-    pub shares_next : (new : Share) → new.rows ≡ share.rows → new.room ≡ share.room → AreNext f s (asked_behind f roots s (i + 1)) new.next.items → AreShares f roots (i + 1) (set shares s new)
+    pub shares_next : (new : Share) → new.rows ≡ share.rows → new.room ≡ share.room → AreNext f (asked_behind f roots s (i + 1)) new.left.items → AreShares f roots (i + 1) (set shares s new)
     shares_next new rows-are room-is next = record {
       long = length-set shares s new ∙ a.long;
       each = λ t d tb. dite (ℕ_discrete t s)
@@ -132,7 +145,7 @@ module _ (f : Field) (F : IsField f) (roots : List Key) where
     levels = ap length h.same ∙ length-map (get_or f.notes.now.rows s []) (lean_row f.workers) ∙ F.levels s sb;
     done = λ u l. absurd (omega (arith, l));
     left = λ u l ub. ap (λ z. row z u) h.same ∙ get_or-map (lean_row f.workers) (get_or f.notes.now.rows s []) u [];
-    places = subst (λ z. AreNext f s z share.next.items)
+    places = subst (λ z. AreNext f z share.left.items)
         (ap (λ z. dealt_from f.workers s (length roots) z ++ asked_below f.store.now.levels (row_of f.notes.now.rows s)) (drop-length roots) ∙ asked_all f s) h.places;
     room = h.room;
   }
@@ -141,11 +154,6 @@ module _ (f : Field) (F : IsField f) (roots : List Key) where
   all_ready shares h = record { long = h.long; each = λ s d sb. ready s sb (get_or shares s d) (h.each s d sb) }
 
 -- ---- rows out of the shares
-pub each_more : {X : Type 0} (P : ℕ → X → Type 0) (xs : List X) (y : X) → ((k : ℕ) (d : X) → k < length xs → P k (get_or xs k d)) → P (length xs) y → (k : ℕ) (d : X) → k < length xs + 1 → P k (get_or (xs ++ y ∷ []) k d)
-each_more P xs y h own k d l = dite (ℕ_discrete k (length xs))
-    (λ e. subst (λ z. P z (get_or (xs ++ y ∷ []) z d)) (sym e) (subst (P (length xs)) (sym (get_or-append_seam xs y [] d)) own))
-    (λ o. let lt : k < length xs = grind (arith, l, o) in subst (P k) (sym (get_or_append_left xs (y ∷ []) d k lt)) (h k d lt))
-
 pub rows_none : (f : Field) (rows : List (List (List (Placed × Placed)))) → rows ≡ [] → AreRowsNumbered f 0 rows
 rows_none f rows e = record { many = ap length e; each = λ k d l. absurd (omega (arith, l)) }
 

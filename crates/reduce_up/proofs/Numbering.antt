@@ -1,5 +1,6 @@
 -- Children by their places: what a worker asks of another next stands where that one noted.
 use Rattle.std.proofs.Common.{◌≡◌, ◌≢◌, ℕ, zero, suc, ◌+◌, ◌-◌, ◌*◌, ◌^◌, ◌<◌, ◌≤◌, Bool, true, false, cond, List, [], ◌∷◌, ◌++◌, length, map, filter, take, drop, get_or, set, slice_get, Some, Contains, All, refl, sym, ap, ◌∙◌, subst, arith, append_assoc, append-nil, eq-eqb, ne_eqb, get_or-set_same, get_or-set_other, length-append}
+use denote.Ref.{Bor}
 use Rattle.std.specs.Prelude.{AllPairs}
 use Rattle.std.specs.List.{AllZip}
 use Rattle.std.proofs.lemmas.List.{take_more, take_all, length-set, length-map, map-append, get_or_append_left, get_or-append_right, get_or_default, drop_more}
@@ -25,7 +26,7 @@ use Rattle.req_table.specs.Settled.{IsClosure, IsSplit, key_of, asked, asked_by,
 use Rattle.req_table.specs.Wave.{Wave}
 use Rattle.req_table.proofs.Waved as waved
 use Rattle.expand_work.specs.Expanded.{row_of}
-use Rattle.expand_work.specs.Gathered.{PartsView, AreParts, noted_of}
+use Rattle.expand_work.specs.Gathered.{PartsView, AreParts}
 use Rattle.expand_work.specs.Lean.{lean, lean_row, AreLean}
 use Rattle.std.proofs.Math.ListN as listn
 use Rattle.expand_work.specs.Work.{owned_by}
@@ -175,12 +176,9 @@ levels_more rows v n starts starts' is more =
     more ∙ ap (λ z. z ++ starts_at n rows v) is ∙ ap (λ z. starts_below z n rows) up
 
 -- ---- what is asked for next
-zip_next : {A B : Type 0} (R : A → B → Type 0) (x : A) (xs : List A) (ys : List B) (i : ℕ) → AllZip R (x ∷ xs) (drop i ys)
-    → (y : B) × (slice_get ys i ≡ Some y) × R x y × AllZip R xs (drop (suc i) ys)
-zip_next R x xs [] zero h = absurd h
-zip_next R x xs [] (suc i) h = absurd h
-zip_next R x xs (y ∷ ys) zero h = (y, refl, h.0, h.1)
-zip_next R x xs (y ∷ ys) (suc i) h = zip_next R x xs ys i h
+zip_next : {A B : Type 0} (R : A → B → Type 0) (x : A) (xs : List A) (ys : List B) → AllZip R (x ∷ xs) ys → (y : B) × (slice_get ys 0 ≡ Some y) × R x y × AllZip R xs (drop 1 ys)
+zip_next R x xs [] h = absurd h
+zip_next R x xs (y ∷ ys) h = (y, refl, h.0, h.1)
 
 pub owned_within : (n : ℕ) (x : Key) → 0 < n → owner n x < n
 owned_within n x some = mod-lt (op_number x.op + 3 * code_of x.f + 5 * code_of x.g) some
@@ -200,9 +198,12 @@ asked_child n e (Ask l x b) level k m is f =
     let at : level ≡ l = cc in let own : k ≡ owner n x = cc in let mark : m ≡ b = cc in
     (x, (λ i. Ask (sym at i) x (sym mark i)), own)
 
--- a child of worker s that asks worker k at level l; turn is how much s asked of k before
-module _ (f : Field) (F : IsField f) (s : ℕ) (next : List ℕ) (child : Placed) (c : Child) (rest : List Key) (i : IsNext f s next child c rest)
-    (l k : ℕ) (m : Bool) (is : child ≡ by_number.Ask l k m) (turn : ℕ) (turn-is : turn ≡ get_or next k turn) (ns : List ℕ) (ns-is : ns ≡ noted_of f.notes.now.noted k s) where
+-- a child that asks worker k at level l, which noted these places of what is left to ask
+module _ (f : Field) (F : IsField f) (left : List (Bor (List ℕ))) (child : Placed) (c : Child) (rest : List Key) (i : IsNext f left child c rest)
+    (l k : ℕ) (m : Bool) (is : child ≡ by_number.Ask l k m) (noted : Bor (List ℕ)) (noted-is : noted ≡ get_or left k noted) where
+  abbrev place : ℕ
+  place = get_or noted.now 0 0
+
   asks : (x : Key) × (c ≡ Ask l x m) × (k ≡ owner f.workers x)
   asks = asked_child f.workers child c l k m is i.owned
 
@@ -215,35 +216,32 @@ module _ (f : Field) (F : IsField f) (s : ℕ) (next : List ℕ) (child : Placed
   asks_told : l ≡ level_of f.store.now x
   asks_told = subst (IsTold f.store.now) asks.1 i.told
 
-  asks_next : AreNext f s (x ∷ rest) next
-  asks_next = subst (λ z. AreNext f s (asked z ++ rest) next) asks.1 i.places
+  asks_next : AreNext f (x ∷ rest) left
+  asks_next = subst (λ z. AreNext f (asked z ++ rest) left) asks.1 i.places
 
   pub owner_within : k < f.workers
   owner_within = subst (λ z. z < f.workers) (sym k-is) (owned_within f.workers x F.some)
 
-  turn-here : turn ≡ get_or next k 0
-  turn-here = turn-is ∙ get_or_default next k turn 0 (subst (λ z. k < z) (sym asks_next.long) owner_within)
-
   mine : owned_by f.workers k x ≡ true
   mine = eq-eqb (owner f.workers x) k (sym k-is)
 
-  found : (place : ℕ) × (slice_get ns turn ≡ Some place) × StandsWith f k x place × AllZip (StandsWith f k) (filter (owned_by f.workers k) rest) (drop (suc turn) ns)
-  found = zip_next (StandsWith f k) x (filter (owned_by f.workers k) rest) ns turn
-      (subst (λ (z : ℕ × List ℕ). AllZip (StandsWith f k) (x ∷ filter (owned_by f.workers k) rest) (drop z.0 z.1)) (λ i. (sym turn-here i, sym ns-is i))
-      (subst (λ b. AllZip (StandsWith f k) (cond b (x ∷ filter (owned_by f.workers k) rest) (filter (owned_by f.workers k) rest)) (drop (get_or next k 0) (noted_of f.notes.now.noted k s))) mine (asks_next.each k owner_within)))
+  found : (y : ℕ) × (slice_get noted.now 0 ≡ Some y) × StandsWith f k x y × AllZip (StandsWith f k) (filter (owned_by f.workers k) rest) (drop 1 noted.now)
+  found = zip_next (StandsWith f k) x (filter (owned_by f.workers k) rest) noted.now
+      (subst (λ (z : Bor (List ℕ)). AllZip (StandsWith f k) (x ∷ filter (owned_by f.workers k) rest) z.now) (sym noted-is)
+      (subst (λ b. AllZip (StandsWith f k) (cond b (x ∷ filter (owned_by f.workers k) rest) (filter (owned_by f.workers k) rest)) (get_or left k noted).now) mine (asks_next.each k noted owner_within)))
 
-  pub turn_within : turn < length ns
-  turn_within = slice_get_within ns turn found.0 found.1
+  pub some_noted : 0 < length noted.now
+  some_noted = slice_get_within noted.now 0 found.0 found.1
 
-  place-is : get_or ns turn 0 ≡ found.0
-  place-is = get_or_from_slice_get ns turn found.0 0 found.1
+  place-is : place ≡ found.0
+  place-is = get_or_from_slice_get noted.now 0 found.0 0 found.1
 
-  stands : slice_get (map key_of (row_of f.notes.now.rows k l)) (get_or ns turn 0) ≡ Some x
+  stands : slice_get (map key_of (row_of f.notes.now.rows k l)) place ≡ Some x
   stands = subst (λ (z : ℕ × ℕ). slice_get (map key_of (row_of f.notes.now.rows k z.0)) z.1 ≡ Some x) (λ i. (sym asks_told i, sym place-is i)) found.2
 
   pub level_within : l < f.store.now.levels
   level_within = subst (λ z. l < z) (F.levels k owner_within)
-      (row_there (get_or f.notes.now.rows k []) l (get_or ns turn 0) (let w = slice_get_within (map key_of (row_of f.notes.now.rows k l)) (get_or ns turn 0) x stands in let z = length-map (row_of f.notes.now.rows k l) key_of in omega (arith, w, z)))
+      (row_there (get_or f.notes.now.rows k []) l place (let w = slice_get_within (map key_of (row_of f.notes.now.rows k l)) place x stands in let z = length-map (row_of f.notes.now.rows k l) key_of in omega (arith, w, z)))
 
   pub start_within : l * f.workers + k < length f.starts.now
   start_within = subst (λ z. l * f.workers + k < length z) (sym F.starts_are) (starts_within f.store.now.levels f.workers (row_of f.notes.now.rows) l k level_within owner_within)
@@ -251,33 +249,32 @@ module _ (f : Field) (F : IsField f) (s : ℕ) (next : List ℕ) (child : Placed
   start-is : get_or f.starts.now (l * f.workers + k) 0 ≡ length (level_of_rows k (row_of f.notes.now.rows) l)
   start-is = ap (λ z. get_or z (l * f.workers + k) 0) F.starts_are ∙ starts_below_at f.store.now.levels f.workers (row_of f.notes.now.rows) l k level_within owner_within
 
-  in_level : slice_get (keys_at f.workers f.notes.now l) (get_or f.starts.now (l * f.workers + k) 0 + get_or ns turn 0) ≡ Some x
-  in_level = subst (λ z. slice_get (keys_at f.workers f.notes.now l) (z + get_or ns turn 0) ≡ Some x) (sym start-is) (stands_in_level f.workers f.notes.now l k (get_or ns turn 0) x owner_within stands)
+  in_level : slice_get (keys_at f.workers f.notes.now l) (get_or f.starts.now (l * f.workers + k) 0 + place) ≡ Some x
+  in_level = subst (λ z. slice_get (keys_at f.workers f.notes.now l) (z + place) ≡ Some x) (sym start-is) (stands_in_level f.workers f.notes.now l k place x owner_within stands)
 
-  pub sum_fits : get_or f.starts.now (l * f.workers + k) 0 + get_or ns turn 0 < 2 ^ 32
+  pub sum_fits : get_or f.starts.now (l * f.workers + k) 0 + place < 2 ^ 32
   sum_fits =
-      let a = slice_get_within (keys_at f.workers f.notes.now l) (get_or f.starts.now (l * f.workers + k) 0 + get_or ns turn 0) x in_level in
+      let a = slice_get_within (keys_at f.workers f.notes.now l) (get_or f.starts.now (l * f.workers + k) 0 + place) x in_level in
       let b = length-map (level_of_rows f.workers (row_of f.notes.now.rows) l) key_of in
       let c = F.few l level_within in
       omega (arith, a, b, c)
 
-  pub child_placed : IsPlaced (keys_in f) (by_number.Ask l (get_or f.starts.now (l * f.workers + k) 0 + get_or ns turn 0) m) c
-  child_placed = (x, subst (λ z. slice_get z (get_or f.starts.now (l * f.workers + k) 0 + get_or ns turn 0) ≡ Some x) (sym (keys_of_at f.workers f.notes.now f.store.now.levels l level_within)) in_level, asks.1)
+  pub child_placed : IsPlaced (keys_in f) (by_number.Ask l (get_or f.starts.now (l * f.workers + k) 0 + place) m) c
+  child_placed = (x, subst (λ z. slice_get z (get_or f.starts.now (l * f.workers + k) 0 + place) ≡ Some x) (sym (keys_of_at f.workers f.notes.now f.store.now.levels l level_within)) in_level, asks.1)
 
-  pub one_asked : AreNext f s rest (set next k (turn + 1))
-  one_asked = record {
-    long = length-set next k (turn + 1) ∙ asks_next.long;
-    each = λ j jb. dite (ℕ_discrete j k)
+  pub one_asked : (behind : Bor (List ℕ)) → behind.now ≡ drop 1 noted.now → AreNext f rest (set left k behind)
+  one_asked behind behind-is = record {
+    long = length-set left k behind ∙ asks_next.long;
+    each = λ j d jb. dite (ℕ_discrete j k)
         (λ e.
-        let at : get_or (set next k (turn + 1)) j 0 ≡ suc turn = ap (λ z. get_or (set next k (turn + 1)) z 0) e ∙ get_or-set_same next k (turn + 1) 0 (subst (λ z. k < z) (sym asks_next.long) owner_within) ∙ omega arith in
-        subst (λ z. AllZip (StandsWith f j) (filter (owned_by f.workers j) rest) (drop z (noted_of f.notes.now.noted j s))) (sym at)
-        (subst (λ z. AllZip (StandsWith f z) (filter (owned_by f.workers z) rest) (drop (suc turn) (noted_of f.notes.now.noted z s))) (sym e)
-        (subst (λ z. AllZip (StandsWith f k) (filter (owned_by f.workers k) rest) (drop (suc turn) z)) ns-is found.3)))
+        let at : get_or (set left k behind) j d ≡ behind = ap (λ z. get_or (set left k behind) z d) e ∙ get_or-set_same left k behind d (subst (λ z. k < z) (sym asks_next.long) owner_within) in
+        subst (λ (z : Bor (List ℕ)). AllZip (StandsWith f j) (filter (owned_by f.workers j) rest) z.now) (sym at)
+        (subst (λ z. AllZip (StandsWith f z) (filter (owned_by f.workers z) rest) behind.now) (sym e)
+        (subst (λ (z : List ℕ). AllZip (StandsWith f k) (filter (owned_by f.workers k) rest) z) (sym behind-is) found.3)))
         (λ o.
-        let at = get_or-set_other next k j (turn + 1) 0 o in
         let other : owned_by f.workers j x ≡ false = ne_eqb (owner f.workers x) j (λ e. o (sym (k-is ∙ e))) in
-        subst (λ z. AllZip (StandsWith f j) (filter (owned_by f.workers j) rest) (drop z (noted_of f.notes.now.noted j s))) (sym at)
-        (subst (λ b. AllZip (StandsWith f j) (cond b (x ∷ filter (owned_by f.workers j) rest) (filter (owned_by f.workers j) rest)) (drop (get_or next j 0) (noted_of f.notes.now.noted j s))) other (asks_next.each j jb)));
+        subst (λ (z : Bor (List ℕ)). AllZip (StandsWith f j) (filter (owned_by f.workers j) rest) z.now) (sym (get_or-set_other left k j behind d o))
+        (subst (λ b. AllZip (StandsWith f j) (cond b (x ∷ filter (owned_by f.workers j) rest) (filter (owned_by f.workers j) rest)) (get_or left j d).now) other (asks_next.each j d jb)));
   }
 
 -- ---- records and their pairs
@@ -308,7 +305,7 @@ record_first low high by later = append_assoc (low ++ high) by later ∙ append_
 
 -- a record of worker s of level v, of which the pair e tells the owners
 module _ (f : Field) (s : ℕ) (sender : IsSender f s) (v : ℕ) (vb : v < f.store.now.levels) (pairs : List (Placed × Placed)) (pairs-are : pairs ≡ lean_row f.workers (row_of f.notes.now.rows s v))
-    (later : List Key) (i : ℕ) (e : Placed × Placed) (e-is : slice_get pairs i ≡ Some e) (next : List ℕ) (a : AreNext f s (asked_by (drop i (row_of f.notes.now.rows s v)) ++ later) next) where
+    (later : List Key) (i : ℕ) (e : Placed × Placed) (e-is : slice_get pairs i ≡ Some e) (next : List (Bor (List ℕ))) (a : AreNext f (asked_by (drop i (row_of f.notes.now.rows s v)) ++ later) next) where
   abbrev records : List Record
   records = row_of f.notes.now.rows s v
 
@@ -328,14 +325,14 @@ module _ (f : Field) (s : ℕ) (sender : IsSender f s) (v : ℕ) (vb : v < f.sto
   abbrev pub behind_low : List Key
   behind_low = asked the_record.high ++ behind
 
-  pub low_next : IsNext f s next e.0 the_record.low behind_low
+  pub low_next : IsNext f next e.0 the_record.low behind_low
   low_next = record {
     owned = sym (ap (λ z. z.0) read.2);
     told = record_told.0;
-    places = subst (λ z. AreNext f s z next) (ap (λ z. asked_by z ++ later) (goes_on records i the_record read.1) ∙ record_first (asked the_record.low) (asked the_record.high) (asked_by (drop (i + 1) records)) later) a;
+    places = subst (λ z. AreNext f z next) (ap (λ z. asked_by z ++ later) (goes_on records i the_record read.1) ∙ record_first (asked the_record.low) (asked the_record.high) (asked_by (drop (i + 1) records)) later) a;
   }
 
-  pub high_next : (next' : List ℕ) → AreNext f s behind_low next' → IsNext f s next' e.1 the_record.high behind
+  pub high_next : (next' : List (Bor (List ℕ))) → AreNext f behind_low next' → IsNext f next' e.1 the_record.high behind
   high_next next' b = record { owned = sym (ap (λ z. z.1) read.2); told = record_told.1; places = b }
 
   pub pair_more : (old new : List (Placed × Placed)) (low high : Placed) → AllZip (IsNumbered (keys_in f)) (take i records) old → IsPlaced (keys_in f) low the_record.low → IsPlaced (keys_in f) high the_record.high
@@ -350,8 +347,8 @@ module _ (f : Field) (s v : ℕ) (lean-pairs : List (Placed × Placed)) (lean-ar
   pub pairs_all : (pairs : List (Placed × Placed)) → AllZip (IsNumbered (keys_in f)) (take i (row_of f.notes.now.rows s v)) pairs → IsRowNumbered f s v pairs
   pairs_all pairs z = subst (λ (rs : List Record). AllZip (IsNumbered (keys_in f)) rs pairs) (take_all i (row_of f.notes.now.rows s v) (omega (arith, i-is))) z
 
-  pub asked_all : (later : List Key) (next : List ℕ) → AreNext f s (asked_by (drop i (row_of f.notes.now.rows s v)) ++ later) next → AreNext f s later next
-  asked_all later next a = subst (λ z. AreNext f s (asked_by z ++ later) next) (ap (λ z. drop z (row_of f.notes.now.rows s v)) i-is ∙ drop-length (row_of f.notes.now.rows s v)) a
+  pub asked_all : (later : List Key) (next : List (Bor (List ℕ))) → AreNext f (asked_by (drop i (row_of f.notes.now.rows s v)) ++ later) next → AreNext f later next
+  asked_all later next a = subst (λ z. AreNext f (asked_by z ++ later) next) (ap (λ z. drop z (row_of f.notes.now.rows s v)) i-is ∙ drop-length (row_of f.notes.now.rows s v)) a
 
 -- a level is numbered
 module _ (f : Field) (s v : ℕ) (vb : v < f.store.now.levels) (old : Share) (a : IsNumberedTo f s v old) where
@@ -367,7 +364,7 @@ module _ (f : Field) (s v : ℕ) (vb : v < f.store.now.levels) (old : Share) (a 
             (subst (λ z. AllZip (IsNumbered (keys_in f)) [] z) (sym (no_pairs (row old.rows v) e)) tt)))
             (λ o. a.done u (grind (arith, l, o)));
         left = λ u l ub. a.left u (omega (arith, l)) ub;
-        places = subst (λ z. AreNext f s z old.next.items) (asked_first f s v vb ∙ ap (λ z. asked_by z ++ asked_from f s (v + 1)) none) a.places;
+        places = subst (λ z. AreNext f z old.left.items) (asked_first f s v vb ∙ ap (λ z. asked_by z ++ asked_from f s (v + 1)) none) a.places;
         room = a.room;
       }
     where
@@ -380,7 +377,7 @@ module _ (f : Field) (s v : ℕ) (vb : v < f.store.now.levels) (old : Share) (a 
       no_pairs (x ∷ xs) e = absurd (omega (arith, e))
 
   -- its pairs are put in the place of what was there
-  pub level_more : (pairs : List (Placed × Placed)) (new : Share) → new.rows ≡ set (set old.rows v []) v pairs → new.room ≡ [] → IsRowNumbered f s v pairs → AreNext f s (asked_from f s (v + 1)) new.next.items → IsNumberedTo f s (v + 1) new
+  pub level_more : (pairs : List (Placed × Placed)) (new : Share) → new.rows ≡ set (set old.rows v []) v pairs → new.room ≡ [] → IsRowNumbered f s v pairs → AreNext f (asked_from f s (v + 1)) new.left.items → IsNumberedTo f s (v + 1) new
   level_more pairs new is empty z b =
       let long : length (set old.rows v []) ≡ f.store.now.levels = length-set old.rows v [] ∙ a.levels in
       let other : (u : ℕ) → u ≢ v → row new.rows u ≡ row old.rows u = (λ u o. ap (λ (r : List (List (Placed × Placed))). row r u) is ∙ get_or-set_other (set old.rows v []) v u pairs [] o ∙ get_or-set_other old.rows v u [] [] o) in

@@ -1,5 +1,6 @@
 -- Children of the workers' requests, each told by its place among all requests of its level, those of the workers one behind the other.
-use Rattle.std.specs.Prelude.{◌≡◌, ℕ, zero, suc, ◌-◌, ◌^◌, ◌<◌, ◌≤◌, false, List, [], ◌∷◌, ◌++◌, length, map, filter, drop, replicate, slice_get, slice_index_or, Some, All, OnOk}
+use Rattle.std.specs.Prelude.{◌≡◌, ℕ, zero, suc, ◌-◌, ◌^◌, ◌<◌, ◌≤◌, false, List, [], ◌∷◌, ◌++◌, length, map, filter, drop, slice_get, slice_index_or, Some, All, OnOk}
+use denote.Ref.{Bor}
 use Rattle.std.specs.List.{AllZip}
 use Rattle.dd_store.specs.Nodes.{Nodes}
 use Rattle.req_table.specs.declared.Key.{Key}
@@ -86,17 +87,22 @@ pub record IsSender (f : Field) (s : ℕ) : Type 0 where
 abbrev pub StandsWith : Field → ℕ → Key → ℕ → Type 0
 StandsWith f k x m = slice_get (map key_of (row_of f.notes.now.rows k (level_of f.store.now x))) m ≡ Some x
 
--- of what s has still to ask for, each worker noted the places behind those of the requests that s has asked of it
-pub record AreNext (f : Field) (s : ℕ) (rest : List Key) (next : List ℕ) : Type 0 where
-  pub long : length next ≡ f.workers
-  pub each : (k : ℕ) → k < f.workers
-      → AllZip (StandsWith f k) (filter (owned_by f.workers k) rest) (drop (slice_index_or next k 0) (noted_of f.notes.now.noted k s))
+-- of what a sender has still to ask for, each worker noted these places
+pub record AreNext (f : Field) (rest : List Key) (left : List (Bor (List ℕ))) : Type 0 where
+  pub long : length left ≡ f.workers
+  pub each : (k : ℕ) (d : Bor (List ℕ)) → k < f.workers
+      → AllZip (StandsWith f k) (filter (owned_by f.workers k) rest) (slice_index_or left k d).now
 
--- the child, which is told by its owner, is what s asks for next
-pub record IsNext (f : Field) (s : ℕ) (next : List ℕ) (placed : Placed) (c : Child) (rest : List Key) : Type 0 where
+-- the child, which is told by its owner, is what a sender asks for next
+pub record IsNext (f : Field) (left : List (Bor (List ℕ))) (placed : Placed) (c : Child) (rest : List Key) : Type 0 where
   pub owned : placed ≡ lean f.workers c
   pub told : IsTold f.store.now c
-  pub places : AreNext f s (asked c ++ rest) next
+  pub places : AreNext f (asked c ++ rest) left
+
+-- what each worker noted of all that s asks of it
+pub record AreNoted (f : Field) (s : ℕ) (left : List (Bor (List ℕ))) : Type 0 where
+  pub long : length left ≡ f.workers
+  pub each : (k : ℕ) (d : Bor (List ℕ)) → k < f.workers → (slice_index_or left k d).now ≡ noted_of f.notes.now.noted k s
 
 -- what records of so many levels from v on ask for
 abbrev pub asked_up : ℕ → ℕ → (ℕ → List Record) → List Key
@@ -112,21 +118,22 @@ abbrev pub IsRowNumbered : Field → ℕ → ℕ → List (Placed × Placed) →
 IsRowNumbered f s v pairs = AllZip (IsNumbered (keys_in f)) (row_of f.notes.now.rows s v) pairs
 
 -- ---- shares of workers
--- a share as it is made, of a worker with these rows, where there are n workers
-pub record IsNew (n : ℕ) (rows : List (List (Placed × Placed))) (share : Share) : Type 0 where
+-- a share of worker s as it is made, of these rows
+pub record IsNew (f : Field) (s : ℕ) (rows : List (List (Placed × Placed))) (share : Share) : Type 0 where
   pub same : share.rows ≡ rows
   pub room : share.room ≡ []
-  pub none : share.next.items ≡ replicate n 0
+  pub noted : AreNoted f s share.left.items
 
--- such a share for each worker's rows
-abbrev pub AreNew : ℕ → List (List (List (Placed × Placed))) → List Share → Type 0
-AreNew n rows shares = AllZip (IsNew n) rows shares
+-- such a share for each of the first m workers' rows
+pub record AreNew (f : Field) (m : ℕ) (rows : List (List (List (Placed × Placed)))) (shares : List Share) : Type 0 where
+  pub long : length shares ≡ m
+  pub each : (s : ℕ) (d : Share) → s < m → IsNew f s (slice_index_or rows s []) (slice_index_or shares s d)
 
 -- the share of worker s, which recorded its rows and has still to ask for rest
 pub record IsShare (f : Field) (s : ℕ) (rest : List Key) (share : Share) : Type 0 where
   pub same : share.rows ≡ map (lean_row f.workers) (slice_index_or f.notes.now.rows s [])
   pub room : share.room ≡ []
-  pub places : AreNext f s rest share.next.items
+  pub places : AreNext f rest share.left.items
 
 -- all that worker s asks for from root i on
 abbrev pub asked_behind : Field → List Key → ℕ → ℕ → List Key
@@ -146,7 +153,7 @@ pub record IsNumberedTo (f : Field) (s v : ℕ) (share : Share) : Type 0 where
   pub levels : length share.rows ≡ f.store.now.levels
   pub done : (u : ℕ) → u < v → IsRowNumbered f s u (row share.rows u)
   pub left : (u : ℕ) → v ≤ u → u < f.store.now.levels → row share.rows u ≡ lean_row f.workers (row_of f.notes.now.rows s u)
-  pub places : AreNext f s (asked_from f s v) share.next.items
+  pub places : AreNext f (asked_from f s v) share.left.items
   pub room : share.room ≡ []
 
 -- each worker's rows may be numbered in the worker's share

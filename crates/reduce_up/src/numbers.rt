@@ -1,7 +1,7 @@
 //! Requests that workers asked each other for, told by place. A child of a worker's record names the request's owner alone; of what a
 //! worker asked of that owner, in order, it is the next, and the owner noted at which place of its own it stands. Here each child gets
 //! its place among all requests of its level, those of the workers one behind the other.
-ghost use Rattle.std.specs.Prelude.{◌≡◌, ◌+◌, ◌++◌, ◌<◌, ◌^◌, [], length, replicate, slice_index_or, All, List, IfOk, IsOk, OnOk};
+ghost use Rattle.std.specs.Prelude.{◌≡◌, ◌+◌, ◌++◌, ◌<◌, ◌^◌, [], length, slice_index_or, All, List, IfOk, IsOk, OnOk};
 ghost use Rattle.std.specs.List.{AllZip};
 ghost use Rattle.req_table.specs.declared.Key.{Key as KeyValue};
 ghost use Rattle.req_table.specs.declared.Child.{Child as ChildValue};
@@ -12,7 +12,7 @@ ghost use Rattle.req_table.specs.Settled.{level_of_rows};
 ghost use Rattle.expand_work.specs.Expanded.{row_of};
 ghost use Rattle.expand_work.specs.Gathered.{AreParts};
 ghost use Rattle.expand_work.specs.Lean.{lean_row, AreLean};
-ghost use Rattle.reduce_up.specs.Numbers.{keys_in, starts_at, starts_below, asked_from, AreFew, IsField, IsSender, IsNext, AreNext};
+ghost use Rattle.reduce_up.specs.Numbers.{keys_in, starts_at, starts_below, asked_from, AreFew, IsField, IsSender, IsNext, AreNext, AreNoted};
 ghost use Rattle.reduce_up.specs.Numbers.{IsRowNumbered, IsNumberedTo, IsShareNumbered, AreNew, AreShares, IsRootPlaced, MayNumberAll};
 ghost use Rattle.reduce_up.specs.Numbers.{AreAllNumbered, AreRowsNumbered, AreNumbered};
 
@@ -37,12 +37,12 @@ pub(crate) struct Field<'a> {
     workers: u32,
 }
 
-/// A worker's share: its rows, how many requests it has asked of each worker so far, an empty row for the next level, how many requests
-/// had their children in the memory of that row, and whether there was memory.
+/// A worker's share: its rows, what each worker noted of the requests that it has still to ask of it, an empty row for the next level, how
+/// many requests had their children in the memory of that row, and whether there was memory.
 #[derive(Drop)]
-pub(crate) struct Share {
+pub(crate) struct Share<'a> {
     rows: Rows,
-    next: Vec<usize>,
+    left: Vec<&'a [u32]>,
     room: Row,
     room_size: usize,
     done: Result<(), AllocError>,
@@ -50,12 +50,12 @@ pub(crate) struct Share {
 
 /// A sender's child by its place: of what the sender asks of the child's owner it is the next.
 #[inline(always)]
-fn number(field: Field<'_>, sender: u32, next: &mut Vec<usize>, child: Placed) -> Placed
-    requires sender { IsSender field sender }
-    requires child { (c : ChildValue) × (rest : List KeyValue) × IsNext field sender next.old.items child c rest }
-    ensures next { (c : ChildValue) (rest : List KeyValue) → IsNext field.entry sender next.old.items child c rest
-        → AreNext field.entry sender rest next.new.items }
-    ensures placed { (c : ChildValue) (rest : List KeyValue) → IsNext field.entry sender next.old.items child c rest
+fn number<'a>(field: Field<'_>, left: &mut Vec<&'a [u32]>, child: Placed) -> Placed
+    requires field { IsField field }
+    requires child { (c : ChildValue) × (rest : List KeyValue) × IsNext field left.old.items child c rest }
+    ensures left { (c : ChildValue) (rest : List KeyValue) → IsNext field.entry left.old.items child c rest
+        → AreNext field.entry rest left.new.items }
+    ensures placed { (c : ChildValue) (rest : List KeyValue) → IsNext field.entry left.old.items child c rest
         → IsPlaced (keys_in field.entry) result c }
 {
     match child.view() {
@@ -65,37 +65,37 @@ fn number(field: Field<'_>, sender: u32, next: &mut Vec<usize>, child: Placed) -
             number: owner,
             mark,
         } => {
-            let turn = next[owner as usize];
-            let place = field.notes.noted(owner, sender)[turn];
-            next[owner as usize] = turn + 1;
+            let noted = left[owner as usize];
+            left[owner as usize] = &noted[1..];
             let start = field.starts[level as usize * field.workers as usize + owner as usize];
-            Placed::ask(level, start + place, mark)
+            Placed::ask(level, start + noted[0], mark)
         }
     }
 }
 
 /// The children of a sender's requests of a level by their places, put into an empty row.
-fn number_row(
+fn number_row<'a>(
     field: Field<'_>,
     sender: u32,
     level: u16,
     lean: &Row,
-    next: &mut Vec<usize>,
+    left: &mut Vec<&'a [u32]>,
     room: &mut Row,
 ) -> Result<(), AllocError>
     requires sender { IsSender field sender }
     requires level { level < field.store.now.levels }
     requires lean { lean.now ≡ lean_row field.workers (row_of field.notes.now.rows sender level) }
-    requires next { AreNext field sender (asked_from field sender level) next.old.items }
+    requires left { AreNext field (asked_from field sender level) left.old.items }
     requires room { room.old ≡ [] }
     ensures row { OnOk result (IsRowNumbered field.entry sender level room.new) }
-    ensures next { OnOk result (AreNext field.entry sender (asked_from field.entry sender (level + 1)) next.new.items) }
+    ensures left { OnOk result (AreNext field.entry (asked_from field.entry sender (level + 1)) left.new.items) }
 {
+    let _ = sender;
     room.reserve(lean.len())?;
     for place in 0..lean.len() {
         let (low, high) = lean.at(place);
-        let low = number(field, sender, next, low);
-        let high = number(field, sender, next, high);
+        let low = number(field, left, low);
+        let high = number(field, left, high);
         room.push((low, high))?;
     }
     Ok(())
@@ -113,7 +113,7 @@ fn fitting_room(alloc: Global, room: Row, size: usize, count: usize) -> Row
     room
 }
 
-impl Share {
+impl<'a> Share<'a> {
     /// The children of a level by their places. The memory of its row is the next level's room.
     fn number_level(&mut self, field: Field<'_>, sender: u32, level: u16) -> Result<(), AllocError>
         requires sender { IsSender field sender }
@@ -128,7 +128,7 @@ impl Share {
         let mut lean = self.rows.take(level);
         let room = mem::replace(&mut self.room, Row::new(field.alloc));
         let mut room = fitting_room(field.alloc, room, self.room_size, count);
-        number_row(field, sender, level, &lean, &mut self.next, &mut room)?;
+        number_row(field, sender, level, &lean, &mut self.left, &mut room)?;
         self.rows.put(level, room);
         lean.clear();
         self.room = lean;
@@ -159,11 +159,11 @@ impl Share {
 
     /// The rows, where there was memory.
     fn into_rows(self) -> Result<Rows, AllocError>
-        ensures { IfOk result (λ rows. (rows ≡ self.rows) × IsOk self.done) }
+        ensures { IfOk result (λ rows. (rows ≡ self.entry.rows) × IsOk self.entry.done) }
     {
         let Share {
             rows,
-            next: _,
+            left: _,
             room: _,
             room_size: _,
             done,
@@ -208,41 +208,46 @@ fn all_starts(alloc: Global, rows: &[Rows], levels: u16) -> Result<Vec<u32>, All
     Ok(starts)
 }
 
-/// So many numbers fill two cache lines. That much stays unwritten behind each worker's, so that threads which count at the same time
+/// So many lists are told in two cache lines. That much stays unwritten behind each worker's, so that threads which ask at the same time
 /// write to no line in common.
-const NUMBERS_APART: usize = 16;
+const LISTS_APART: usize = 8;
 
-/// No requests of so many workers.
-fn no_requests(alloc: Global, workers: u32) -> Result<Vec<usize>, AllocError>
-    ensures { IfOk result (λ next. next.items ≡ replicate workers 0) }
+/// What each worker noted of the requests that a sender asks of it.
+fn all_noted<'a>(field: Field<'a>, sender: u32) -> Result<Vec<&'a [u32]>, AllocError>
+    requires { IsSender field sender }
+    ensures { IfOk result (λ left. AreNoted field.entry sender left.items) }
 {
-    let mut next = Vec::with_capacity(alloc, workers as usize + NUMBERS_APART)?;
-    for made in 0..workers {
-        next.push(0)?;
+    let mut left = Vec::with_capacity(field.alloc, field.workers as usize + LISTS_APART)?;
+    for owner in 0..field.workers {
+        left.push(field.notes.noted(owner, sender))?;
     }
-    Ok(next)
+    Ok(left)
 }
 
 /// A share for each worker, in which nothing is asked for yet.
-fn new_shares(field: Field<'_>, rows: Vec<Rows>) -> Result<Vec<Share>, AllocError>
-    ensures { IfOk result (λ shares. AreNew field.entry.workers rows.items shares.items) }
+fn new_shares<'a>(field: Field<'a>, rows: Vec<Rows>) -> Result<Vec<Share<'a>>, AllocError>
+    requires field { IsField field }
+    requires many { length rows.items ≡ field.workers }
+    ensures { IfOk result (λ shares. AreNew field.entry (length rows.items) rows.items shares.items) }
 {
     let mut shares = Vec::with_capacity(field.alloc, rows.len())?;
+    let mut sender: u32 = 0;
     for own in rows {
-        let next = no_requests(field.alloc, field.workers)?;
+        let left = all_noted(field, sender)?;
         shares.push(Share {
             rows: own,
-            next,
+            left,
             room: Row::new(field.alloc),
             room_size: 0,
             done: Err(AllocError),
         })?;
+        sender += 1;
     }
     Ok(shares)
 }
 
 /// A root by its place: worker i modulo their number asks for root i.
-fn number_root(field: Field<'_>, roots: &[Key], root: usize, shares: &mut [Share]) -> Placed
+fn number_root(field: Field<'_>, roots: &[Key], root: usize, shares: &mut [Share<'_>]) -> Placed
     requires field { IsField field }
     requires root { root < length roots.now }
     requires shares { AreShares field roots.now root shares.old }
@@ -253,14 +258,14 @@ fn number_root(field: Field<'_>, roots: &[Key], root: usize, shares: &mut [Share
     let sender = (root % field.workers as usize) as u32;
     let child = Placed::ask(level_of(field.store, key), owner(key, field.workers), false);
     let share = &mut shares[sender as usize];
-    number(field, sender, &mut share.next, child)
+    number(field, &mut share.left, child)
 }
 
 /// The roots by their places.
 fn number_roots(
     field: Field<'_>,
     roots: &[Key],
-    shares: &mut [Share],
+    shares: &mut [Share<'_>],
 ) -> Result<Vec<Placed>, AllocError>
     requires field { IsField field }
     requires shares { AreShares field roots.now 0 shares.old }
@@ -279,7 +284,7 @@ fn number_roots(
 const FEWEST_NUMBERED: u64 = 1 << 16;
 
 /// How many requests all workers have, or as many as can be counted.
-fn request_count(shares: &[Share]) -> u64 {
+fn request_count(shares: &[Share<'_>]) -> u64 {
     let mut total: u64 = 0;
     for share in shares {
         total = total.saturating_add(share.rows.count());
@@ -288,12 +293,12 @@ fn request_count(shares: &[Share]) -> u64 {
 }
 
 /// Numbers the children of all workers, where there are many each worker's by a thread of its own.
-fn number_shares<R: Threads + Sync>(rt: &R, field: Field<'_>, shares: &mut [Share])
+fn number_shares<R: Threads + Sync>(rt: &R, field: Field<'_>, shares: &mut [Share<'_>])
     requires field { IsField field }
     requires shares { MayNumberAll field shares.old }
     ensures { AreAllNumbered field.entry shares.new }
 {
-    let run = |sender: usize, share: &mut Share|
+    let run = |sender: usize, share: &mut Share<'_>|
         requires { IsSender field sender × (sender < 2 ^ 32) × IsNumberedTo field sender 0 share.now }
         ensures { IsShareNumbered field.entry sender share.exit.now }
     { share.run(field, sender as u32) };
@@ -301,7 +306,7 @@ fn number_shares<R: Threads + Sync>(rt: &R, field: Field<'_>, shares: &mut [Shar
 }
 
 /// The rows of the shares, where there was memory for all.
-fn shared_rows(field: Field<'_>, shares: Vec<Share>) -> Result<Vec<Rows>, AllocError>
+fn shared_rows(field: Field<'_>, shares: Vec<Share<'_>>) -> Result<Vec<Rows>, AllocError>
     requires { AreAllNumbered field shares.items }
     ensures { IfOk result (λ rows. AreRowsNumbered field.entry field.entry.workers rows.items) }
 {

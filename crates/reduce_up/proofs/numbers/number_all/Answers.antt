@@ -38,13 +38,16 @@ all_starts-requires g c =
           (lean_levels p.rows c.args.rows.items c.requires.lean c.levels.result (λ k kb. c.requires.parts.levels k (omega (arith, kb, many)) ∙ sym c.levels.ensures.value));
     }
 
+pub new_shares-requires-clause-field : goal.new_shares-requires-clause-field
+new_shares-requires-clause-field g c = is_field g (goal.at.new_shares-requires-clause-field g c).After-as_slice-2
+
 pub number_roots-requires-clause-field : goal.number_roots-requires-clause-field
 number_roots-requires-clause-field g c = is_field g (goal.at.number_roots-requires-clause-field g c).After-as_slice-2
 
 pub number_roots-requires-clause-shares : goal.number_roots-requires-clause-shares
 number_roots-requires-clause-shares g c =
     let w = (goal.at.number_roots-requires-clause-shares g c).After-as_slice-2 in
-    shares_begin (field g w) c.args.roots.now (parts g w) c.args.rows.items c.as_mut_slice-all.result.now c.requires.lean (subst (AreNew c.in_ok-workers.workers c.args.rows.items) (sym c.as_mut_slice-all.ensures.value) c.in_ok-shares.ensures)
+    shares_begin (field g w) c.args.roots.now (parts g w) c.args.rows.items c.as_mut_slice-all.result.now c.requires.lean (subst (AreNew (field g w) (length c.args.rows.items) c.args.rows.items) (sym c.as_mut_slice-all.ensures.value) c.in_ok-shares.ensures)
 
 pub number_shares-requires-clause-field : goal.number_shares-requires-clause-field
 number_shares-requires-clause-field g c κs within = is_field g (goal.at.number_shares-requires-clause-field g c).After-as_slice-2

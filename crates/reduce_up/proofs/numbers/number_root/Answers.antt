@@ -18,7 +18,7 @@ module _ (c : After-index-shares-sender) where
   share-is : share ≡ get_or c.args.shares.now s share
   share-is = ap (get_or c.args.shares.now s) c.index-shares-sender.is
 
-  next : IsNext c.args.field s share.next.items c.ask-child.result (Ask c.level_of.result c.index-roots-root.result false) (asked_behind c.args.field c.args.roots.now s (c.args.root + 1))
+  next : IsNext c.args.field share.left.items c.ask-child.result (Ask c.level_of.result c.index-roots-root.result false) (asked_behind c.args.field c.args.roots.now s (c.args.root + 1))
   next = root_next _ c.requires.field.some _ _ _ c.requires.shares c.requires.root _ c.index-roots-root.is share share-is c.level_of.result c.ask-child.result c.level_of.ensures
       (c.ask-child.ensures ∙ ap (λ z. by_number.Ask c.level_of.result z false) c.owner.ensures)
 
@@ -28,7 +28,7 @@ number-requires-clause-child c = let w = (goal.at.number-requires-clause-child c
 pub returns-clause-shares : goal.returns-clause-shares
 returns-clause-shares c =
     let w = (goal.at.returns-clause-shares c).After-index-shares-sender in
-    shares_next _ c.requires.field.some _ _ _ c.requires.shares c.requires.root _ c.index-roots-root.is (share w) (share-is w) (record (share w) { next = c.number.new.next }) refl refl (c.number.ensures.next _ _ (next w))
+    shares_next _ c.requires.field.some _ _ _ c.requires.shares c.requires.root _ c.index-roots-root.is (share w) (share-is w) (record (share w) { left = c.number.new.left }) refl refl (c.number.ensures.left _ _ (next w))
 
 pub returns-clause-placed : goal.returns-clause-placed
 returns-clause-placed c =

@@ -15,13 +15,13 @@ module _ (c : After-at-low) where
   abbrev rest : List Key
   rest = behind_low _ _ c.requires.sender _ c.requires.level _ c.requires.lean _ _ _ c.at-low.ensures _ c.loop-place.invariant.places
 
-  low_is : IsNext c.args.field c.args.sender c.loop-place.next.items c.at-low.result.0 entry.low rest
+  low_is : IsNext c.args.field c.loop-place.left.items c.at-low.result.0 entry.low rest
   low_is = low_next _ _ c.requires.sender _ c.requires.level _ c.requires.lean _ _ _ c.at-low.ensures _ c.loop-place.invariant.places
 
 pub loop-place-init : goal.loop-place-init
 loop-place-init c = record {
   pairs = subst (AllZip (IsNumbered (keys_in c.args.field)) []) (sym (c.in_ok-reserve.ensures ∙ c.requires.room)) tt;
-  places = subst (λ z. AreNext c.args.field c.args.sender z c.args.next.now.items) (asked_first c.args.field c.args.sender c.args.level c.requires.level) c.requires.next;
+  places = subst (λ z. AreNext c.args.field z c.args.left.now.items) (asked_first c.args.field c.args.sender c.args.level c.requires.level) c.requires.left;
 }
 
 pub number-low-requires-clause-child : goal.number-low-requires-clause-child
@@ -32,18 +32,18 @@ number-high-requires-clause-child c =
     let w = (goal.at.number-high-requires-clause-child c).After-at-low in (
       (entry w).high,
       _,
-      high_next _ _ c.requires.sender _ c.requires.level _ c.requires.lean _ _ _ c.at-low.ensures _ c.loop-place.invariant.places c.number-low.new.next.items (c.number-low.ensures.next (entry w).low _ (low_is w)),
+      high_next _ _ c.requires.sender _ c.requires.level _ c.requires.lean _ _ _ c.at-low.ensures _ c.loop-place.invariant.places c.number-low.new.left.items (c.number-low.ensures.left (entry w).low _ (low_is w)),
     )
 
 pub loop-place-preserved : goal.loop-place-preserved
 loop-place-preserved c =
     let w = (goal.at.loop-place-preserved c).After-at-low in
-    let high = high_next _ _ c.requires.sender _ c.requires.level _ c.requires.lean _ _ _ c.at-low.ensures _ c.loop-place.invariant.places c.number-low.new.next.items (c.number-low.ensures.next (entry w).low _ (low_is w)) in
+    let high = high_next _ _ c.requires.sender _ c.requires.level _ c.requires.lean _ _ _ c.at-low.ensures _ c.loop-place.invariant.places c.number-low.new.left.items (c.number-low.ensures.left (entry w).low _ (low_is w)) in
     record {
       pairs = pair_more _ _ c.requires.sender _ c.requires.level _ c.requires.lean _ _ _ c.at-low.ensures _ c.loop-place.invariant.places
           c.loop-place.room c.push.new.self c.number-low.result c.number-high.result c.loop-place.invariant.pairs
           (c.number-low.ensures.placed (entry w).low _ (low_is w)) (c.number-high.ensures.placed (entry w).high _ high) c.in_ok-push.ensures.done;
-      places = c.number-high.ensures.next (entry w).high _ high;
+      places = c.number-high.ensures.left (entry w).high _ high;
     }
 
 -- all records are gone over
@@ -54,7 +54,7 @@ pub returns-clause-row : goal.returns-clause-row
 returns-clause-row c =
     pairs_all c.args.field c.args.sender c.args.level c.args.lean.now c.requires.lean c.loop-place.place (ended (goal.at.returns-clause-row c).After-loop-place ∙ c.len-place-end.ensures) c.loop-place.room c.loop-place.invariant.pairs
 
-pub returns-clause-next : goal.returns-clause-next
-returns-clause-next c =
-    asked_all c.args.field c.args.sender c.args.level c.args.lean.now c.requires.lean c.loop-place.place (ended (goal.at.returns-clause-next c).After-loop-place ∙ c.len-place-end.ensures)
-    (asked_from c.args.field c.args.sender (c.args.level + 1)) c.loop-place.next.items c.loop-place.invariant.places
+pub returns-clause-left : goal.returns-clause-left
+returns-clause-left c =
+    asked_all c.args.field c.args.sender c.args.level c.args.lean.now c.requires.lean c.loop-place.place (ended (goal.at.returns-clause-left c).After-loop-place ∙ c.len-place-end.ensures)
+    (asked_from c.args.field c.args.sender (c.args.level + 1)) c.loop-place.left.items c.loop-place.invariant.places

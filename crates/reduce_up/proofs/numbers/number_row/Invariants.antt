@@ -8,5 +8,5 @@ use Rattle.reduce_up.proofs.numbers.number_row.Given as goal
 abbrev pub invariant-loop-place : goal.invariant-loop-place
 invariant-loop-place l = record {
   pairs : AllZip (IsNumbered (keys_in l.field)) (take l.place (row_of l.field.notes.now.rows l.sender l.level)) l.room;
-  places : AreNext l.field l.sender (asked_by (drop l.place (row_of l.field.notes.now.rows l.sender l.level)) ++ asked_from l.field l.sender (l.level + 1)) l.next.items;
+  places : AreNext l.field (asked_by (drop l.place (row_of l.field.notes.now.rows l.sender l.level)) ++ asked_from l.field l.sender (l.level + 1)) l.left.items;
 }
