@@ -148,15 +148,6 @@ impl<'a> Share<'a> {
         Ok(())
     }
 
-    /// Numbers the children of the worker whose share this is, and notes whether there was memory.
-    fn run(&mut self, field: Field<'_>, sender: u32)
-        requires sender { IsSender field sender }
-        requires share { IsNumberedTo field sender 0 self.old }
-        ensures { IsShareNumbered field.entry sender self.new }
-    {
-        self.done = self.number_rows(field, sender);
-    }
-
     /// The rows, where there was memory.
     fn into_rows(self) -> Result<Rows, AllocError>
         ensures { IfOk result (λ rows. (rows ≡ self.entry.rows) × IsOk self.entry.done) }
@@ -301,7 +292,7 @@ fn number_shares<R: Threads + Sync>(rt: &R, field: Field<'_>, shares: &mut [Shar
     let run = |sender: usize, share: &mut Share<'_>|
         requires { IsSender field sender × (sender < 2 ^ 32) × IsNumberedTo field sender 0 share.now }
         ensures { IsShareNumbered field.entry sender share.exit.now }
-    { share.run(field, sender as u32) };
+    { share.done = share.number_rows(field, sender as u32) };
     fork_where_much(rt, request_count(shares) >= FEWEST_NUMBERED, shares, &run);
 }
 

@@ -119,23 +119,6 @@ fn pick_part(
     pick(own, refs, starts.as_slice(), answers)
 }
 
-impl PickShare {
-    /// Picks the diagrams of a part whose share this is.
-    fn pick(
-        &mut self,
-        parts: &[Vec<Vec<(Ref, Ref)>>],
-        homes: &[Homes],
-        refs: &[Vec<Ref>],
-        part: usize,
-    )
-        requires part { part < length homes.now }
-        requires may { MayPick parts.now homes.now refs.now }
-        ensures { IsSharePicked parts.now homes.now refs.now part self.new }
-    {
-        self.done = pick_part(parts, homes, refs, part, &mut self.answers);
-    }
-}
-
 /// A share for each part, in which nothing is picked yet.
 fn pick_shares(alloc: Global, parts: usize, spare: &mut Spare) -> Result<Vec<PickShare>, AllocError>
     ensures { IfOk result (λ shares. length shares.items ≡ parts) }
@@ -177,7 +160,7 @@ fn pick_each<R: Threads + Sync>(
     let pick = |part: usize, share: &mut PickShare|
         requires { (part < length homes.now) × MayPick parts.now homes.now refs.now }
         ensures { IsSharePicked parts.entry.now homes.entry.now refs.entry.now part share.exit.now }
-    { share.pick(parts, homes, refs, part) };
+    { share.done = pick_part(parts, homes, refs, part, &mut share.answers) };
     fork_where_much(rt, request_count(homes) >= FEWEST_PICKED, shares, &pick);
 }
 
