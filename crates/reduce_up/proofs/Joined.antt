@@ -1,5 +1,5 @@
 -- A level in parts, divided by shard, of which the diagrams are picked.
-use Rattle.std.proofs.Common.{◌≡◌, ◌≢◌, ℕ, zero, suc, ◌+◌, ◌<◌, ◌≤◌, ◌⊎◌, inl, inr, cond, List, [], ◌∷◌, ◌++◌, length, map, take, drop, get_or, slice_get, Some, Contains, All, refl, sym, ap, ◌∙◌, subst, arith, append_assoc, append-nil, ne_eqb, length-append}
+use Rattle.std.proofs.Common.{◌≡◌, ◌≢◌, ℕ, zero, suc, ◌+◌, ◌<◌, ◌≤◌, ◌⊎◌, inl, inr, cond, List, [], ◌∷◌, ◌++◌, length, map, take, drop, get_or, slice_get, Some, Contains, refl, sym, ap, ◌∙◌, subst, arith, append_assoc, append-nil, ne_eqb, length-append}
 use Rattle.std.specs.List.{AllZip}
 use Rattle.std.specs.Prelude.{Result, Ok, Err, OnOk}
 use Rattle.std.specs.declared.vec.Vec.{Vec}
@@ -31,7 +31,7 @@ use Rattle.reduce_up.specs.declared.picking.PickShare.{PickShare}
 use Rattle.reduce_up.specs.declared.up.Level.{Level}
 use Rattle.reduce_up.specs.OverParts.{level_over}
 use Rattle.reduce_up.specs.Up.{children_of}
-use Rattle.reduce_up.specs.Division.{chosen, span, source, begin_of, twice, in_turn, IsPicked, IsPickedOf, ArePicked, AreHomes, AreRefsOf, AreInTurn, MayPick}
+use Rattle.reduce_up.specs.Division.{chosen, span, source, begin_of, twice, in_turn, IsPicked, IsPickedOf, ArePicked, AreHomes, AreRefsOf, AreInTurn, HaveSixteen, MayPick}
 use Rattle.reduce_up.specs.Steps.{BothComeTo, IsMadeOf, IsPartRead, IsShareRead, AreAllRead, AreRead, IsSharePicked, AreAllPicked}
 use Rattle.reduce_up.proofs.Shared.{zip_right, zip_through}
 use Rattle.reduce_up.proofs.Parted.{homes_of}
@@ -77,7 +77,7 @@ begin_room parts k s d l =
     let b = length-append (all_at (take k parts) s) (list_at (get_or parts k d).items s) in
     omega (arith, e, a, b)
 
-pub own_list : (parts : List (Vec (Vec Pair Global) Global)) (k : ℕ) (p : Vec (Vec Pair Global) Global) → k < length parts → All (λ (part : Vec (Vec Pair Global) Global). length part.items ≡ 16) parts → p ≡ get_or parts k p → (s : ℕ) → s < 16 → (v : Vec Pair Global) → v ≡ get_or p.items s v
+pub own_list : (parts : List (Vec (Vec Pair Global) Global)) (k : ℕ) (p : Vec (Vec Pair Global) Global) → k < length parts → HaveSixteen parts → p ≡ get_or parts k p → (s : ℕ) → s < 16 → (v : Vec Pair Global) → v ≡ get_or p.items s v
     → length (list_at (get_or parts k p).items s) ≡ length v.items
 own_list parts k p l all is s sb v v-is =
     let sixteen : length p.items ≡ 16 = subst (λ (z : Vec (Vec Pair Global) Global). length z.items ≡ 16) (sym is) (all k p l) in
@@ -87,7 +87,7 @@ own_list parts k p l all is s sb v v-is =
 pub no_more : (lists : List (Vec Pair Global)) (s : ℕ) → length lists ≡ 16 → 16 ≤ s → list_at lists s ≡ []
 no_more lists s e l = get_or-eq_default (map (λ (v : Vec Pair Global). v.items) lists) [] (let a = length-map lists (λ (v : Vec Pair Global). v.items) in omega (arith, a, e, l))
 
-pub begin_none : (parts : List (Vec (Vec Pair Global) Global)) (k : ℕ) → All (λ (part : Vec (Vec Pair Global) Global). length part.items ≡ 16) parts → begin_of parts k 16 ≡ 0
+pub begin_none : (parts : List (Vec (Vec Pair Global) Global)) (k : ℕ) → HaveSixteen parts → begin_of parts k 16 ≡ 0
 begin_none [] zero h = refl
 begin_none [] (suc k) h = refl
 begin_none (p ∷ ps) zero h = refl
@@ -149,7 +149,7 @@ module _ (L : Level) (parts : List (Vec (Vec Pair Global) Global)) (homes : List
       let at = over_in L.parts.now k L.number o.0 o.1 kb o.2 in
       (at.0, o.1, at.1, o.3, o.4, o.5)
 
-  pub all_sixteen : All (λ (part : Vec (Vec Pair Global) Global). length part.items ≡ 16) parts
+  pub all_sixteen : HaveSixteen parts
   all_sixteen k d l = let lb : k < length L.parts.now = (let e = D.many_lists in omega (arith, e, l)) in (D.each k d (some_of homes (let e = D.many_homes in omega (arith, e, lb))) lb).sixteen
 
   all_homes : (k : ℕ) (d : Vec (Vec Pair Global) Global) (h : Homes) → k < length homes → AreHomes (get_or homes k h) (list_at (get_or parts k d).items)
@@ -227,7 +227,7 @@ turn_more [] xs = append-nil xs
 turn_more (y ∷ lists) xs = ap (λ z. y ++ z) (turn_more lists xs) ∙ sym (append_assoc y (in_turn lists) xs)
 
 -- a part's references are among those of all
-pub pick_room : (parts : List (Vec (Vec Pair Global) Global)) (refs : List (Vec Ref Global)) (k : ℕ) (h : Homes) (p : Vec (Vec Pair Global) Global) → k < length parts → All (λ (part : Vec (Vec Pair Global) Global). length part.items ≡ 16) parts → AreRefsOf parts refs → AreHomes h (list_at (get_or parts k p).items)
+pub pick_room : (parts : List (Vec (Vec Pair Global) Global)) (refs : List (Vec Ref Global)) (k : ℕ) (h : Homes) (p : Vec (Vec Pair Global) Global) → k < length parts → HaveSixteen parts → AreRefsOf parts refs → AreHomes h (list_at (get_or parts k p).items)
     → (s : ℕ) → s ≤ 16 → begin_of parts k s + length (chosen s h.numbers.items h.numbers.items) ≤ length (source refs h s)
 pick_room parts refs k h p l all r are s sb = dite (ℕ_discrete s 16)
     (λ e. subst (λ z. begin_of parts k z + length (chosen z h.numbers.items h.numbers.items) ≤ length (source refs h z)) (sym e) (let a = begin_none parts k all in let b = are.same in omega (arith, a, b)))

@@ -154,9 +154,6 @@ module _ (f : Field) (F : IsField f) (roots : List Key) where
   all_ready shares h = record { long = h.long; each = λ s d sb. ready s sb (get_or shares s d) (h.each s d sb) }
 
 -- ---- rows out of the shares
-pub rows_none : (f : Field) (rows : List (List (List (Placed × Placed)))) → rows ≡ [] → AreRowsNumbered f 0 rows
-rows_none f rows e = record { many = ap length e; each = λ k d l. absurd (omega (arith, l)) }
-
 pub rows_more : (f : Field) (m : ℕ) (rows rows' : List (List (List (Placed × Placed)))) (own : List (List (Placed × Placed))) → AreRowsNumbered f m rows → AreLevelsNumbered f m own → rows' ≡ rows ++ own ∷ [] → AreRowsNumbered f (m + 1) rows'
 rows_more f m rows rows' own a h e =
     subst (AreRowsNumbered f (m + 1)) (sym e)

@@ -169,12 +169,6 @@ lean_levels records rows lean m each k d kb =
     ap (λ (z : List (List (Placed × Placed))). length z) (get_or_default rows k d [] kb ∙ ap (λ (z : List (List (List (Placed × Placed)))). get_or z k []) lean ∙ listn.get_or-map (map (lean_row n)) records k [])
     ∙ length-map (get_or records k []) (lean_row n) ∙ each k (omega (arith, kb, long))
 
--- one level more
-pub levels_more : (rows : ℕ → ℕ → List Record) (v n : ℕ) (starts starts' : List ℕ) → starts ≡ starts_below v n rows → starts' ≡ starts ++ starts_at n rows v → starts' ≡ starts_below (v + 1) n rows
-levels_more rows v n starts starts' is more =
-    let up : suc v ≡ v + 1 = omega arith in
-    more ∙ ap (λ z. z ++ starts_at n rows v) is ∙ ap (λ z. starts_below z n rows) up
-
 -- ---- what is asked for next
 zip_next : {A B : Type 0} (R : A → B → Type 0) (x : A) (xs : List A) (ys : List B) → AllZip R (x ∷ xs) ys → (y : B) × (slice_get ys 0 ≡ Some y) × R x y × AllZip R xs (drop 1 ys)
 zip_next R x xs [] h = absurd h
@@ -229,9 +223,6 @@ module _ (f : Field) (F : IsField f) (left : List (Bor (List ℕ))) (child : Pla
   found = zip_next (StandsWith f k) x (filter (owned_by f.workers k) rest) noted.now
       (subst (λ (z : Bor (List ℕ)). AllZip (StandsWith f k) (x ∷ filter (owned_by f.workers k) rest) z.now) (sym noted-is)
       (subst (λ b. AllZip (StandsWith f k) (cond b (x ∷ filter (owned_by f.workers k) rest) (filter (owned_by f.workers k) rest)) (get_or left k noted).now) mine (asks_next.each k noted owner_within)))
-
-  pub some_noted : 0 < length noted.now
-  some_noted = slice_get_within noted.now 0 found.0 found.1
 
   place-is : place ≡ found.0
   place-is = get_or_from_slice_get noted.now 0 found.0 0 found.1

@@ -86,10 +86,14 @@ pub record AreRefsOf (parts : List (Vec (Vec Pair Global) Global)) (refs : List 
   pub sixteen : length refs ≡ 16
   pub many : (s : ℕ) → s < 16 → length (refs_at refs s) ≡ length (all_at parts s)
 
+-- each part has a list for each shard
+abbrev pub HaveSixteen : List (Vec (Vec Pair Global) Global) → Type 0
+HaveSixteen parts = All (λ part. length part.items ≡ 16) parts
+
 -- the answers of parts may be picked: each part has sixteen lists of pairs and a home for each pair, and each pair its reference
 pub record MayPick (parts : List (Vec (Vec Pair Global) Global)) (homes : List Homes) (refs : List (Vec Ref Global)) : Type 0 where
   pub many : length parts ≡ length homes
-  pub sixteen : All (λ (part : Vec (Vec Pair Global) Global). length part.items ≡ 16) parts
+  pub sixteen : HaveSixteen parts
   pub refs_of : AreRefsOf parts refs
   pub homes_of : (k : ℕ) (d : Vec (Vec Pair Global) Global) (h : Homes) → k < length homes
       → AreHomes (slice_index_or homes k h) (list_at (slice_index_or parts k d).items)

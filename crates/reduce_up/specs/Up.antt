@@ -33,10 +33,6 @@ IsBelow v (Ask l p m) = v < l
 abbrev pub IsKnown : Nodes → List (List Ref) → ℕ → Key → Bool → Placed → Type 0
 IsKnown s answers v k b d = IsBelow v d × ((r : Ref) × ComesTo answers d r × IsAnswerAt s v k b r)
 
--- the key at place q of level w has its answer
-abbrev pub IsAnswered : Nodes → List (List Ref) → ℕ → ℕ → Key → Type 0
-IsAnswered s answers w q k = (r : Ref) × StandsAt answers w q r × IsAnswer s k r
-
 -- the children of a level's requests, those of all parts one behind the other
 abbrev pub children_of : Level → List (Placed × Placed)
 children_of l = level_over l.parts.now l.number

@@ -1,12 +1,9 @@
 //! The diagrams of a part of a level, picked from those of all parts' pairs.
 ghost use Rattle.std.specs.Prelude.{◌≡◌, ◌+◌, ◌<◌, ◌≤◌, ◌++◌, ℕ, length, slice_get, slice_index_or, Some, All, IfOk, OnOk};
-ghost use Rattle.std.specs.declared.vec.Vec.{Vec as VecValue};
-ghost use Rattle.std.specs.declared.alloc.Global.{Global as GlobalValue};
-ghost use Rattle.dd_store.specs.Graph.{Pair};
 ghost use Rattle.dd_store.specs.Levels.{all_at};
 ghost use Rattle.reduce_up.specs.declared.division.Homes.{Homes as HomesValue};
 ghost use Rattle.reduce_up.specs.Division.{chosen, source, begin_of, in_turn, IsPicked, IsPickedOf, ArePicked, AreInTurn};
-ghost use Rattle.reduce_up.specs.Division.{AreRefsOf, MayPick};
+ghost use Rattle.reduce_up.specs.Division.{AreRefsOf, HaveSixteen, MayPick};
 ghost use Rattle.reduce_up.specs.Steps.{IsSharePicked, AreAllPicked};
 
 use crate::division::{EQUAL, Homes};
@@ -69,7 +66,7 @@ fn pick(
 /// Where a part's references of a shard begin.
 fn start_of(parts: &[Vec<Vec<(Ref, Ref)>>], part: usize, shard: usize, total: usize) -> usize
     requires part { part < length parts.now }
-    requires lists { All (λ (part : VecValue (VecValue Pair GlobalValue) GlobalValue). length part.items ≡ 16) parts.now }
+    requires lists { HaveSixteen parts.now }
     requires shard { shard < 16 }
     requires total { total ≡ length (all_at parts.now shard) }
     ensures { result ≡ begin_of parts.now part shard }
@@ -89,7 +86,7 @@ fn starts_of(
     refs: &[Vec<Ref>],
 ) -> Result<Vec<usize>, AllocError>
     requires part { part < length parts.now }
-    requires lists { All (λ (part : VecValue (VecValue Pair GlobalValue) GlobalValue). length part.items ≡ 16) parts.now }
+    requires lists { HaveSixteen parts.now }
     requires refs { AreRefsOf parts.now refs.now }
     ensures seventeen { IfOk result (λ starts. length starts.items ≡ 17) }
     ensures starts { IfOk result (λ starts. (s : ℕ) → s ≤ 16 → slice_index_or starts.items s 0 ≡ begin_of parts.now part s) }
