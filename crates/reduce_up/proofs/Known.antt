@@ -8,7 +8,7 @@ use Rattle.std.proofs.lemmas.List.{drop_more}
 use Rattle.std.proofs.lemmas.List.Elements.{Contains-append_cases, Contains-append_left, Contains-append_right, All-contains}
 use Rattle.std.proofs.lemmas.Slice.Zip.{AllZip-long}
 use Rattle.dd_store.specs.declared.reference.Ref.{Ref}
-use Rattle.dd_store.specs.Nodes.{Nodes, IsSound, IsDiagram, den}
+use Rattle.dd_store.specs.Nodes.{Nodes, IsSound, IsDiagram}
 use Rattle.dd_store.specs.View.{Keeps as KeepsNodes}
 use Rattle.dd_store.specs.Nodes.{node as node_at}
 use Rattle.dd_store.specs.Marks.{mark_by, turned}
@@ -27,7 +27,7 @@ use Rattle.reduce_up.specs.Reducing.{AddsDescribed}
 use Rattle.reduce_up.specs.Waves.{Entry, entry_value, IsEntry, AnswersEach, IsWanted, AddsBelow, HasRequest, IsWaveFault, IsWithinLimit, AnswersWave}
 use Rattle.reduce_up.specs.Known.{known_entry, unless_known, unknown, missing, woven, AreKept, found_of, IsKeptWave, Seeking, IsSought}
 use Rattle.reduce_up.proofs.Noting.{nothing, head_in, tail_in, in_cases}
-use Rattle.reduce_up.proofs.Opposite.{either_more}
+use Rattle.reduce_up.proofs.Adding.{adds_either}
 use Rattle.reduce_up.proofs.Reduction.{kept_meaning, diagram_kept}
 use Rattle.reduce_up.proofs.Rooted.{all_of, normal_means}
 use Rattle.reduce_up.proofs.Waving.{adds_below, wave_given_up, wave_done}
@@ -129,13 +129,7 @@ wanted_all : (S : Nodes) (m : Held) (es : List Entry) (v : ℕ) (f : List Bool �
 wanted_all S m es v f w = record { entry = w.entry; is_entry = (unknown_is m es w.entry w.is_entry).0; fixed = w.fixed; depends = w.depends }
 
 pub wanted_of_all : (S T : Nodes) (m : Held) (es : List Entry) → AddsDescribed S T (IsWanted S (unknown m es)) → AddsDescribed S T (IsWanted S es)
-wanted_of_all S T m es adds = record {
-  keeps = adds.keeps;
-  described = λ r h. elim (adds.described r h) [
-    | inl old ↦ inl old
-    | inr new ↦ inr (new.0, new.1, new.2, new.3, either_more (IsWanted S (unknown m es) new.0) (IsWanted S es new.0) (wanted_all S m es new.0) (den T r) new.4)
-  ];
-}
+wanted_of_all S T m es adds = adds_either S T (IsWanted S (unknown m es)) (IsWanted S es) (λ v f w. inl (wanted_all S m es v f w)) adds
 
 -- ---- their answers
 pub as_many : (S T : Nodes) (es : List Entry) (found : List Ref) → AnswersEach S es T found → length found ≡ length es

@@ -10,17 +10,13 @@ use Rattle.req_table.specs.declared.Key.{Key}
 use Rattle.req_table.specs.declared.Child.{Child}
 use Rattle.req_table.specs.declared.Child.TheVariants.{Done, Ask}
 use Rattle.req_table.specs.declared.Record.{Record}
-use Rattle.dd_store.specs.Functions.{OfEither}
-use Rattle.dd_store.specs.Parts.Part.{node}
-use Rattle.dd_store.specs.Nodes.{Nodes, den, IsSound, count_of}
-use Rattle.dd_store.specs.View.{part, Has, Keeps}
+use Rattle.dd_store.specs.Nodes.{Nodes, IsSound, count_of}
 use Rattle.reduce_up.specs.Reducing.{IsRecordAt, IsChild, HasAnswer, IsReady, AddsDescribed, AskedBy, IsRow, IsRowReduced, IsRowWithin, IsRowFault}
 use Rattle.req_table.specs.Tables.{row_at}
 use Rattle.reduce_up.specs.Levels.{IsAsked, AreRecords, AskedInRows, AreReducedFrom, AreReduced, IsWithinFrom, IsReduceFault}
 use Rattle.reduce_up.proofs.Reduction.{record_kept, kept_meaning}
 use Rattle.reduce_up.proofs.Noting.{nothing}
-use Rattle.reduce_up.proofs.Opposite.{either_more, either_kept}
-use Rattle.dd_store.proofs.View.{keeps-trans}
+use Rattle.reduce_up.proofs.Adding.{adds_either, adds_then}
 
 ready : (start : Nodes) (rows : List (List Record)) (v : ℕ) (s : Nodes) (pairs : List (Key × Ref)) (k : Key) (bit : Bool) (c : Child) → AreReducedFrom start rows (v + 1) s pairs → IsChild start v k bit c → IsAsked rows c → IsReady pairs c
 ready start rows v s pairs k bit (Done r) d i a = tt
@@ -39,26 +35,12 @@ level_ready start rows v s pairs S R lt d = record {
 -- what a row adds is described for the rows
 pub level_adds : (start : Nodes) (rows : List (List Record)) (v : ℕ) (s u : Nodes) → IsSound start → IsSound s → AreRecords start rows → v < start.levels →
     AddsDescribed start s (AskedInRows start rows) → AddsDescribed s u (AskedBy s v (row_at rows v)) → AddsDescribed start u (AskedInRows start rows)
-level_adds start rows v s u S T R lt i j = record { keeps = keeps-trans start s u i.keeps j.keeps; described = λ m h. later m (j.described m h) }
+level_adds start rows v s u S T R lt i j = adds_then start s u T (AskedInRows start rows) i (adds_either s u (AskedBy s v (row_at rows v)) (AskedInRows start rows) (λ w f a. inl (of_rows w f a)) j)
   where
-    K : Keeps start s
-    K = i.keeps
-
-    L : Keeps s u
-    L = j.keeps
-
-    earlier : (m : Ref) → Has s m → Has start m ⊎ ((w : ℕ) × (lo : Ref) × (hi : Ref) × (part s m ≡ node w lo hi) × OfEither (AskedInRows start rows w) (den s m)) → Has start m ⊎ ((w : ℕ) × (lo : Ref) × (hi : Ref) × (part u m ≡ node w lo hi) × OfEither (AskedInRows start rows w) (den u m))
-    earlier m h (inl k) = inl k
-    earlier m h (inr k) = inr (k.0, k.1, k.2, L.part_is m h ∙ k.3, either_kept s u T L (AskedInRows start rows k.0) m h k.4)
-
     of_rows : (w : ℕ) (f : List Bool → Bool) → AskedBy s v (row_at rows v) w f → AskedInRows start rows w f
     of_rows w f (at, (r, c, e)) =
         let key : IsRecordAt start v r = R.records v r lt c in
-        (r, subst (λ w. Contains (row_at rows w) r) (sym at) c, λ x hx. e x (hx ∙ sym K.levels) ∙ kept_meaning start s S K r.key key.key.first key.key.second x)
-
-    later : (m : Ref) → Has s m ⊎ ((w : ℕ) × (lo : Ref) × (hi : Ref) × (part u m ≡ node w lo hi) × OfEither (AskedBy s v (row_at rows v) w) (den u m)) → Has start m ⊎ ((w : ℕ) × (lo : Ref) × (hi : Ref) × (part u m ≡ node w lo hi) × OfEither (AskedInRows start rows w) (den u m))
-    later m (inl h) = earlier m h (i.described m h)
-    later m (inr k) = inr (k.0, k.1, k.2, k.3, either_more (AskedBy s v (row_at rows v) k.0) (AskedInRows start rows k.0) (of_rows k.0) (den u m) k.4)
+        (r, subst (λ w. Contains (row_at rows w) r) (sym at) c, λ x hx. e x (hx ∙ sym i.keeps.levels) ∙ kept_meaning start s S i.keeps r.key key.key.first key.key.second x)
 
 level_within : (start : Nodes) (rows : List (List Record)) (v : ℕ) (s u : Nodes) → IsWithinFrom start rows (v + 1) s → IsRowWithin s (row_at rows v) u → IsWithinFrom start rows v u
 level_within start rows v s u h (inl le) = inl le

@@ -9,6 +9,7 @@ pub mod Missing
 pub mod Dividing
 pub mod Shared
 pub mod Below
+pub mod Adding
 pub mod Rooted
 pub mod Waving
 pub mod Known

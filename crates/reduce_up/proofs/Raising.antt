@@ -8,38 +8,33 @@ use Rattle.std.proofs.lemmas.Option.{slice_get_within}
 use Rattle.dd_store.specs.declared.reference.Ref.{Ref}
 use Rattle.dd_store.specs.declared.StoreFault.{StoreFault}
 use Rattle.dd_store.specs.declared.StoreFault.TheVariants as store_faults
-use Rattle.dd_store.specs.Functions.{OfEither}
 use Rattle.dd_store.specs.Marks.{mark_by}
-use Rattle.dd_store.specs.Parts.Part.{node}
-use Rattle.dd_store.specs.Nodes.{Nodes, IsSound, den, count_of}
-use Rattle.dd_store.specs.View.{part, Has, Keeps, IsMade, IsFull}
+use Rattle.dd_store.specs.Nodes.{Nodes, IsSound, count_of}
+use Rattle.dd_store.specs.View.{Keeps, IsMade, IsFull}
 use Rattle.dd_store.proofs.Places.{slice_get_cases-push}
-use Rattle.dd_store.proofs.View.{keeps-trans}
 use Rattle.expand_work.specs.declared.fault.WaveFault.{WaveFault}
 use Rattle.expand_work.specs.declared.fault.WaveFault.TheVariants as wave_faults
 use Rattle.req_table.specs.declared.Key.{Key}
 use Rattle.req_table.specs.declared.Child.{Child}
 use Rattle.req_table.specs.declared.Child.TheVariants as child
 use Rattle.req_table.specs.declared.Record.{Record}
-use Rattle.req_table.specs.Keys.{child_of, record_of, meaning, wave_of}
-use Rattle.req_table.proofs.AsksFor.{AsksFor, asks_for}
-use Rattle.req_table.proofs.Waved.{is_wave, are_requests}
+use Rattle.req_table.specs.Keys.{child_of, record_of, meaning}
 use Rattle.expand_work.specs.Fault.{wave_fault}
 use Rattle.reduce_up.specs.Reducing.{IsKeyAt, IsAnswer, IsAnswerAt, IsChild, IsRecordAt, AreAnswers, AskedBy, AddsDescribed, IsRecordFault}
-use Rattle.reduce_up.specs.Waves.{Entry, IsEntry, HasRequest, IsWaveFault, requests_of}
+use Rattle.reduce_up.specs.Waves.{Entry, IsEntry, IsWaveFault, requests_of}
 use Rattle.reduce_up.proofs.Missing.{record_fault}
 use Rattle.reduce_up.proofs.Reduction.{resolved, record_kept, record_done, kept_meaning, answer_kept, adds_none}
 use Rattle.reduce_up.proofs.Noting.{nothing, in_cases}
 use Rattle.reduce_up.proofs.Closed.{key_at, right}
-use Rattle.reduce_up.proofs.Opposite.{either_more, either_kept}
-use Rattle.reduce_up.proofs.Rooted.{of_entry, requests_good}
+use Rattle.reduce_up.proofs.Adding.{adds_either, adds_then}
+use Rattle.reduce_up.proofs.Rooted.{requests_good}
 use Rattle.req_table.specs.declared.placed.Placed.{Placed}
 use Rattle.req_table.specs.declared.placed.PlacedChild.TheVariants.{Done, Ask}
 use Rattle.req_table.specs.Places.{row, StandsAt, IsPlaced, AreNone, IsLastLevel}
 use Rattle.reduce_up.specs.ByPlace.{IsAdmitted, AreExpanded}
 use Rattle.reduce_up.specs.Up.{ComesTo, IsBelow, IsKnown, AskedAt, IsReadyAt, IsLevelReduced, IsLevelFault, ReducesLevel, AreReducedBelow}
 use Rattle.req_table.proofs.Standing.{some_same, stands_none, stands_some}
-use Rattle.reduce_up.proofs.Wanted.{level_adds, lacks_wanted}
+use Rattle.reduce_up.proofs.Wanted.{level_adds, has_request_of, lacks_wanted}
 
 -- a key with two answers as its children
 abbrev pub rec : Key → Ref → Ref → Record
@@ -112,32 +107,25 @@ module _ (s0 : Nodes) (sound : IsSound s0) (T : List (List Key)) (pairs : List (
 
       -- what it adds
       pub adds_one : AddsDescribed s0 u (AskedAt s0 T v)
-      adds_one = record { keeps = keeps-trans s0 s u K L; described = λ m h. later m (done.1.described m h) }
+      adds_one = adds_then s0 s u so.held (AskedAt s0 T v) so.adds (adds_either s u (AskedBy s v (rec here.0 lo hi ∷ [])) (AskedAt s0 T v) (λ w f a. inl (of_level w f a)) done.1)
         where
-          K : Keeps s0 s
-          K = so.adds.keeps
-
-          L : Keeps s u
-          L = done.1.keeps
-
           key : IsKeyAt s0 v here.0
           key = R.keys i here.0 here.1
-
-          earlier : (m : Ref) → Has s m → Has s0 m ⊎ ((w : ℕ) × (lo : Ref) × (hi : Ref) × (part s m ≡ node w lo hi) × OfEither (AskedAt s0 T v w) (den s m)) → Has s0 m ⊎ ((w : ℕ) × (lo : Ref) × (hi : Ref) × (part u m ≡ node w lo hi) × OfEither (AskedAt s0 T v w) (den u m))
-          earlier m h (inl k) = inl k
-          earlier m h (inr k) = inr (k.0, k.1, k.2, L.part_is m h ∙ k.3, either_kept s u so.held L (AskedAt s0 T v k.0) m h k.4)
 
           only_entry : (r : Record) → Contains (rec here.0 lo hi ∷ []) r → r ≡ rec here.0 lo hi
           only_entry r c = elim (in_cases (rec here.0 lo hi) r [] c) [ inl e ↦ sym e | inr n ↦ absurd (nothing r n) ]
 
           of_level : (w : ℕ) (f : List Bool → Bool) → AskedBy s v (rec here.0 lo hi ∷ []) w f → AskedAt s0 T v w f
-          of_level w f (at, (r, c, e)) =
-              let same : r ≡ rec here.0 lo hi = only_entry r c in
-              (at, (i, here.0, here.1, λ x hx. e x (hx ∙ sym K.levels) ∙ ap (λ (r : Record). meaning s r.key x) same ∙ kept_meaning s0 s sound K here.0 key.first key.second x))
-
-          later : (m : Ref) → Has s m ⊎ ((w : ℕ) × (lo' : Ref) × (hi' : Ref) × (part u m ≡ node w lo' hi') × OfEither (AskedBy s v (rec here.0 lo hi ∷ []) w) (den u m)) → Has s0 m ⊎ ((w : ℕ) × (lo : Ref) × (hi : Ref) × (part u m ≡ node w lo hi) × OfEither (AskedAt s0 T v w) (den u m))
-          later m (inl h) = earlier m h (so.adds.described m h)
-          later m (inr k) = inr (k.0, k.1, k.2, k.3, either_more (AskedBy s v (rec here.0 lo hi ∷ []) k.0) (AskedAt s0 T v k.0) (of_level k.0) (den u m) k.4)
+          of_level w f (at, (r, c, e)) = (
+            at,
+            (
+              i,
+              here.0,
+              here.1,
+              λ x hx.
+                  e x (hx ∙ sym so.adds.keeps.levels) ∙ ap (λ (r : Record). meaning s r.key x) (only_entry r c) ∙ kept_meaning s0 s sound so.adds.keeps here.0 key.first key.second x,
+            ),
+          )
 
       -- its answer stands next
       pub one_more : (new : List Ref) → new ≡ own ++ r ∷ [] → IsLevelReduced s0 T v (i + 1) u new
@@ -256,14 +244,6 @@ module _ (S : Nodes) (w : IsSound S) (entries : List Entry) (good : All (IsEntry
     ];
   }
 
-  -- a request that stands somewhere is one of the entries'
-  pub has_request : (v : ℕ) (k : Key) → IsAdmitted S entries v k → HasRequest entries
-  has_request v k i =
-      let a : AsksFor (wave_of S 1) (meaning S) (requests_of entries) k =
-      asks_for (wave_of S 1) (is_wave S w 1 (omega arith)) (part S) (Has S) (den S) (meaning S) (are_requests S w 1) (requests_of entries) (requests_good S entries good) k i.reached in
-      let e = of_entry entries a.from a.is_root in
-      (e.0, e.1, e.2)
-
   -- the cause of a level's refusal is one of the wave
   pub level_refused : (v : ℕ) (s : Nodes) → Keeps S s → (f : WaveFault) → IsLevelFault s T v f → IsWaveFault S entries s f
   level_refused v s K wave_faults.OutOfMemory x = tt
@@ -271,7 +251,7 @@ module _ (S : Nodes) (w : IsSound S) (entries : List Entry) (good : All (IsEntry
   level_refused v s K wave_faults.TooManyRequests x = tt
   level_refused v s K wave_faults.Full x =
       let a : IsAdmitted S entries v x.1 = E.admitted.keys v x.0 x.1 x.2 in
-      (has_request v x.1 a, elim x.3 [ inl over ↦ inl over | inr full ↦ inr (full.0, lacks_wanted S w entries good v x.1 s K a full.1) ])
+      (has_request_of S w entries good v x.1 a, elim x.3 [ inl over ↦ inl over | inr full ↦ inr (full.0, lacks_wanted S w entries good v x.1 s K a full.1) ])
 
 -- a level with requests, of which the store is past its limit
 pub past_fault : (s : Nodes) (T : List (List Key)) (pairs : List (Placed × Placed)) (A : List (List Ref)) (v : ℕ) → IsReadyAt s T pairs A v → 0 < length pairs → (u : Nodes) → u.limit < count_of u → IsLevelFault u T v wave_faults.Full

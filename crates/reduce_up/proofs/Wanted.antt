@@ -1,5 +1,5 @@
 -- What a reached request asks for is wanted by the entries, and so is what the wave of such requests wants.
-use Rattle.std.proofs.Common.{◌≡◌, ℕ, suc, ◌+◌, ◌-◌, ◌<◌, ◌≤◌, ◌⊎◌, inl, inr, Bool, true, false, not, List, ◌∷◌, ◌++◌, length, take, drop, sym, ◌∙◌, ap, subst, arith, Contains, All, append_assoc}
+use Rattle.std.proofs.Common.{◌≡◌, ℕ, suc, ◌+◌, ◌-◌, ◌<◌, ◌≤◌, inl, inr, Bool, true, false, not, List, ◌∷◌, ◌++◌, length, take, drop, sym, ◌∙◌, ap, subst, arith, Contains, All, append_assoc}
 use Rattle.std.proofs.lemmas.Bool.{cases_lt}
 use Rattle.std.proofs.lemmas.List.{length-append, take-append-drop}
 use Rattle.std.proofs.Math.ListN.{length-take, length-drop}
@@ -10,7 +10,7 @@ use Rattle.dd_store.specs.Graph.{Pair}
 use Rattle.dd_store.specs.Marks.{mark_both, negate_of, turned}
 use Rattle.dd_store.proofs.Marks.{not-not, turned-twice, den-negate}
 use Rattle.dd_store.proofs.Storing.{children-of}
-use Rattle.dd_store.proofs.View.{kept_top, keeps-trans, has-negate}
+use Rattle.dd_store.proofs.View.{kept_top, has-negate}
 use Rattle.dd_store.specs.Functions.{Agree, IsFixedSomehow, DependsOn, OfEither}
 use Rattle.dd_store.specs.Nodes.{Nodes, IsSound, IsDiagram, den}
 use Rattle.dd_store.specs.View.{part, part_of, Has, Keeps, top}
@@ -21,7 +21,8 @@ use Rattle.req_table.proofs.Waved.{is_wave, are_requests, bounded}
 use Rattle.reduce_up.specs.Reducing.{AddsDescribed, IsAnswer, LacksAnswer}
 use Rattle.reduce_up.specs.Waves.{Entry, entry_value, IsEntry, IsWanted, LacksWanted, HasRequest, requests_of}
 use Rattle.reduce_up.proofs.Below.{fixed_of, fixed_as, node_reads}
-use Rattle.reduce_up.proofs.Opposite.{either_more, either_reads, either_kept, depends_not}
+use Rattle.reduce_up.proofs.Adding.{adds_either, adds_reads, adds_then}
+use Rattle.reduce_up.proofs.Opposite.{either_more, either_either, fixed_turned, depends_not}
 use Rattle.reduce_up.proofs.Rooted.{of_entry, requests_good, normal_means}
 use Rattle.reduce_up.proofs.Reduction.{kept_meaning}
 use Rattle.reduce_up.specs.ByPlace.{IsAdmitted, AreAdmitted}
@@ -46,20 +47,6 @@ fixed_more n l v f g h le fit a b =
           ∙ ap f (sym (append_assoc p (drop l p') x)),
     )
 
--- what is of either of two is of either of one
-pub either_flat : (P : (List Bool → Bool) → Type 0) (f : List Bool → Bool) → OfEither (OfEither P) f → OfEither P f
-either_flat P f (inl p) = p
-either_flat P f (inr (inl p)) = inr p
-either_flat P f (inr (inr p)) = inl (subst P twice p)
-  where
-    twice : (λ x. not (not (f x))) ≡ f
-    twice = λ i x. not-not (f x) i
-
--- g is f with bits fixed, or its complement is
-fixed_either : (n v : ℕ) (m : Bool) (f g : List Bool → Bool) → IsFixedSomehow n v (λ x. turned m (f x)) g → OfEither (IsFixedSomehow n v f) g
-fixed_either n v false f g i = inl i
-fixed_either n v true f g i = inr (i.0, i.1, λ q x hq hx. ap not (i.2 q x hq hx) ∙ not-not (f (i.0 ++ x)))
-
 -- the complements of a function and of what it is with bits fixed
 fixed_not : (n v : ℕ) (f g : List Bool → Bool) → IsFixedSomehow n v f g → IsFixedSomehow n v (λ x. not (f x)) (λ x. not (g x))
 fixed_not n v f g i = (i.0, i.1, λ q x hq hx. ap not (i.2 q x hq hx))
@@ -78,8 +65,8 @@ module _ (S : Nodes) (w : IsSound S) (entries : List Entry) (good : All (IsEntry
       let asked : (x : List Bool) → turned m (entry_value S e.0 x) ≡ root x =
       λ x. ap (turned m) (sym (normal_means S e.0 x)) ∙ turned-twice m (meaning S (normal_of e.0.0 e.0.1 e.0.2).0 x) ∙ ap (λ z. meaning S z x) (sym e.3) in
       let of_root : (g : List Bool → Bool) → IsFixedSomehow n v root g → OfEither (IsFixedSomehow n v (entry_value S e.0)) g =
-      λ g h. fixed_either n v m (entry_value S e.0) g (fixed_of n v (λ x. turned m (entry_value S e.0 x)) root g (λ x hx. asked x) h) in
-      (e.0, e.1, either_flat (IsFixedSomehow n v (entry_value S e.0)) (meaning S k) (either_more (IsFixedSomehow n v root) (OfEither (IsFixedSomehow n v (entry_value S e.0))) of_root (meaning S k) (fixed_either n v a.mark root (meaning S k) f)))
+      λ g h. fixed_turned n v m (entry_value S e.0) g (fixed_of n v (λ x. turned m (entry_value S e.0 x)) root g (λ x hx. asked x) h) in
+      (e.0, e.1, either_either (IsFixedSomehow n v (entry_value S e.0)) (meaning S k) (either_more (IsFixedSomehow n v root) (OfEither (IsFixedSomehow n v (entry_value S e.0))) of_root (meaning S k) (fixed_turned n v a.mark root (meaning S k) f)))
 
   -- and an entry asks for it
   pub has_request_of : (v : ℕ) (k : Key) → IsAdmitted S entries v k → HasRequest entries
@@ -163,13 +150,7 @@ module _ (S : Nodes) (w : IsSound S) (entries : List Entry) (good : All (IsEntry
 
   -- so what its wave adds is described by the entries
   pub adds_through : (T : Nodes) (front : List Entry) → AreReachedBy front → AddsDescribed S T (IsWanted S front) → AddsDescribed S T (IsWanted S entries)
-  adds_through T front each a = record {
-    keeps = a.keeps;
-    described = λ m h. elim (a.described m h) [
-      | inl o ↦ inl o
-      | inr n ↦ inr (n.0, n.1, n.2, n.3, either_flat (IsWanted S entries n.0) (den T m) (either_more (IsWanted S front n.0) (OfEither (IsWanted S entries n.0)) (wanted_through front each n.0) (den T m) n.4))
-    ];
-  }
+  adds_through T front each a = adds_either S T (IsWanted S front) (IsWanted S entries) (wanted_through front each) a
 
   -- a store that has no reference for a function has none for its complement
   lacks_either : (T : Nodes) (v : ℕ) (f : List Bool → Bool) → OfEither (IsWanted S entries v) f → ((r : Ref) → Has T r → Agree T.levels (den T r) f → ⊥) → LacksWanted S entries T
@@ -182,31 +163,12 @@ module _ (S : Nodes) (w : IsSound S) (entries : List Entry) (good : All (IsEntry
 
   -- a level's new nodes, on what the levels below it added
   pub level_adds : (T : List (List Key)) (v : ℕ) (s u : Nodes) → AreAdmitted S entries T → IsSound s → IsSound u → AddsDescribed S s (IsWanted S entries) → AddsDescribed s u (AskedAt s T v) → AddsDescribed S u (IsWanted S entries)
-  level_adds T v s u adm sS uS i j = record { keeps = keeps-trans S s u i.keeps j.keeps; described = λ m h. later m h (j.described m h) }
+  level_adds T v s u adm sS uS i j = adds_then S s u sS (IsWanted S entries) i (adds_reads s u uS (AskedAt s T v) (IsWanted S entries) keyed j)
     where
-      K : Keeps S s
-      K = i.keeps
-
-      L : Keeps s u
-      L = j.keeps
-
-      same : s.levels ≡ S.levels
-      same = K.levels
-
-      keyed : (n : ℕ) (f : List Bool → Bool) → DependsOn S.levels n f → AskedAt s T v n f → OfEither (IsWanted S entries n) f
+      keyed : (n : ℕ) (f : List Bool → Bool) → DependsOn s.levels n f → AskedAt s T v n f → OfEither (IsWanted S entries n) f
       keyed n f reads (at, (q, k, stands, e)) =
           let a : IsAdmitted S entries n k = subst (λ z. IsAdmitted S entries z k) (sym at) (adm.keys v q k stands) in
-          key_wanted n k a f (λ x hx. e x (hx ∙ sym same) ∙ kept_meaning S s w K k a.key.first a.key.second x) reads
-
-      earlier : (m : Ref) → Has s m → Has S m ⊎ ((n : ℕ) × (lo : Ref) × (hi : Ref) × (part s m ≡ node n lo hi) × OfEither (IsWanted S entries n) (den s m)) → Has S m ⊎ ((n : ℕ) × (lo : Ref) × (hi : Ref) × (part u m ≡ node n lo hi) × OfEither (IsWanted S entries n) (den u m))
-      earlier m h (inl k) = inl k
-      earlier m h (inr k) = inr (k.0, k.1, k.2, L.part_is m h ∙ k.3, either_kept s u sS L (IsWanted S entries k.0) m h k.4)
-
-      later : (m : Ref) → Has u m → Has s m ⊎ ((n : ℕ) × (lo : Ref) × (hi : Ref) × (part u m ≡ node n lo hi) × OfEither (AskedAt s T v n) (den u m)) → Has S m ⊎ ((n : ℕ) × (lo : Ref) × (hi : Ref) × (part u m ≡ node n lo hi) × OfEither (IsWanted S entries n) (den u m))
-      later m h (inl o) = earlier m o (i.described m o)
-      later m h (inr n) =
-          let reads : DependsOn S.levels n.0 (den u m) = subst (λ z. DependsOn z n.0 (den u m)) (L.levels ∙ K.levels) (node_reads u uS m n.0 n.1 n.2 h n.3) in
-          inr (n.0, n.1, n.2, n.3, either_flat (IsWanted S entries n.0) (den u m) (either_reads S.levels n.0 (AskedAt s T v n.0) (OfEither (IsWanted S entries n.0)) (keyed n.0) (den u m) reads n.4))
+          key_wanted n k a f (λ x hx. e x (hx ∙ sym i.keeps.levels) ∙ kept_meaning S s w i.keeps k a.key.first a.key.second x) (subst (λ z. DependsOn z n f) i.keeps.levels reads)
 
   -- a refusal of a level is one of the entries
   pub lacks_wanted : (v : ℕ) (k : Key) (s : Nodes) → Keeps S s → IsAdmitted S entries v k → LacksAnswer s v k → LacksWanted S entries s

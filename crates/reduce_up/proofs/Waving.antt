@@ -12,7 +12,7 @@ use Rattle.dd_store.specs.Parts.{Met}
 use Rattle.dd_store.specs.Parts.Part.{node}
 use Rattle.dd_store.specs.Nodes.{Nodes, IsSound, IsDiagram, den, count_of}
 use Rattle.dd_store.specs.View.{part, Has, IsOneNode}
-use Rattle.dd_store.proofs.View.{parts, keeps-refl, has-negate}
+use Rattle.dd_store.proofs.View.{keeps-refl, has-negate}
 use Rattle.expand_work.specs.declared.fault.WaveFault.{WaveFault}
 use Rattle.expand_work.specs.declared.fault.WaveFault.TheVariants.{OutOfMemory, NoWorker, Full, TooManyRequests}
 use Rattle.dd_store.specs.Nodes.{node as node_at}
@@ -30,10 +30,11 @@ use Rattle.req_table.proofs.Waved.{is_key, is_wave, are_requests}
 use Rattle.reduce_up.specs.Reducing.{HasAnswer, IsAnswer, AddsDescribed}
 use Rattle.reduce_up.specs.Levels.{AreRecords, AskedInRows, AreReduced, IsWithinFrom, IsReduceFault}
 use Rattle.reduce_up.specs.Waves.{Entry, entry_value, IsEntry, AnswersEach, IsWanted, AddsBelow, HasRequest, IsWithinLimit, LacksWanted, IsWaveFault, AnswersWave, requests_of, IsTakenFrom, IsClosureOf}
-use Rattle.reduce_up.proofs.Below.{fixed_of, fixed_as, node_reads, lies_below, complement_below}
+use Rattle.reduce_up.proofs.Below.{fixed_of, fixed_as, lies_below, complement_below}
 use Rattle.reduce_up.proofs.Closed.{reached_key, recorded, reached_at, placed_at, records_of_closure}
 use Rattle.reduce_up.proofs.Levelling.{past_rows}
 use Rattle.reduce_up.proofs.Noting.{nothing, head_in, tail_in, in_cases}
+use Rattle.reduce_up.proofs.Adding.{adds_reads}
 use Rattle.reduce_up.proofs.Opposite.{either_more, either_either, either_reads, fixed_turned}
 use Rattle.reduce_up.proofs.Reduction.{kept_meaning, diagram_kept}
 use Rattle.reduce_up.proofs.Rooted.{all_of, of_entry, to_request, requests_good, normal_means, terminal_diagram}
@@ -53,21 +54,6 @@ module _ (S : Nodes) (w : IsSound S) (workers : ℕ) (some : 0 < workers) (roots
       let g : IsFixedSomehow S.levels v source (meaning S e.key) = subst (λ z. IsFixedSomehow S.levels z source (meaning S e.key)) at a.fixed in
       either_more (IsFixedSomehow S.levels v (meaning S a.from)) (IsKeyFixed S roots v) (λ h i. (a.from, a.is_root, i)) f
       (fixed_turned S.levels v a.mark (meaning S a.from) f (fixed_as S.levels v source (meaning S e.key) f same g))
-
-  -- each new node denotes such a function, or the complement of one
-  pub node_described : (T : Nodes) → IsSound T → AddsDescribed S T (AskedInRows S rows) → (m : Ref) → Has T m
-      → Has S m ⊎ ((v : ℕ) × (lo : Ref) × (hi : Ref) × (part T m ≡ node v lo hi) × OfEither (IsKeyFixed S roots v) (den T m))
-  node_described T u adds m h = by (adds.described m h)
-    where
-      by : Has S m ⊎ ((v : ℕ) × (lo : Ref) × (hi : Ref) × (part T m ≡ node v lo hi) × OfEither (AskedInRows S rows v) (den T m))
-          → Has S m ⊎ ((v : ℕ) × (lo : Ref) × (hi : Ref) × (part T m ≡ node v lo hi) × OfEither (IsKeyFixed S roots v) (den T m))
-      by (inl old) = inl old
-      by (inr new) =
-          let v : ℕ = new.0 in
-          let same : T.levels ≡ S.levels = adds.keeps.levels in
-          let low : v < T.levels = (parts T u).level m v new.1 new.2 h new.3 in
-          let lt : v < S.levels = omega arith in
-          inr (v, new.1, new.2, new.3, either_either (IsKeyFixed S roots v) (den T m) (either_more (AskedInRows S rows v) (OfEither (IsKeyFixed S roots v)) (root_fixed v lt) (den T m) new.4))
 
 -- the answer of an entry
 answer_for : (S T : Nodes) (es : List Entry) (answers : List Ref) → AnswersEach S es T answers → (e : Entry) → Contains es e → (r : Ref) × Contains answers r × IsDiagram T r (entry_value S e)
@@ -135,20 +121,12 @@ module _ (S : Nodes) (w : IsSound S) (workers : ℕ) (some : 0 < workers) (entri
 
     -- and so of what is that or its complement
     wanted_either : (v : ℕ) (f : List Bool → Bool) → DependsOn S.levels v f → OfEither (IsKeyFixed S (requests_of entries) v) f → OfEither (IsWanted S entries v) f
-    wanted_either v f reads i =
-        either_either (IsWanted S entries v) f (either_reads S.levels v (IsKeyFixed S (requests_of entries) v) (OfEither (IsWanted S entries v)) (wanted v) f reads i)
+    wanted_either v f reads i = either_either (IsWanted S entries v) f (either_reads S.levels v (IsKeyFixed S (requests_of entries) v) (OfEither (IsWanted S entries v)) (wanted v) f reads i)
 
     -- each new node denotes what is wanted, or the complement
     pub wave_adds : AddsDescribed S T (IsWanted S entries)
-    wave_adds = record { keeps = adds.keeps; described = λ m h. by m h (node_described S w workers some (requests_of entries) keys rows closed.closure T u adds m h) }
-      where
-        by : (m : Ref) → Has T m → Has S m ⊎ ((v : ℕ) × (lo : Ref) × (hi : Ref) × (part T m ≡ node v lo hi) × OfEither (IsKeyFixed S (requests_of entries) v) (den T m))
-            → Has S m ⊎ ((v : ℕ) × (lo : Ref) × (hi : Ref) × (part T m ≡ node v lo hi) × OfEither (IsWanted S entries v) (den T m))
-        by m h (inl old) = inl old
-        by m h (inr new) =
-            let v : ℕ = new.0 in
-            let reads : DependsOn S.levels v (den T m) = subst (λ n. DependsOn n v (den T m)) adds.keeps.levels (node_reads T u m v new.1 new.2 h new.3) in
-            inr (v, new.1, new.2, new.3, wanted_either v (den T m) reads new.4)
+    wave_adds = adds_reads S T u (AskedInRows S rows) (IsWanted S entries)
+        (λ v f reads asked. wanted_either v f reads (root_fixed S w workers some (requests_of entries) keys rows closed.closure v (let e = reads.3 in omega (arith, e)) f asked)) adds
 
     -- the diagrams of the entries
     pub entry_answered : (pairs : List (Key × Ref)) → AreReduced rows T pairs → (e : Entry) → IsEntry S e → (r : Ref) → (o : Option Ref) → terminal_of e.0 e.1 e.2 ≡ o → IsTakenFrom pairs o e r → IsDiagram T r (entry_value S e)
@@ -170,10 +148,6 @@ module _ (S : Nodes) (w : IsSound S) (workers : ℕ) (some : 0 < workers) (entri
     wave_answers pairs d [] g (r ∷ answers) z = z
     wave_answers pairs d (e ∷ es) g [] z = z
     wave_answers pairs d (e ∷ es) g (r ∷ answers) z = (entry_answered pairs d e (g 0 e (omega arith)) r (terminal_of e.0 e.1 e.2) refl z.0, wave_answers pairs d es (λ k b lt. g (suc k) b (omega arith)) answers z.1)
-
-    -- each new node lies below an answer, or is the complement of one that does
-    pub wave_below : (answers : List Ref) → AnswersEach S entries T answers → AddsBelow S T answers
-    wave_below answers z = adds_below S entries T u wave_adds answers z
 
     -- a request is recorded
     has_record : HasRequest entries → (v : ℕ) × (r : Record) × Contains (row_at rows v) r
