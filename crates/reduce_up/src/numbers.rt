@@ -199,7 +199,7 @@ fn all_starts(alloc: Global, rows: &[Rows], levels: u16) -> Result<Vec<u32>, All
     Ok(starts)
 }
 
-/// So many lists are told in two cache lines. That much stays unwritten behind each worker's, so that threads which ask at the same time
+/// So many lists take two cache lines. That much stays unwritten behind each worker's, so that threads which ask at the same time
 /// write to no line in common.
 const LISTS_APART: usize = 8;
 
@@ -246,9 +246,9 @@ fn number_root(field: Field<'_>, roots: &[Key], root: usize, shares: &mut [Share
     ensures placed { (x : KeyValue) → IsRootPlaced field.entry (slice_index_or roots.now root x) result }
 {
     let key = roots[root];
-    let sender = (root % field.workers as usize) as u32;
+    let sender = root % field.workers as usize;
     let child = Placed::ask(level_of(field.store, key), owner(key, field.workers), false);
-    let share = &mut shares[sender as usize];
+    let share = &mut shares[sender];
     number(field, &mut share.left, child)
 }
 
