@@ -268,14 +268,18 @@ reads_more L m parts homes o d r parts' homes' x y = record {
       subst (λ (u : Homes × Vec (Vec Pair Global) Global). IsPartRead L.answers.now (row (row L.parts.now s) L.number) u.1 u.0) (λ i. (sym (at_left homes homes' d.homes h m s o.many_homes lt y) i, sym (at_left parts parts' d.lists e m s o.many_lists lt x) i)) (o.each s e h lt));
 }
 
+-- what holds of the items of a list holds of one that stands behind so many
+pub each_here : {X : Type 0} (P : ℕ → X → Type 0) (xs done rest : List X) (t : X) → ((k : ℕ) (d : X) → k < length xs → P k (get_or xs k d)) → (done ++ t ∷ []) ++ rest ≡ xs → P (length done) t
+each_here {X} P xs done rest t f whole =
+    let at : xs ≡ done ++ t ∷ rest = sym whole ∙ append_assoc done (t ∷ []) rest in
+    let long = ap (λ z. length z) at ∙ length-append done (t ∷ rest) in
+    subst (P (length done)) (ap (λ (z : List X). get_or z (length done) t) at ∙ get_or-append_seam done t rest t) (f (length done) t (omega (arith, long)))
+
 -- what was read of one part
 pub read_one : (L : Level) (shares done rest : List ReadShare) (t : ReadShare) (x : Unit {0})
     → AreAllRead L shares → (done ++ t ∷ []) ++ rest ≡ shares → t.done ≡ Ok x → IsPartRead L.answers.now (row (row L.parts.now (length done)) L.number) t.divided.lists t.divided.homes
 read_one L shares done rest t x f whole is =
-    let at : shares ≡ done ++ t ∷ rest = sym whole ∙ append_assoc done (t ∷ []) rest in
-    let long = ap (λ z. length z) at ∙ length-append done (t ∷ rest) in
-    let own = subst (IsShareRead L (length done)) (ap (λ (z : List ReadShare). get_or z (length done) t) at ∙ get_or-append_seam done t rest t) (f (length done) t (omega (arith, long))) in
-    subst (λ (z : Result (Unit {0}) AllocError). OnOk z (IsPartRead L.answers.now (row (row L.parts.now (length done)) L.number) t.divided.lists t.divided.homes)) is own
+    subst (λ (z : Result (Unit {0}) AllocError). OnOk z (IsPartRead L.answers.now (row (row L.parts.now (length done)) L.number) t.divided.lists t.divided.homes)) is (each_here (IsShareRead L) shares done rest t f whole)
 
 pub picked_more : (parts : List (Vec (Vec Pair Global) Global)) (homes : List Homes) (refs : List (Vec Ref Global)) (m : ℕ) (answers answers' : List (List Ref)) (x : List Ref) → ArePicked parts homes refs m answers → ((h : Homes) → IsPickedOf parts refs m (get_or homes m h) x) → answers' ≡ answers ++ x ∷ [] → ArePicked parts homes refs (m + 1) answers'
 picked_more parts homes refs m answers answers' x o own is = record {
@@ -289,7 +293,4 @@ picked_more parts homes refs m answers answers' x o own is = record {
 pub picked_one : (parts : List (Vec (Vec Pair Global) Global)) (homes : List Homes) (refs : List (Vec Ref Global)) (shares done rest : List PickShare) (t : PickShare) (x : Unit {0})
     → AreAllPicked parts homes refs shares → (done ++ t ∷ []) ++ rest ≡ shares → t.done ≡ Ok x → (h : Homes) → IsPickedOf parts refs (length done) (get_or homes (length done) h) t.answers
 picked_one parts homes refs shares done rest t x f whole is h =
-    let at : shares ≡ done ++ t ∷ rest = sym whole ∙ append_assoc done (t ∷ []) rest in
-    let long = ap (λ z. length z) at ∙ length-append done (t ∷ rest) in
-    let own = subst (IsSharePicked parts homes refs (length done)) (ap (λ (z : List PickShare). get_or z (length done) t) at ∙ get_or-append_seam done t rest t) (f (length done) t (omega (arith, long))) in
-    subst (λ (z : Result (Unit {0}) AllocError). OnOk z (IsPickedOf parts refs (length done) (get_or homes (length done) h) t.answers)) is (own h)
+    subst (λ (z : Result (Unit {0}) AllocError). OnOk z (IsPickedOf parts refs (length done) (get_or homes (length done) h) t.answers)) is (each_here (IsSharePicked parts homes refs) shares done rest t f whole h)

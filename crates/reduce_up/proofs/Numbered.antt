@@ -27,6 +27,7 @@ use Rattle.expand_work.proofs.Zips.{zip_grown}
 use Rattle.reduce_up.specs.declared.numbers.Field.{Field}
 use Rattle.reduce_up.specs.declared.numbers.Share.{Share}
 use Rattle.reduce_up.specs.Numbers.{keys_in, starts_below, AreFew, IsField, StandsWith, AreNext, IsNext, AreNoted, IsNumberedTo, asked_up, asked_from, IsNew, AreNew, IsShare, asked_behind, AreShares, IsRootPlaced, MayNumberAll, IsShareNumbered, AreAllNumbered, AreLevelsNumbered, AreRowsNumbered, AreNumbered}
+use Rattle.reduce_up.proofs.Joined.{each_here}
 use Rattle.reduce_up.proofs.Numbering.{told_rows}
 
 -- ---- what is asked for, told from the first level on
@@ -169,10 +170,7 @@ share_rows f k share h = (h.levels, h.done)
 -- the rows that a loop has got of a share
 pub share_at : (f : Field) (shares done rest : List Share) (share : Share) (rows : List (List (Placed × Placed))) → AreAllNumbered f shares → (done ++ share ∷ []) ++ rest ≡ shares → (rows ≡ share.rows) × IsOk share.done → AreLevelsNumbered f (length done) rows
 share_at f shares done rest share rows a e got =
-    let at : get_or shares (length done) share ≡ share = ap (λ z. get_or z (length done) share) (sym e ∙ append_assoc done (share ∷ []) rest) ∙ get_or-append_seam done share rest share in
-    let many : length done < f.workers =
-    (let x = ap length e in let y = length-append (done ++ share ∷ []) rest in let z = length-append done (share ∷ []) in let w = a.long in omega (arith, x, y, z, w)) in
-    let h : IsShareNumbered f (length done) share = subst (IsShareNumbered f (length done)) at (a.each (length done) share many) in
+    let h = each_here (IsShareNumbered f) shares done rest share (λ k d l. a.each k d (subst (λ z. k < z) a.long l)) e in
     subst (AreLevelsNumbered f (length done)) (sym got.0) (share_rows f (length done) share (on_ok share.done got.1 h))
   where
     on_ok : {P : Type 0} (r : Result (Unit {0}) AllocError) → IsOk r → OnOk r P → P
