@@ -8,7 +8,7 @@
 //! requests are never too many (`unbounded`). `Sought` knows which entries a computed table answers, and puts answers and computed table
 //! together (`Sought::settle`: `answers`, `kept`, `refused`).
 //!
-//! **Only tests show** when threads share a level (4,096 records, two workers) or number children (65,536 requests), how many, and that
+//! **Only tests show** when threads share a level (4,096 records, two workers) or number children (32,768 requests), how many, and that
 //! every width answers what the workers on one thread do (`wave_tests`).
 //!
 //! **Begin** with `up`, one level after the other, of which a wide one goes to `wide` with `reads`, `division` and `picking`; then
@@ -26,6 +26,7 @@ mod reads;
 mod reductions;
 mod seeking;
 mod spare;
+mod starts;
 mod up;
 mod waves;
 mod wide;

@@ -1,22 +1,21 @@
 //! Requests that workers asked each other for, told by place. A child of a worker's record names the request's owner alone; of what a
 //! worker asked of that owner, in order, it is the next, and the owner noted at which place of its own it stands. Here each child gets
 //! its place among all requests of its level, those of the workers one behind the other.
-ghost use Rattle.std.specs.Prelude.{◌≡◌, ◌+◌, ◌++◌, ◌<◌, ◌^◌, [], length, slice_index_or, All, List, IfOk, IsOk, OnOk};
+ghost use Rattle.std.specs.Prelude.{◌≡◌, ◌+◌, ◌<◌, ◌^◌, [], length, slice_index_or, All, List, IfOk, IsOk, OnOk};
 ghost use Rattle.std.specs.List.{AllZip};
 ghost use Rattle.req_table.specs.declared.Key.{Key as KeyValue};
 ghost use Rattle.req_table.specs.declared.Child.{Child as ChildValue};
-ghost use Rattle.req_table.specs.declared.Record.{Record as RecordValue};
 ghost use Rattle.req_table.specs.Keys.{IsKey};
 ghost use Rattle.req_table.specs.Places.{IsPlaced};
-ghost use Rattle.req_table.specs.Settled.{level_of_rows};
 ghost use Rattle.expand_work.specs.Expanded.{row_of};
 ghost use Rattle.expand_work.specs.Gathered.{AreParts};
 ghost use Rattle.expand_work.specs.Lean.{lean_row, AreLean};
-ghost use Rattle.reduce_up.specs.Numbers.{keys_in, starts_at, starts_below, asked_from, AreFew, IsField, IsSender, IsNext, AreNext, AreNoted};
+ghost use Rattle.reduce_up.specs.Numbers.{keys_in, asked_from, IsField, IsSender, IsNext, AreNext, AreNoted};
 ghost use Rattle.reduce_up.specs.Numbers.{IsRowNumbered, IsNumberedTo, IsShareNumbered, AreNew, AreShares, IsRootPlaced, MayNumberAll};
 ghost use Rattle.reduce_up.specs.Numbers.{AreAllNumbered, AreRowsNumbered, AreNumbered};
 
 use crate::forks::fork_where_much;
+use crate::starts::{all_starts, worker_count};
 use dd_store::Store;
 use expand_work::Notes;
 use req_table::requests::{level_of, owner};
@@ -164,41 +163,6 @@ impl<'a> Share<'a> {
     }
 }
 
-/// Adds how many requests of a level the workers before each have; OutOfMemory where 32 bits do not count them.
-fn push_starts(rows: &[Rows], level: u16, starts: &mut Vec<u32>) -> Result<(), AllocError>
-    requires levels { All (λ own. level < length own) rows.now }
-    ensures starts { (records : List (List (List RecordValue))) → AreLean records rows.now
-        → OnOk result (starts.new.items ≡ starts.old.items ++ starts_at (length records) (row_of records) level) }
-    ensures few { (records : List (List (List RecordValue))) → AreLean records rows.now
-        → OnOk result (length (level_of_rows (length records) (row_of records) level) < 2 ^ 32) }
-{
-    let mut start: u32 = 0;
-    for worker in 0..rows.len() {
-        starts.push(start)?;
-        let count = rows[worker].row(level).len();
-        if count > (u32::MAX - start) as usize {
-            return Err(AllocError);
-        }
-        start += count as u32;
-    }
-    Ok(())
-}
-
-/// How many requests of each level the workers before each have.
-fn all_starts(alloc: Global, rows: &[Rows], levels: u16) -> Result<Vec<u32>, AllocError>
-    requires levels { All (λ own. length own ≡ levels) rows.now }
-    ensures starts { (records : List (List (List RecordValue))) → AreLean records rows.now
-        → IfOk result (λ starts. starts.items ≡ starts_below levels (length records) (row_of records)) }
-    ensures few { (records : List (List (List RecordValue))) → AreLean records rows.now
-        → OnOk result (AreFew levels (length records) (row_of records)) }
-{
-    let mut starts = Vec::with_capacity(alloc, rows.len().saturating_mul(levels as usize))?;
-    for level in 0..levels {
-        push_starts(rows, level, &mut starts)?;
-    }
-    Ok(starts)
-}
-
 /// So many lists take two cache lines. That much stays unwritten behind each worker's, so that threads which ask at the same time
 /// write to no line in common.
 const LISTS_APART: usize = 8;
@@ -272,7 +236,7 @@ fn number_roots(
 }
 
 /// The children of fewer requests are numbered on the caller's thread: to start the threads takes as long.
-const FEWEST_NUMBERED: u64 = 1 << 16;
+const FEWEST_NUMBERED: u64 = 1 << 15;
 
 /// How many requests all workers have, or as many as can be counted.
 fn request_count(shares: &[Share<'_>]) -> u64 {
@@ -306,17 +270,6 @@ fn shared_rows(field: Field<'_>, shares: Vec<Share<'_>>) -> Result<Vec<Rows>, Al
         all.push(share.into_rows()?)?;
     }
     Ok(all)
-}
-
-/// How many workers there are, where 32 bits count them.
-fn worker_count(rows: &Vec<Rows>) -> Result<u32, AllocError>
-    ensures { IfOk result (λ count. count ≡ length rows.now.items) }
-{
-    let count = rows.len();
-    if count > u32::MAX as usize {
-        return Err(AllocError);
-    }
-    Ok(count as u32)
 }
 
 /// Gives each child of the workers' requests its place among all requests of its level, those of the workers one behind the other, and

@@ -4,7 +4,7 @@ use Rattle.req_table.specs.Settled.{level_of_rows}
 use Rattle.expand_work.specs.Expanded.{row_of}
 use Rattle.expand_work.specs.Lean.{AreLean}
 use Rattle.reduce_up.specs.Numbers.{starts_at}
-use Rattle.reduce_up.proofs.numbers.push_starts.Given as goal
+use Rattle.reduce_up.proofs.starts.push_starts.Given as goal
 
 abbrev pub invariant-loop-worker : goal.invariant-loop-worker
 invariant-loop-worker l = record {

@@ -3,7 +3,7 @@ use Rattle.req_table.specs.declared.Record.{Record}
 use Rattle.expand_work.specs.Expanded.{row_of}
 use Rattle.expand_work.specs.Lean.{AreLean}
 use Rattle.reduce_up.specs.Numbers.{starts_below, AreFew}
-use Rattle.reduce_up.proofs.numbers.all_starts.Given as goal
+use Rattle.reduce_up.proofs.starts.all_starts.Given as goal
 
 abbrev pub invariant-loop-level : goal.invariant-loop-level
 invariant-loop-level l = record {

@@ -1,7 +1,7 @@
 use Rattle.std.proofs.Common.{◌<◌, ◌∙◌, arith, length}
 use Rattle.expand_work.specs.Expanded.{row_of}
 use Rattle.reduce_up.proofs.Numbering.{starts_more, start_more, lean_at}
-use Rattle.reduce_up.proofs.numbers.push_starts.Goals as goal
+use Rattle.reduce_up.proofs.starts.push_starts.Goals as goal
 
 pub loop-worker-preserved : goal.loop-worker-preserved
 loop-worker-preserved c =
