@@ -87,7 +87,8 @@ impl Waiting {
         })
     }
 
-    /// Takes a level's requests out, in order, into an empty table, for the level to be expanded. The level has that table's memory now.
+    /// Takes a level's requests out, in order, into an empty table, for the level to be expanded. The level has that table's memory now
+    /// where its own is small, and else none, so that it takes a spare table when it is asked next.
     #[inline(always)]
     pub fn take(&mut self, level: u16, keys: &mut Table)
         requires level { level < length self.old }
@@ -97,6 +98,9 @@ impl Waiting {
     {
         self.asked.remove(level);
         mem::swap(&mut self.tables[level as usize], keys);
+        if keys.len() > MOST_LEFT {
+            self.tables[level as usize] = Table::new(*self.tables.allocator());
+        }
     }
 
     /// Empties the table of a level that was expanded. Where it is small it keeps its memory; else this serves another level, unless it

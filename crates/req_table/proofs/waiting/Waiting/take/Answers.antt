@@ -1,4 +1,5 @@
 use Rattle.std.proofs.Common.{◌≡◌, ◌∙◌, ◌<◌, ℕ, List, [], length, set, sym, ap, subst, arith}
+use Rattle.std.proofs.lemmas.List.{set-set}
 use Rattle.req_table.specs.declared.Key.{Key}
 use Rattle.req_table.specs.Places.{AreMembers}
 use Rattle.req_table.proofs.Members.{member_gone}
@@ -6,6 +7,16 @@ use Rattle.req_table.proofs.waiting.Waiting.take.Goals as goal
 
 pub invariant_of-self : goal.invariant_of-self
 invariant_of-self c =
+    let T : List (List Key) = c.self.inside.tables.items in
+    let l : ℕ = c.args.level in
+    let long : length T ≡ length c.args.self.now = ap length c.self.view_is in
+    let fits : l < length T = omega (arith, long, c.requires.level) in
+    let out : set (set T l c.swap.new.x) l c.new.result ≡ set T l [] = set-set T l c.swap.new.x c.new.result ∙ ap (set T l) c.new.ensures in
+    subst (AreMembers c.remove.new.self) (sym out)
+    (member_gone c.self.inside.asked c.remove.new.self T l c.self.invariant fits c.remove.ensures.room c.remove.ensures.own c.remove.ensures.others)
+
+pub invariant_of-self-else-len-gt-MOST_LEFT : goal.invariant_of-self-else-len-gt-MOST_LEFT
+invariant_of-self-else-len-gt-MOST_LEFT c =
     let T : List (List Key) = c.self.inside.tables.items in
     let l : ℕ = c.args.level in
     let long : length T ≡ length c.args.self.now = ap length c.self.view_is in
