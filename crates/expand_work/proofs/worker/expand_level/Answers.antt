@@ -29,8 +29,8 @@ returns-clause-working g c =
     let same = c.leave.ensures ∙ c.take.ensures.same in
     let held = keys_held c.args.site.lanes.now s c.args.level u.port.taken u.senders.clock u.tables h.working.sizes c.requires.level h.heard in
     let taken = subst (λ (z : List Key). AreOwed s h.working.sound n z c.expand_row.new.row c.expand_row.new.asks) c.in-Some.ensures.keys
-        (owed_all s h.working.sound n c.in-Some.keys (subst (All (IsKey s)) (sym c.in-Some.ensures.keys) held) (record { due = u.due; spare = tt; workers = c.count-workers.result }) c.count-workers.ensures.count h.due
-        c.expand_row.new.row c.expand_row.new.asks c.in_ok-expand_row.ensures.taken) in
+    (owed_all s h.working.sound n c.in-Some.keys (subst (All (IsKey s)) (sym c.in-Some.ensures.keys) held) (record { due = u.due; spare = tt; workers = c.count-workers.result }) c.count-workers.ensures.count h.due
+    c.expand_row.new.row c.expand_row.new.asks c.in_ok-expand_row.ensures.taken) in
     subst (λ (ts : List (List Key)). IsWorking c.args.site.lanes.now s c.args.site.roots.now (c.args.level + 1) (record { port = u.port; senders = record { clock = u.senders.clock; noted = u.senders.noted; spare = tt }; tables = ts; rows = c.put.new.self; due = c.expand_row.new.asks.due })) (sym same)
     (level_next c.args.site.lanes.now s c.args.site.roots.now c.args.level h.before h.working said.sent said.left said.is_sent said.is_left said.kept said.is_kept h.spoken.port u.port u.senders.clock h.spoken.tables u.tables c.expand_row.new.row c.expand_row.new.asks.due
     c.take-row.new.self c.put.new.self c.requires.level said.stays said.is_ended h.same h.heard h.stays h.closed taken.row taken.long taken.due (c.take-row.ensures.rest ∙ ap (λ r. set r c.args.level []) h.rows) c.put.ensures u.senders.noted h.noted _)
