@@ -1,12 +1,12 @@
 //! Expansion on the caller's thread, from the first level down: each request's children are placed in the tables of their levels at once.
-ghost use Rattle.std.specs.Prelude.{◌≡◌, ◌≢◌, ◌<◌, ◌≤◌, ◌+◌, ◌-◌, ◌%◌, ◌^◌, ℕ, [], length, replicate, Err, IfOk, IfErr, OnOk, All};
+ghost use Rattle.std.specs.Prelude.{◌≡◌, ◌≢◌, ◌<◌, ◌≤◌, ◌+◌, ◌-◌, ◌^◌, ℕ, [], length, replicate, Err, IfOk, IfErr, OnOk, All};
 ghost use Rattle.std.specs.List.{AllZip};
-ghost use Rattle.req_table.specs.Keys.{IsChildIn, child as child_spec};
+ghost use Rattle.req_table.specs.Keys.{child as child_spec};
 ghost use Rattle.reduce_up.specs.Waves.{IsEntry};
-ghost use Rattle.req_table.specs.Places.{row, IsPlaced, Admits, AreEmpty};
+ghost use Rattle.req_table.specs.Places.{row, IsPlaced};
 ghost use Rattle.wave_engine.specs.Bounds.{AreMoreThan, AreAtMost};
 ghost use Rattle.reduce_up.specs.ByPlace.{AreAdmitted, AreExpanded};
-ghost use Rattle.wave_engine.specs.Down.{IsRowExpanded, IsDown};
+ghost use Rattle.wave_engine.specs.Down.{IsDown};
 
 use crate::workspace::Down;
 use dd_store::{Ref, Store};
