@@ -82,12 +82,9 @@ impl Rows {
         requires { level < length self.old }
         ensures { self.new ≡ set self.old level [] }
     {
-        let mut used = self.take(level);
-        if used.len() > self.most_kept {
-            return;
-        }
-        used.clear();
-        self.rows[level as usize] = used;
+        self.split.remove(level);
+        let alloc = *self.rows.allocator();
+        self.rows[level as usize].empty(alloc, self.most_kept);
     }
 
     /// Leaves so many levels without children. Only levels that had some are come to.

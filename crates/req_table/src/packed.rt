@@ -70,6 +70,17 @@ impl Row {
         self.pairs.clear();
     }
 
+    /// Removes all pairs. The memory of more than so many is given back.
+    pub(crate) fn empty(&mut self, alloc: Global, most_kept: usize)
+        ensures { self.new ≡ [] }
+    {
+        if self.len() > most_kept {
+            *self = Row::new(alloc);
+        } else {
+            self.clear();
+        }
+    }
+
     /// Has room for so many pairs more, if they fit or some before them do not.
     pub fn reserve(&mut self, count: usize) -> Result<(), AllocError>
         ensures { self.new ≡ self.old }
