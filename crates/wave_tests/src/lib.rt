@@ -9,6 +9,8 @@
 #[cfg(test)]
 mod bounds;
 #[cfg(test)]
+mod children;
+#[cfg(test)]
 mod clocks;
 #[cfg(test)]
 mod computed_tables;

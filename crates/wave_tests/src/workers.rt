@@ -49,7 +49,7 @@ impl<'a> Monitor for Watcher<'a> {
 }
 
 /// What a child says, to be compared: its answer, or its level and owner, and whether it is the complement of what is asked for.
-fn tell(child: Placed) -> Result<Ref, (u16, u32, bool)> {
+pub fn tell(child: Placed) -> Result<Ref, (u16, u32, bool)> {
     match child.view() {
         PlacedChild::Done(answer) => Ok(answer),
         PlacedChild::Ask {
@@ -61,7 +61,7 @@ fn tell(child: Placed) -> Result<Ref, (u16, u32, bool)> {
 }
 
 /// A store of the variables a, b, c at the levels 0, 1, 2 and the functions `a or b` and `a or c`.
-fn row_store(rt: &impl Abort, alloc: Global) -> Store
+pub fn row_store(rt: &impl Abort, alloc: Global) -> Store
     ensures { result.levels ≡ 3 }
 {
     let mut store = store_of(rt, alloc, 3);
@@ -71,7 +71,7 @@ fn row_store(rt: &impl Abort, alloc: Global) -> Store
 }
 
 /// The request for the conjunction of `a or b` and `a or c`.
-fn root_of(rt: &impl Abort, store: &Store) -> Key
+pub fn root_of(rt: &impl Abort, store: &Store) -> Key
     requires { store.now.levels ≡ 3 }
     ensures { IsKey store.now result }
 {
