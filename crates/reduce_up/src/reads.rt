@@ -5,7 +5,7 @@ ghost use Rattle.req_table.specs.Places.{row};
 ghost use Rattle.reduce_up.specs.Steps.{BothComeTo, MayReadLevel, IsPartRead, IsShareRead, AreAllRead, AreRead};
 
 use crate::division::{Divided, Homes};
-use crate::forks::fork_each;
+use crate::forks::fork_where_much;
 use crate::spare::Spare;
 use crate::up::{Level, resolve};
 use dd_store::Ref;
@@ -73,7 +73,10 @@ fn read_shares(alloc: Global, parts: usize, spare: &mut Spare) -> Result<Vec<Rea
     Ok(shares)
 }
 
-/// Reads all parts, each in the part's share and by a thread of its own.
+/// Fewer requests are read on the caller's thread: to start the threads takes as long.
+const FEWEST_READ: u64 = 1 << 14;
+
+/// Reads all parts, each in the part's share, and where there are many requests by a thread of its own.
 fn read_all<R: Threads + Sync>(rt: &R, alloc: Global, level: &Level<'_>, shares: &mut [ReadShare])
     requires long { length shares.old ≡ length level.now.parts.now }
     requires may { MayReadLevel level.now }
@@ -83,7 +86,7 @@ fn read_all<R: Threads + Sync>(rt: &R, alloc: Global, level: &Level<'_>, shares:
         requires { (part < length level.now.parts.now) × MayReadLevel level.now }
         ensures { IsShareRead level.entry.now part share.exit.now }
     { share.read(alloc, level, part) };
-    fork_each(rt, shares, &read);
+    fork_where_much(rt, level.len() >= FEWEST_READ, shares, &read);
 }
 
 /// What was read of each part, put side by side.
@@ -107,7 +110,7 @@ fn join_reads(
     Ok(LevelRead { parts, homes })
 }
 
-/// Reads all children of a level, each part's by a thread of its own.
+/// Reads all children of a level, where these are many each part's by a thread of its own.
 pub(crate) fn read_level<R: Threads + Sync>(
     rt: &R,
     alloc: Global,

@@ -4,6 +4,6 @@ use Rattle.reduce_up.proofs.reads.read_all.Goals as goal
 
 pub returns : goal.returns
 returns g c = λ k d lt.
-    let same = c.fork_each.auto.s in
-    let at = (c.fork_each.ensures k d (omega (arith, lt, same))).1 in
+    let same = c.fork_where_much.auto.s in
+    let at = (c.fork_where_much.ensures k d (omega (arith, lt, same))).1 in
     subst (IsShareRead c.args.level.now k) at.left at.call
