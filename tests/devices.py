@@ -62,6 +62,13 @@ class Devices:
         self.check("a long run, and what is told of it", Run(seen.status, seen.out, b""), silent)
         self.tally.check("lines of progress", is_told and len(told) <= seconds, seen)
 
+    def widest(self):
+        """A wave of sixteen million requests: the sum of 23 products, all first factors before all second ones."""
+        one, chain = self.file("one", products(23)), self.file("chain", products(23, "chain"))
+        seen = self.run("--order", "declared", "--workers", "4", one, chain, seconds=240)
+        equal = Run(0, lines("EQUAL o", "1 equal, 0 different, 0 unmatched"), b"")
+        self.check("a wave of sixteen million requests", seen, equal)
+
     def padded(self):
         """With 4,096 variables a number of four bytes has few bits for a place: shards that pass 16,384 nodes have parents in eight."""
         pad = netlist(";".join(f"INPUT(z{i})" for i in range(4096 - 2 * 19)))
@@ -382,6 +389,7 @@ def main():
     with kit.folder() as place:
         devices = Devices(sys.argv[1], place, tally)
         devices.progress()
+        devices.widest()
         devices.padded()
         devices.terminal()
         devices.late_progress()
