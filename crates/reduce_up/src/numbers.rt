@@ -15,7 +15,7 @@ ghost use Rattle.reduce_up.specs.Numbers.{IsRowNumbered, IsNumberedTo, IsShareNu
 ghost use Rattle.reduce_up.specs.Numbers.{AreAllNumbered, AreRowsNumbered, AreNumbered};
 
 use crate::forks::fork_where_much;
-use crate::starts::{all_starts, worker_count};
+use crate::starts::{all_starts, are_many, worker_count};
 use dd_store::Store;
 use expand_work::Notes;
 use req_table::requests::{level_of, owner};
@@ -235,20 +235,8 @@ fn number_roots(
     Ok(placed)
 }
 
-/// The children of fewer requests are numbered on the caller's thread: to start the threads takes as long.
-const FEWEST_NUMBERED: u64 = 1 << 15;
-
-/// How many requests all workers have, or as many as can be counted.
-fn request_count(shares: &[Share<'_>]) -> u64 {
-    let mut total: u64 = 0;
-    for share in shares {
-        total = total.saturating_add(share.rows.count());
-    }
-    total
-}
-
-/// Numbers the children of all workers, where there are many each worker's by a thread of its own.
-fn number_shares<R: Threads + Sync>(rt: &R, field: Field<'_>, shares: &mut [Share<'_>])
+/// Numbers the children of all workers, where there is much to do each worker's by a thread of its own.
+fn number_shares<R: Threads + Sync>(rt: &R, much: bool, field: Field<'_>, shares: &mut [Share<'_>])
     requires field { IsField field }
     requires shares { MayNumberAll field shares.old }
     ensures { AreAllNumbered field.entry shares.new }
@@ -257,7 +245,7 @@ fn number_shares<R: Threads + Sync>(rt: &R, field: Field<'_>, shares: &mut [Shar
         requires { IsSender field sender × (sender < 2 ^ 32) × IsNumberedTo field sender 0 share.now }
         ensures { IsShareNumbered field.entry sender share.exit.now }
     { share.done = share.number_rows(field, sender as u32) };
-    fork_where_much(rt, request_count(shares) >= FEWEST_NUMBERED, shares, &run);
+    fork_where_much(rt, much, shares, &run);
 }
 
 /// The rows of the shares, where there was memory for all.
@@ -298,9 +286,10 @@ pub(crate) fn number_all<R: Threads + Sync>(
         starts: starts.as_slice(),
         workers,
     };
+    let much = are_many(rows.as_slice());
     let mut shares = new_shares(field, rows)?;
     let all = shares.as_mut_slice();
     let placed = number_roots(field, roots, all)?;
-    number_shares(rt, field, all);
+    number_shares(rt, much, field, all);
     Ok((shared_rows(field, shares)?, placed))
 }

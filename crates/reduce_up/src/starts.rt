@@ -1,4 +1,4 @@
-//! How many requests workers have at each level, the workers one behind the other.
+//! How many requests workers have: at each level, the workers one behind the other, and whether they are many.
 ghost use Rattle.std.specs.Prelude.{◌≡◌, ◌++◌, ◌<◌, ◌^◌, length, All, List, IfOk, OnOk};
 ghost use Rattle.req_table.specs.declared.Record.{Record as RecordValue};
 ghost use Rattle.req_table.specs.Settled.{level_of_rows};
@@ -18,6 +18,18 @@ pub(crate) fn worker_count(rows: &Vec<Rows>) -> Result<u32, AllocError>
         return Err(AllocError);
     }
     Ok(count as u32)
+}
+
+/// The children of fewer requests are numbered on the caller's thread: to start the threads takes as long.
+const FEWEST_NUMBERED: u64 = 1 << 15;
+
+/// Whether the workers together have so many requests that threads number their children.
+pub(crate) fn are_many(rows: &[Rows]) -> bool {
+    let mut total: u64 = 0;
+    for own in rows {
+        total = total.saturating_add(own.count());
+    }
+    total >= FEWEST_NUMBERED
 }
 
 /// Adds how many requests of a level the workers before each have; OutOfMemory where 32 bits do not count them.
