@@ -1,15 +1,47 @@
-//! Children that the caller's thread asks for, where it expands a level and one by one.
+//! What children say, and those that the caller's thread asks for, where it expands a level and one by one.
 ghost use Rattle.std.specs.Prelude.{◌≡◌};
 ghost use Rattle.req_table.specs.Keys.{IsKey};
 
-use crate::requests::{request, variable};
-use crate::workers::{root_of, row_store, tell};
+use crate::requests::{either, make_either, request, request_for, store_of, variable};
 use dd_store::{Ref, Store};
 use expand_work::{Asking, Splits, expand_row};
 use req_table::requests::child;
-use req_table::{Key, Op, Row, Table, Waiting};
+use req_table::{Key, Op, Placed, PlacedChild, Row, Table, Waiting};
 use std::alloc::{AllocError, Global};
+use std::process::Abort;
 use std::test::Fail;
+
+/// What a child says, to be compared: its answer, or its level and owner, and whether it is the complement of what is asked for.
+pub fn tell(child: Placed) -> Result<Ref, (u16, u32, bool)> {
+    match child.view() {
+        PlacedChild::Done(answer) => Ok(answer),
+        PlacedChild::Ask {
+            level,
+            number: owner,
+            mark,
+        } => Err((level, owner, mark)),
+    }
+}
+
+/// A store of the variables a, b, c at the levels 0, 1, 2 and the functions `a or b` and `a or c`.
+pub fn row_store(rt: &impl Abort, alloc: Global) -> Store
+    ensures { result.levels ≡ 3 }
+{
+    let mut store = store_of(rt, alloc, 3);
+    make_either(rt, &mut store, 1);
+    make_either(rt, &mut store, 2);
+    store
+}
+
+/// The request for the conjunction of `a or b` and `a or c`.
+pub fn root_of(rt: &impl Abort, store: &Store) -> Key
+    requires { store.now.levels ≡ 3 }
+    ensures { IsKey store.now result }
+{
+    let first = either(rt, store, 1);
+    let second = either(rt, store, 2);
+    request_for(rt, store, Op::And, first, second)
+}
 
 /// The children of one request, the requests that wait once it was expanded, and how many were split.
 fn expand_alone(

@@ -5,13 +5,14 @@ ghost use Rattle.req_table.specs.Keys.{IsKey};
 ghost use Rattle.lane_queue.specs.PortView.{IsPortOf};
 ghost use Rattle.expand_work.specs.Worked.{IsFresh, IsWorked};
 
+use crate::children::{root_of, row_store, tell};
 use crate::lanes::{end, open};
 use crate::meeting::{TURNS, wait_for};
-use crate::requests::{either, make_either, request, request_for, store_of, variable};
+use crate::requests::{request, variable};
 use dd_store::{Ref, Store, Watch};
 use expand_work::{Free, Monitor, Part, Site, Space, WorkFault, work};
 use lane_queue::{Lanes, Port};
-use req_table::{Key, Op, Placed, PlacedChild, Row, Table};
+use req_table::{Key, Op, Row, Table};
 use std::alloc::Global;
 use std::process::Abort;
 use std::sync::Wait;
@@ -46,38 +47,6 @@ impl<'a> Monitor for Watcher<'a> {
     fn most_requests(&self) -> usize {
         usize::MAX
     }
-}
-
-/// What a child says, to be compared: its answer, or its level and owner, and whether it is the complement of what is asked for.
-pub fn tell(child: Placed) -> Result<Ref, (u16, u32, bool)> {
-    match child.view() {
-        PlacedChild::Done(answer) => Ok(answer),
-        PlacedChild::Ask {
-            level,
-            number: owner,
-            mark,
-        } => Err((level, owner, mark)),
-    }
-}
-
-/// A store of the variables a, b, c at the levels 0, 1, 2 and the functions `a or b` and `a or c`.
-pub fn row_store(rt: &impl Abort, alloc: Global) -> Store
-    ensures { result.levels ≡ 3 }
-{
-    let mut store = store_of(rt, alloc, 3);
-    make_either(rt, &mut store, 1);
-    make_either(rt, &mut store, 2);
-    store
-}
-
-/// The request for the conjunction of `a or b` and `a or c`.
-pub fn root_of(rt: &impl Abort, store: &Store) -> Key
-    requires { store.now.levels ≡ 3 }
-    ensures { IsKey store.now result }
-{
-    let first = either(rt, store, 1);
-    let second = either(rt, store, 2);
-    request_for(rt, store, Op::And, first, second)
 }
 
 /// What a worker does alone: one root, with tables that stay with their levels or that serve others.
