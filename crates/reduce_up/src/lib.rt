@@ -8,8 +8,9 @@
 //! requests are never too many (`unbounded`). `Sought` knows which entries a computed table answers, and puts answers and computed table
 //! together (`Sought::settle`: `answers`, `kept`, `refused`).
 //!
-//! **Only tests show** when threads share a level (4,096 records, two workers), read it (16,384) or number children (32,768 requests),
-//! how many, and that every width answers what the workers on one thread do (`wave_tests`).
+//! **Only tests show** when threads share a level (4,096 records, two workers) and how many, and that every width answers what the
+//! workers on one thread do (`wave_tests`). That they read it from 16,384 requests on, number children from 32,768 and pick diagrams
+//! from 65,536 is a matter of time alone, which nothing shows.
 //!
 //! **Begin** with `up`, one level after the other, of which a wide one goes to `wide` with `reads`, `division` and `picking`; then
 //! `waves`, for which `numbers` tells what workers asked each other for by place. `forks` has the map by threads of these, and of others
