@@ -22,16 +22,19 @@ use slot_table::Refusal;
 use std::fmt;
 use thiserror::Error;
 
+mod codes;
 mod level;
 mod makers;
 mod pairs;
 mod reference;
 mod size;
 mod store;
+mod words;
 
+pub use codes::{code, shard_of};
 pub use level::Watch;
 pub use makers::Makers;
-pub use reference::{NodeId, Ref, Reference, SHARDS, code, shard_of};
+pub use reference::{NodeId, Ref, Reference, SHARDS};
 pub use store::Store;
 
 /// Why a store has not made a node.

@@ -10,9 +10,10 @@ mod by_threads;
 mod reading;
 
 use crate::StoreFault;
+use crate::codes::shard_of_plain;
 use crate::level::Shard;
 use crate::pairs::PairTable;
-use crate::reference::{NodeId, Ref, Reference, SHARDS, marked_pair, shard_of_plain};
+use crate::reference::{NodeId, Ref, Reference, SHARDS, marked_pair};
 use slot_table::Admission;
 use std::alloc::{AllocError, Global};
 use std::marker::Model;

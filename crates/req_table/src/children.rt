@@ -84,7 +84,7 @@ impl Rows {
     {
         self.split.remove(level);
         let alloc = *self.rows.allocator();
-        self.rows[level as usize].empty(alloc, self.most_kept);
+        self.rows[level as usize].clear_keeping(alloc, self.most_kept);
     }
 
     /// Leaves so many levels without children. Only levels that had some are come to.

@@ -70,8 +70,8 @@ impl Row {
         self.pairs.clear();
     }
 
-    /// Removes all pairs. The memory of more than so many is given back.
-    pub(crate) fn empty(&mut self, alloc: Global, most_kept: usize)
+    /// Removes all pairs. The memory of at most so many serves on.
+    pub(crate) fn clear_keeping(&mut self, alloc: Global, most_kept: usize)
         ensures { self.new ≡ [] }
     {
         if self.len() > most_kept {

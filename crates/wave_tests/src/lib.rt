@@ -21,6 +21,8 @@ mod earlier;
 #[cfg(test)]
 mod expanded;
 #[cfg(test)]
+mod forks;
+#[cfg(test)]
 mod lanes;
 #[cfg(test)]
 mod least;

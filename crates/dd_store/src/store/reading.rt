@@ -5,7 +5,8 @@ ghost use Rattle.dd_store.specs.Marks.{is_marked};
 ghost use Rattle.dd_store.specs.Nodes.{node, children, low_of, high_of, cofactor_of, IsFound, shard_at};
 ghost use Rattle.slot_table.specs.Probes.{IsSlotCount};
 
-use crate::reference::{NodeId, Ref, Reference, SHARDS, marked_pair, shard_of_plain};
+use crate::codes::shard_of_plain;
+use crate::reference::{NodeId, Ref, Reference, SHARDS, marked_pair};
 use crate::store::Store;
 
 impl Store {
