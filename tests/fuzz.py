@@ -17,7 +17,7 @@ from dataclasses import replace
 import kit
 from answering import BY_CONES, CANDIDATES, TRIED, Case, answers, cones, judged, paired_of
 from judging import ORDERS, Refusal, judge
-from kit import FEATURES, Tally, run, say
+from kit import Tally, run, say
 
 WORDS = ["AND", "NAND", "OR", "NOR", "XOR", "XNOR", "NOT", "BUFF", "BUF"]
 WIDE = WORDS[:6]
@@ -44,7 +44,7 @@ def random_netlist(rng, inputs, gate_count, output_count):
     signals, statements = list(inputs), [("INPUT", name) for name in inputs]
     odd = rng.random() < 0.3
     new = [name for name in names(rng, gate_count + len(inputs), odd) if name not in inputs][:gate_count]
-    registers = new[: rng.randrange(3)] if FEATURES["registers"] and rng.random() < 0.5 else []
+    registers = new[: rng.randrange(3)] if rng.random() < 0.5 else []
     signals += registers
     for name in new[len(registers) :]:
         if not signals:
@@ -310,11 +310,9 @@ def damage(rng, case):
             setattr(case, place, text)
 
 
-KINDS = [*ORDERS, "list", "position", "sizes", "limit", "coned", "only", "share", "print", "input", "damaged"]
+KINDS = [*ORDERS, "list", "position", "sizes", "limit", "coned", "only", "share", "print", "input", "damaged", "given"]
 # Those that take the limits of each case.
 LIMITED = ("limit", "coned")
-if FEATURES["given"]:
-    KINDS.append("given")
 
 
 # Running.

@@ -7,8 +7,6 @@ from __future__ import annotations
 import re
 from dataclasses import dataclass
 
-from kit import FEATURES
-
 MOST_VARIABLES = 4096
 COUNTS_DIFFER = "the netlists have different numbers of inputs, outputs or registers"
 
@@ -180,10 +178,16 @@ def leaves(net, roots, rank=None):
 
 # The orders by their words. A new order is one line here, from the paired netlists to a list of names.
 # `best` is one of them.
-ORDERS = {"declared": Paired.declared, "depth": Paired.by_depth, "best": Paired.interleaved}
-if FEATURES["interleave"]:
-    ORDERS["interleave"] = Paired.interleaved
-ORDERS |= {"index": Paired.by_index, "force": Paired.by_force, "auto": Paired.declared, "cones": Paired.declared}
+ORDERS = {
+    "declared": Paired.declared,
+    "depth": Paired.by_depth,
+    "best": Paired.interleaved,
+    "interleave": Paired.interleaved,
+    "index": Paired.by_index,
+    "force": Paired.by_force,
+    "auto": Paired.declared,
+    "cones": Paired.declared,
+}
 
 
 def levels(paired, order):
@@ -267,7 +271,7 @@ def node_count(functions, count):
 
     def kept(tables, bits):
         """With marks a function and its complement are one."""
-        return {min(t, t ^ bits) for t in tables} if FEATURES["marks"] else set(tables)
+        return {min(t, t ^ bits) for t in tables}
 
     at_level, nodes = kept(functions, (1 << (1 << count)) - 1), 0
     for level in range(count):

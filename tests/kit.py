@@ -12,14 +12,6 @@ from dataclasses import dataclass
 
 TOP = pathlib.Path(__file__).resolve().parent.parent
 
-# What the program can do beyond its first form. A new option is turned on here, and then the fuzz takes it.
-FEATURES = {
-    "registers": True,  # registers are compared
-    "given": True,  # --given FILE
-    "interleave": True,  # --order interleave
-    "marks": True,  # a function and its complement share their nodes, which --sizes and --limit count
-}
-
 
 @dataclass
 class Run:

@@ -11,7 +11,7 @@ import kit
 from kit import TOP, Tally
 
 PROGRAM = "bddcheck"
-CRATES = ("crossbeam_queue", "crossbeam_utils", "rayon", "indexmap", "lru", "thiserror", "clap")
+CRATES = ("crossbeam_queue", "crossbeam_utils", "rayon", "indexmap", "lru", "thiserror", "clap", "itoa", "json")
 
 
 def named_by(text):

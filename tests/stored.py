@@ -19,14 +19,12 @@ The file has sections, each begun by a line `== ..`. Lines before the first one,
                                are undecided, and all others as in that answer
     == texts                   lines `TEXT => SAID`: the text, written as in Python, is refused beside itself by the line SAID, or where that
                                is `netlist` it is equal to itself
-    == when FEATURE            the runs from here on are made where FEATURES of kit.py has this on; `when not FEATURE`
-                               where it is off, `always` ever
 """
 import shlex
 import sys
 
 import kit
-from kit import FEATURES, TOP, Tally, run
+from kit import TOP, Tally, run
 
 
 def sections(text):
@@ -160,24 +158,13 @@ def try_texts(program, tally, place, _files, _head, body):
 TRIED = {"run": try_run, "ways": try_ways, "order": try_order, "best": try_best, "texts": try_texts}
 
 
-def holds(words):
-    """Whether the features are as a head `when ..` or `always` wants."""
-    if words == ["always"]:
-        return True
-    return FEATURES[words[-1]] == (words[:-1] == ["when"])
-
-
 def main():
-    tally, files, is_on = Tally("stored"), {}, True
+    tally, files = Tally("stored"), {}
     with kit.folder() as place:
         for head, body in sections((TOP / "tests" / "stored.txt").read_text()):
             kind, _, rest = head.partition(" ")
-            if kind in ("when", "always"):
-                is_on = holds(head.split())
-                continue
             if kind in TRIED:
-                if is_on:
-                    TRIED[kind](sys.argv[1], tally, place, files, head, body)
+                TRIED[kind](sys.argv[1], tally, place, files, head, body)
                 continue
             name = rest.split()[0]
             if kind == "copy":
