@@ -5,11 +5,11 @@ ghost use Rattle.dd_store.specs.Nodes.{Nodes};
 ghost use Rattle.req_table.specs.declared.Child.{Child as ChildValue};
 ghost use Rattle.req_table.specs.declared.placed.Placed.{Placed as PlacedValue};
 ghost use Rattle.req_table.specs.Keys.{IsKey, IsChildIn, owner as owner_spec};
-ghost use Rattle.req_table.specs.Places.{IsPlaced, Admits};
+ghost use Rattle.req_table.specs.Places.{row as at, IsPlaced, Admits};
 ghost use Rattle.req_table.specs.Settled.{dealt_from};
 ghost use Rattle.expand_work.specs.Due.{asked_of, Owes};
 ghost use Rattle.expand_work.specs.Taken.{AreTaken};
-ghost use Rattle.expand_work.specs.Work.{at, owned_by, with_levels};
+ghost use Rattle.expand_work.specs.Work.{owned_by, with_levels};
 
 use crate::due::Due;
 use crate::{Spare, Splits};
@@ -133,7 +133,8 @@ pub fn deal_roots(
     requires none { asks.old.due ≡ replicate asks.old.workers [] }
     ensures long { OnOk result (length asks.new.due ≡ asks.old.workers) }
     ensures due { OnOk result ((k : ℕ) → k < asks.old.workers
-        → at asks.new.due k ≡ with_levels store.now (filter (owned_by asks.old.workers k) (dealt_from asks.old.workers number 0 roots.now))) }
+        → at asks.new.due k ≡ with_levels store.now (filter (owned_by asks.old.workers k)
+        (dealt_from asks.old.workers number 0 roots.now))) }
 {
     for (place, key) in roots.iter().enumerate() {
         if place % asks.workers as usize == number as usize {

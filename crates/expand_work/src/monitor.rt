@@ -22,6 +22,7 @@ pub trait Monitor: Watch + Sync {
     // The most requests that a wave of an engine may have, where they are bounded.
     ghost bound: { Self → Option ℕ } = { λ _. None };
 
+    /// Is told by a worker that has closed a level, before it expands it.
     fn at_level(&self, worker: u32, level: u16);
 
     /// The most requests that a level may have before a wave that began on the caller's thread calls in so many workers, where so many

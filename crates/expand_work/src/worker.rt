@@ -1,8 +1,11 @@
 //! One worker of a wave, level by level.
-ghost use Rattle.std.specs.Prelude.{◌≡◌, ◌+◌, ◌<◌, All, IfOk, OnOk};
+ghost use Rattle.std.specs.Prelude.{◌≡◌, ◌+◌, ◌<◌, ◌%◌, ◌^◌, [], length, All, IfOk, OnOk};
 ghost use Rattle.req_table.specs.Keys.{IsKey};
 ghost use Rattle.req_table.specs.Sizes.{sizes_of};
 ghost use Rattle.lane_queue.specs.PortView.{IsPortOf};
+ghost use Rattle.expand_work.specs.Due.{Owes};
+ghost use Rattle.expand_work.specs.Taken.{AreTaken};
+ghost use Rattle.req_table.specs.Places.{row as at};
 ghost use Rattle.expand_work.specs.Working.{IsWorking, HasSpoken, IsClosing};
 ghost use Rattle.expand_work.specs.Worked.{IsFresh, IsWorked};
 
@@ -16,7 +19,7 @@ use crate::{Monitor, Part, Space, Splits, WorkFault};
 use dd_store::Store;
 use lane_queue::Port;
 use level_close::Clock;
-use req_table::Rows;
+use req_table::{Row, Rows};
 use std::alloc::{AllocError, Global};
 use std::sync::Wait;
 use std::sync::atomic::Ordering;
@@ -51,6 +54,32 @@ fn speak<R: Wait>(rt: &R, site: Site<'_>, worker: &mut Worker, level: u16) -> Re
     send_ends(rt, site.lanes, port, level)
 }
 
+// Expands the level's keys into the row, and leaves their table. How many were expanded.
+fn expand_keys(
+    site: Site<'_>,
+    tables: &mut Tables,
+    level: u16,
+    asks: &mut ByOwner,
+    row: &mut Row,
+) -> Result<usize, AllocError>
+    requires level { level < length tables.old }
+    requires keys { All (IsKey site.store.now) (at tables.old level) }
+    requires asks { (length asks.old.due ≡ asks.old.workers) × (0 < asks.old.workers) }
+    requires empty { row.old ≡ [] }
+    ensures tables { OnOk result (tables.new ≡ tables.old) }
+    ensures taken { OnOk result (AreTaken Owes site.entry.store.now asks.old (at tables.old level) row.new asks.new) }
+    ensures count { IfOk result (λ n. n ≡ length (at tables.old level) % 2 ^ 64) }
+{
+    let Some(keys) = tables.take(level) else {
+        // No level is expanded twice.
+        return Err(AllocError);
+    };
+    let mut splits = Splits::new();
+    expand_row(site.store, &keys, asks, row, &mut splits)?;
+    tables.leave(level, keys, site.keeps)?;
+    Ok(splits.count())
+}
+
 // Expands the level's keys, once it is closed, and tells the monitor how many.
 fn expand_level<G: Monitor>(
     site: Site<'_>,
@@ -77,20 +106,14 @@ fn expand_level<G: Monitor>(
     } = senders;
     let mut row = rows.take(level);
     row.clear();
-    let Some(keys) = tables.take(level) else {
-        // No level is expanded twice.
-        return Err(AllocError);
-    };
     let workers = site.lanes.count();
     let mut asks = ByOwner {
         due,
         spare,
         workers,
     };
-    let mut splits = Splits::new();
-    expand_row(site.store, &keys, &mut asks, &mut row, &mut splits)?;
-    tables.leave(level, keys, site.keeps)?;
-    monitor.at_requests(splits.count());
+    let count = expand_keys(site, &mut tables, level, &mut asks, &mut row)?;
+    monitor.at_requests(count);
     rows.put(level, row);
     let ByOwner { due, spare, .. } = asks;
     let senders = Senders {
