@@ -1,6 +1,6 @@
 -- What is due from a worker is cut into bundles, front first.
 use Rattle.std.proofs.Common.{◌≡◌, ℕ, zero, suc, ◌-◌, ◌<◌, List, [], ◌∷◌, ◌++◌, Option, None, Some, take, drop, length, refl, sym, ap, ◌∙◌, subst, arith, append_assoc}
-use Rattle.std.proofs.lemmas.List.{length-append, length-drop, length-take, take_all, take-append-drop}
+use Rattle.std.proofs.lemmas.List.{length-append, length-drop, take_all, take-append-drop}
 use Rattle.std.proofs.Math.Seq.{take-append_seam, drop-append_seam}
 use Rattle.std.specs.List.{flat_map}
 use Rattle.std.specs.Prelude.{MatchOption}
@@ -50,6 +50,3 @@ cut_all asks bundle left h = (λ i. h.first i ++ h.rest i) ∙ take-append-drop 
 
 pub cut_less : (asks bundle left : List (ℕ × Key)) → IsCut asks bundle left → length left ≡ length asks - ROOM
 cut_less asks bundle left h = ap (λ (l : List (ℕ × Key)). length l) h.rest ∙ length-drop ROOM asks
-
-pub cut_some : (asks bundle left : List (ℕ × Key)) → IsCut asks bundle left → 0 < length bundle
-cut_some asks bundle left h = let e = ap (λ (l : List (ℕ × Key)). length l) h.first ∙ length-take ROOM asks in let some = h.some in omega (arith, e, some)

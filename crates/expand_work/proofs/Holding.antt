@@ -15,7 +15,8 @@ use Rattle.lane_queue.specs.PortView.{LanesView, PortView, sent_to, has_kept, Is
 use Rattle.lane_queue.proofs.Facts.{fair-more, load-mine, of-mine}
 use Rattle.lane_queue.proofs.Keeping.{sent-own, sent-other}
 use Rattle.expand_work.specs.Work.{MaySend, HasKept, Offered, IsHeard, StaysClosed}
-use Rattle.expand_work.proofs.Saying.{ends-asked, same_port, port_on, still_of}
+use Rattle.lane_queue.proofs.Counts.{ends-asks}
+use Rattle.expand_work.proofs.Saying.{same_port, port_on, still_of}
 use Rattle.expand_work.proofs.Hearing.{closed_more, stays_on, stays_same}
 use Rattle.expand_work.specs.Due.{IsCut}
 use Rattle.expand_work.specs.Noted.{IsNoted, Notes}
@@ -38,7 +39,7 @@ hold-start p e = record { kept = kept-none p; all = e }
 kept-ends : (p q : PortView) (asks : List (ℕ × Key)) → HasKept p q (map (ask_of p.number) asks) → ends (sent_to q q.number) ≡ ends (sent_to p p.number)
 kept-ends p q asks kept =
     let a = ap (λ k. ends (sent_to q k)) kept.port.0 ∙ ap ends kept.own ∙ ends-append (sent_to p p.number) (map (ask_of p.number) asks) in
-    let z = ends-asked p.number asks in omega (arith, a, z)
+    let z = ends-asks p.number asks in omega (arith, a, z)
 
 module _ (l : LanesView) (p : PortView) (asks : List (ℕ × Key)) (o : IsPortOf l p) (may : MaySend l p p.number asks) where
   wide : length p.lanes ≡ length l.lanes
@@ -172,6 +173,3 @@ module _ (l : LanesView) (p q : PortView) (clock : Counts) (ts us : List (List K
         places = subst (λ xs. IsNoted (length l.lanes) xs vs noted') (sym kept.taken)
             (asks_noted (length l.lanes) q.number bundle q.taken us vs noted noted' h.places (subst (λ n. Notes n bundle us vs noted noted') (sym n-is) notes));
       }
-
-pub keeping-all : (l : LanesView) (p q : PortView) (clock : Counts) (ts us : List (List Key)) (noted : List (List ℕ)) (asks left : List (ℕ × Key)) → left ≡ [] → Keeping l p q clock ts us noted asks left → HasKept p q (map (ask_of p.number) asks)
-keeping-all l p q clock ts us noted asks left none h = subst (λ xs. HasKept p q (map (ask_of p.number) xs)) (sym (append-nil h.gone) ∙ ap (λ xs. h.gone ++ xs) (sym none) ∙ h.all) h.kept

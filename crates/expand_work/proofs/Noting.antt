@@ -1,5 +1,5 @@
 -- The places that a worker notes of what it takes and keeps.
-use Rattle.std.proofs.Common.{◌≡◌, ◌≢◌, ℕ, ◌+◌, ◌<◌, Bool, true, false, cond, eqb, inl, inr, List, [], ◌∷◌, ◌++◌, length, map, get_or, set, slice_get, Some, refl, sym, ap, ◌∙◌, subst, arith, append_assoc, append-nil, get_or-set_same, get_or-set_other}
+use Rattle.std.proofs.Common.{◌≡◌, ◌≢◌, ℕ, ◌+◌, ◌<◌, true, false, cond, eqb, inl, inr, List, [], ◌∷◌, ◌++◌, length, map, get_or, set, slice_get, Some, refl, sym, ap, ◌∙◌, subst, arith, append_assoc, append-nil, get_or-set_same, get_or-set_other}
 use Rattle.std.specs.List.{AllZip}
 use Rattle.std.proofs.lemmas.List.{length-set, length-map, get_or-replicate, length-replicate}
 use Rattle.std.specs.Prelude.{replicate}
@@ -12,21 +12,15 @@ use Rattle.req_table.specs.declared.Item.TheVariants.{Ask, End}
 use Rattle.req_table.specs.Wave.{Scope}
 use Rattle.req_table.specs.Lanes.{sent_by, asks, IsFairFrom}
 use Rattle.req_table.specs.Settled.{Admits}
-use Rattle.req_table.specs.Tables.{Offers}
 use Rattle.req_table.proofs.Fair.{sent_by-append}
 use Rattle.lane_queue.specs.declared.load.Load.TheVariants.{Bundle}
 use Rattle.lane_queue.specs.Loads.{ask_of}
 use Rattle.lane_queue.proofs.Facts.{load-mine, load-other}
 use Rattle.lane_queue.specs.PortView.{LanesView, PortView, IsPortOf}
 use Rattle.expand_work.specs.Work.{at}
-use Rattle.expand_work.specs.Noted.{Enters, EntersAt, StandsAt, leveled, IsNoted, Notes}
+use Rattle.expand_work.specs.Noted.{EntersAt, StandsAt, leveled, IsNoted, Notes}
 use Rattle.dd_store.proofs.Noting.{zip_push, zip_append}
 use Rattle.expand_work.proofs.Zips.{zip_weaker}
-
--- ---- a table that a key was offered to
-pub offered_enters : (ks new : List Key) (x : Key) (p : ℕ) (fresh : Bool) → Offers ks x fresh new → slice_get new p ≡ Some x → Enters ks x p new
-offered_enters ks new x p true o at = (inr (o.0, sym o.1), at)
-offered_enters ks new x p false o at = (inl (o.0, sym o.1), at)
 
 -- what stood in a table stands in it
 admits_stands : (ys xs zs : List Key) (p : ℕ) (x : Key) → Admits ys xs zs → slice_get ys p ≡ Some x → slice_get zs p ≡ Some x

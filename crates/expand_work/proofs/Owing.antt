@@ -1,5 +1,5 @@
 -- What becomes due goes to its owner.
-use Rattle.std.proofs.Common.{◌≡◌, ℕ, ◌+◌, ◌%◌, ◌<◌, Bool, true, false, cond, eqb, List, [], ◌∷◌, ◌++◌, length, get_or, set, filter, take, refl, sym, ap, ◌∙◌, subst, arith, append-nil, append_assoc, eqb-true, eq-eqb, get_or-set_same, get_or-set_other}
+use Rattle.std.proofs.Common.{◌≡◌, ℕ, ◌+◌, ◌%◌, ◌<◌, Bool, true, false, cond, eqb, List, [], ◌∷◌, ◌++◌, length, get_or, filter, take, refl, sym, ap, ◌∙◌, arith, append-nil, append_assoc, eqb-true, eq-eqb}
 use Rattle.std.proofs.lemmas.List.{map-append, take_more, length-take}
 use Rattle.std.proofs.lemmas.List.Elements.{filter-append}
 use Rattle.dd_store.specs.Nodes.{Nodes}
@@ -12,14 +12,6 @@ use Rattle.req_table.specs.Settled.{asked, asked_by, dealt_from}
 use Rattle.expand_work.specs.Due.{asked_of, due_by}
 use Rattle.expand_work.specs.Work.{at, owned_by, with_levels, keys_in}
 use Rattle.expand_work.proofs.Counting.{asked_by-append}
-
--- the owner's list has one more request
-pub at_owner : (n : ℕ) (xs : List (List (ℕ × Key))) (l : ℕ) (x : Key) (k : ℕ) → owner n x < length xs → at (set xs (owner n x) (at xs (owner n x) ++ (l, x) ∷ [])) k ≡ at xs k ++ filter (asked_of n k) ((l, x) ∷ [])
-at_owner n xs l x k lt =
-    elim (eqb (owner n x) k) as (λ b. eqb (owner n x) k ≡ b → at (set xs (owner n x) (at xs (owner n x) ++ (l, x) ∷ [])) k ≡ at xs k ++ cond b ((l, x) ∷ []) []) [
-      | true ↦ λ q. subst (λ m. at (set xs (owner n x) (at xs (owner n x) ++ (l, x) ∷ [])) m ≡ at xs m ++ (l, x) ∷ []) (eqb-true (owner n x) k q) (get_or-set_same xs (owner n x) (at xs (owner n x) ++ (l, x) ∷ []) [] lt)
-      | false ↦ λ q. get_or-set_other xs (owner n x) k (at xs (owner n x) ++ (l, x) ∷ []) [] (λ i. let z = sym q ∙ eq-eqb (owner n x) k (sym i) in cc) ∙ sym (append-nil (at xs k))
-    ] refl
 
 -- ---- told with the levels
 pub one_due : (S : Nodes) (n k l : ℕ) (x : Key) → l ≡ level_of S x → filter (asked_of n k) ((l, x) ∷ []) ≡ with_levels S (filter (owned_by n k) (x ∷ []))

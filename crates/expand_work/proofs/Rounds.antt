@@ -24,7 +24,8 @@ use Rattle.expand_work.specs.Working.{IsWorking}
 use Rattle.expand_work.specs.Noted.{IsNoted}
 use Rattle.expand_work.proofs.Levels.{key_held, advances, loads-more, all-own}
 use Rattle.expand_work.proofs.Waves.{lanes_laws}
-use Rattle.expand_work.proofs.Saying.{ends-asked, still_of, may_still}
+use Rattle.lane_queue.proofs.Counts.{ends-asks}
+use Rattle.expand_work.proofs.Saying.{still_of, may_still}
 use Rattle.expand_work.proofs.Owing.{keys_levels}
 use Rattle.expand_work.proofs.Parting.{ends_of_closed}
 use Rattle.expand_work.proofs.Hearing.{stays_on}
@@ -80,9 +81,6 @@ module _ (l : LanesView) (s : Nodes) (roots : List Key) (v : ℕ) (w : Worker) (
   pub port_due : IsPortOf l p
   port_due = still_of l w.port p s1.port h.port
 
-  pub heard_due : IsHeard (lanes_scope l) p.taken w.senders.clock w.tables
-  heard_due = subst (λ xs. IsHeard (lanes_scope l) xs w.senders.clock w.tables) (sym s1.taken) h.heard
-
   pub own_may : MaySend l p p.number (at left p.number)
   own_may = subst (λ (y : ℕ × List (ℕ × Key)). MaySend l p y.0 y.1) (λ j. (sym own-is j, sym own_due j)) (may_still l w.port p w.port.number (at w.due w.port.number) own-is s1.taken own_same (due_may l s roots v w h w.port.number h.within))
 
@@ -115,7 +113,7 @@ module _ (l : LanesView) (s : Nodes) (roots : List Key) (v : ℕ) (w : Worker) (
     pub ended_before : (k : ℕ) → k < length l.lanes → ends (sent_to q k) ≡ v
     ended_before k kb =
         ap ends (sent_all k kb) ∙ ends-append (sent_to w.port k) (map (ask_of w.port.number) (at w.due k))
-        ∙ (let a = h.level.ended k kb in let z = ends-asked w.port.number (at w.due k) in omega (arith, a, z))
+        ∙ (let a = h.level.ended k kb in let z = ends-asks w.port.number (at w.due k) in omega (arith, a, z))
 
     -- ---- the level's Ends were sent, and it was closed
     module _ (p2 p3 : PortView) (clock : Counts) (heldt tables : List (List Key)) (row : List (Placed × Placed)) (due : List (List (ℕ × Key))) (taken rows : List (List (Placed × Placed)))

@@ -1,7 +1,6 @@
 -- A worker sends bundles, lane after lane.
-use Rattle.std.proofs.Common.{◌≡◌, ◌≢◌, ℕ, ◌+◌, ◌-◌, ◌<◌, ◌≤◌, true, false, cond, ltb, List, [], ◌∷◌, ◌++◌, map, replicate, length, set, All, refl, sym, ap, ◌∙◌, subst, arith, append_assoc, append-nil, eq-eqb, ne_eqb, get_or-set_same, get_or-set_other}
-use Rattle.std.proofs.lemmas.List.{map-append, length-map, length-set, length-replicate, get_or-replicate, get_or_past, ext_get_or}
-use borrow.Author.Tests.{ltb-true}
+use Rattle.std.proofs.Common.{◌≡◌, ◌≢◌, ℕ, ◌+◌, ◌-◌, ◌<◌, ◌≤◌, List, [], ◌++◌, map, replicate, length, set, All, refl, sym, ap, ◌∙◌, subst, arith, append_assoc, append-nil, get_or-set_same, get_or-set_other}
+use Rattle.std.proofs.lemmas.List.{map-append, length-map, length-set, length-replicate, get_or-replicate, ext_get_or}
 use mathlib.Core.Logic.{dite}
 use native.Mathlib.Decide.{ℕ_discrete}
 use Rattle.req_table.specs.declared.Key.{Key}
@@ -11,15 +10,12 @@ use Rattle.req_table.proofs.Fair.{ends-append}
 use Rattle.req_table.proofs.Lists.{Has, each, all_of, map_has, Has-append_left, Has-append_right}
 use Rattle.lane_queue.specs.declared.load.Load.{Load}
 use Rattle.lane_queue.specs.Loads.{ask_of, items_in}
+use Rattle.lane_queue.proofs.Counts.{ends-asks}
 use Rattle.lane_queue.specs.PortView.{LanesView, PortView, sent_to, put_to, has_put, IsPortOf, MayLeave, lanes_scope}
 use Rattle.expand_work.specs.Due.{IsCut, IsLeft}
 use Rattle.expand_work.specs.Parts.{bundles}
-use Rattle.expand_work.specs.Work.{at, MaySend, IsSamePort, SentTo, SentToAll, put_items, put_loads}
+use Rattle.expand_work.specs.Work.{at, MaySend, IsSamePort, SentTo}
 use Rattle.expand_work.proofs.Cutting.{cut_all, cut_less}
-
-pub ends-asked : (n : ℕ) (asks : List (ℕ × Key)) → ends (map (ask_of n) asks) ≡ 0
-ends-asked n [] = refl
-ends-asked n (a ∷ more) = ends-asked n more
 
 -- ---- ports that are the same
 pub same_port : (p : PortView) → IsSamePort p p
@@ -84,7 +80,7 @@ module _ (l : LanesView) (p q : PortView) (to : ℕ) (asks left bundle rest : Li
   ends-then : ends (sent_to q to) ≡ ends (sent_to p to)
   ends-then =
       let a = ap ends d.sent.sent ∙ ends-append (sent_to p to) (map (ask_of p.number) d.gone) in
-      let z = ends-asked p.number d.gone in omega (arith, a, z)
+      let z = ends-asks p.number d.gone in omega (arith, a, z)
 
   among : (a : ℕ × Key) → Has bundle a → Has asks a
   among a h = subst (λ xs. Has xs a) (ap (λ xs. d.gone ++ xs) (cut_all left bundle rest cut) ∙ d.all) (Has-append_right d.gone (bundle ++ rest) a (Has-append_left bundle rest a h))
@@ -112,45 +108,7 @@ module _ (l : LanesView) (p q : PortView) (to : ℕ) (asks left bundle rest : Li
     count = let n = cut_less left bundle rest cut in let c = d.count in let some = cut.some in omega (arith, n, c, some);
   }
 
-pub sending-all : (p q : PortView) (to : ℕ) (asks left : List (ℕ × Key)) → left ≡ [] → Sending p q to asks left → SentTo p q to (map (ask_of p.number) asks) (bundles (length asks))
-sending-all p q to asks left none d =
-    let gone-is : d.gone ≡ asks = sym (append-nil d.gone) ∙ ap (λ xs. d.gone ++ xs) (sym none) ∙ d.all in
-    let loads-is : d.loads ≡ bundles (length asks) = (let c = d.count in let z = ap (λ (xs : List (ℕ × Key)). length xs) none in omega (arith, c, z)) in
-    subst (λ (u : List (ℕ × Key) × ℕ). SentTo p q to (map (ask_of p.number) u.0) u.1) (λ j. (gone-is j, loads-is j)) d.sent
-
 -- ---- lane after lane
-pub all-none : (p : PortView) (items : ℕ → List Item) (loads : ℕ → ℕ) → SentToAll p p 0 items loads
-all-none p items loads = record {
-  port = same_port p;
-  taken = refl;
-  sent = λ k lt. absurd (omega (arith, lt));
-  rest = λ k le. refl;
-  put = λ k lt. absurd (omega (arith, lt));
-  rest_put = λ k le. refl;
-}
-
-pub all-more : (p q r : PortView) (to : ℕ) (items : ℕ → List Item) (loads : ℕ → ℕ) → SentToAll p q to items loads → SentTo q r to (items to) (loads to) → SentToAll p r (to + 1) items loads
-all-more p q r to items loads a b = record {
-  port = port_on p q r a.port b.port;
-  taken = b.taken ∙ a.taken;
-  sent = λ k lt. dite (ℕ_discrete k to)
-      (λ e. subst (λ n. sent_to r n ≡ sent_to p n ++ items n) (sym e) (b.sent ∙ ap (λ l. l ++ items to) (a.rest to (omega arith))))
-      (λ n. b.others k n ∙ a.sent k (omega (arith, lt, n)));
-  rest = λ k le. b.others k (λ e. omega (arith, le, e)) ∙ a.rest k (omega (arith, le));
-  put = λ k lt. dite (ℕ_discrete k to)
-      (λ e. subst (λ n. put_to r n ≡ put_to p n + loads n) (sym e) (b.put ∙ ap (λ n. n + loads to) (a.rest_put to (omega arith))))
-      (λ n. b.others_put k n ∙ a.put k (omega (arith, lt, n)));
-  rest_put = λ k le. b.others_put k (λ e. omega (arith, le, e)) ∙ a.rest_put k (omega (arith, le));
-}
-
--- what is due on a lane: nothing on its own, where it keeps
-module _ (s : ℕ) (due : ℕ → List (ℕ × Key)) (q r : PortView) (to : ℕ) where
-  pub due-own : s ≡ to → SentTo q q to (put_items s due to) (put_loads s due to)
-  due-own e = subst (λ (u : List Item × ℕ). SentTo q q to u.0 u.1) (λ j. (sym (ap (λ b. cond b [] (map (ask_of s) (due to))) (eq-eqb s to e)) j, sym (ap (λ b. cond b 0 (bundles (length (due to)))) (eq-eqb s to e)) j)) (sent_none q to)
-
-  pub due-other : s ≢ to → SentTo q r to (map (ask_of s) (due to)) (bundles (length (due to))) → SentTo q r to (put_items s due to) (put_loads s due to)
-  due-other n h = subst (λ (u : List Item × ℕ). SentTo q r to u.0 u.1) (λ j. (sym (ap (λ b. cond b [] (map (ask_of s) (due to))) (ne_eqb s to n)) j, sym (ap (λ b. cond b 0 (bundles (length (due to)))) (ne_eqb s to n)) j)) h
-
 -- what may be sent on a lane may be still, where others were sent to
 pub may_still : (l : LanesView) (p q : PortView) (to : ℕ) (asks : List (ℕ × Key)) → q.number ≡ p.number → q.taken ≡ p.taken → sent_to q to ≡ sent_to p to → MaySend l p to asks → MaySend l q to asks
 may_still l p q to asks number taken s h = record {
@@ -167,37 +125,6 @@ pub record IsLeftBelow (s n : ℕ) (due left : List (List (ℕ × Key))) : Type 
   pub own : at left s ≡ at due s
   pub gone : (k : ℕ) → k < n → k ≢ s → at left k ≡ []
   pub rest : (k : ℕ) → n ≤ k → at left k ≡ at due k
-
-pub left-start : (s : ℕ) (due : List (List (ℕ × Key))) → IsLeftBelow s 0 due due
-left-start s due = record { long = refl; own = refl; gone = λ k lt n. absurd (omega (arith, lt)); rest = λ k le. refl }
-
-pub left-own : (s to : ℕ) (due left : List (List (ℕ × Key))) → s ≡ to → IsLeftBelow s to due left → IsLeftBelow s (to + 1) due left
-left-own s to due left is h = record {
-  long = h.long;
-  own = h.own;
-  gone = λ k lt n. h.gone k (omega (arith, lt, n, is)) n;
-  rest = λ k le. h.rest k (omega (arith, le));
-}
-
-pub left-more : (s to : ℕ) (due left new : List (List (ℕ × Key))) → s ≢ to → to < length due → new ≡ set left to [] → IsLeftBelow s to due left → IsLeftBelow s (to + 1) due new
-left-more s to due left new other tb is h = record {
-  long = ap (λ (d : List (List (ℕ × Key))). length d) is ∙ length-set left to [] ∙ h.long;
-  own = ap (λ d. at d s) is ∙ get_or-set_other left to s [] [] other ∙ h.own;
-  gone = λ k lt n. ap (λ d. at d k) is ∙ (dite (ℕ_discrete k to)
-      (λ e. subst (λ m. at (set left to []) m ≡ []) (sym e) (get_or-set_same left to [] [] (let z = h.long in omega (arith, z, tb))))
-      (λ m. get_or-set_other left to k [] [] m ∙ h.gone k (omega (arith, lt, m)) n));
-  rest = λ k le. ap (λ d. at d k) is ∙ get_or-set_other left to k [] [] (λ e. omega (arith, le, e)) ∙ h.rest k (omega (arith, le));
-}
-
-pub left-all : (s n : ℕ) (due left : List (List (ℕ × Key))) → length due ≡ n → IsLeftBelow s n due left → IsLeft s due left
-left-all s n due left long h = record {
-  long = h.long;
-  own = h.own;
-  others = λ k m. elim (ltb k n) as (λ b. ltb k n ≡ b → at left k ≡ []) [
-    | true ↦ λ t. h.gone k (ltb-true k n t) m
-    | false ↦ λ t. h.rest k (grind (arith, t)) ∙ get_or_past due k [] (grind (arith, t, long))
-  ] refl;
-}
 
 -- and then the worker's own are gone
 pub none_due : (s n : ℕ) (due left new : List (List (ℕ × Key))) → length due ≡ n → s < n → IsLeft s due left → new ≡ set left s [] → new ≡ replicate n []

@@ -1,5 +1,5 @@
 -- A worker before its first level, and after its last.
-use Rattle.std.proofs.Common.{◌≡◌, ℕ, ◌<◌, ◌≤◌, List, [], Some, replicate, filter, map, length, get_or, All, refl, sym, ap, ◌∙◌, subst, arith}
+use Rattle.std.proofs.Common.{◌≡◌, ℕ, ◌<◌, ◌≤◌, List, [], replicate, filter, map, length, get_or, All, refl, sym, ap, ◌∙◌, subst, arith}
 use Rattle.std.proofs.lemmas.List.{length-map, length-replicate, get_or-replicate, ext_get_or}
 use Rattle.std.proofs.Math.ListN as listn
 use Rattle.std.proofs.lemmas.List.Elements.{All-nil}
@@ -111,6 +111,3 @@ ends_worked l S roots n w p h lists num is =
       };
       put = λ k kb. h.put k kb ∙ ap (λ m. loads_of S.levels m k (sent_to w.port k)) num;
     })
-
-pub width : (l : LanesView) (p : PortView) → IsPortOf l p → length p.lanes ≡ length l.lanes
-width l p o = ap (λ q. length q) o.0 ∙ length-map l.lanes (λ q. Some q)

@@ -1,5 +1,5 @@
 -- The threads of a wave, by the ports that they work for.
-use Rattle.std.proofs.Common.{◌≡◌, ◌≢◌, All, ℕ, ◌+◌, ◌<◌, ◌≤◌, Bool, true, false, if◌then◌else◌, IfOk, Err, List, length, slice_index_or, [], ◌∷◌, ◌++◌, refl, sym, ap, ◌∙◌, subst, arith, length-append, append-nil}
+use Rattle.std.proofs.Common.{◌≡◌, ◌≢◌, ℕ, ◌+◌, ◌<◌, ◌≤◌, Bool, true, false, if◌then◌else◌, IfOk, Err, List, length, slice_index_or, [], ◌∷◌, ◌++◌, refl, sym, ap, ◌∙◌, subst, arith, length-append, append-nil}
 use Rattle.std.specs.declared.thread.PromisedHandle.{PromisedHandle}
 use Rattle.std.specs.declared.result.Result.{Result}
 use Rattle.std.specs.List.{AllZip}
@@ -9,13 +9,13 @@ use Rattle.std.proofs.lemmas.List.{get_or_append_left}
 use Rattle.std.proofs.Math.Seq.{get_or-append_seam}
 use mathlib.Core.Logic.{dite}
 use native.Mathlib.Decide.{ℕ_discrete}
-use Rattle.lane_queue.specs.PortView.{LanesView, PortView, IsPortOf}
+use Rattle.lane_queue.specs.PortView.{LanesView, PortView}
 use Rattle.expand_work.specs.declared.part.Part.{Part}
 use Rattle.expand_work.specs.declared.fault.WorkFault.{WorkFault}
 use Rattle.expand_work.specs.declared.fault.WaveFault.{WaveFault}
 use Rattle.expand_work.specs.declared.fault.WaveFault.TheVariants.{NoWorker}
 use Rattle.expand_work.specs.declared.team.PartOf.{PartOf}
-use Rattle.expand_work.specs.Worked.{IsFresh, IsWorked}
+use Rattle.expand_work.specs.Worked.{IsWorked}
 use Rattle.expand_work.specs.Team.{AreNew, AreStarted, AreWorked, IsPromised, WorksFor}
 use Rattle.expand_work.proofs.Zips.{zip_at, zip_long}
 
@@ -59,18 +59,6 @@ module _ (l : LanesView) (ports rest : List PortView) (own : PortView) (new : Ar
 
   last : (d : PortView) → slice_index_or ports (length rest) d ≡ own
   last d = ap (λ (z : List PortView). slice_index_or z (length rest) d) is ∙ get_or-append_seam rest own [] d
-
-  pub ports_before : All (IsPortOf l) rest
-  ports_before i d b = subst (IsPortOf l) (before i d b) (new.made i d (let n = one_less in omega (arith, b, n)))
-
-  pub fresh_before : All IsFresh rest
-  fresh_before i d b = subst IsFresh (before i d b) (new.fresh i d (let n = one_less in omega (arith, b, n)))
-
-  pub last_port : IsPortOf l own
-  last_port = subst (IsPortOf l) (last own) (new.made (length rest) own (let n = one_less in omega (arith, n)))
-
-  pub last_fresh : IsFresh own
-  last_fresh = subst IsFresh (last own) (new.fresh (length rest) own (let n = one_less in omega (arith, n)))
 
   -- where each of them has its thread, and each thread its part, these parts and the last one's are all workers' by number
   pub all_worked : (s : Nodes) (roots : List Key) (children : List (PromisedHandle (Result Part WorkFault) PartOf)) (parts all : List Part) (part : Part)

@@ -7,7 +7,7 @@ use Rattle.expand_work.specs.Work.{at, MaySend, HasKept, Offered}
 use Rattle.expand_work.proofs.Cutting.{cut_less}
 use Rattle.expand_work.proofs.Noting.{own_within}
 use Rattle.expand_work.proofs.Saying.{still_of}
-use Rattle.expand_work.proofs.Starting.{width}
+use Rattle.lane_queue.proofs.Lines.{port-long}
 use Rattle.expand_work.proofs.Holding.{hold-levels, keeping-none, keeping-may, keeping-more}
 use Rattle.expand_work.proofs.listen.keep_own.Goals as goal
 
@@ -47,7 +47,7 @@ loop-bundle-preserved c =
     let notes = subst (λ n. Notes n c.in-Some.bundle c.loop-bundle.tables c.admit_all.new.tables c.loop-bundle.senders.noted c.admit_all.new.noted) c.number-own.ensures.number
     (subst (λ xs. Notes own xs c.loop-bundle.tables c.admit_all.new.tables c.loop-bundle.senders.noted c.admit_all.new.noted) is c.in_ok-admit_all.ensures.noted) in (
       keeping-more l p c.loop-bundle.port c.loop-bundle.senders.clock c.args.tables.now c.loop-bundle.tables c.loop-bundle.senders.noted (at c.args.due.now own) left c.in-Some.bundle rest may c.in-Some.ensures.bundle c.loop-bundle.invariant.0 c.requires.port
-          (subst (λ n. p.number < n) (width l p c.requires.port) c.number-own.ensures.within) c.keep_all.new.port c.admit_all.new.tables c.admit_all.new.noted kept c.keep_all.ensures.taken offered notes,
+          (subst (λ n. p.number < n) (port-long l p c.requires.port) c.number-own.ensures.within) c.keep_all.new.port c.admit_all.new.tables c.admit_all.new.noted kept c.keep_all.ensures.taken offered notes,
       c.take.ensures.rest ∙ ap (λ d. set d own rest) c.loop-bundle.invariant.1 ∙ set-set c.args.due.now own left rest,
     )
 

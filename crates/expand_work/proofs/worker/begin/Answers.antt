@@ -2,7 +2,8 @@ use Rattle.std.proofs.Common.{◌≡◌, ℕ, ◌<◌, length, replicate, filter
 use Rattle.expand_work.specs.Spaces.{IsEmptySpace}
 use Rattle.req_table.specs.Settled.{dealt_from}
 use Rattle.expand_work.specs.Work.{at, owned_by, with_levels}
-use Rattle.expand_work.proofs.Starting.{starts_working, width}
+use Rattle.lane_queue.proofs.Lines.{port-long}
+use Rattle.expand_work.proofs.Starting.{starts_working}
 use Rattle.expand_work.proofs.worker.begin.Goals as goal
 
 pub returns : goal.returns
@@ -12,7 +13,7 @@ returns c =
     let p = c.args.port in
     let w-is = c.count-workers.ensures.count in
     let n-is = c.levels-levels.ensures.value in
-    let wide = width l p c.requires.port in
+    let wide = port-long l p c.requires.port in
     let clock = c.in_ok-clock.clock in
     let clock-is : clock ≡ record { levels = s.levels; ended = replicate (length l.lanes) 0 } =
     subst (λ (n : ℕ). clock ≡ record { levels = n; ended = replicate (length l.lanes) 0 }) n-is
