@@ -2,6 +2,8 @@
 use Rattle.std.specs.Prelude.{◌≡◌, ◌≢◌, ℕ, ◌+◌, ◌-◌, ◌<◌, ◌≤◌, Bool, ◌==◌, cond, List, [], ◌∷◌, ◌++◌, length, map, slice_index}
 use Rattle.std.specs.Prelude.{slice_index_or, slice_set, All}
 use Rattle.dd_store.specs.Nodes.{Nodes}
+-- the list of a number, among lists
+pub use Rattle.req_table.specs.Places.{row as at}
 use Rattle.req_table.specs.declared.Key.{Key}
 use Rattle.req_table.specs.declared.Item.{Item}
 use Rattle.req_table.specs.declared.Item.TheVariants.{Ask}
@@ -26,10 +28,6 @@ item_of S s x = Ask s (level_of S x) x
 -- Of so many workers, k owns the key.
 abbrev pub owned_by : ℕ → ℕ → Key → Bool
 owned_by workers k x = owner workers x == k
-
--- The list of a number, among lists.
-abbrev pub at : {X : Type 0} → List (List X) → ℕ → List X
-at xs k = slice_index_or xs k []
 
 -- It is the port that it was.
 abbrev pub IsSamePort : PortView → PortView → Type 0

@@ -1,7 +1,7 @@
 //! The requests that are due from each worker, in the bundles that they are sent in.
 ghost use Rattle.std.specs.Prelude.{◌≡◌, ◌<◌, [], ◌∷◌, ◌++◌, length, replicate, slice_set, IfOk, OnOk, MatchOption};
 ghost use Rattle.expand_work.specs.Due.{IsCut};
-ghost use Rattle.expand_work.specs.Work.{at};
+ghost use Rattle.req_table.specs.Places.{row as at};
 
 use crate::Spare;
 use lane_queue::Bundle;

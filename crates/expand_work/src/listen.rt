@@ -4,7 +4,8 @@ ghost use Rattle.req_table.specs.Lanes.{IsClosed};
 ghost use Rattle.lane_queue.specs.PortView.{sent_to, IsPortOf, lanes_scope};
 ghost use Rattle.req_table.specs.Lanes.{sent_by};
 ghost use Rattle.lane_queue.specs.Loads.{ask_of};
-ghost use Rattle.expand_work.specs.Work.{at, MaySend, HasKept, Offered, IsHeard, StaysClosed};
+ghost use Rattle.req_table.specs.Places.{row as at};
+ghost use Rattle.expand_work.specs.Work.{MaySend, HasKept, Offered, IsHeard, StaysClosed};
 ghost use Rattle.expand_work.specs.Noted.{IsNoted, Notes};
 
 use crate::due::Due;

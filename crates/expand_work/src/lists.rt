@@ -1,6 +1,6 @@
 //! Lists of places by worker.
 ghost use Rattle.std.specs.Prelude.{◌≡◌, ◌<◌, [], ◌∷◌, ◌++◌, length, map, replicate, slice_set, IfOk, OnOk};
-ghost use Rattle.expand_work.specs.Work.{at};
+ghost use Rattle.req_table.specs.Places.{row as at};
 
 use std::alloc::{AllocError, Global};
 use std::marker::Model;

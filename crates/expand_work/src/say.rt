@@ -6,7 +6,8 @@ ghost use Rattle.lane_queue.specs.Loads.{ask_of};
 ghost use Rattle.lane_queue.specs.PortView.{sent_to, IsPortOf, MayLeave, lanes_scope};
 ghost use Rattle.expand_work.specs.Parts.{bundles};
 ghost use Rattle.expand_work.specs.Due.{IsLeft};
-ghost use Rattle.expand_work.specs.Work.{at, MaySend, SentTo, SentToAll, put_items, put_loads};
+ghost use Rattle.req_table.specs.Places.{row as at};
+ghost use Rattle.expand_work.specs.Work.{MaySend, SentTo, SentToAll, put_items, put_loads};
 
 use crate::due::Due;
 use lane_queue::{Bundle, Lanes, Load, Port};

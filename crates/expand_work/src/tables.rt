@@ -1,7 +1,7 @@
 //! What a worker is asked for, by level.
 ghost use Rattle.std.specs.Prelude.{◌≡◌, ◌<◌, [], length, replicate, IfOk, IfSome};
 ghost use Rattle.expand_work.specs.Noted.{Enters, EntersAt};
-ghost use Rattle.expand_work.specs.Work.{at};
+ghost use Rattle.req_table.specs.Places.{row as at};
 
 use req_table::{Key, SpareTables, Table};
 use std::alloc::{AllocError, Global};
