@@ -1,20 +1,25 @@
-//! From the requests of a wave to their diagrams: reduction from the last level up, of what the caller's thread or workers in threads
-//! have expanded.
+//! From the requests of a wave to their diagrams: reduction from the last level up, of what the
+//! caller's thread or workers in threads have expanded.
 //!
-//! **Promises.** `reduce` gives the requests that stand before a level their diagrams, whatever parts their children stand in
-//! (`reduced`), and counts them (`counted`). `shared_wave` gives each request its diagram, adds nodes below the answers alone, or
-//! complements of such, and answers Full only where the store is over its limit, or at it and lacks a node that is wanted (`wave`);
-//! exactly the requests that are reached were expanded (`expanded`); OutOfMemory leaves a store within its limit that was so (`memory`);
-//! requests are never too many (`unbounded`). `Sought` knows which entries a computed table answers, and puts answers and computed table
-//! together (`Sought::settle`: `answers`, `kept`, `refused`).
+//! **Promises.** `reduce` gives the requests that stand before a level their diagrams, whatever
+//! parts their children stand in (`reduced`), and counts them (`counted`). `shared_wave` gives each
+//! request its diagram, adds nodes below the answers alone, or complements of such, and answers
+//! Full only where the store is over its limit, or at it and lacks a node that is wanted (`wave`);
+//! exactly the requests that are reached were expanded (`expanded`); OutOfMemory leaves a store
+//! within its limit that was so (`memory`); requests are never too many (`unbounded`). `Sought`
+//! knows which entries a computed table answers, and puts answers and computed table together
+//! (`Sought::settle`: `answers`, `kept`, `refused`).
 //!
-//! **Only tests show** when threads share a level (4,096 records, two workers) and how many, and that every width answers what the
-//! workers on one thread do (`wave_tests`). That they read it from 16,384 requests on, number children from 32,768 and pick diagrams
-//! from 65,536 is a matter of time alone, which nothing shows.
+//! **Only tests show** when threads share a level (4,096 records, two workers) and how many, and
+//! that every width answers what the workers on one thread do (`wave_tests`). That they read it
+//! from 16,384 requests on, number children from 32,768 and pick diagrams from 65,536 is a matter
+//! of time alone, which nothing shows.
 //!
-//! **Begin** with `up`, one level after the other, of which a wide one goes to `wide` with `reads`, `division` and `picking`; then
-//! `waves`, for which `numbers` tells what workers asked each other for by place. `forks` has the map by threads of these, and of others
-//! (`fork_each`), which all the caller's thread starts. What a wave comes to is in `specs/Waves`, what is reduced in `specs/Up`.
+//! **Begin** with `up`, one level after the other, of which a wide one goes to `wide` with `reads`,
+//! `division` and `picking`; then `waves`, for which `numbers` tells what workers asked each other
+//! for by place. `forks` has the map by threads of these, and of others (`fork_each`), which all
+//! the caller's thread starts. What a wave comes to is in `specs/Waves`, what is reduced in
+//! `specs/Up`.
 #![tactic(auto)]
 
 mod division;
