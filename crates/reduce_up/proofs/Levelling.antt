@@ -3,17 +3,15 @@ use Rattle.std.proofs.Common.{◌≡◌, ℕ, ◌+◌, ◌<◌, ◌≤◌, ◌�
 use Rattle.std.proofs.Math.Nat.{eq-or-lt_of_le}
 use Rattle.std.proofs.Math.ListN.{get_or-eq_default}
 use Rattle.std.proofs.lemmas.Bool.{cases_lt}
-use Rattle.expand_work.specs.declared.fault.WaveFault.{WaveFault}
-use Rattle.expand_work.specs.declared.fault.WaveFault.TheVariants.{OutOfMemory, NoWorker, Full, TooManyRequests}
 use Rattle.dd_store.specs.declared.reference.Ref.{Ref}
 use Rattle.req_table.specs.declared.Key.{Key}
 use Rattle.req_table.specs.declared.Child.{Child}
 use Rattle.req_table.specs.declared.Child.TheVariants.{Done, Ask}
 use Rattle.req_table.specs.declared.Record.{Record}
 use Rattle.dd_store.specs.Nodes.{Nodes, IsSound, count_of}
-use Rattle.reduce_up.specs.Reducing.{IsRecordAt, IsChild, HasAnswer, IsReady, AddsDescribed, AskedBy, IsRow, IsRowReduced, IsRowWithin, IsRowFault}
+use Rattle.reduce_up.specs.Reducing.{IsRecordAt, IsChild, HasAnswer, IsReady, AddsDescribed, AskedBy, IsRow, IsRowReduced, IsRowWithin}
 use Rattle.req_table.specs.Tables.{row_at}
-use Rattle.reduce_up.specs.Levels.{IsAsked, AreRecords, AskedInRows, AreReducedFrom, AreReduced, IsWithinFrom, IsReduceFault}
+use Rattle.reduce_up.specs.Levels.{IsAsked, AreRecords, AskedInRows, AreReducedFrom, AreReduced, IsWithinFrom}
 use Rattle.reduce_up.proofs.Reduction.{record_kept, kept_meaning}
 use Rattle.reduce_up.proofs.Noting.{nothing}
 use Rattle.reduce_up.proofs.Adding.{adds_either, adds_then}
@@ -78,10 +76,3 @@ all_reduced start rows s pairs R d = record { answers = d.answers; done = λ v r
     within v r c =
         let e : length rows ≡ start.levels = R.levels in
         elim (cases_lt v start.levels) [ inl lt ↦ lt | inr le ↦ absurd (past_rows rows v r (omega arith) c) ]
-
--- the cause of a level's refusal is one of the rows'
-pub level_fault : (rows : List (List Record)) (v : ℕ) (s : Nodes) (e : WaveFault) → IsRowFault s v (row_at rows v) e → IsReduceFault s rows e
-level_fault rows v s OutOfMemory f = tt
-level_fault rows v s NoWorker f = f
-level_fault rows v s TooManyRequests f = f
-level_fault rows v s Full f = (v, f.0, f.1, f.2)

@@ -8,14 +8,14 @@ use Rattle.dd_store.specs.Growing.{IsIn}
 use Rattle.dd_store.specs.Levels.{plain_lists}
 use Rattle.dd_store.specs.Marks.{is_marked, mark_both, plain_pair}
 use Rattle.dd_store.specs.Adding.{GrowsLevel}
-use Rattle.dd_store.specs.Nodes.{Nodes, IsNodeOf, IsThere, Extends}
+use Rattle.dd_store.specs.Nodes.{Nodes, IsNodeOf, IsThere}
 use Rattle.dd_store.specs.Parts.Part.{node}
 use Rattle.dd_store.specs.View.{part, part_of, Has, IsOneNode}
 use Rattle.dd_store.proofs.AddingAll.{grown_plain}
 use Rattle.dd_store.proofs.Marks.{mark_both-twice}
 use Rattle.dd_store.proofs.Places.{none_some}
-use Rattle.dd_store.proofs.Storing.{children-of, node-of, IsRef-node}
-use Rattle.dd_store.proofs.View.{of_part, opposite-negate}
+use Rattle.dd_store.proofs.Storing.{children-of, IsRef-node}
+use Rattle.dd_store.proofs.View.{opposite-negate}
 use Rattle.reduce_up.specs.Sharing.{IsOfPair}
 
 -- the part of a reference that has two children
@@ -28,24 +28,6 @@ node_part S v lo hi (Node m b) h = ap (part_of m) h.1 ∙ ap (λ u. node u lo hi
 pub there_part : (S : Nodes) (v : ℕ) (lo hi r : Ref) → Has S lo → IsThere S v lo hi r → Has S r × (((lo ≡ hi) × (r ≡ lo)) ⊎ ((lo ≢ hi) × (part S r ≡ node v lo hi)))
 there_part S v lo hi r h (inl e) = (subst (Has S) (sym e.1) h, inl e)
 there_part S v lo hi r h (inr n) = (IsRef-node S v lo hi r n.1, inr (n.0, node_part S v lo hi r n.1))
-
--- and by its part it stands for them
-pub part_there : (S : Nodes) (v : ℕ) (lo hi r : Ref) → Has S r → ((lo ≡ hi) × (r ≡ lo)) ⊎ ((lo ≢ hi) × (part S r ≡ node v lo hi)) → IsThere S v lo hi r
-part_there S v lo hi r h (inl e) = inl e
-part_there S v lo hi r h (inr n) = let m = of_part S r v lo hi h n.1 in inr (n.0, subst (IsNodeOf S v lo hi) (sym m.2) (m.3, m.4))
-
--- a node keeps its children
-node_still : (S T : Nodes) (v : ℕ) (lo hi r : Ref) → Extends S T → IsNodeOf S v lo hi r → IsNodeOf T v lo hi r
-node_still S T v lo hi False x h = absurd (none_some (lo, hi) h.1)
-node_still S T v lo hi True x h = absurd (none_some (lo, hi) h.1)
-node_still S T v lo hi (Node m b) x h = (
-  h.0,
-  children-of T m b (mark_both b (lo, hi)) (x.nodes m (mark_both b (lo, hi)) (node-of S m b (lo, hi) h.1)) ∙ ap (λ z. Some z) (mark_both-twice b (lo, hi)),
-)
-
-pub there_still : (S T : Nodes) (v : ℕ) (lo hi r : Ref) → Extends S T → IsThere S v lo hi r → IsThere T v lo hi r
-there_still S T v lo hi r x (inl e) = inl e
-there_still S T v lo hi r x (inr n) = inr (n.0, node_still S T v lo hi r x n.1)
 
 -- one node stands for a name with a mark and without
 pub one_name : (S : Nodes) (m : NodeId) (b c : Bool) → IsOneNode S (Node m b) (Node m c)

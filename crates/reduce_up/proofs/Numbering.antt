@@ -1,5 +1,5 @@
 -- Children by their places: what a worker asks of another next stands where that one noted.
-use Rattle.std.proofs.Common.{◌≡◌, ◌≢◌, ℕ, zero, suc, ◌+◌, ◌-◌, ◌*◌, ◌^◌, ◌<◌, ◌≤◌, Bool, true, false, cond, List, [], ◌∷◌, ◌++◌, length, map, filter, take, drop, get_or, set, slice_get, Some, Contains, All, refl, sym, ap, ◌∙◌, subst, arith, append_assoc, append-nil, eq-eqb, ne_eqb, get_or-set_same, get_or-set_other, length-append}
+use Rattle.std.proofs.Common.{◌≡◌, ℕ, zero, suc, ◌+◌, ◌-◌, ◌*◌, ◌^◌, ◌<◌, ◌≤◌, Bool, true, false, cond, List, [], ◌∷◌, ◌++◌, length, map, filter, take, drop, get_or, set, slice_get, Some, Contains, All, refl, sym, ap, ◌∙◌, subst, arith, append_assoc, append-nil, eq-eqb, ne_eqb, get_or-set_same, get_or-set_other, length-append}
 use denote.Ref.{Bor}
 use Rattle.std.specs.Prelude.{AllPairs}
 use Rattle.std.specs.List.{AllZip}
@@ -34,7 +34,7 @@ use Rattle.expand_work.proofs.Zips.{zip_grown}
 use Rattle.reduce_up.specs.declared.numbers.Field.{Field}
 use Rattle.reduce_up.specs.declared.numbers.Share.{Share}
 use Rattle.reduce_up.specs.Numbers.{keys_at, keys_of, keys_in, starts_at, starts_below, IsTold, AreTold, IsField, IsSender, StandsWith, AreNext, IsNext, IsNumbered, IsRowNumbered, IsNumberedTo, asked_up, asked_from}
-use Rattle.dd_store.proofs.Places.{slice_get-append}
+use Rattle.dd_store.proofs.Places.{mapped, slice_get-append}
 use Rattle.reduce_up.proofs.OverParts.{slice_get-behind}
 use Rattle.reduce_up.proofs.Placing.{in_left, in_right}
 use Rattle.reduce_up.proofs.Rooted.{all_of}
@@ -269,11 +269,6 @@ module _ (f : Field) (F : IsField f) (left : List (Bor (List ℕ))) (child : Pla
   }
 
 -- ---- records and their pairs
--- what stands at a place of a list, made of what stands there in another
-pub made_of : {X Y : Type 0} (f : X → Y) (xs : List X) (i : ℕ) (y : Y) → slice_get (map f xs) i ≡ Some y → (x : X) × (slice_get xs i ≡ Some x) × (f x ≡ y)
-made_of f [] i y e = absurd (let l = slice_get_within [] i y e in omega (arith, l))
-made_of f (x ∷ xs) zero y e = (x, refl, (let z : f x ≡ y = cc in z))
-made_of f (x ∷ xs) (suc i) y e = made_of f xs i y e
 
 -- the list goes on with what stands at the place
 goes_on : {X : Type 0} (xs : List X) (i : ℕ) (x : X) → slice_get xs i ≡ Some x → drop i xs ≡ x ∷ drop (i + 1) xs
@@ -301,7 +296,7 @@ module _ (f : Field) (s : ℕ) (sender : IsSender f s) (v : ℕ) (vb : v < f.sto
   records = row_of f.notes.now.rows s v
 
   pub read : (r : Record) × (slice_get records i ≡ Some r) × ((lean f.workers r.low, lean f.workers r.high) ≡ e)
-  read = made_of (λ (r : Record). (lean f.workers r.low, lean f.workers r.high)) records i e (subst (λ z. slice_get z i ≡ Some e) pairs-are e-is)
+  read = mapped (λ (r : Record). (lean f.workers r.low, lean f.workers r.high)) records i e (subst (λ z. slice_get z i ≡ Some e) pairs-are e-is)
 
   abbrev pub the_record : Record
   the_record = read.0
@@ -366,19 +361,3 @@ module _ (f : Field) (s v : ℕ) (vb : v < f.store.now.levels) (old : Share) (a 
       no_pairs : (xs : List (Placed × Placed)) → length xs ≡ 0 → xs ≡ []
       no_pairs [] e = refl
       no_pairs (x ∷ xs) e = absurd (omega (arith, e))
-
-  -- its pairs are put in the place of what was there
-  pub level_more : (pairs : List (Placed × Placed)) (new : Share) → new.rows ≡ set (set old.rows v []) v pairs → new.room ≡ [] → IsRowNumbered f s v pairs → AreNext f (asked_from f s (v + 1)) new.left.items → IsNumberedTo f s (v + 1) new
-  level_more pairs new is empty z b =
-      let long : length (set old.rows v []) ≡ f.store.now.levels = length-set old.rows v [] ∙ a.levels in
-      let other : (u : ℕ) → u ≢ v → row new.rows u ≡ row old.rows u = (λ u o. ap (λ (r : List (List (Placed × Placed))). row r u) is ∙ get_or-set_other (set old.rows v []) v u pairs [] o ∙ get_or-set_other old.rows v u [] [] o) in
-      record {
-        levels = ap length is ∙ length-set (set old.rows v []) v pairs ∙ long;
-        done = λ u l. dite (ℕ_discrete u v)
-            (λ q. subst (λ k. IsRowNumbered f s k (row new.rows k)) (sym q)
-            (subst (IsRowNumbered f s v) (sym (ap (λ (r : List (List (Placed × Placed))). row r v) is ∙ get_or-set_same (set old.rows v []) v pairs [] (subst (λ k. v < k) (sym long) vb))) z))
-            (λ o. subst (IsRowNumbered f s u) (sym (other u o)) (a.done u (grind (arith, l, o))));
-        left = λ u l ub. other u (λ e. omega (arith, l, e)) ∙ a.left u (omega (arith, l)) ub;
-        places = b;
-        room = empty;
-      }

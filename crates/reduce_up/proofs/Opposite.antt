@@ -9,7 +9,7 @@ use Rattle.dd_store.specs.Nodes.{Nodes, IsSound, den}
 use Rattle.dd_store.specs.Parts.{Part, top_of}
 use Rattle.dd_store.specs.Parts.Part.{leaf, node}
 use Rattle.dd_store.specs.View.{part, Has, top, Keeps, IsOneNode}
-use Rattle.dd_store.proofs.View.{parts, top-part, top-node, kept_den, kept_top}
+use Rattle.dd_store.proofs.View.{parts, top-part, top-node, kept_den}
 
 -- ---- a function or its complement
 
@@ -62,10 +62,3 @@ node_at_top S m v h lt at = by (part S m) refl (top-part S S.levels m h)
 pub one_node_part : (S : Nodes) → IsSound S → (m r : Ref) (v : ℕ) (lo hi : Ref) → Has S m → Has S r → part S r ≡ node v lo hi → IsOneNode S m r → (a : Ref) × (b : Ref) × (part S m ≡ node v a b)
 one_node_part S w m r v lo hi hm hr is (inl e) = (lo, hi, ap (part S) e ∙ is)
 one_node_part S w m r v lo hi hm hr is (inr o) = node_at_top S m v hm ((parts S w).level r v lo hi hr is) (o.0 ∙ top-node S r v lo hi hr is)
-
-one_node_kept : (S T : Nodes) → IsSound S → Keeps S T → (m r : Ref) → Has S m → Has S r → IsOneNode S m r → IsOneNode T m r
-one_node_kept S T w k m r hm hr (inl e) = inl e
-one_node_kept S T w k m r hm hr (inr o) = inr (
-  kept_top S T k m ∙ o.0 ∙ sym (kept_top S T k r),
-  λ x hx. kept_den S T w k m hm x ∙ o.1 x (hx ∙ k.levels) ∙ ap not (sym (kept_den S T w k r hr x)),
-)

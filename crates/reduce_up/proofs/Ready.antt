@@ -30,7 +30,8 @@ use Rattle.reduce_up.specs.Up.{AreReady, MayReduce}
 use Rattle.reduce_up.specs.Waves.{Entry, IsEntry, entries_for}
 use Rattle.reduce_up.proofs.Closed.{reached_key}
 use Rattle.reduce_up.proofs.Joined.{in_list}
-use Rattle.reduce_up.proofs.Numbering.{keys_of-long, keys_of_at, made_of}
+use Rattle.dd_store.proofs.Places.{mapped}
+use Rattle.reduce_up.proofs.Numbering.{keys_of-long, keys_of_at}
 use Rattle.reduce_up.proofs.OverParts.{over_more, over_at, over-long, over_one}
 use Rattle.reduce_up.proofs.Reduction.{adds_none}
 use Rattle.reduce_up.proofs.Rooted.{entries_good, requests_again}
@@ -80,7 +81,7 @@ module _ (S : Nodes) (sound : IsSound S) (n : ℕ) (roots : List Key) (good : Al
     within = elim (cases_lt v S.levels) [ inl lt ↦ lt | inr ge ↦ absurd (stands_none (row T v) q k (get_or-eq_default T [] (let e = keys_of-long n p S.levels in omega (arith, e, ge))) h) ]
 
     of_key : (r : Record) × (slice_get (at_level v) q ≡ Some r) × (r.key ≡ k)
-    of_key = made_of key_of (at_level v) q k (subst (λ (z : List Key). slice_get z q ≡ Some k) (keys_of_at n p S.levels v within) h)
+    of_key = mapped key_of (at_level v) q k (subst (λ (z : List Key). slice_get z q ≡ Some k) (keys_of_at n p S.levels v within) h)
 
     recorded : Contains (at_level v) of_key.0
     recorded = in_list (at_level v) q of_key.0 of_key.1

@@ -1,12 +1,11 @@
 -- The requests of a list of entries.
-use Rattle.std.specs.List.{AllZip}
 use Rattle.std.proofs.Common.{◌≡◌, ℕ, zero, suc, arith, ◌+◌, ◌<◌, inl, inr, Bool, List, [], ◌∷◌, ◌++◌, length, take, get_or, Option, Some, None, refl, sym, ◌∙◌, ap, subst, Contains, All}
 use Rattle.std.proofs.lemmas.List.{take_more, get_or_default}
 use Rattle.std.proofs.lemmas.List.Elements.{Contains-append_left, Contains-append_right, Contains-append_cases, All-contains}
 use Rattle.dd_store.specs.declared.reference.Ref.{Ref}
 use Rattle.dd_store.specs.Nodes.{Nodes, IsDiagram, den}
 use Rattle.dd_store.specs.View.{Has}
-use Rattle.dd_store.specs.Marks.{turned, mark_by}
+use Rattle.dd_store.specs.Marks.{turned}
 use Rattle.dd_store.proofs.View.{has-negate}
 use Rattle.req_table.specs.declared.Key.{Key}
 use Rattle.req_table.specs.TerminalCase.{terminal_of}
@@ -14,7 +13,7 @@ use Rattle.req_table.specs.Keys.{normal_of, IsKey, meaning}
 use Rattle.req_table.proofs.Means.{Answers, terminal_means}
 use Rattle.req_table.proofs.TerminalCases.{OnAnswer, terminal_is}
 use Rattle.req_table.proofs.Waved.{is_key, is_value, meaning_normal}
-use Rattle.reduce_up.specs.Waves.{Entry, entry_value, entry_for, entries_for, IsEntry, request_of, requests_of, IsTakenFrom}
+use Rattle.reduce_up.specs.Waves.{Entry, entry_value, entry_for, entries_for, IsEntry, request_of, requests_of}
 use Rattle.reduce_up.proofs.Noting.{nothing, head_in, tail_in, in_cases}
 
 -- a request is that of an entry
@@ -88,15 +87,3 @@ requests_again S (k ∷ ks) good =
     ap (λ o. request_of o (entry_for k) ++ requests_of (entries_for ks)) own.long
     ∙ ap (λ (z : Key × Bool). z.0 ∷ requests_of (entries_for ks)) own.ordered
     ∙ ap (λ z. k ∷ z) (requests_again S ks (λ j e m. good (suc j) e (omega (arith, m))))
-
--- what the pairs have for requests is taken for them as entries
-pub taken_each : (S : Nodes) (T : List (Key × Ref)) (ks : List Key) (rs : List Ref) → All (IsKey S) ks → AllZip (λ k r. Contains {X = Key × Ref} T (k, r)) ks rs → AllZip (λ e r. IsTakenFrom T (terminal_of e.0 e.1 e.2) e r) (entries_for ks) rs
-taken_each S T [] [] good z = z
-taken_each S T [] (r ∷ rs) good z = z
-taken_each S T (k ∷ ks) [] good z = z
-taken_each S T (k ∷ ks) (r ∷ rs) good z =
-    let own = good 0 k (omega arith) in (
-      subst (λ o. IsTakenFrom T o (entry_for k) r) (sym own.long)
-          (r, subst (λ (n : Key × Bool). Contains {X = Key × Ref} T (n.0, r)) (sym own.ordered) z.0, ap (λ (n : Key × Bool). mark_by n.1 r) (sym own.ordered)),
-      taken_each S T ks rs (λ j e m. good (suc j) e (omega (arith, m))) z.1,
-    )

@@ -5,7 +5,6 @@ use Rattle.std.specs.List.{AllZip}
 use Rattle.std.specs.declared.vec.Vec.{Vec}
 use Rattle.std.specs.declared.alloc.Global.{Global}
 use Rattle.std.proofs.lemmas.Bool.{cases_lt}
-use Rattle.std.proofs.lemmas.List.Elements.{All-contains}
 use Rattle.dd_store.specs.declared.reference.Ref.{Ref}
 use Rattle.dd_store.specs.Functions.{Agree, IsFixedSomehow, DependsOn, OfEither}
 use Rattle.dd_store.specs.Parts.{Met}
@@ -97,9 +96,6 @@ module _ (S : Nodes) (w : IsSound S) (workers : ℕ) (some : 0 < workers) (entri
   -- the records are what reduction takes
   pub wave_records : AreRecords S rows
   wave_records = records_of_closure S w workers (requests_of entries) keys rows closed.closure closed.levels
-
-  entry_of : (e : Entry) → Contains entries e → IsEntry S e
-  entry_of e c = All-contains (IsEntry S) entries e good c
 
   -- each entry's request has an answer
   pub wave_noted : (T : Nodes) (pairs : List (Key × Ref)) → AreReduced rows T pairs → All (HasAnswer pairs) (requests_of entries)

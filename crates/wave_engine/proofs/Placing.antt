@@ -11,7 +11,7 @@ use Rattle.req_table.specs.declared.Child.{Child}
 use Rattle.req_table.specs.Keys.{IsKey, IsChildIn, level_of, normal_of, child as child_at, child_of, answer_of}
 use Rattle.req_table.specs.Reached.{root as root_of, child as child_from}
 use Rattle.req_table.specs.TerminalCase.{terminal_of}
-use Rattle.req_table.proofs.Waved.{told, held, deeper, bounded}
+use Rattle.req_table.proofs.Waved.{told, held, deeper}
 use Rattle.reduce_up.specs.Waves.{Entry, requests_of}
 use Rattle.reduce_up.proofs.Rooted.{to_request}
 use Rattle.req_table.specs.declared.placed.Placed.{Placed}
@@ -39,9 +39,6 @@ admitted_more S es T c U a m new = record {
   levels = m.levels ∙ a.levels;
   keys = λ w q k h. elim (m.only w q k h) [ inl o ↦ a.keys w q k o | inr e ↦ new w k e ];
 }
-
-pub none_admitted : (S : Nodes) (es : List Entry) (T : List (List Key)) → length T ≡ S.levels → ((w : ℕ) → row T w ≡ []) → AreAdmitted S es T
-none_admitted S es T l e = record { levels = l; keys = λ w q k h. absurd (stands_none (row T w) q k (e w) h) }
 
 -- what an entry asks for
 asked_entry : (S : Nodes) (e : Entry) (l : ℕ) (k : Key) (t : Option Ref) → AsksAt (answer_of S e.0 e.1 e.2 t) l k → (t ≡ None) × ((normal_of e.0 e.1 e.2).0 ≡ k)
@@ -109,17 +106,6 @@ row_more S sound es T0 v i T pairs so k at low high T1 T2 m1 p1 m2 p2 = record {
         subst (λ z. IsSplitAt S T2 z d) same
         (subst (λ (z : Placed × Placed). IsSplitAt S T2 k z) (sym g.1) (placed_kept T1 T2 m2.kept low (child_of S k false) p1, p2))
 
--- before the first level
-pub start_expanded : (S : Nodes) (es : List Entry) (roots : List Placed) (T : List (List Key)) (rows : List (List (Placed × Placed))) → AreAdmitted S es T →
-    AllZip (λ e p. IsPlaced T p (child_at S e.0 e.1 e.2)) es roots → length rows ≡ S.levels → AreExpanded S es roots 0 T rows
-start_expanded S es roots T rows a z l = record {
-  admitted = a;
-  rooted = z;
-  levels = l;
-  counts = λ w lt. absurd (omega arith);
-  split = λ w q k d lt. absurd (omega arith);
-}
-
 -- one level more is expanded
 pub level_more : (S : Nodes) (es : List Entry) (roots : List Placed) (v : ℕ) (T : List (List Key)) (rows : List (List (Placed × Placed))) → v < S.levels → AreExpanded S es roots v T rows →
     (U : List (List Key)) (pairs : List (Placed × Placed)) → IsRowExpanded S es T v (length (row T v)) U pairs → AreExpanded S es roots (v + 1) U (set rows v pairs)
@@ -165,11 +151,3 @@ levels_passed S es roots v u T rows e none later = record {
   ];
   split = λ w q k d lt h g. elim (cases_lt w v) [ inl l ↦ e.split w q k d l h g | inr le ↦ absurd (none w q k le lt h) ];
 }
-
--- a request that is told with its level fits the tables
-pub ask_fits : (S : Nodes) → IsSound S → (T : List (List Key)) (c : Child) (l : ℕ) (k : Key) → length T ≡ S.levels → IsChildIn S c → AsksAt c l k → l < length T
-ask_fits S sound T c l k len i e =
-    let h : IsKey S k × (l ≡ level_of S k) = subst (IsChildIn S) e.1 i in
-    let b : level_of S k < S.levels = bounded S sound k h.0 in
-    let t : l ≡ level_of S k = h.1 in
-    omega (arith, len, b, t)
