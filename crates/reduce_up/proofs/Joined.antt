@@ -21,6 +21,7 @@ use Rattle.dd_store.proofs.LevelFacts.{list_read}
 use Rattle.dd_store.proofs.Storing.{small_shard}
 use Rattle.dd_store.proofs.Places.{slice_get-append}
 use Rattle.dd_store.proofs.Noting.{zip_append}
+use Rattle.expand_work.proofs.Teams.{first_of}
 use Rattle.expand_work.proofs.Zips.{zip_long}
 use Rattle.req_table.specs.declared.placed.Placed.{Placed}
 use Rattle.req_table.specs.Places.{row}
@@ -31,7 +32,8 @@ use Rattle.reduce_up.specs.declared.picking.PickShare.{PickShare}
 use Rattle.reduce_up.specs.declared.up.Level.{Level}
 use Rattle.reduce_up.specs.OverParts.{level_over}
 use Rattle.reduce_up.specs.Up.{children_of}
-use Rattle.reduce_up.specs.Division.{chosen, span, source, begin_of, twice, in_turn, IsPicked, IsPickedOf, ArePicked, AreHomes, AreRefsOf, AreInTurn, HaveSixteen, MayPick}
+use Rattle.reduce_up.specs.Placed.{joined}
+use Rattle.reduce_up.specs.Division.{chosen, span, source, begin_of, twice, IsPicked, IsPickedOf, ArePicked, AreHomes, AreRefsOf, AreInTurn, HaveSixteen, MayPick}
 use Rattle.reduce_up.specs.Steps.{BothComeTo, IsMadeOf, IsPartRead, IsShareRead, AreAllRead, AreRead, IsSharePicked, AreAllPicked}
 use Rattle.reduce_up.proofs.Shared.{zip_right, zip_through}
 use Rattle.reduce_up.proofs.Parted.{homes_of}
@@ -104,12 +106,12 @@ over_in (p ∷ ps) (suc k) v j x l e =
     (length (row p v) + w.0, slice_get-behind (row p v) (level_over ps v) w.0 ∙ w.1)
 
 -- what is said of each part's items holds of the level's
-over_all : {X : Type 0} (R : X → Ref → Type 0) (rows : List (List (List X))) (v : ℕ) (answers : List (List Ref)) → length answers ≡ length rows → ((k : ℕ) → k < length rows → AllZip R (row (row rows k) v) (get_or answers k [])) → AllZip R (level_over rows v) (in_turn answers)
+over_all : {X : Type 0} (R : X → Ref → Type 0) (rows : List (List (List X))) (v : ℕ) (answers : List (List Ref)) → length answers ≡ length rows → ((k : ℕ) → k < length rows → AllZip R (row (row rows k) v) (get_or answers k [])) → AllZip R (level_over rows v) (joined answers)
 over_all R [] v [] e f = tt
 over_all R [] v (a ∷ answers) e f = absurd (omega (arith, e))
 over_all R (p ∷ ps) v [] e f = absurd (omega (arith, e))
 over_all R (p ∷ ps) v (a ∷ answers) e f =
-    zip_append R (row p v) (level_over ps v) a (in_turn answers) (f zero (omega arith)) (over_all R ps v answers (omega (arith, e)) (λ k l. f (suc k) (omega (arith, l))))
+    zip_append R (row p v) (level_over ps v) a (joined answers) (f zero (omega arith)) (over_all R ps v answers (omega (arith, e)) (λ k l. f (suc k) (omega (arith, l))))
 
 -- ---- what is in the lists
 abbrev pub AreListed : List (List Ref) → List (Placed × Placed) → (ℕ → List Pair) → Type 0
@@ -117,10 +119,6 @@ AreListed A children lists = (s : ℕ) (q : Pair) → IsIn (lists s) q → (i : 
 
 pub in_list : {X : Type 0} (xs : List X) (i : ℕ) (x : X) → slice_get xs i ≡ Some x → Contains xs x
 in_list xs i x e = (i, slice_get_within xs i x e, get_or_from_slice_get xs i x x e)
-
-pub some_of : {X : Type 0} (xs : List X) → 0 < length xs → X
-some_of [] l = absurd (omega (arith, l))
-some_of (x ∷ xs) l = x
 
 -- pairs that are both of a diagram, which is there
 zip_twice : (T : Nodes) (v : ℕ) (rs : List Ref) → AllZip (λ (q : Pair) r. IsThere T v q.0 q.1 r) (twice rs) rs
@@ -143,14 +141,14 @@ module _ (L : Level) (parts : List (Vec (Vec Pair Global) Global)) (homes : List
       let m = part_in parts s q w in
       let k : ℕ = m.0 in
       let kb : k < length L.parts.now = (let e = D.many_lists in let l = m.1 in omega (arith, e, l)) in
-      let d = some_of parts (let l = m.1 in omega (arith, l)) in
-      let h = some_of homes (let e = D.many_homes in omega (arith, e, kb)) in
+      let d = first_of parts (let l = m.1 in omega (arith, l)) in
+      let h = first_of homes (let e = D.many_homes in omega (arith, e, kb)) in
       let o = listed_part L.answers.now (row (row L.parts.now k) L.number) (get_or parts k d) (get_or homes k h) (D.each k d h kb) s q (m.2 d) in
       let at = over_in L.parts.now k L.number o.0 o.1 kb o.2 in
       (at.0, o.1, at.1, o.3, o.4, o.5)
 
   pub all_sixteen : HaveSixteen parts
-  all_sixteen k d l = let lb : k < length L.parts.now = (let e = D.many_lists in omega (arith, e, l)) in (D.each k d (some_of homes (let e = D.many_homes in omega (arith, e, lb))) lb).sixteen
+  all_sixteen k d l = let lb : k < length L.parts.now = (let e = D.many_lists in omega (arith, e, l)) in (D.each k d (first_of homes (let e = D.many_homes in omega (arith, e, lb))) lb).sixteen
 
   all_homes : (k : ℕ) (d : Vec (Vec Pair Global) Global) (h : Homes) → k < length homes → AreHomes (get_or homes k h) (list_at (get_or parts k d).items)
   all_homes k d h l = let r = D.each k d h (let e = D.many_homes in omega (arith, e, l)) in homes_of r.pairs (get_or homes k h) (list_at (get_or parts k d).items) r.divided
@@ -173,10 +171,10 @@ module _ (L : Level) (parts : List (Vec (Vec Pair Global) Global)) (homes : List
       kp = let e = D.many_lists in omega (arith, e, kb)
 
       abbrev here : Vec (Vec Pair Global) Global
-      here = get_or parts k (some_of parts (omega (arith, kp)))
+      here = get_or parts k (first_of parts (omega (arith, kp)))
 
       own_part : IsPartRead L.answers.now (row (row L.parts.now k) L.number) here h
-      own_part = subst (IsPartRead L.answers.now (row (row L.parts.now k) L.number) here) (h-is h) (D.each k (some_of parts (omega (arith, kp))) h kb)
+      own_part = subst (IsPartRead L.answers.now (row (row L.parts.now k) L.number) here) (h-is h) (D.each k (first_of parts (omega (arith, kp))) h kb)
 
       as-many : (s : ℕ) → length (chosen s hs answers) ≡ length (chosen s hs own_part.pairs)
       as-many s = chosen-many s hs answers own_part.pairs picked.long (sym own_part.divided.long)
@@ -187,7 +185,7 @@ module _ (L : Level) (parts : List (Vec (Vec Pair Global) Global)) (homes : List
           let list = list_at here.items s in
           let own : AllZip (λ (q : Pair) r. IsThere T L.number q.0 q.1 r) list (span (begin_of parts k s) (length list) (refs_at refs s)) =
           zip_span (λ (q : Pair) r. IsThere T L.number q.0 q.1 r) (all_at (take k parts) s) list (all_at (drop (suc k) parts) s) (refs_at refs s)
-          (subst (λ z. AllZip (λ (q : Pair) r. IsThere T L.number q.0 q.1 r) z (refs_at refs s)) (all_split parts k s (some_of parts (omega (arith, kp))) kp) (there s l)) in
+          (subst (λ z. AllZip (λ (q : Pair) r. IsThere T L.number q.0 q.1 r) z (refs_at refs s)) (all_split parts k s (first_of parts (omega (arith, kp))) kp) (there s l)) in
           let is : list ≡ chosen s hs own_part.pairs = sym (own_part.divided.differ s l) in
           let many : length list ≡ length (chosen s hs answers) = ap (λ z. length z) is ∙ sym (as-many s) in
           let from : refs_at refs s ≡ source refs h s = sym (ap (λ b. cond b h.equal.items (refs_at refs s)) (ne_eqb s 16 (λ e. absurd (omega (arith, l, e))))) in
@@ -218,13 +216,13 @@ module _ (L : Level) (parts : List (Vec (Vec Pair Global) Global)) (homes : List
     all_made own (answers, q, is) = subst (λ z. AllZip (IsMadeOf L.answers.now T L.number) (children_of L) z) (sym is)
         (over_all (IsMadeOf L.answers.now T L.number) L.parts.now L.number answers (q.long ∙ D.many_homes) (λ k l.
         let lh : k < length homes = (let e = D.many_homes in omega (arith, e, l)) in
-        let h = get_or homes k (some_of homes (omega (arith, lh))) in
-        part_made k l h (λ e. get_or_default homes k e (some_of homes (omega (arith, lh))) lh) (get_or answers k []) (q.each k [] (some_of homes (omega (arith, lh))) lh)))
+        let h = get_or homes k (first_of homes (omega (arith, lh))) in
+        part_made k l h (λ e. get_or_default homes k e (first_of homes (omega (arith, lh))) lh) (get_or answers k []) (q.each k [] (first_of homes (omega (arith, lh))) lh)))
 
 -- one list more behind
-pub turn_more : (lists : List (List Ref)) (xs : List Ref) → in_turn (lists ++ xs ∷ []) ≡ in_turn lists ++ xs
+pub turn_more : (lists : List (List Ref)) (xs : List Ref) → joined (lists ++ xs ∷ []) ≡ joined lists ++ xs
 turn_more [] xs = append-nil xs
-turn_more (y ∷ lists) xs = ap (λ z. y ++ z) (turn_more lists xs) ∙ sym (append_assoc y (in_turn lists) xs)
+turn_more (y ∷ lists) xs = ap (λ z. y ++ z) (turn_more lists xs) ∙ sym (append_assoc y (joined lists) xs)
 
 -- a part's references are among those of all
 pub pick_room : (parts : List (Vec (Vec Pair Global) Global)) (refs : List (Vec Ref Global)) (k : ℕ) (h : Homes) (p : Vec (Vec Pair Global) Global) → k < length parts → HaveSixteen parts → AreRefsOf parts refs → AreHomes h (list_at (get_or parts k p).items)

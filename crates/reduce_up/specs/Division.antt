@@ -9,6 +9,7 @@ use Rattle.dd_store.specs.Codes.{shard_of_pair}
 use Rattle.dd_store.specs.Growing.{IsIn}
 use Rattle.reduce_up.specs.declared.division.Divided.{Divided}
 use Rattle.reduce_up.specs.declared.division.Homes.{Homes}
+use Rattle.reduce_up.specs.Placed.{joined}
 use Rattle.reduce_up.specs.Sharing.{IsListed}
 
 -- the items whose number is s
@@ -72,14 +73,9 @@ pub record ArePicked (parts : List (Vec (Vec Pair Global) Global)) (homes : List
   pub each : (k : ℕ) (d : List Ref) (h : Homes) → k < m
       → IsPickedOf parts refs k (slice_index_or homes k h) (slice_index_or answers k d)
 
--- several lists, one behind the other
-abbrev pub in_turn : List (List Ref) → List Ref
-in_turn [] = []
-in_turn (xs ∷ xss) = xs ++ in_turn xss
-
 -- the answers of all parts, one part behind the other
 abbrev pub AreInTurn : List (Vec (Vec Pair Global) Global) → List Homes → List (Vec Ref Global) → List Ref → Type 0
-AreInTurn parts homes refs all = (answers : List (List Ref)) × ArePicked parts homes refs (length homes) answers × (all ≡ in_turn answers)
+AreInTurn parts homes refs all = (answers : List (List Ref)) × ArePicked parts homes refs (length homes) answers × (all ≡ joined answers)
 
 -- a reference for each pair, by shard
 pub record AreRefsOf (parts : List (Vec (Vec Pair Global) Global)) (refs : List (Vec Ref Global)) : Type 0 where

@@ -14,10 +14,10 @@ paired [] rs = []
 paired (k ∷ ks) [] = []
 paired (k ∷ ks) (r ∷ rs) = (k, r) ∷ paired ks rs
 
--- the pairs of all levels
-abbrev pub joined : List (List (Key × Ref)) → List (Key × Ref)
+-- several lists, one behind the other
+abbrev pub joined : {X : Type 0} → List (List X) → List X
 joined [] = []
-joined (row ∷ rows) = row ++ joined rows
+joined (xs ∷ xss) = xs ++ joined xss
 
 -- each key stands at its level
 abbrev pub ArePlaced : List (List (Key × Ref)) → Type 0

@@ -2,8 +2,9 @@
 ghost use Rattle.std.specs.Prelude.{◌≡◌, ◌+◌, ◌<◌, ◌≤◌, ◌++◌, ℕ, length, slice_get, slice_index_or, Some, All, IfOk, OnOk};
 ghost use Rattle.dd_store.specs.Levels.{all_at};
 ghost use Rattle.reduce_up.specs.declared.division.Homes.{Homes as HomesValue};
-ghost use Rattle.reduce_up.specs.Division.{chosen, source, begin_of, in_turn, IsPicked, IsPickedOf, ArePicked, AreInTurn};
+ghost use Rattle.reduce_up.specs.Division.{chosen, source, begin_of, IsPicked, IsPickedOf, ArePicked, AreInTurn};
 ghost use Rattle.reduce_up.specs.Division.{AreRefsOf, HaveSixteen, MayPick};
+ghost use Rattle.reduce_up.specs.Placed.{joined};
 ghost use Rattle.reduce_up.specs.Steps.{IsSharePicked, AreAllPicked};
 
 use crate::division::{EQUAL, Homes};
@@ -186,7 +187,7 @@ fn join_picked(
 
 /// Adds the diagrams of all parts, one part behind the other.
 fn add_all(own: &mut Refs, picked: &[Refs]) -> Result<(), AllocError>
-    ensures { OnOk result (own.new ≡ own.old ++ in_turn picked.now) }
+    ensures { OnOk result (own.new ≡ own.old ++ joined picked.now) }
 {
     for part in picked {
         own.append(part)?;

@@ -1,5 +1,5 @@
 -- Lists that are emptied, and the requests that are handed to the workers.
-use Rattle.std.proofs.Common.{◌≡◌, ℕ, zero, suc, ◌+◌, ◌-◌, ◌<◌, ◌≤◌, inl, inr, List, [], ◌∷◌, ◌++◌, length, set, take, drop, replicate, Some, slice_get, refl, sym, ◌∙◌, ap, subst, arith, append_assoc, Contains, All}
+use Rattle.std.proofs.Common.{◌≡◌, ℕ, zero, suc, ◌+◌, ◌-◌, ◌<◌, ◌≤◌, inl, inr, List, [], ◌∷◌, ◌++◌, length, set, take, drop, Some, slice_get, refl, sym, ◌∙◌, ap, subst, arith, append_assoc, Contains, All}
 use Rattle.std.specs.List.{AllZip}
 use Rattle.std.proofs.Math.ListN.{length-drop}
 use Rattle.std.proofs.lemmas.List.Elements.{Contains-append_cases}
@@ -20,15 +20,10 @@ use Rattle.reduce_up.proofs.Rooted.{all_of}
 use Rattle.req_table.specs.Places.{row, StandsAt}
 use Rattle.reduce_up.specs.ByPlace.{AreAdmitted}
 use Rattle.reduce_up.specs.Up.{AreReducedBelow, IsWithinBelow}
-use Rattle.wave_engine.specs.Front.{joined, keys_from, count_before, IsCopied, ArePut}
+use Rattle.reduce_up.specs.Placed.{joined}
+use Rattle.wave_engine.specs.Front.{keys_from, count_before, IsCopied, ArePut}
 use Rattle.req_table.proofs.Standing.{same_level, stands_none, in_lists, row_own, row_other}
 use Rattle.reduce_up.proofs.Wanted.{AreReachedBy, diagram_answer, adds_through, lacks_through, has_request_of}
-
--- empty lists
-row_replicate : {X : Type 0} (n w : ℕ) → row {X = X} (replicate n []) w ≡ []
-row_replicate zero w = refl
-row_replicate (suc n) zero = refl
-row_replicate (suc n) (suc w) = row_replicate n w
 
 -- lists one after the other
 joined-append : {X : Type 0} (a b : List (List X)) → joined (a ++ b) ≡ joined a ++ joined b
@@ -108,9 +103,6 @@ module _ (tables : List (List Key)) (v : ℕ) where
       own : row (set A u new) u ≡ new
       own = row_own A u new (let e : length A ≡ length tables = p.levels in omega (arith, e, lt))
 
-pub none_put : (tables : List (List Key)) (v : ℕ) (found : List Ref) (A : List (List Ref)) → length A ≡ length tables → ArePut tables v found v A
-none_put tables v found A e = record { levels = e; counts = λ w l m. absurd (omega (arith, l, m)); placed = λ w q r l m. absurd (omega (arith, l, m)) }
-
 -- the list of requests that are handed over, as it grows
 pub front_more : (tables : List (List Key)) (v w : ℕ) (F G : List Key) → v ≤ w → w < length tables → F ≡ joined (take (w - v) (drop v tables)) → G ≡ F ++ row tables w → G ≡ joined (take ((w + 1) - v) (drop v tables))
 front_more tables v w F G le lt f g =
@@ -151,13 +143,6 @@ module _ (S : Nodes) (w : IsSound S) (entries : List Entry) (good : All (IsEntry
       let m = of_front (keys_from v T) e c in
       let p = key_from T v m.0 m.1 in
       (p.0, m.0, adm.keys p.0 p.1 m.0 p.3, λ x hx. ap (λ (z : Entry). entry_value S z x) m.2)
-
-  pub front_entries : All (IsEntry S) (entries_for (keys_from v T))
-  front_entries = all_of (IsEntry S) (entries_for (keys_from v T)) (λ e c.
-      let m = of_front (keys_from v T) e c in
-      let p = key_from T v m.0 m.1 in
-      let i : IsKey S m.0 = (adm.keys p.0 p.1 m.0 p.3).key in
-      subst (IsEntry S) (sym m.2) (i.first, i.second))
 
   pub front_keys : All (IsKey S) (keys_from v T)
   front_keys = all_of (IsKey S) (keys_from v T) (λ k c. let p = key_from T v k c in (adm.keys p.0 p.1 k p.3).key)

@@ -14,7 +14,8 @@ use Rattle.reduce_up.specs.Waves.{Entry}
 use Rattle.req_table.specs.Places.{row, StandsAt, AreNone, AreEmpty}
 use Rattle.reduce_up.specs.ByPlace.{AreAdmitted, IsSplitAt, AreExpanded}
 use Rattle.wave_engine.specs.Down.{Grow, IsRowExpanded, AreWaiting, IsDown}
-use Rattle.wave_engine.specs.Front.{joined, keys_from}
+use Rattle.reduce_up.specs.Placed.{joined}
+use Rattle.wave_engine.specs.Front.{keys_from}
 use Rattle.reduce_up.specs.Up.{IsWithinBelow, AreReducedBelow}
 use Rattle.req_table.proofs.Standing.{same_level, stands_none, row_own, row_other, row_none}
 use Rattle.wave_engine.proofs.Placing.{placed_kept, levels_passed, level_more}

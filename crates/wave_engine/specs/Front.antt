@@ -1,13 +1,9 @@
 -- What is handed to the workers: the requests from a level on, and the answers that are put in their places.
-use Rattle.std.specs.Prelude.{◌≡◌, ℕ, ◌+◌, ◌-◌, ◌<◌, ◌≤◌, List, [], ◌∷◌, ◌++◌, length, take, drop, slice_get, Some}
+use Rattle.std.specs.Prelude.{◌≡◌, ℕ, ◌+◌, ◌-◌, ◌<◌, ◌≤◌, List, length, take, drop, slice_get, Some}
 use Rattle.dd_store.specs.declared.reference.Ref.{Ref}
 use Rattle.req_table.specs.declared.Key.{Key}
 use Rattle.req_table.specs.Places.{row, StandsAt}
-
--- the lists one after the other
-abbrev pub joined : {X : Type 0} → List (List X) → List X
-joined [] = []
-joined (xs ∷ xss) = xs ++ joined xss
+use Rattle.reduce_up.specs.Placed.{joined}
 
 -- the requests from level v on
 abbrev pub keys_from : ℕ → List (List Key) → List Key

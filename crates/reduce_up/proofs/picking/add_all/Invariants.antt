@@ -1,6 +1,6 @@
 use Rattle.std.proofs.Common.{◌≡◌, ◌++◌, take}
-use Rattle.reduce_up.specs.Division.{in_turn}
+use Rattle.reduce_up.specs.Placed.{joined}
 use Rattle.reduce_up.proofs.picking.add_all.Given as goal
 
 abbrev pub invariant-loop-part : goal.invariant-loop-part
-invariant-loop-part l = l.own ≡ l.fn.own ++ in_turn (take l.part-index l.picked)
+invariant-loop-part l = l.own ≡ l.fn.own ++ joined (take l.part-index l.picked)

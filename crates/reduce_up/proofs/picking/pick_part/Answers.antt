@@ -3,7 +3,8 @@ use Rattle.std.proofs.lemmas.List.{get_or_default}
 use Rattle.std.specs.Prelude.{OnOk}
 use Rattle.dd_store.specs.Levels.{list_at}
 use Rattle.reduce_up.specs.Division.{chosen, source, AreHomes, IsPickedOf}
-use Rattle.reduce_up.proofs.Joined.{some_of, pick_room, picked_from}
+use Rattle.expand_work.proofs.Teams.{first_of}
+use Rattle.reduce_up.proofs.Joined.{pick_room, picked_from}
 use Rattle.reduce_up.proofs.picking.pick_part.Goals as goal
 use Rattle.reduce_up.proofs.picking.pick_part.Goals.{After-index-homes-part}
 
@@ -12,9 +13,9 @@ module _ (c : After-index-homes-part) where
   there : c.args.part < length c.args.parts.now
   there = let e = c.requires.may.many in let kh = c.requires.part in omega (arith, e, kh)
 
-  are : AreHomes c.index-homes-part.result (list_at (get_or c.args.parts.now c.args.part (some_of c.args.parts.now (omega (arith, there)))).items)
+  are : AreHomes c.index-homes-part.result (list_at (get_or c.args.parts.now c.args.part (first_of c.args.parts.now (omega (arith, there)))).items)
   are =
-      let p = some_of c.args.parts.now (omega (arith, there)) in
+      let p = first_of c.args.parts.now (omega (arith, there)) in
       subst (λ z. AreHomes z (list_at (get_or c.args.parts.now c.args.part p).items)) (sym c.index-homes-part.is) (c.requires.may.homes_of c.args.part p c.index-homes-part.result c.requires.part)
 
 pub pick-requires-clause-homes : goal.pick-requires-clause-homes
