@@ -18,19 +18,6 @@ slots-room len n count = elim count [
   | inr table ↦ (let filled = table.filled in omega arith, table.power)
 ]
 
--- the slots serve one pair more
-pub slots-same : (len n : ℕ) → IsSlotCount len n → len < n / 4 * 3 → IsSlotCount (len + 1) n
-slots-same len n count lt = elim count [
-  | inl none ↦ absurd (omega arith)
-  | inr table ↦ inr (record {
-    some = omega arith;
-    power = table.power;
-    eight = table.eight;
-    filled = omega arith;
-    least = elim table.least [ inl e ↦ inl e | inr few ↦ inr (omega arith) ];
-  })
-]
-
 -- a power of two that is at least 8 has a quarter
 quarter_of : (k n : ℕ) → n ≡ 2 ^ k → 8 ≤ n → (q : ℕ) × (n ≡ 4 * q)
 quarter_of zero n is eight = absurd (omega arith)

@@ -1,15 +1,17 @@
-//! Items in the order in which they were added, each once, beside slots that find the place of an item by open
-//! addressing.
+//! Items in the order in which they were added, each once, beside slots that find the place of an
+//! item by open addressing.
 //!
-//! **Promises.** A `SlotTable` is a list of items without double ones (`SlotTable::as_slice`: `all`, `once`). `find`
-//! answers an item's place, or that it is not there; `find_or_add` finds it, adds it last, or refuses and changes
-//! nothing (`IsPlaced`); `slots` is the least power of two that is at least 8 and of which the items fill at most three
-//! quarters, and none for none (`IsSlotCount`); `clear` leaves no items. All this holds whatever numbers spread the items.
+//! **Promises.** A `SlotTable` is a list of items without double ones (`SlotTable::as_slice`:
+//! `all`, `once`). `find` answers an item's place, or that it is not there; `find_or_add` finds it,
+//! adds it last, or refuses and changes nothing (`IsPlaced`); `slots` is the least power of two
+//! that is at least 8 and of which the items fill at most three quarters, and none for none
+//! (`IsSlotCount`); `clear` leaves no items. All this holds whatever numbers spread the items.
 //!
-//! **Only tests show** that ample memory suffices (`wave_tests`). How far a search goes nothing shows.
+//! **Only tests show** that ample memory suffices (`wave_tests`). How far a search goes nothing
+//! shows.
 //!
-//! **Begin** with `Spread`, which is all that an item needs, and with `specs/Placing`; how slots find items is in
-//! `specs/Probes` and `Stamps`, and done in `slots`.
+//! **Begin** with `Spread`, which is all that an item needs, and with `specs/Placing`; how slots
+//! find items is in `specs/Probes` and `Stamps`, and done in `slots`.
 #![tactic(auto)]
 
 ghost use Rattle.std.specs.Prelude.{◌≡◌, ◌<◌, ◌+◌, [], ◌^◌, ℕ, true, length, slice_get, Some, MatchOption};
