@@ -1,5 +1,5 @@
 //! The children of a shard's nodes, in eight bytes a node where the references fit in four each, else in sixteen.
-ghost use Rattle.std.specs.Prelude.{◌≡◌, ◌<◌, ◌+◌, ◌^◌, [], true, length, map, slice_get, Some, MatchOption, MatchResult};
+ghost use Rattle.std.specs.Prelude.{◌≡◌, ◌<◌, ◌+◌, ◌^◌, [], length, map, slice_get, Some, MatchOption, MatchResult};
 ghost use Rattle.dd_store.specs.Narrow.{AreWords, AllWords, AreTheirs, pair_at, pairs_in, AreHeld, AreFour, IsLeftOut};
 ghost use Rattle.slot_table.specs.Lists.{IsIn};
 ghost use Rattle.slot_table.specs.Placing.{IsPlaced};

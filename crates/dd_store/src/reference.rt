@@ -1,9 +1,9 @@
 //! References to nodes.
-ghost use Rattle.std.specs.Prelude.{◌≡◌, ◌^◌, ◌<◌, ◌≤◌, Some, Bool, List, false, not};
+ghost use Rattle.std.specs.Prelude.{◌≡◌, ◌^◌, ◌<◌, Bool, List, false, not};
 ghost use Rattle.dd_store.specs.Marks.{is_marked, mark_by, mark_both, negate_of};
 ghost use Rattle.dd_store.specs.Nodes.{Nodes, den};
 ghost use Rattle.dd_store.specs.Order.{ref_cmp};
-ghost use Rattle.dd_store.specs.Words.{is_near, is_far, node_word, node_of, word_of, reference_of, IsWord, IsNodeWord, is_terminal};
+ghost use Rattle.dd_store.specs.Words.{word_of, reference_of, IsWord, is_terminal};
 
 use crate::words::{LONG, node_of, node_word};
 use slot_table::Spread;

@@ -65,6 +65,7 @@ impl Store {
         })
     }
 
+    /// Where the store's memory is from.
     pub(crate) fn allocator(&self) -> Global {
         self.alloc
     }

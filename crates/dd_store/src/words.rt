@@ -5,15 +5,16 @@ ghost use Rattle.dd_store.specs.Words.{is_near, is_far, node_word, node_of, refe
 
 use crate::reference::{NodeId, SHARDS};
 
-/// A node of a level below this one, whose place is below `NEAR_PLACES`, is near: its shard begins at this bit of its word.
+/// A node of a level below this one, whose place is below `NEAR_PLACES`, is near: its shard begins at the bit
+/// `NEAR_SHARD` of its word.
 const NEAR_LEVELS: u16 = 255;
 
 const NEAR_PLACES: u32 = 1 << 17;
 
 const NEAR_SHARD: u64 = 1 << 18;
 
-/// A node of a level from there on and below this one, whose place is below `FAR_PLACES`, is far: its shard begins at this bit of its
-/// word, which has the bit `FAR`.
+/// A node of a level from there on and below this one, whose place is below `FAR_PLACES`, is far: its shard begins at the bit
+/// `FAR_SHARD` of its word, which has the bit `FAR`.
 const FAR_LEVELS: u16 = 4095;
 
 const FAR_PLACES: u32 = 1 << 13;
