@@ -13,7 +13,8 @@ use Rattle.dd_store.specs.declared.reference.Ref.{Ref}
 use Rattle.dd_store.specs.declared.reference.Reference.TheVariants.{Node}
 use Rattle.dd_store.specs.Graph.{Pair}
 use Rattle.dd_store.specs.Marks.{is_marked, plain_pair}
-use Rattle.dd_store.specs.Growing.{Grows, IsIn, IsStopped}
+use Rattle.slot_table.specs.Lists.{IsIn}
+use Rattle.dd_store.specs.Growing.{Grows, IsStopped}
 use Rattle.dd_store.specs.Levels.{list_at, all_at, plain_list, Names, IsHalted}
 use Rattle.dd_store.proofs.Places.{slice_get-push, slice_get-append}
 

@@ -5,7 +5,7 @@ use Rattle.std.proofs.lemmas.Option.{slice_get-map}
 use Rattle.std.specs.Option.{option_map}
 use Rattle.dd_store.specs.Graph.{Pair}
 use Rattle.dd_store.specs.Marks.{plain_pair}
-use Rattle.dd_store.specs.Growing.{IsIn}
+use Rattle.slot_table.specs.Lists.{IsIn}
 use Rattle.dd_store.specs.Levels.{plain_list}
 use Rattle.dd_store.proofs.Places.{mapped}
 

@@ -3,7 +3,7 @@ use Rattle.std.proofs.Common.{◌≡◌, ℕ, ◌<◌, Bool, List, sym, ◌∙�
 use Rattle.dd_store.specs.Graph.{Pair, IsRef, top}
 use Rattle.dd_store.specs.Codes.{shard_of_pair}
 use Rattle.dd_store.specs.Marks.{mark_both}
-use Rattle.dd_store.specs.Growing.{IsIn}
+use Rattle.slot_table.specs.Lists.{IsIn}
 use Rattle.dd_store.specs.Nodes.{Nodes, node}
 use Rattle.dd_store.specs.Adding.{AreReady}
 use Rattle.dd_store.proofs.Marks.{mark_by-one, top-mark_by, IsRef-mark_by, shard_of_turned}

@@ -6,7 +6,8 @@ use Rattle.std.proofs.lemmas.Result.{err_from_is_err_and}
 use Rattle.std.proofs.lemmas.List.Elements.{All-get_or}
 use Rattle.dd_store.specs.declared.reference.Ref.{Ref}
 use Rattle.dd_store.specs.Graph.{Pair}
-use Rattle.dd_store.specs.Growing.{Grows, IsIn}
+use Rattle.slot_table.specs.Lists.{IsIn}
+use Rattle.dd_store.specs.Growing.{Grows}
 use Rattle.dd_store.specs.Levels.{list_at, all_at, plain_list, Names}
 use Rattle.dd_store.proofs.Growing.{Grows-trans, Grows-wider}
 use Rattle.dd_store.proofs.LevelFacts.{list_read}
