@@ -6,42 +6,31 @@ use Rattle.std.proofs.lemmas.Bool.{cases_lt}
 use Rattle.dd_store.specs.Functions.{Agree, DependsOn, IsLeastDifference}
 use Rattle.dd_store.specs.Parts.{Part, top_of, AreParts, IsDenotation}
 use Rattle.dd_store.specs.Parts.Part.{leaf, node}
-use Rattle.dd_store.proofs.References.{step, view, step_has, step_den, free, canonical, reads, walk, walk_least}
+use Rattle.dd_store.proofs.References.{seam, longer, step, view, step_has, step_den, free, canonical, reads, walk, walk_least}
 use Rattle.dd_store.proofs.References.View.{splits, stays}
 
-seam : (p : List Bool) (b : Bool) (q : List Bool) → (p ++ b ∷ []) ++ q ≡ p ++ b ∷ q
-seam p b q = append_assoc p (b ∷ []) q
-
-longer : (p : List Bool) (b : Bool) (v : ℕ) → length p ≡ v → length (p ++ b ∷ []) ≡ suc v
-longer p b v h = simp length-append (omega arith)
-
 module _ (R : Type 0) (same : (a b : R) → Dec (a ≡ b)) (n : ℕ) (part : R → Part R) (Has : R → Type 0) (den : R → List Bool → Bool) (S : AreParts n part Has) (D : IsDenotation n part Has den) where
+  -- below a level its bit is not read
+  unread : (v : ℕ) → v < n → (r : R) → Has r → suc v ≤ top_of n (part r) → (q : List Bool) (d e : Bool) (x : List Bool) → length q ≡ v → v + suc (length x) ≡ n → den r (q ++ d ∷ x) ≡ den r (q ++ e ∷ x)
+  unread v lt r hr lr q d e x hq hx =
+      ap (den r) (sym (seam q d x))
+      ∙ free R same n part Has den S D (length x) (suc v) (omega arith) r hr lr (q ++ d ∷ []) (q ++ e ∷ []) x (longer q d v hq) (longer q e v hq) refl
+      ∙ ap (den r) (seam q e x)
+
   -- two references below a level that agree where the level's bit is b are equal
   pub equal_at : (v : ℕ) → v < n → (b : Bool) (a c : R) → Has a → Has c → suc v ≤ top_of n (part a) → suc v ≤ top_of n (part c)
       → ((q x : List Bool) → length q ≡ v → v + suc (length x) ≡ n → den a (q ++ b ∷ x) ≡ den c (q ++ b ∷ x)) → a ≡ c
   equal_at v lt b a c ha hc la lc h = canonical R same n part Has den S D a c ha hc (λ y hy. cut (take v y) (drop v y) (simp length-take (omega arith)) (simp length-drop (omega arith)) y (take-append-drop v y))
     where
-      unread : (r : R) → Has r → suc v ≤ top_of n (part r) → (q : List Bool) (d e : Bool) (x : List Bool) → length q ≡ v → v + suc (length x) ≡ n → den r (q ++ d ∷ x) ≡ den r (q ++ e ∷ x)
-      unread r hr lr q d e x hq hx =
-          ap (den r) (sym (seam q d x))
-          ∙ free R same n part Has den S D (length x) (suc v) (omega arith) r hr lr (q ++ d ∷ []) (q ++ e ∷ []) x (longer q d v hq) (longer q e v hq) refl
-          ∙ ap (den r) (seam q e x)
-
       cut : (q x : List Bool) → length q ≡ v → v + length x ≡ n → (y : List Bool) → q ++ x ≡ y → den a y ≡ den c y
       cut q [] hq hx y e = absurd (omega arith)
       cut q (d ∷ x) hq hx y e =
-          subst (λ z. den a z ≡ den c z) e (unread a ha la q d b x hq (omega arith) ∙ h q x hq (omega arith) ∙ unread c hc lc q b d x hq (omega arith))
+          subst (λ z. den a z ≡ den c z) e (unread v lt a ha la q d b x hq (omega arith) ∙ h q x hq (omega arith) ∙ unread v lt c hc lc q b d x hq (omega arith))
 
   -- and they differ somewhere, whatever the bits up to the level are
   module _ (v : ℕ) (lt : v < n) (lo hi : R) (hlo : Has lo) (hhi : Has hi) (tlo : v < top_of n (part lo)) (thi : v < top_of n (part hi)) (differ : lo ≢ hi) (F : List Bool → Bool)
       (low : (q x : List Bool) → length q ≡ v → v + suc (length x) ≡ n → den lo (q ++ false ∷ x) ≡ F (q ++ false ∷ x))
       (high : (q x : List Bool) → length q ≡ v → v + suc (length x) ≡ n → den hi (q ++ true ∷ x) ≡ F (q ++ true ∷ x)) where
-    unread_at : (r : R) → Has r → suc v ≤ top_of n (part r) → (q : List Bool) (d e : Bool) (x : List Bool) → length q ≡ v → v + suc (length x) ≡ n → den r (q ++ d ∷ x) ≡ den r (q ++ e ∷ x)
-    unread_at r hr lr q d e x hq hx =
-        ap (den r) (sym (seam q d x))
-        ∙ free R same n part Has den S D (length x) (suc v) (omega arith) r hr lr (q ++ d ∷ []) (q ++ e ∷ []) x (longer q d v hq) (longer q e v hq) refl
-        ∙ ap (den r) (seam q e x)
-
     from : (q x y : List Bool) → length q ≡ v → v + length x ≡ n → q ++ x ≡ y → (den lo y ≢ den hi y) → DependsOn n v F
     from q [] y hq hx e ne = absurd (omega arith)
     from q (d ∷ x) y hq hx e ne = (
@@ -53,7 +42,7 @@ module _ (R : Type 0) (same : (a b : R) → Dec (a ≡ b)) (n : ℕ) (part : R �
           let hx' : v + suc (length x) ≡ n = omega arith in
           ne (
           subst (λ z. den lo z ≡ den hi z) e
-          (unread_at lo hlo tlo q d false x hq hx' ∙ low q x hq hx' ∙ f ∙ sym (high q x hq hx') ∙ unread_at hi hhi thi q true d x hq hx')
+          (unread v lt lo hlo tlo q d false x hq hx' ∙ low q x hq hx' ∙ f ∙ sym (high q x hq hx') ∙ unread v lt hi hhi thi q true d x hq hx')
           ),
     )
 
