@@ -1,5 +1,6 @@
 -- Marks: turning one twice changes nothing, and a marked reference has the complement's values.
 use Rattle.std.proofs.Common.{◌≡◌, ℕ, suc, zero, Bool, true, false, not, ◌+◌, ◌%◌, List, refl, sym, ◌∙◌, ap}
+pub use Rattle.std.proofs.Math.Bool.{not-not}
 use Rattle.dd_store.specs.declared.reference.NodeId.{NodeId}
 use Rattle.dd_store.specs.declared.reference.Ref.{Ref}
 use Rattle.dd_store.specs.declared.reference.Reference.TheVariants.{False, True, Node}
@@ -7,10 +8,6 @@ use Rattle.dd_store.specs.Marks.{is_marked, negate_of, mark_by, mark_both, plain
 use Rattle.dd_store.specs.Codes.{block_of, shard_of_pair}
 use Rattle.dd_store.specs.Graph.{Pair, Graph, top, IsRef, walk}
 use Rattle.dd_store.specs.Nodes.{Nodes, den}
-
-pub not-not : (b : Bool) → not (not b) ≡ b
-not-not true = refl
-not-not false = refl
 
 pub turned-not : (b v : Bool) → turned (not b) v ≡ not (turned b v)
 turned-not true v = sym (not-not v)

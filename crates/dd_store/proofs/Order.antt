@@ -1,5 +1,5 @@
 -- References that compare as equal are equal.
-use Rattle.std.proofs.Common.{◌≡◌, Bool, true, false, refl, sym, ◌∙◌, arith}
+use Rattle.std.proofs.Common.{◌≡◌, Bool, true, false, refl, arith}
 use Rattle.std.proofs.lemmas.Bool.Decides.{nat_tests}
 use Rattle.std.specs.declared.cmp.Ordering.{Ordering}
 use Rattle.std.specs.declared.cmp.Ordering.TheVariants.{Less, Equal, Greater}
@@ -10,7 +10,7 @@ use Rattle.std.proofs.lemmas.Cmp.{tied_itself, nat_cmp_total}
 use Rattle.dd_store.specs.declared.reference.NodeId.{NodeId}
 use Rattle.dd_store.specs.declared.reference.Ref.{Ref}
 use Rattle.dd_store.specs.declared.reference.Reference.TheVariants.{False, True, Node}
-use Rattle.dd_store.specs.Order.{node_lt, ref_lt, ref_cmp, pair_cmp, node_cmp}
+use Rattle.dd_store.specs.Order.{node_lt, ref_lt, ref_cmp, node_cmp}
 use Rattle.dd_store.specs.contracts.reference.NodeIdOrd.TheImpl.Laws.{total-law}
 
 then_first : (r s : Ordering) → ordering_then r s ≡ Equal → r ≡ Equal
@@ -38,44 +38,14 @@ node_cmp_same l m e =
 pub node_cmp_itself : (m : NodeId) → node_cmp m m ≡ Equal
 node_cmp_itself m = rw (tied_itself nat_cmp_total m.level, tied_itself nat_cmp_total m.shard, tied_itself nat_cmp_total m.index) refl
 
-mark_same : (b c : Bool) → bool_cmp b c ≡ Equal → b ≡ c
-mark_same true true e = refl
-mark_same false false e = refl
-mark_same true false e = cc e
-mark_same false true e = cc e
-
 mark_itself : (b : Bool) → bool_cmp b b ≡ Equal
 mark_itself true = refl
 mark_itself false = refl
-
-pub ref_cmp_same : (a b : Ref) → ref_cmp a b ≡ Equal → a ≡ b
-ref_cmp_same False False e = refl
-ref_cmp_same False True e = let t : ref_cmp False True ≡ Less = refl in cc
-ref_cmp_same False (Node m c) e = let t : ref_cmp False (Node m c) ≡ Less = refl in cc
-ref_cmp_same True False e = let t : ref_cmp True False ≡ Greater = refl in cc
-ref_cmp_same True True e = refl
-ref_cmp_same True (Node m c) e = let t : ref_cmp True (Node m c) ≡ Less = refl in cc
-ref_cmp_same (Node l b) False e = let t : ref_cmp (Node l b) False ≡ Greater = refl in cc
-ref_cmp_same (Node l b) True e = let t : ref_cmp (Node l b) True ≡ Greater = refl in cc
-ref_cmp_same (Node l b) (Node m c) e =
-    let f = sym (nodes_cmp l m b c) ∙ e in
-    let node = node_cmp_same l m (then_first _ _ f) in
-    let mark = mark_same b c (then_second _ _ f) in
-    λ i. Node (node i) (mark i)
-
-pub pair_cmp_same : (p q : Ref × Ref) → pair_cmp p q ≡ Equal → p ≡ q
-pair_cmp_same p q e =
-    let first : p.0 ≡ q.0 = ref_cmp_same p.0 q.0 (then_first _ _ e) in
-    let second : p.1 ≡ q.1 = ref_cmp_same p.1 q.1 (then_second _ _ e) in
-    λ i. (first i, second i)
 
 pub ref_cmp_itself : (a : Ref) → ref_cmp a a ≡ Equal
 ref_cmp_itself False = refl
 ref_cmp_itself True = refl
 ref_cmp_itself (Node m b) = rw (nodes_cmp m m b b, node_cmp_itself m, mark_itself b) refl
-
-pub pair_cmp_itself : (p : Ref × Ref) → pair_cmp p p ≡ Equal
-pair_cmp_itself p = rw (ref_cmp_itself p.0, ref_cmp_itself p.1) refl
 
 pub node_cmp_total : IsTotalOrder node_cmp
 node_cmp_total = total-law

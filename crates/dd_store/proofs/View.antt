@@ -1,6 +1,6 @@
 -- A store's model is a store of references and their parts, for all lemmas about such stores.
 use Rattle.std.proofs.Common.{◌≡◌, ◌≢◌, ℕ, ◌⊎◌, inl, inr, Bool, true, false, not, cond, nat_eq, List, ◌∷◌, ◌++◌, get_or, Some, refl, sym, ◌∙◌, ap, subst, arith}
-use Rattle.std.specs.Prelude.{Result, Ok, Err, IfOk, IfErr, OnErr}
+use Rattle.std.specs.Prelude.{Result, Ok, Err, IfOk, IfErr}
 use Rattle.std.proofs.Math.Seq.{get_or-append_seam}
 use Rattle.std.proofs.lemmas.Bool.Decides.{eqb_tells}
 use Rattle.dd_store.specs.declared.reference.NodeId.{NodeId}
@@ -18,7 +18,7 @@ use Rattle.dd_store.specs.Parts.{Part, top_of, step_of, AreParts, IsDenotation}
 use Rattle.dd_store.specs.Parts.Part.{leaf, node}
 use Rattle.dd_store.specs.View.{part_of, part, Has, top, Keeps, IsAbsent, AreOpposite, IsOneNode, IsMade, IsFull}
 use Rattle.dd_store.proofs.Canonical.{walk-false, walk-true}
-use Rattle.dd_store.proofs.Marks.{not-not, is_marked-negate, mark_by-one, top-mark_by, IsRef-mark_by, den-negate}
+use Rattle.dd_store.proofs.Marks.{is_marked-negate, mark_by-one, top-mark_by, IsRef-mark_by, den-negate}
 use Rattle.dd_store.proofs.Places.{none_some}
 use Rattle.dd_store.proofs.References.{canonical}
 use Rattle.dd_store.proofs.Storing.{IsRef-extends, CanMake, Makes-extends, Makes-there, Makes-here, adds-with_node, den-extends, children-of, node-of, child_refs, IsNodeOf-marked, IsBranch-node}
@@ -29,7 +29,7 @@ part-node : (S : Nodes) (m : NodeId) (b : Bool) (p : Pair) → node_at S m ≡ S
 part-node S m b p e = ap (part_of m) (children-of S m b p e)
 
 -- the part of a node that has these children
-part-children : (S : Nodes) (v : ℕ) (lo hi r : Ref) → IsNodeOf S v lo hi r → part S r ≡ node v lo hi
+pub part-children : (S : Nodes) (v : ℕ) (lo hi r : Ref) → IsNodeOf S v lo hi r → part S r ≡ node v lo hi
 part-children S v lo hi False h = absurd (none_some (lo, hi) h.1)
 part-children S v lo hi True h = absurd (none_some (lo, hi) h.1)
 part-children S v lo hi (Node m b) h = ap (part_of m) h.1 ∙ ap (λ u. node u lo hi) h.0
@@ -235,22 +235,8 @@ part-negate S r v lo hi h e =
 pub opposite-negate : (S : Nodes) (r : Ref) → AreOpposite S (negate_of r) r
 opposite-negate S r x len = den-negate S r x
 
--- references with opposite functions are complements of each other
-pub opposite : (S : Nodes) → IsSound S → (a b : Ref) → Has S a → Has S b → AreOpposite S a b → a ≡ negate_of b
-opposite S w a b h k o = one_diagram S w a (negate_of b) h (has-negate S b k) (λ x len. o x len ∙ sym (den-negate S b x))
-
--- a reference has a mark exactly where its second child has
-pub is_marked-high : (S : Nodes) → IsSound S → (r : Ref) (v : ℕ) (lo hi : Ref) → Has S r → part S r ≡ node v lo hi → is_marked r ≡ is_marked hi
-is_marked-high S w r v lo hi h e =
-    let m = of_part S r v lo hi h e in
-    ap is_marked m.2 ∙ sym (own m.1 hi (w.reduced.plain m.0 (mark_both m.1 (lo, hi)) (node-of S m.0 m.1 (lo, hi) m.4)))
-  where
-    own : (b : Bool) (z : Ref) → is_marked (mark_by b z) ≡ false → is_marked z ≡ b
-    own true z plain = sym (not-not (is_marked z)) ∙ ap not (sym (is_marked-negate z) ∙ plain)
-    own false z plain = plain
-
 -- two references of one name
-same_node : (S : Nodes) (m : NodeId) (b c : Bool) → IsOneNode S (Node m b) (Node m c)
+pub same_node : (S : Nodes) (m : NodeId) (b c : Bool) → IsOneNode S (Node m b) (Node m c)
 same_node S m true true = inl refl
 same_node S m true false = inr (refl, λ x len. den-negate S (Node m false) x)
 same_node S m false true = inr (refl, λ x len. den-negate S (Node m true) x)
@@ -296,25 +282,15 @@ full S T v lo hi (Ok r) h = tt
 full S T v lo hi (Err OutOfMemory) h = tt
 full S T v lo hi (Err Full) h = (h.1, h.0.0, absent S v lo hi h.0.1)
 
-pub refused : (S T : Nodes) (v : ℕ) (lo hi : Ref) (r : Result Ref StoreFault) → Makes S v lo hi r T → OnErr r (T ≡ S)
-refused S T v lo hi (Ok r) h = tt
-refused S T v lo hi (Err OutOfMemory) h = h.2
-refused S T v lo hi (Err Full) h = h.2
+same_child : (c d : Bool) (z : Ref) → cond c (cond d z z) z ≡ z
+same_child true true z = refl
+same_child true false z = refl
+same_child false d z = refl
 
 -- the cofactor of a reference, by its name and by its part
 pub cofactor-step : (S : Nodes) (r : Ref) (v : ℕ) (b : Bool) → Has S r → cofactor_of S r v b ≡ step_of v r b (part S r)
 cofactor-step S False v b h = same_child (nat_eq S.levels v) b False
-  where
-    same_child : (c d : Bool) (z : Ref) → cond c (cond d z z) z ≡ z
-    same_child true true z = refl
-    same_child true false z = refl
-    same_child false d z = refl
 cofactor-step S True v b h = same_child (nat_eq S.levels v) b True
-  where
-    same_child : (c d : Bool) (z : Ref) → cond c (cond d z z) z ≡ z
-    same_child true true z = refl
-    same_child true false z = refl
-    same_child false d z = refl
 cofactor-step S (Node m c) v b h = named h.0 h.1 ∙ sym (ap (step_of v (Node m c) b) (part-node S m c h.0 h.1))
   where
     named : (p : Pair) → node_at S m ≡ Some p → cofactor_of S (Node m c) v b ≡ cond (nat_eq m.level v) (cond b (mark_by c p.1) (mark_by c p.0)) (Node m c)

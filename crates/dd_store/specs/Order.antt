@@ -1,7 +1,6 @@
 -- The order of references: False, True, then nodes by level, shard and index, without a mark before marked.
 use Rattle.std.specs.Prelude.{Bool, true, false, not, nat_lt, ◌==◌, ◌&&◌, ◌||◌}
 use Rattle.std.specs.declared.cmp.Ordering.{Ordering}
-use Rattle.std.specs.Ordering.{ordering_then}
 use Rattle.dd_store.specs.declared.reference.Ref.{Ref}
 use Rattle.dd_store.specs.declared.reference.Reference.TheVariants.{False, True, Node}
 use Rattle.dd_store.specs.declared.reference.NodeId.{NodeId}
@@ -31,10 +30,6 @@ ref_lt (Node l b) _ = false
 -- the order of references, as it is derived
 abbrev pub ref_cmp : Ref → Ref → Ordering
 ref_cmp = (ref_ord.ghosts).cmp
-
--- pairs of references, by the first and then by the second
-abbrev pub pair_cmp : Ref × Ref → Ref × Ref → Ordering
-pair_cmp p q = ordering_then (ref_cmp p.0 q.0) (ref_cmp p.1 q.1)
 
 -- the order of nodes: by level, shard and index
 abbrev pub node_cmp : NodeId → NodeId → Ordering
