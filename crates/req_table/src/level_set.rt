@@ -1,7 +1,6 @@
 //! A set of levels: a bit for each, 64 in a word.
-ghost use Rattle.std.specs.Prelude.{◌≡◌, ◌≢◌, ◌<◌, ◌≤◌, ◌*◌, ℕ, length, MatchOption, IfOk, []};
+ghost use Rattle.std.specs.Prelude.{◌≡◌, ◌≢◌, ◌<◌, ◌≤◌, ◌*◌, ℕ, length, IfOk, []};
 ghost use Rattle.req_table.specs.LevelSet.{IsMember, member_of, IsLowestFrom, IsHighestBefore, IsNextFrom, IsLastBefore};
-ghost use Rattle.std.specs.Int.{bit_at};
 
 use std::alloc::{AllocError, Global};
 use std::marker::Model;

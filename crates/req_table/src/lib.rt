@@ -1,22 +1,24 @@
 //! Requests, their records, and the items that carry them from worker to worker.
 //!
-//! **Promises.** `requests::terminal_case`, `normal`, `child`, `split` and `known` follow their tables (`value`, `key`) and
-//! mean the operation on the operands' functions (`means`, `low`, `high`). A `Key` is a request, in sixteen bytes
-//! (`Key::op`: `request`). A `Table` is a list of requests, each once (`Table::admit`: `offers`, `stands`, `refused`); each has eight
-//! bytes where all fit.
-//! A `ComputedTable` is a list of keys with answers (`ComputedTable::peek`: `value`, `once`, `few`); `keep` puts a pair first and drops
-//! the key's old one, or the last of a full computed table, or changes nothing. `Placed` tells a child in eight bytes, its request by
-//! a number of its level; a `Row` has the children of requests, and `Refs` references, in half of that where all fit. `Waiting` and
-//! `Rows` have tables and rows by level, and find the next level that has something.
+//! **Promises.** `requests::terminal_case`, `normal`, `child`, `split` and `known` follow their
+//! tables (`value`, `key`) and mean the operation on the operands' functions (`means`, `low`,
+//! `high`). A `Key` is a request, in sixteen bytes (`Key::op`: `request`). A `Table` is a list of
+//! requests, each once (`Table::admit`: `offers`, `stands`, `refused`); each has eight bytes where
+//! all fit. A `ComputedTable` is a list of keys with answers (`ComputedTable::peek`: `value`,
+//! `once`, `few`); `keep` puts a pair first and drops the key's old one, or the last of a full
+//! computed table, or changes nothing. `Placed` tells a child in eight bytes, its request by a
+//! number of its level; a `Row` has the children of requests, and `Refs` references, in half of
+//! that where all fit. `Waiting` and `Rows` have tables and rows by level, and find the next level
+//! that has something.
 //!
-//! **Only tests show** that ample memory suffices, that then a pair is kept, and that a full store answers what is held
-//! (`wave_tests`).
+//! **Only tests show** that ample memory suffices, that then a pair is kept, and that a full store
+//! answers what is held (`wave_tests`).
 //!
-//! **Begin** with `specs/TerminalCase` and `Keys`, what an operation comes to; what both forms of workers share, lanes and
-//! settled waves, is in `specs/Lanes` and `Settled`.
+//! **Begin** with `specs/TerminalCase` and `Keys`, what an operation comes to; what both forms of
+//! workers share, lanes and settled waves, is in `specs/Lanes` and `Settled`.
 #![tactic(auto)]
 
-ghost use Rattle.std.specs.Prelude.{◌≡◌, None};
+ghost use Rattle.std.specs.Prelude.{◌≡◌};
 ghost use Rattle.req_table.specs.Operation.{IsRequest};
 ghost use Rattle.req_table.specs.TerminalCase.{op_number};
 ghost use Rattle.req_table.specs.Words.{xor_bit, first_word, operation_of, IsFirstWord};

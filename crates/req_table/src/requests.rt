@@ -1,5 +1,5 @@
 //! Terminal cases, normal keys, children and owners.
-ghost use Rattle.std.specs.Prelude.{◌≡◌, ◌<◌, Bool, List, None, IfSome, length, true, false};
+ghost use Rattle.std.specs.Prelude.{◌≡◌, ◌<◌, Bool, List, None, IfSome, true, false};
 ghost use Rattle.dd_store.specs.Nodes.{Nodes, den};
 ghost use Rattle.dd_store.specs.View.{Has};
 ghost use Rattle.std.specs.Option.{option_map};
