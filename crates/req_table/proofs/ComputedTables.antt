@@ -1,5 +1,5 @@
 -- What a cache holds after a pair was put, and what is right for a store.
-use Rattle.std.proofs.Common.{◌≡◌, ◌-◌, ℕ, Bool, List, [], ◌∷◌, inl, inr, Option, Some, None, Contains, take, refl, sym, ◌∙◌, ap, subst, IfSome, OnOk, OnErr, Result, Ok, Err, IsSome, IsOk, true≢false}
+use Rattle.std.proofs.Common.{◌≡◌, ◌-◌, ℕ, Bool, List, ◌∷◌, inl, inr, Option, Some, None, Contains, take, refl, sym, ◌∙◌, ap, subst, IfSome, OnOk, OnErr, Result, Ok, Err, IsSome, IsOk, true≢false}
 use Rattle.std.specs.Option.{option_map, option_map_or}
 use Rattle.std.specs.Map.{lookup, lookup_entry, remove_entry}
 use Rattle.std.proofs.lemmas.Map.Views.{Contains-from_lookup}
@@ -22,7 +22,7 @@ use Rattle.dd_store.specs.View.{Keeps as KeepsNodes}
 use Rattle.dd_store.specs.Marks.{mark_by, turned}
 use Rattle.dd_store.proofs.Marks.{den-mark_by}
 use Rattle.dd_store.proofs.View.{kept_den, has-negate}
-use Rattle.lru.proofs.Splits.{Contains-cons, Contains-nil}
+use Rattle.lru.proofs.Splits.{Contains-cons}
 use Rattle.lru.proofs.CallerLemmas.{Contains-take, Contains-remove_entry}
 
 -- a cache's pairs and capacity
@@ -68,10 +68,6 @@ right_kept S T w keeps m right k r c =
             ∙ ap (λ b. op_value k.op b (den S k.g x)) (sym (kept_den S T w keeps k.f a.first x)) ∙ ap (λ b. op_value k.op (den T k.f x) b) (sym (kept_den S T w keeps k.g a.second x)),
       );
     }
-
--- a computed table that holds nothing is right for each store
-pub right_empty : (S : Nodes) (n : ℕ) → IsRight S (record { pairs = []; capacity = n })
-right_empty S n k r c = absurd (Contains-nil {X = Key × Ref} (k, r) c)
 
 -- a pair that is kept is right where its answer is the key's
 pub right_with : (S : Nodes) (old : Held) (k : Key) (r : Ref) (new : Held) → IsRight S old → IsAnswerOf S k r → Keeps old k r new → IsRight S new

@@ -2,7 +2,7 @@
 use Rattle.std.proofs.Common.{◌≡◌, ◌≢◌, ℕ, suc, ◌+◌, ◌-◌, ◌*◌, ◌/◌, ◌%◌, ◌^◌, ◌<◌, ◌≤◌, inl, inr, List, length, get_or, set, min, None, Some, sym, ◌∙◌, ap, subst, arith, lit<, w64, pow-add, pow-suc, div-le_self}
 use Rattle.std.specs.Prelude.{bit_and}
 use Rattle.std.specs.Int.{bit_at, trailing_zeros, leading_zeros}
-use Rattle.std.proofs.Math.Nat.{div-div-eq-div-mul}
+use Rattle.std.proofs.Math.Nat.{div-div-eq-div-mul, pos_of_ne-zero}
 use Rattle.std.proofs.lemmas.Bool.{cases_lt, cases_eq}
 use Rattle.std.proofs.lemmas.List.{get_or-set_same, get_or-set_other}
 use Rattle.std.proofs.lemmas.Nat.{leading_top, and_le_r}
@@ -36,16 +36,13 @@ pub lowest_some : (word from : ℕ) → word < 2 ^ 64 → from < 64 → (word / 
 lowest_some word from fit lt some =
     let r : ℕ = word / 2 ^ from in
     let t : ℕ = trailing_zeros w64 r in
-    let h = bit_at-trailing_zeros w64 r (by r some) (div_fits word from (2 ^ 64) fit) in
+    let h = bit_at-trailing_zeros w64 r (pos_of_ne-zero some) (div_fits word from (2 ^ 64) fit) in
     let at : bit_at word (from + t) ≡ 1 = sym (bit_at_shifted word from t) ∙ h.1 in (
       (let z : from ≤ from + t = omega arith in z),
       elim (cases_lt (from + t) 64) [ inl z ↦ z | inr le ↦ absurd (zero≢one (sym (bit_at_above word 64 (from + t) fit le) ∙ at)) ],
       at,
       λ k le below one. zero≢one (sym (h.2 (k - from) (omega arith)) ∙ sym (above word from k le) ∙ one),
     )
-  where
-    by : (n : ℕ) → (n ≡ 0 → ⊥) → 0 < n
-    by n ne = omega arith
 
 -- the bits of a word before a place
 before : (word end k : ℕ) → end ≤ 64 → k < end → bit_at word k ≡ bit_at (bit_and word (18446744073709551615 / 2 ^ (64 - end))) k
@@ -79,9 +76,6 @@ highest_some word end le some = subst (λ z. IsHighestBefore word end (Some z)) 
     r : ℕ
     r = bit_and word m
 
-    positive : (n : ℕ) → (n ≡ 0 → ⊥) → 0 < n
-    positive n ne = omega arith
-
     fits : r < 2 ^ 64
     fits =
         let a : r ≤ m = and_le_r word m in
@@ -89,7 +83,7 @@ highest_some word end le some = subst (λ z. IsHighestBefore word end (Some z)) 
         omega (arith, a, b)
 
     found : (j : ℕ) × (leading_zeros w64 r + suc j ≡ 64) × (2 ^ j ≤ r) × (r < 2 ^ suc j)
-    found = leading_top 64 r (positive r some) fits
+    found = leading_top 64 r (pos_of_ne-zero some) fits
 
     j : ℕ
     j = found.0

@@ -1,5 +1,5 @@
 -- What stands in lists by level, and levels that are emptied.
-use Rattle.std.proofs.Common.{◌≡◌, ◌≢◌, ℕ, zero, suc, ◌+◌, ◌<◌, ◌≤◌, ◌⊎◌, inl, inr, List, [], ◌∷◌, length, set, get_or, replicate, Option, Some, None, slice_get, refl, sym, ◌∙◌, ap, subst, arith}
+use Rattle.std.proofs.Common.{◌≡◌, ◌≢◌, ℕ, zero, suc, ◌<◌, ◌≤◌, ◌⊎◌, inl, inr, List, [], ◌∷◌, length, set, get_or, replicate, Option, Some, None, slice_get, refl, sym, ◌∙◌, ap, subst, arith}
 use Rattle.std.proofs.Math.Nat.{eq-or-lt_of_le}
 use Rattle.std.proofs.Math.ListN.{get_or-eq_default, length-replicate}
 use Rattle.std.proofs.lemmas.Bool.{cases_lt}
@@ -60,16 +60,6 @@ row_replicate (suc n) (suc w) = row_replicate n w
 
 pub made_empty : {X : Type 0} (n : ℕ) (lists : List (List X)) → lists ≡ replicate n [] → AreEmpty lists n
 made_empty {X} n lists e = subst (λ (z : List (List X)). AreEmpty z n) (sym e) (record { levels = length-replicate n []; empty = λ w. row_replicate n w })
-
--- levels that are emptied, one after the other
-pub taken_more : {X : Type 0} (T : List (List X)) (v u : ℕ) → u < length T → AreNone T 0 v → AreNone T v u → AreNone (set T u []) 0 (u + 1)
-taken_more {X} T v u lt before between w q k le l h =
-    elim (same_level w u) [
-      | inl d ↦ stands_none (row (set T u []) w) q k (ap (row (set T u [])) d ∙ row_own T u [] lt) h
-      | inr d ↦
-          let at : StandsAt T w q k = subst (λ (z : List X). slice_get z q ≡ Some k) (row_other T u [] w d) h in
-          elim (cases_lt w v) [ inl a ↦ before w q k le a at | inr b ↦ between w q k b (grind (arith, l, d)) at ]
-    ]
 
 pub taken_all : {X : Type 0} (T : List (List X)) (n v : ℕ) → length T ≡ n → AreNone T 0 v → ((w q : ℕ) (x : X) → v ≤ w → StandsAt T w q x → ⊥) → AreEmpty T n
 taken_all T n v len before later = record {
