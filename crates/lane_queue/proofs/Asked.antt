@@ -1,12 +1,11 @@
 -- What the methods of the queue ask at each step, for a view of the kind that the step is for.
-use Rattle.std.proofs.Common.{◌≡◌, ◌≢◌, ℕ, ◌+◌, ◌<◌, List, [], ◌∷◌, ◌++◌, sym, ap, ◌∙◌, subst, ⊎_elim}
+use Rattle.std.proofs.Common.{◌≡◌, ◌≢◌, ℕ, ◌+◌, ◌<◌, [], ◌++◌, sym, ap, ◌∙◌, subst, ⊎_elim}
 use Rattle.crossbeam_queue.specs.Fifo.{Pushes, Pops, Forks, Merges, Learns}
-use Rattle.req_table.specs.declared.Item.{Item}
 use Rattle.lane_queue.specs.declared.rule.Terms.{Terms}
 use Rattle.lane_queue.specs.declared.rule.View.{View}
 use Rattle.req_table.specs.Lanes.{ends}
 use Rattle.lane_queue.specs.declared.load.Load.{Load}
-use Rattle.lane_queue.specs.Loads.{load_from, items_in, Carries, MayFollowAll}
+use Rattle.lane_queue.specs.Loads.{load_from, Carries, MayFollowAll}
 use Rattle.lane_queue.specs.Rule.{scope, blank, spent, issuer, joined, port, Holds, Sends, Takes, Owns, Reads, Whole, own_sent, IsPort, IsJoined, IsWhole, IsReady}
 use Rattle.lane_queue.proofs.Moves.{pushes, pops, owns}
 use Rattle.lane_queue.proofs.Passes.{issues_first, issues, merges, reads, wholes}
@@ -19,17 +18,11 @@ issuing i c v h = let P : View → Type 0 = λ u. Forks Holds i u (issuer c (u.l
 pub sending : (n i : ℕ) (v : View) (x : Load) → IsPort v → Carries x → load_from x ≡ v.low → MayFollowAll (scope v.terms) (ends (own_sent v)) x → Pushes Holds n i v x (Sends v x)
 sending n i v x h carries from may = subst (λ (u : View). Pushes Holds n i u x (Sends u x)) (sym h) (pushes n i v.terms v.low (own_sent v) v.taken x carries from may)
 
-pub sent_as : (v w : View) (x : Load) → IsPort v → Sends v x w → w ≡ port v.terms v.low (own_sent v ++ items_in x) v.taken
-sent_as v w x h = subst (λ (u : View). Sends u x w → w ≡ port u.terms u.low (own_sent u ++ items_in x) u.taken) (sym h) (λ s. s)
-
 pub taking : (i : ℕ) (v : View) → IsPort v → v.low ≡ v.terms.owner → Pops Holds i v (Takes v)
 taking i v h mine = subst (λ (u : View). Pops Holds i u (Takes u)) (sym h) (pops i v.terms v.low (own_sent v) v.taken mine)
 
 pub owning : (i : ℕ) (v : View) → IsPort v → v.low ≡ v.terms.owner → Learns Holds i v (Owns v)
 owning i v h mine = subst (λ (u : View). Learns Holds i u (Owns u)) (sym h) (owns i v.terms v.low (own_sent v) v.taken mine)
-
-pub taken_as : (v w : View) (x : Load) → IsPort v → Takes v x w → w ≡ port v.terms v.low (own_sent v) (v.taken ++ items_in x)
-taken_as v w x h = subst (λ (u : View). Takes u x w → w ≡ port u.terms u.low (own_sent u) (u.taken ++ items_in x)) (sym h) (λ s. s.0)
 
 abbrev pub Joins : View → View → View
 Joins v w = joined v.terms (v.high + 1) (v.sent ++ w.sent) (v.taken ++ w.taken) []
@@ -43,14 +36,8 @@ joining i v other w h none k terms low theirs mine =
     subst (λ (u : View × View). Merges Holds i u.0 other u.1 (Joins u.0 u.1) spent) (λ t. (sym e t, sym f t))
     (merges i v.terms v.high v.sent v.taken other (own_sent w) w.taken h.1 theirs mine)
 
-pub joined_as : (v w : View) → IsPort w → Joins v w ≡ joined v.terms (v.high + 1) (v.sent ++ own_sent w ∷ []) (v.taken ++ w.taken) []
-joined_as v w h = ap (λ (l : List (List Item)). joined v.terms (v.high + 1) (v.sent ++ l) (v.taken ++ w.taken) []) (ap (λ (u : View). u.sent) h)
-
 pub reading : (i : ℕ) (v : View) → IsWhole v → Pops Holds i v (Reads v)
 reading i v h = subst (λ (u : View). Pops Holds i u (Reads u)) (sym h.0) (reads i v.terms v.sent v.taken v.left h.1)
 
 pub knowing : (i : ℕ) (v : View) → IsWhole v → Learns Holds i v (Whole v)
 knowing i v h = subst (λ (u : View). Learns Holds i u (Whole u)) (sym h.0) (wholes i v.terms v.sent v.taken v.left h.1)
-
-pub read_as : (v w : View) (x : Load) → IsWhole v → Reads v x w → w ≡ joined v.terms v.terms.workers v.sent v.taken (v.left ++ items_in x)
-read_as v w x h = subst (λ (u : View). Reads u x w → w ≡ joined u.terms u.terms.workers u.sent u.taken (u.left ++ items_in x)) (sym h.0) (λ s. s)

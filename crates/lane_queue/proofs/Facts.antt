@@ -26,10 +26,6 @@ pub all-back : {X : Type 0} (P : X → Type 0) (xs ys : List X) → All P (xs ++
 all-back P [] ys h = h
 all-back P (x ∷ xs) ys h = all-back P xs ys (λ k d lt. h (suc k) d (omega arith))
 
-pub all-at : {X : Type 0} (P : X → Type 0) (xs : List X) (y : X) (ys : List X) → All P (xs ++ y ∷ ys) → P y
-all-at P [] y ys h = h 0 y (omega arith)
-all-at P (x ∷ xs) y ys h = all-at P xs y ys (λ k d lt. h (suc k) d (omega arith))
-
 -- an item that may follow all Ends of a fair list may stand behind it
 pub fair-push : (w : Scope) (xs : List Item) (y : Item) → IsFair w xs → MayFollow w (ends xs) y → IsFair w (xs ++ y ∷ [])
 fair-push w xs y h m = let z : 0 + ends xs ≡ ends xs = omega arith in fair_join w 0 xs (y ∷ []) h (subst (λ n. MayFollow w n y) (sym z) m, tt)

@@ -24,10 +24,6 @@ use Rattle.lane_queue.proofs.Rounds.{element}
 use Rattle.lane_queue.specs.PortView.{PortView, sent_to, passed_to, put_to, port_scope, IsTaken, IsKept, has_put, has_taken, has_kept}
 use Rattle.lane_queue.proofs.Facts.{fair-push, fair-more, load-other, of-mine, of-other}
 
-pub none_of_length : {X : Type 0} (xs : List X) → length xs ≡ 0 → xs ≡ []
-none_of_length [] e = refl
-none_of_length (x ∷ xs) e = absurd (omega (arith, e))
-
 abbrev none_of : Option (SegId Global) → Option (SegId Global)
 none_of q = None
 

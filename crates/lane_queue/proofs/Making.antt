@@ -1,7 +1,8 @@
 -- How far a round of issuing has come.
 use Rattle.std.proofs.Common.{◌≡◌, ℕ, zero, suc, ◌+◌, ◌^◌, ◌<◌, ◌≤◌, List, [], ◌∷◌, ◌++◌, map, length, get_or, set, sym, refl, ap, ◌∙◌, subst, inl, inr, arith, Some}
 use Rattle.std.specs.Prelude.{slice_index_or}
-use Rattle.std.proofs.lemmas.List.{get_or-set_same, get_or-set_other, get_or_append_left, get_or-map, length-set, length-append}
+use Rattle.std.proofs.lemmas.List.{get_or-set_same, get_or-set_other, get_or_append_left, get_or_default, get_or-map, length-set, length-append}
+use Rattle.std.proofs.lemmas.Simd.{map-map}
 use Rattle.std.proofs.Math.Seq.{get_or-append_seam}
 use mathlib.Core.Logic.{dite}
 use native.Mathlib.Decide.{ℕ_discrete}
@@ -16,16 +17,11 @@ use Rattle.lane_queue.specs.declared.rule.View.{View}
 use Rattle.lane_queue.specs.Rule.{blank, issuer, port, own_sent, IsPort}
 use Rattle.req_table.specs.Lanes.{ends}
 use Rattle.lane_queue.proofs.Lines.{on_live, hand_live}
+use Rattle.lane_queue.proofs.Rounds.{element}
 use Rattle.lane_queue.specs.Line.{line_view, IsLiveOn}
 use Rattle.lane_queue.specs.Ports.{terms_of, line_on, line_sent, line_taken, line_put, PortOk, view_of}
 use Rattle.lane_queue.specs.PortView.{IsKept}
 use Rattle.lane_queue.specs.Make.{RootOk, RootsOk, NewLine, NewLines, new_port}
-
--- whatever stands for an element past the end
-pub any_default : {X : Type 0} (xs : List X) (i : ℕ) (d e : X) → i < length xs → get_or xs i d ≡ get_or xs i e
-any_default [] i d e lt = absurd (omega arith)
-any_default (x ∷ xs) zero d e lt = refl
-any_default (x ∷ xs) (suc i) d e lt = any_default xs i d e (omega arith)
 
 -- in the round of the port `number`, the lanes below k have issued its pass
 pub record Issued (workers : ℕ) (sizes : Sizes) (number k : ℕ) (lanes : List Lane) (roots : List Root) (lines : List Line) : Type 0 where
@@ -40,7 +36,7 @@ pub issued-more : (workers : ℕ) (sizes : Sizes) (number k : ℕ) (lanes : List
     → Issued workers sizes number k lanes roots lines → k < length lanes → lane ≡ get_or lanes k lane → RootOk workers sizes (number + 1) k lane root → NewLine workers sizes number k lane line
     → Issued workers sizes number (k + 1) lanes (set roots k root) (lines ++ line ∷ [])
 issued-more workers sizes number k lanes roots lines lane root line h lt is r n =
-    let at : (d : Lane) → lane ≡ get_or lanes k d = λ d. is ∙ any_default lanes k lane d lt in
+    let at : (d : Lane) → lane ≡ get_or lanes k d = λ d. is ∙ get_or_default lanes k lane d lt in
     let here : k < length roots = subst (λ m. k < m) (sym h.roots_long) lt in
     record {
       roots_long = length-set roots k root ∙ h.roots_long;
@@ -111,27 +107,15 @@ opened-more workers sizes k lanes lanes' roots roots' lane root h queue client a
       (λ j. (sym (get_or_append_left lanes (lane ∷ []) d i (let z = h.lanes_long in omega arith)) j, sym (get_or_append_left roots (root ∷ []) e i (let z = h.roots_long in omega arith)) j)) (h.each i d e (omega arith)));
 })
 
-pub opened-none : (workers : ℕ) (sizes : Sizes) → Opened workers sizes 0 [] []
-opened-none workers sizes = record { lanes_long = refl; roots_long = refl; each = λ i d e lt. absurd (omega arith) }
-
 pub opened-all : (workers : ℕ) (sizes : Sizes) (k : ℕ) (lanes : List Lane) (roots : List Root) → Opened workers sizes k lanes roots → RootsOk workers sizes 0 lanes roots
 opened-all workers sizes k lanes roots h = (h.roots_long ∙ sym h.lanes_long, λ i d e lt. h.each i d e (let z = h.lanes_long in omega arith))
 
 -- ---- a port of new lines
-map-both : {A B C : Type 0} (f : A → C) (g : B → C) (xs : List A) (ys : List B) → length xs ≡ length ys → ((i : ℕ) (d : A) (e : B) → i < length ys → f (get_or xs i d) ≡ g (get_or ys i e)) → map f xs ≡ map g ys
+pub map-both : {A B C : Type 0} (f : A → C) (g : B → C) (xs : List A) (ys : List B) → length xs ≡ length ys → ((i : ℕ) (d : A) (e : B) → i < length ys → f (get_or xs i d) ≡ g (get_or ys i e)) → map f xs ≡ map g ys
 map-both f g [] [] n h = refl
 map-both f g [] (y ∷ ys) n h = absurd (omega arith)
 map-both f g (x ∷ xs) [] n h = absurd (omega arith)
 map-both f g (x ∷ xs) (y ∷ ys) n h = λ j. h 0 x y (omega arith) j ∷ map-both f g xs ys (omega arith) (λ i d e lt. h (suc i) d e (omega arith)) j
-
-pub map-twice : {A B C : Type 0} (f : A → B) (g : B → C) (xs : List A) → map g (map f xs) ≡ map (λ x. g (f x)) xs
-map-twice f g [] = refl
-map-twice f g (x ∷ xs) = λ j. g (f x) ∷ map-twice f g xs j
-
-element : {X : Type 0} (xs : List X) (i : ℕ) → i < length xs → X
-element [] i lt = absurd (omega arith)
-element (x ∷ xs) zero lt = x
-element (x ∷ xs) (suc i) lt = element xs i (omega arith)
 
 module _ (workers number : ℕ) (sizes : Sizes) (lanes : List Lane) (lines : List Line) (long : length lanes ≡ workers) (n : NewLines workers sizes number lanes lines) (lt : number < workers) where
   pub new-ok : sizes.levels < 2 ^ 16 → PortOk number sizes lines
@@ -151,13 +135,13 @@ module _ (workers number : ℕ) (sizes : Sizes) (lanes : List Lane) (lines : Lis
   new-view = let z = n.0 in
       let a : map line_on lines ≡ map (λ (q : SegId Global). Some q) (map (λ (x : Lane). x.queue) lanes) =
       map-both line_on (λ (x : Lane). Some x.queue) lines lanes z (λ i d e less. on_live (get_or lanes i e).queue (get_or lines i d).hold (n.1 i e d less).0)
-      ∙ sym (map-twice (λ (x : Lane). x.queue) (λ (q : SegId Global). Some q) lanes) in
+      ∙ sym (map-map (λ (q : SegId Global). Some q) (λ (x : Lane). x.queue) lanes) in
       let s : map line_sent lines ≡ map (λ (q : SegId Global). []) (map (λ (x : Lane). x.queue) lanes) =
       map-both line_sent (λ (x : Lane). []) lines lanes z (λ i d e less. ap own_sent (n.1 i e d less).1)
-      ∙ sym (map-twice (λ (x : Lane). x.queue) (λ (q : SegId Global). []) lanes) in
+      ∙ sym (map-map (λ (q : SegId Global). []) (λ (x : Lane). x.queue) lanes) in
       let p : map line_put lines ≡ map (λ (q : SegId Global). 0) (map (λ (x : Lane). x.queue) lanes) =
       map-both line_put (λ (x : Lane). 0) lines lanes z (λ i d e less. (n.1 i e d less).3)
-      ∙ sym (map-twice (λ (x : Lane). x.queue) (λ (q : SegId Global). 0) lanes) in
+      ∙ sym (map-map (λ (q : SegId Global). 0) (λ (x : Lane). x.queue) lanes) in
       let d : Line = element lines number (omega arith) in let d' : Lane = element lanes number (omega arith) in
       let t : slice_index_or (map line_taken lines) number [] ≡ [] = get_or-map line_taken lines number d [] (omega arith) ∙ ap (λ (u : View). u.taken) (n.1 number d' d (omega arith)).1 in
       λ j. record { number = number; lanes = a j; sizes = sizes; passed = s j; put = p j; popped = t j; own = []; taken = [] }

@@ -1,7 +1,8 @@
 -- Passes are issued, joined and read out: each keeps the rule.
 use Rattle.std.proofs.Common.{◌≡◌, ◌≢◌, ℕ, zero, suc, ◌+◌, ◌-◌, ◌<◌, ◌⊎◌, true, true≢false, cond, eqb, List, [], ◌∷◌, ◌++◌, length, set, sym, refl, ap, ◌∙◌, subst, inl, inr, ⊎_elim, arith, append_assoc, eq-eqb, ne_eqb}
-use Rattle.std.specs.Prelude.{All, slice_index_or}
+use Rattle.std.specs.Prelude.{slice_index_or}
 use Rattle.std.proofs.lemmas.List.{append-nil, get_or_append_left}
+use Rattle.std.proofs.lemmas.List.Elements.{All-nil}
 use Rattle.std.proofs.Math.Seq.{get_or-append_seam}
 use mathlib.Core.Option.{some, some-injective, some-ne-none}
 use mathlib.Core.Logic.{dite}
@@ -59,9 +60,6 @@ begins_present : (c : Terms) (p : ℕ) → p < c.workers → (v : View) × (get_
 begins_present c zero lt = (port c 0 [] [], refl, (omega arith, omega arith))
 begins_present c (suc p) lt = (issuer c 1, ap (λ b. get_elem? (issuer c 1 ∷ port c 0 [] [] ∷ []) (cond b 1 0)) (ne_eqb (suc p) 0 (λ z. omega arith)), (omega arith, lt))
 
-all-none : {X : Type 0} (P : X → Type 0) → All P []
-all-none P k d lt = absurd (omega arith)
-
 begins : (c : Terms) → 0 < c.workers → c.owner < c.workers → Ruled [] (issuer c 1 ∷ port c 0 [] [] ∷ [])
 begins c lt owned = record {
   c = c;
@@ -70,7 +68,7 @@ begins c lt owned = record {
   taken = [];
   left = [];
   owned = owned;
-  law = record { senders = all-none (λ x. from_of x < c.workers); in_order = λ p _. refl };
+  law = record { senders = All-nil (λ x. from_of x < c.workers); in_order = λ p _. refl };
   fair = λ p _. tt;
   present = begins_present c;
   begun = begins_begun c;
@@ -137,10 +135,6 @@ pub issues : (i : ℕ) (c : Terms) (low : ℕ) → low < c.workers → Forks Hol
 issues i c low lt loads views h at = (h.0, inr (issue_step i c low (flat loads) views lt (ruled (flat loads) views i (issuer c low) h.1 at refl) at))
 
 -- ---- a port is joined to those below it
--- the ports below j
-below : (c : Terms) (j p : ℕ) (sent : List (List Item)) (taken left : List Item) → Has (joined c j sent taken left) p → p < j
-below c j p sent taken left h = h.1
-
 list_at : (c : Terms) (j p : ℕ) (sent : List (List Item)) (taken left : List Item) → sent_of (joined c j sent taken left) p ≡ slice_index_or sent p []
 list_at c j p sent taken left = let z : p - 0 ≡ p = omega arith in ap (λ n. slice_index_or sent n []) z
 

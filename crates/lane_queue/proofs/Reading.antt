@@ -1,7 +1,7 @@
 -- What is left is read out, lane by lane.
 use Rattle.std.proofs.Common.{◌≡◌, ℕ, ◌+◌, ◌<◌, List, [], ◌∷◌, ◌++◌, map, length, get_or, set, sym, refl, ap, ◌∙◌, subst, arith}
 use Rattle.std.specs.Prelude.{slice_index_or}
-use Rattle.std.proofs.lemmas.List.{length-map, length-append, map-append, get_or_append_left}
+use Rattle.std.proofs.lemmas.List.{length-append, map-append, get_or_append_left}
 use Rattle.std.proofs.Math.Seq.{get_or-append_seam}
 use mathlib.Core.Logic.{dite}
 use native.Mathlib.Decide.{ℕ_discrete}
@@ -16,10 +16,10 @@ use Rattle.lane_queue.specs.declared.make.Root.{Root}
 use Rattle.req_table.specs.Sizes.{scope_of}
 use Rattle.req_table.specs.Lanes.{LaneLaw}
 use Rattle.lane_queue.specs.Lists.{FairLane}
-use Rattle.lane_queue.specs.Rule.{scope, joined, IsWhole}
+use Rattle.lane_queue.specs.Rule.{scope, joined}
 use Rattle.lane_queue.specs.PortView.{PortView, passed_to}
 use Rattle.lane_queue.specs.Joining.{root_view, retired, whole_view, RootsHave, AreRetired, passed_from, popped_by}
-use Rattle.lane_queue.proofs.Rounds.{Turned, turned-none, turned-more, still}
+use Rattle.lane_queue.proofs.Rounds.{Turned, turned-more, still}
 use Rattle.lane_queue.proofs.Settling.{map-alike}
 
 pub record Read (workers : ℕ) (sizes : Sizes) (k : ℕ) (ports : List PortView) (roots roots' : List Root) (left : List (List Load)) : Type 0 where
@@ -27,17 +27,11 @@ pub record Read (workers : ℕ) (sizes : Sizes) (k : ℕ) (ports : List PortView
   pub long : length left ≡ k
   pub law : (i : ℕ) → i < k → LaneLaw (scope_of workers sizes) (passed_from ports i) (popped_by ports i) (flat (slice_index_or left i [])) × FairLane (scope_of workers sizes) (passed_from ports i)
 
-pub read-none : {X : Type 0} (items : X → List Load) (workers : ℕ) (sizes : Sizes) (ports : List PortView) (roots : List Root) (left : List X) → left ≡ [] → Read workers sizes 0 ports roots roots (map items left)
-read-none items workers sizes ports roots left e = record { turned = turned-none roots; long = length-map left items ∙ ap (λ l. length l) e; law = λ i lt. absurd (omega arith) }
-
 -- what reading a lane asks and tells, where its pass is as it was
 pub as-joined : (workers : ℕ) (sizes : Sizes) (k : ℕ) (lanes : List Lane) (ports : List PortView) (roots roots' : List Root) (lane : Lane) (root : Root) → RootsHave workers sizes ports lanes roots → Turned k roots roots' → k < workers → length lanes ≡ workers
     → lane ≡ get_or lanes k lane → root ≡ get_or roots' k root → IsSegPassOf lane.queue root.pass × (root_view root ≡ whole_view workers sizes ports k)
 as-joined workers sizes k lanes ports roots roots' lane root h t lt long at is = let z = h.0 in let r = h.1 k lane root lt in let s = still k roots roots' root root t (omega arith) is in
     (subst (λ (y : Lane × Root). IsSegPassOf y.0.queue y.1.pass) (λ j. (sym at j, s j)) r.0, ap root_view (sym s) ∙ r.1)
-
-pub is-whole : (workers : ℕ) (sizes : Sizes) (k : ℕ) (ports : List PortView) (v : View) → length ports ≡ workers → k < workers → v ≡ whole_view workers sizes ports k → IsWhole v × (v.left ≡ [])
-is-whole workers sizes k ports v long lt e = subst (λ (u : View). IsWhole u × (u.left ≡ [])) (sym e) (((λ j. record (whole_view workers sizes ports k) { high = long j }), lt), refl)
 
 pub read-more : {X : Type 0} (items : X → List Load) (workers : ℕ) (sizes : Sizes) (k : ℕ) (ports : List PortView) (roots roots' : List Root) (left left' : List X) (x : X) (v : View) (root : Root)
     → Read workers sizes k ports roots roots' (map items left) → v ≡ whole_view workers sizes ports k

@@ -1,5 +1,5 @@
 -- A round over all lanes, lane by lane.
-use Rattle.std.proofs.Common.{◌≡◌, ℕ, zero, suc, ◌+◌, ◌<◌, ◌≤◌, List, [], ◌∷◌, ◌++◌, length, get_or, set, sym, refl, ap, ◌∙◌, subst, arith}
+use Rattle.std.proofs.Common.{◌≡◌, ℕ, zero, suc, ◌+◌, ◌<◌, ◌≤◌, List, [], ◌∷◌, ◌++◌, length, get_or, set, sym, ap, ◌∙◌, subst, arith}
 use Rattle.std.proofs.lemmas.List.{get_or-set_same, get_or-set_other, get_or_append_left, get_or_default, length-set, length-append}
 use Rattle.std.proofs.Math.Seq.{get_or-append_seam}
 use mathlib.Core.Logic.{dite}
@@ -9,7 +9,7 @@ use Rattle.lane_queue.specs.declared.rule.Lane.{Lane}
 use Rattle.lane_queue.specs.declared.make.Root.{Root}
 use Rattle.lane_queue.specs.declared.line.Line.{Line}
 use Rattle.lane_queue.specs.Line.{line_view, IsLiveOn}
-use Rattle.lane_queue.specs.Joining.{root_view, Retired, MayJoin, MayJoinAll, JoinedTo, HaveJoined, HaveBegun, AllLive}
+use Rattle.lane_queue.specs.Joining.{root_view, Retired, JoinedTo, HaveJoined, HaveBegun, AllLive}
 
 pub element : {X : Type 0} (xs : List X) (i : ℕ) → i < length xs → X
 element [] i lt = absurd (omega arith)
@@ -20,9 +20,6 @@ element (x ∷ xs) (suc i) lt = element xs i (omega arith)
 pub record Turned {X : Type 0} (k : ℕ) (xs ys : List X) : Type 0 where
   pub long : length ys ≡ length xs
   pub rest : (i : ℕ) (d : X) → k ≤ i → get_or ys i d ≡ get_or xs i d
-
-pub turned-none : {X : Type 0} (xs : List X) → Turned 0 xs xs
-turned-none xs = record { long = refl; rest = λ i d le. refl }
 
 pub turned-more : {X : Type 0} (k : ℕ) (xs ys : List X) (y : X) → Turned k xs ys → Turned (k + 1) xs (set ys k y)
 turned-more k xs ys y h = record {
@@ -57,14 +54,6 @@ pub record Beginning (k : ℕ) (lanes : List Lane) (roots : List Root) (lines li
   pub passes : (i : ℕ) (e : Root) → i < k → (d : Lane) (f : Line) → IsSegPassOf (get_or lanes i d).queue (get_or roots i e).pass × (root_view (get_or roots i e) ≡ line_view (get_or lines i f))
   pub retired : (i : ℕ) (f : Line) → i < k → Retired (get_or lines i f) (get_or lines' i f)
 
-pub beginning-none : (lanes : List Lane) (roots : List Root) (lines : List Line) → roots ≡ [] → Beginning 0 lanes roots lines lines
-beginning-none lanes roots lines e = record {
-  roots_long = ap (λ l. length l) e;
-  turned = turned-none lines;
-  passes = λ i d lt. absurd (omega arith);
-  retired = λ i f lt. absurd (omega arith);
-}
-
 pub beginning-more : (k : ℕ) (lanes : List Lane) (roots roots' : List Root) (lines lines' : List Line) (lane : Lane) (root : Root) (old new : Line) → Beginning k lanes roots lines lines'
     → k < length lanes → k < length lines → lane ≡ get_or lanes k lane → old ≡ get_or lines' k old → IsSegPassOf lane.queue root.pass × (root_view root ≡ line_view old) → Retired old new → roots' ≡ roots ++ root ∷ []
     → Beginning (k + 1) lanes roots' lines (set lines' k new)
@@ -89,19 +78,6 @@ pub record Joining (k : ℕ) (lanes : List Lane) (roots roots' : List Root) (lin
   pub lines_turned : Turned k lines lines'
   pub passes : (i : ℕ) (e : Root) → i < k → (d : Lane) (f : Line) → IsSegPassOf (get_or lanes i d).queue (get_or roots' i e).pass × (root_view (get_or roots' i e) ≡ JoinedTo (root_view (get_or roots i e)) (line_view (get_or lines i f)))
   pub retired : (i : ℕ) (f : Line) → i < k → Retired (get_or lines i f) (get_or lines' i f)
-
-pub joining-none : (lanes : List Lane) (roots : List Root) (lines : List Line) → Joining 0 lanes roots roots lines lines
-joining-none lanes roots lines = record {
-  roots_turned = turned-none roots;
-  lines_turned = turned-none lines;
-  passes = λ i d lt. absurd (omega arith);
-  retired = λ i f lt. absurd (omega arith);
-}
-
-pub may-now : (k n : ℕ) (lanes : List Lane) (roots roots' : List Root) (lines lines' : List Line) (lane : Lane) (root : Root) (line : Line) → MayJoinAll n lanes roots lines → Joining k lanes roots roots' lines lines'
-    → k < n → k < length roots → k < length lines → lane ≡ get_or lanes k lane → root ≡ get_or roots' k root → line ≡ get_or lines' k line → MayJoin lane root line
-may-now k n lanes roots roots' lines lines' lane root line h t lt lr ll at is was =
-    subst (λ (y : Lane × Root × Line). MayJoin y.0 y.1 y.2) (λ j. (sym at j, still k roots roots' root root t.roots_turned lr is j, still k lines lines' line line t.lines_turned ll was j)) (h k lane root line lt)
 
 pub joining-more : (k : ℕ) (lanes : List Lane) (roots roots' : List Root) (lines lines' : List Line) (lane : Lane) (root root' : Root) (old new : Line) → Joining k lanes roots roots' lines lines'
     → k < length lanes → k < length roots → k < length lines → lane ≡ get_or lanes k lane → root ≡ get_or roots' k root → old ≡ get_or lines' k old

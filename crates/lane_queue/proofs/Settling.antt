@@ -1,7 +1,8 @@
 -- What a port is once it gave its passes away, and what its passes are.
-use Rattle.std.proofs.Common.{◌≡◌, ℕ, suc, ◌<◌, cond, List, [], ◌∷◌, map, length, get_or, sym, refl, ap, ◌∙◌, subst, arith, Option, Some, None, Result, Ok, Err, eq-eqb, ne_eqb}
+use Rattle.std.proofs.Common.{◌≡◌, ℕ, ◌<◌, cond, List, [], map, length, get_or, sym, ap, ◌∙◌, subst, arith, Option, Some, None, Result, Ok, Err, eq-eqb, ne_eqb}
 use Rattle.std.specs.Prelude.{slice_index_or, IfOk, OnOk, OnErr}
-use Rattle.std.proofs.lemmas.List.{get_or-map, length-map}
+use Rattle.std.proofs.lemmas.List.{get_or_default, get_or-map, length-map}
+use Rattle.std.proofs.lemmas.Simd.{map-map}
 use mathlib.Core.Logic.{dite}
 use native.Mathlib.Decide.{ℕ_discrete}
 use Rattle.crossbeam_queue.specs.SegTies.{SegId}
@@ -22,14 +23,11 @@ use Rattle.lane_queue.specs.PortView.{PortView, passed_to, IsKept}
 use Rattle.lane_queue.specs.Ports.{terms_of, hold_on, IsAtHand, line_on, line_sent, line_taken, line_put, LineOk, PortOk, view_of}
 use Rattle.lane_queue.specs.Joining.{root_view, Retired, MayJoinAll, JoinedTo, HaveJoined, HaveBegun, AllLive, popped_on, pass_view, retired, RootsOf, RootsBelow, RootsWith}
 use Rattle.lane_queue.proofs.Keeping.{kept-retired}
-use Rattle.lane_queue.proofs.Making.{map-twice}
+use Rattle.lane_queue.proofs.Making.{map-both}
 use Rattle.lane_queue.proofs.Rounds.{element}
 
 pub map-alike : {A C : Type 0} (f g : A → C) (xs ys : List A) → length xs ≡ length ys → ((i : ℕ) (d : A) → i < length ys → f (get_or xs i d) ≡ g (get_or ys i d)) → map f xs ≡ map g ys
-map-alike f g [] [] n h = refl
-map-alike f g [] (y ∷ ys) n h = absurd (omega arith)
-map-alike f g (x ∷ xs) [] n h = absurd (omega arith)
-map-alike f g (x ∷ xs) (y ∷ ys) n h = λ j. h 0 x (omega arith) j ∷ map-alike f g xs ys (omega arith) (λ i d lt. h (suc i) d (omega arith)) j
+map-alike f g xs ys n h = map-both f g xs ys n (λ i d e lt. ap f (get_or_default xs i d e (omega arith)) ∙ h i e lt)
 
 live_on : (q : SegId Global) (h : Hold) → hold_on h ≡ Some q → IsAtHand h → IsLiveOn q h
 live_on q (Live pass) e a = let r : record { web = pass.web; heap = pass.heap } ≡ q = cc in ((ap (λ (s : SegId Global). s.web) r, ap (λ (s : SegId Global). s.heap) r), a.0, a.1)
@@ -106,7 +104,7 @@ module _ (number : ℕ) (sizes : Sizes) (lines : List Line) (own taken : List It
     gone-view = let z = lines_long in
         let n : length lines' ≡ length lines = omega arith in
         let a : map line_on lines' ≡ map (λ (q : Option (SegId Global)). None) (map line_on lines) =
-        map-alike line_on (λ (l : Line). None) lines' lines n (λ i f lt. let z' = lines_long in (gone i f (omega arith)).0) ∙ sym (map-twice line_on (λ (q : Option (SegId Global)). None) lines) in
+        map-alike line_on (λ (l : Line). None) lines' lines n (λ i f lt. let z' = lines_long in (gone i f (omega arith)).0) ∙ sym (map-map (λ (q : Option (SegId Global)). None) line_on lines) in
         let s : map line_sent lines' ≡ map line_sent lines = map-alike line_sent line_sent lines' lines n (λ i f lt. let z' = lines_long in ap own_sent (gone i f (omega arith)).1) in
         let t : map line_taken lines' ≡ map line_taken lines = map-alike line_taken line_taken lines' lines n (λ i f lt. let z' = lines_long in ap (λ (u : View). u.taken) (gone i f (omega arith)).1) in
         let m : map line_put lines' ≡ map line_put lines = map-alike line_put line_put lines' lines n (λ i f lt. let z' = lines_long in (gone i f (omega arith)).3) in

@@ -1,5 +1,5 @@
 //! How the ports' passes are joined, lane by lane.
-ghost use Rattle.std.specs.Prelude.{◌≡◌, ◌<◌, length, IfOk, OnErr};
+ghost use Rattle.std.specs.Prelude.{◌≡◌, length, IfOk, OnErr};
 ghost use Rattle.crossbeam_queue.specs.SegTies.{IsSegPassOf};
 ghost use Rattle.lane_queue.specs.Line.{line_view, IsLiveOn};
 ghost use Rattle.lane_queue.specs.Joining.{Retired, MayJoinAll, HaveJoined, HaveBegun, AllLive};
