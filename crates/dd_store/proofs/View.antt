@@ -1,32 +1,30 @@
 -- A store's model is a store of references and their parts, for all lemmas about such stores.
-use Rattle.std.proofs.Common.{◌≡◌, ◌≢◌, ℕ, ◌⊎◌, inl, inr, Bool, true, false, not, cond, nat_eq, List, ◌∷◌, ◌++◌, get_or, Some, refl, sym, ◌∙◌, ap, subst, arith}
+use Rattle.std.proofs.Common.{◌≡◌, ◌≢◌, ℕ, ◌⊎◌, inl, inr, Bool, true, false, cond, nat_eq, List, get_or, Some, refl, sym, ◌∙◌, ap, subst}
 use Rattle.std.specs.Prelude.{Result, Ok, Err, IfOk, IfErr}
-use Rattle.std.proofs.Math.Seq.{get_or-append_seam}
-use Rattle.std.proofs.lemmas.Bool.Decides.{eqb_tells}
 use Rattle.dd_store.specs.declared.reference.NodeId.{NodeId}
 use Rattle.dd_store.specs.declared.reference.Ref.{Ref}
 use Rattle.dd_store.specs.declared.reference.Reference.TheVariants.{False, True, Node}
 use Rattle.dd_store.specs.declared.StoreFault.{StoreFault}
 use Rattle.dd_store.specs.declared.StoreFault.TheVariants.{Full, OutOfMemory}
-use Rattle.dd_store.specs.Graph.{Pair, bit, IsRef, walk}
+use Rattle.dd_store.specs.Graph.{Pair, bit}
 use Rattle.dd_store.specs.Graph as graph
-use Rattle.dd_store.specs.Marks.{is_marked, negate_of, mark_by, mark_both, plain_pair}
+use Rattle.dd_store.specs.Marks.{is_marked, negate_of, mark_by, plain_pair}
 use Rattle.dd_store.specs.Functions.{Agree}
-use Rattle.dd_store.specs.Nodes.{Nodes, node as node_at, children, den, cofactor_of, IsNodeOf, IsSound, Extends, Makes, IsThere, IsNeeded, count_of, with_node, fresh}
+use Rattle.dd_store.specs.Nodes.{Nodes, node as node_at, children, den, cofactor_of, IsNodeOf, IsSound, Extends, Makes, IsThere, with_node, fresh}
 use Rattle.dd_store.specs.Nodes as nodes
 use Rattle.dd_store.specs.Parts.{Part, top_of, step_of, AreParts, IsDenotation}
-use Rattle.dd_store.specs.Parts.Part.{leaf, node}
+use Rattle.dd_store.specs.Parts.Part.{node}
 use Rattle.dd_store.specs.View.{part_of, part, Has, top, Keeps, IsAbsent, AreOpposite, IsOneNode, IsMade, IsFull}
-use Rattle.dd_store.proofs.Canonical.{walk-false, walk-true}
-use Rattle.dd_store.proofs.Marks.{is_marked-negate, mark_by-one, top-mark_by, IsRef-mark_by, den-negate}
+pub use Rattle.dd_store.proofs.Canonical.{same_ref}
+use Rattle.dd_store.proofs.Canonical.{part_in-node, node_of_part, top-part_in, parts_in, denotes_in, canonical}
+use Rattle.dd_store.proofs.Marks.{top-mark_by, IsRef-mark_by, den-negate}
 use Rattle.dd_store.proofs.Places.{none_some}
-use Rattle.dd_store.proofs.References.{canonical}
-use Rattle.dd_store.proofs.Storing.{IsRef-extends, CanMake, Makes-extends, Makes-there, Makes-here, adds-with_node, den-extends, children-of, node-of, child_refs, IsNodeOf-marked, IsBranch-node}
+use Rattle.dd_store.proofs.Storing.{IsRef-extends, CanMake, Makes-extends, Makes-there, Makes-here, adds-with_node, den-extends, children-of, IsNodeOf-marked, IsBranch-node}
 
 -- the part of a node that is there
 part-node : (S : Nodes) (m : NodeId) (b : Bool) (p : Pair) → node_at S m ≡ Some p
     → part S (Node m b) ≡ node m.level (mark_by b p.0) (mark_by b p.1)
-part-node S m b p e = ap (part_of m) (children-of S m b p e)
+part-node S m b p e = part_in-node (node_at S) m b p e
 
 -- the part of a node that has these children
 pub part-children : (S : Nodes) (v : ℕ) (lo hi r : Ref) → IsNodeOf S v lo hi r → part S r ≡ node v lo hi
@@ -37,75 +35,16 @@ part-children S v lo hi (Node m b) h = ap (part_of m) h.1 ∙ ap (λ u. node u l
 -- a reference with two children is a node that has them, with a mark or without
 pub of_part : (S : Nodes) (r : Ref) (v : ℕ) (lo hi : Ref) → Has S r → part S r ≡ node v lo hi
     → (m : NodeId) × (b : Bool) × (r ≡ Node m b) × (m.level ≡ v) × (children S (Node m b) ≡ Some (lo, hi))
-of_part S False v lo hi h e = absurd (cc)
-of_part S True v lo hi h e = absurd (cc)
-of_part S (Node m b) v lo hi h e =
-    let f : node m.level (mark_by b h.0.0) (mark_by b h.0.1) ≡ node v lo hi = sym (part-node S m b h.0 h.1) ∙ e in
-    let at : m.level ≡ v = cc in
-    let low : mark_by b h.0.0 ≡ lo = cc in
-    let high : mark_by b h.0.1 ≡ hi = cc in
-    let pair : mark_both b h.0 ≡ (lo, hi) = λ i. (low i, high i) in
-    (m, b, refl, at, children-of S m b h.0 h.1 ∙ ap (λ z. Some z) pair)
+of_part S r v lo hi h e =
+    let m = node_of_part (node_at S) r v lo hi h e in
+    (m.0, m.1, m.3, m.5, children-of S m.0 m.1 m.2 m.4 ∙ (λ i. Some (m.6 i, m.7 i)))
 
 -- the level of a reference, by its name and by its part
 pub top-part : (S : Nodes) (n : ℕ) (r : Ref) → Has S r → graph.top n r ≡ top_of n (part S r)
-top-part S n False h = refl
-top-part S n True h = refl
-top-part S n (Node m b) h = sym (ap (top_of n) (part-node S m b h.0 h.1))
-
--- two references without a mark, equal with marks, have one mark
-one_mark : (b c : Bool) (r s : Ref) → is_marked r ≡ false → is_marked s ≡ false → mark_by b r ≡ mark_by c s → b ≡ c
-one_mark true true r s p q e = refl
-one_mark false false r s p q e = refl
-one_mark true false r s p q e = let f : is_marked (negate_of r) ≡ not (is_marked r) = is_marked-negate r in let g : not (is_marked r) ≡ true = ap not p in cc
-one_mark false true r s p q e = let f : is_marked (negate_of s) ≡ not (is_marked s) = is_marked-negate s in let g : not (is_marked s) ≡ true = ap not q in cc
-
--- one part, one mark and one name
-one_node : (S : Nodes) → IsSound S → (l m : NodeId) (b c : Bool) (p q : Pair) → node_at S l ≡ Some p → node_at S m ≡ Some q
-    → ◌≡◌ {A = Part Ref} (node l.level (mark_by b p.0) (mark_by b p.1)) (node m.level (mark_by c q.0) (mark_by c q.1)) → Node l b ≡ Node m c
-one_node S w l m b c p q e f same =
-    let at : l.level ≡ m.level = cc in
-    let low : mark_by b p.0 ≡ mark_by c q.0 = cc in
-    let high : mark_by b p.1 ≡ mark_by c q.1 = cc in
-    let mark : b ≡ c = one_mark b c p.1 q.1 (w.reduced.plain l p e) (w.reduced.plain m q f) high in
-    let lo : p.0 ≡ q.0 = mark_by-one b p.0 q.0 (low ∙ ap (λ z. mark_by z q.0) (sym mark)) in
-    let hi : p.1 ≡ q.1 = mark_by-one b p.1 q.1 (high ∙ ap (λ z. mark_by z q.1) (sym mark)) in
-    let pair : q ≡ p = λ i. (sym lo i, sym hi i) in
-    let name : l ≡ m = w.reduced.unique l m p e (f ∙ ap (λ z. Some z) pair) at in
-    λ i. Node (name i) (mark i)
-
--- a terminal has not the part of a node
-no_leaf : (S : Nodes) (m : NodeId) (b c : Bool) → Has S (Node m b) → part S (Node m b) ≡ leaf c → ⊥
-no_leaf S m b c h e = let f : ◌≡◌ {A = Part Ref} (node m.level (mark_by b h.0.0) (mark_by b h.0.1)) (leaf c) = sym (part-node S m b h.0 h.1) ∙ e in cc
-
-one_ref : (S : Nodes) → IsSound S → (a b : Ref) → Has S a → Has S b → part S a ≡ part S b → a ≡ b
-one_ref S w False False h k e = refl
-one_ref S w False True h k e = absurd (let f : ◌≡◌ {A = Part Ref} (leaf false) (leaf true) = e in cc)
-one_ref S w False (Node m c) h k e = absurd (no_leaf S m c false k (sym e))
-one_ref S w True False h k e = absurd (let f : ◌≡◌ {A = Part Ref} (leaf true) (leaf false) = e in cc)
-one_ref S w True True h k e = refl
-one_ref S w True (Node m c) h k e = absurd (no_leaf S m c true k (sym e))
-one_ref S w (Node l b) False h k e = absurd (no_leaf S l b false h e)
-one_ref S w (Node l b) True h k e = absurd (no_leaf S l b true h e)
-one_ref S w (Node l b) (Node m c) h k e =
-    one_node S w l m b c h.0 k.0 h.1 k.1 (sym (part-node S l b h.0 h.1) ∙ e ∙ part-node S m c k.0 k.1)
+top-part S n r h = top-part_in n (node_at S) r h
 
 pub parts : (S : Nodes) → IsSound S → AreParts S.levels (part S) (Has S)
-parts S w = record {
-  level = λ r v lo hi h e. let m = of_part S r v lo hi h e in
-      let l = w.reduced.placed m.0 (mark_both m.1 (lo, hi)) (node-of S m.0 m.1 (lo, hi) m.4) in let at = m.3 in omega arith;
-  low = λ r v lo hi h e. let m = of_part S r v lo hi h e in
-      let c = (child_refs S m.0 m.1 (lo, hi) w m.4).0 in
-      let at = m.3 in let t = top-part S S.levels lo c.0 in let o = c.1 in
-      (c.0, omega arith);
-  high = λ r v lo hi h e. let m = of_part S r v lo hi h e in
-      let c = (child_refs S m.0 m.1 (lo, hi) w m.4).1 in
-      let at = m.3 in let t = top-part S S.levels hi c.0 in let o = c.1 in
-      (c.0, omega arith);
-  proper = λ r v lo hi h e same. let m = of_part S r v lo hi h e in
-      w.reduced.proper m.0 (mark_both m.1 (lo, hi)) (node-of S m.0 m.1 (lo, hi) m.4) (ap (mark_by m.1) same);
-  unique = λ a b h k e. one_ref S w a b h k e;
-}
+parts S w = parts_in S.levels (node_at S) w.reduced
 
 -- what a node denotes, by its bit
 pub by_bit : (S : Nodes) → IsSound S → (r : Ref) (v : ℕ) (lo hi : Ref) → Has S r → part S r ≡ node v lo hi → (x : List Bool)
@@ -119,16 +58,7 @@ by_bit S w r v lo hi h e x =
     push false = refl
 
 pub denotes : (S : Nodes) → IsSound S → IsDenotation S.levels (part S) (Has S) (den S)
-denotes S w = record {
-  at_leaf = λ r b h e x hx. terminal r b h e x;
-  at_node = λ r v lo hi h e q b x hq hx.
-      by_bit S w r v lo hi h e (q ++ b ∷ x) ∙ ap (λ c. den S (cond c hi lo) (q ++ b ∷ x)) (ap (λ m. get_or (q ++ b ∷ x) m false) (sym hq) ∙ get_or-append_seam q b x false);
-}
-  where
-    terminal : (r : Ref) (b : Bool) → Has S r → part S r ≡ leaf b → (x : List Bool) → den S r x ≡ b
-    terminal False b h e x = walk-false S.levels (node_at S) x ∙ (let f : ◌≡◌ {A = Part Ref} (leaf false) (leaf b) = e in cc)
-    terminal True b h e x = walk-true S.levels (node_at S) x ∙ (let f : ◌≡◌ {A = Part Ref} (leaf true) (leaf b) = e in cc)
-    terminal (Node m c) b h e x = absurd (no_leaf S m c b h e)
+denotes S w = denotes_in S.levels (node_at S) w.reduced
 
 -- a store that has the nodes of another keeps its references and their parts
 pub keeps : (S T : Nodes) → Extends S T → Keeps S T
@@ -154,34 +84,6 @@ keeps-trans S T U i j = record {
   has = λ r h. j.has r (i.has r h);
   part_is = λ r h. j.part_is r (i.has r h) ∙ i.part_is r h;
 }
-
--- equality of references can be told
-same_name : (l m : NodeId) (b c : Bool) → Dec (l.level ≡ m.level) → Dec (l.shard ≡ m.shard) → Dec (l.index ≡ m.index) → Dec (b ≡ c) → Dec (Node l b ≡ Node m c)
-same_name l m b c (yes e) (yes f) (yes g) (yes h) = yes (λ i. Node (record { level = e i; shard = f i; index = g i }) (h i))
-same_name l m b c (no n) s i k = no (λ e. n (let f : Node l b ≡ Node m c = e in cc))
-same_name l m b c (yes v) (no n) i k = no (λ e. n (let f : Node l b ≡ Node m c = e in cc))
-same_name l m b c (yes v) (yes s) (no n) k = no (λ e. n (let f : Node l b ≡ Node m c = e in cc))
-same_name l m b c (yes v) (yes s) (yes i) (no n) = no (λ e. n (let f : Node l b ≡ Node m c = e in cc))
-
-same_number : (i j : ℕ) → Dec (i ≡ j)
-same_number i j = elim (eqb_tells i j) [ inl t ↦ yes t.1 | inr t ↦ no t.1 ]
-
-same_mark : (b c : Bool) → Dec (b ≡ c)
-same_mark true true = yes refl
-same_mark true false = no (λ e. cc)
-same_mark false true = no (λ e. cc)
-same_mark false false = yes refl
-
-pub same_ref : (a b : Ref) → Dec (a ≡ b)
-same_ref False False = yes refl
-same_ref False True = no (λ e. cc)
-same_ref False (Node m c) = no (λ e. cc)
-same_ref True False = no (λ e. cc)
-same_ref True True = yes refl
-same_ref True (Node m c) = no (λ e. cc)
-same_ref (Node l b) False = no (λ e. cc)
-same_ref (Node l b) True = no (λ e. cc)
-same_ref (Node l b) (Node m c) = same_name l m b c (same_number l.level m.level) (same_number l.shard m.shard) (same_number l.index m.index) (same_mark b c)
 
 -- what keeps references keeps nodes under their names
 pub extends : (S T : Nodes) → Keeps S T → Extends S T
@@ -212,7 +114,7 @@ top-node S r v lo hi h e = top-part S S.levels r h ∙ ap (top_of S.levels) e
 
 -- equal functions have one reference
 pub one_diagram : (S : Nodes) → IsSound S → (a b : Ref) → Has S a → Has S b → Agree S.levels (den S a) (den S b) → a ≡ b
-one_diagram S w a b h k same = canonical Ref same_ref S.levels (part S) (Has S) (den S) (parts S w) (denotes S w) a b h k same
+one_diagram S w a b h k same = canonical S.levels (node_at S) w.reduced a b h k same
 
 -- no node by its name, none by its parts
 pub absent : (S : Nodes) (v : ℕ) (lo hi : Ref) → nodes.IsAbsent S v lo hi → IsAbsent S v lo hi
