@@ -16,7 +16,7 @@ use Rattle.dd_store.specs.Parts.{Part, top_of, step_of, AreParts, IsDenotation}
 use Rattle.dd_store.specs.Parts.Part.{node}
 use Rattle.dd_store.specs.View.{part_of, part, Has, top, Keeps, IsAbsent, AreOpposite, IsOneNode, IsMade, IsFull}
 pub use Rattle.dd_store.proofs.Canonical.{same_ref}
-use Rattle.dd_store.proofs.Canonical.{part_in-node, node_of_part, top-part_in, parts_in, denotes_in, canonical}
+use Rattle.dd_store.proofs.Canonical.{graph_part-node, node_of_part, top-graph_part, graph_parts, graph_denotes, canonical}
 use Rattle.dd_store.proofs.Marks.{top-mark_by, IsRef-mark_by, den-negate}
 use Rattle.dd_store.proofs.Places.{none_some}
 use Rattle.dd_store.proofs.Storing.{IsRef-extends, CanMake, Makes-extends, Makes-there, Makes-here, adds-with_node, den-extends, children-of, IsNodeOf-marked, IsBranch-node}
@@ -24,7 +24,7 @@ use Rattle.dd_store.proofs.Storing.{IsRef-extends, CanMake, Makes-extends, Makes
 -- the part of a node that is there
 part-node : (S : Nodes) (m : NodeId) (b : Bool) (p : Pair) → node_at S m ≡ Some p
     → part S (Node m b) ≡ node m.level (mark_by b p.0) (mark_by b p.1)
-part-node S m b p e = part_in-node (node_at S) m b p e
+part-node S m b p e = graph_part-node (node_at S) m b p e
 
 -- the part of a node that has these children
 pub part-children : (S : Nodes) (v : ℕ) (lo hi r : Ref) → IsNodeOf S v lo hi r → part S r ≡ node v lo hi
@@ -41,10 +41,10 @@ of_part S r v lo hi h e =
 
 -- the level of a reference, by its name and by its part
 pub top-part : (S : Nodes) (n : ℕ) (r : Ref) → Has S r → graph.top n r ≡ top_of n (part S r)
-top-part S n r h = top-part_in n (node_at S) r h
+top-part S n r h = top-graph_part n (node_at S) r h
 
 pub parts : (S : Nodes) → IsSound S → AreParts S.levels (part S) (Has S)
-parts S w = parts_in S.levels (node_at S) w.reduced
+parts S w = graph_parts S.levels (node_at S) w.reduced
 
 -- what a node denotes, by its bit
 pub by_bit : (S : Nodes) → IsSound S → (r : Ref) (v : ℕ) (lo hi : Ref) → Has S r → part S r ≡ node v lo hi → (x : List Bool)
@@ -58,7 +58,7 @@ by_bit S w r v lo hi h e x =
     push false = refl
 
 pub denotes : (S : Nodes) → IsSound S → IsDenotation S.levels (part S) (Has S) (den S)
-denotes S w = denotes_in S.levels (node_at S) w.reduced
+denotes S w = graph_denotes S.levels (node_at S) w.reduced
 
 -- a store that has the nodes of another keeps its references and their parts
 pub keeps : (S T : Nodes) → Extends S T → Keeps S T
