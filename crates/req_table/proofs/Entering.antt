@@ -1,18 +1,27 @@
 -- A request that enters the table of its level.
-use Rattle.std.proofs.Common.{◌≡◌, ℕ, ◌<◌, ◌⊎◌, inl, inr, true, false, Bool, List, [], ◌∷◌, length, set, Some, slice_get, refl, sym, ◌∙◌, ap, subst}
-use Rattle.std.proofs.lemmas.List.{length-set}
+use Rattle.std.proofs.Common.{◌≡◌, ℕ, ◌<◌, ◌⊎◌, inl, inr, true, false, Bool, List, [], ◌∷◌, length, get_or, set, Some, slice_get, refl, sym, ◌∙◌, ap, subst}
+use Rattle.std.proofs.lemmas.List.{length-set, set-get_or}
 use Rattle.dd_store.proofs.Places.{slice_get-append, slice_get_cases-push}
 use Rattle.req_table.specs.declared.Key.{Key}
 use Rattle.req_table.specs.declared.Child.{Child}
 use Rattle.req_table.specs.declared.Child.TheVariants as child
 use Rattle.req_table.specs.Places.{row, StandsAt, Enters, Admits}
 use Rattle.req_table.specs.Tables.{Offers}
-use Rattle.req_table.proofs.Standing.{same_level, row_own, row_other}
+use Rattle.req_table.proofs.Standing.{same_level, row_own, row_other, row_read}
 
 -- a key that was offered to a table, and its place there
 pub offered_enters : (old new : List Key) (k : Key) (p : ℕ) (fresh : Bool) → Offers old k fresh new → slice_get new p ≡ Some k → Enters old k p new
 offered_enters old new k p true o at = (at, inr o.1)
 offered_enters old new k p false o at = (at, inl o.1)
+
+-- a key that was offered to a level's table, and its place there
+pub level_entered : (T : List (List Key)) (l : ℕ) (held new : List Key) (k : Key) (p : ℕ) (fresh : Bool) → l < length T → held ≡ get_or T l held
+    → Offers held k fresh new → slice_get new p ≡ Some k → Enters (row T l) k p new
+level_entered T l held new k p fresh lt is o at = subst (λ (z : List Key). Enters z k p new) (row_read T l held lt is) (offered_enters held new k p fresh o at)
+
+-- a table that refused a key leaves its level as it was
+pub level_same : (T : List (List Key)) (l : ℕ) (held new : List Key) → l < length T → held ≡ get_or T l held → new ≡ held → set T l new ≡ T
+level_same T l held new lt is refused = ap (set T l) (refused ∙ row_read T l held lt is) ∙ set-get_or T l []
 
 -- the place of a key that entered
 entered_kept : (old new : List Key) (k : Key) (p : ℕ) → Enters old k p new → (q : ℕ) (x : Key) → slice_get old q ≡ Some x → slice_get new q ≡ Some x

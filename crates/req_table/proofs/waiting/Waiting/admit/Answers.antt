@@ -1,66 +1,58 @@
-use Rattle.std.proofs.Common.{◌≡◌, ◌∙◌, ◌<◌, ℕ, List, [], length, set, sym, ap, subst, arith}
-use Rattle.std.proofs.lemmas.List.{set-get_or}
+use Rattle.std.proofs.Common.{◌≡◌, ◌<◌, List, length, set, sym, subst, arith}
 use Rattle.std.proofs.lemmas.Option.{slice_get_within}
 use Rattle.req_table.specs.declared.Key.{Key}
 use Rattle.req_table.specs.declared.Child.TheVariants as child
 use Rattle.req_table.specs.Places.{row, AreMembers, Enters, Admits}
-use Rattle.req_table.proofs.Entering.{ask_admits, ask_placed, none_admits, offered_enters}
-use Rattle.req_table.proofs.Standing.{row_read}
+use Rattle.req_table.proofs.Entering.{ask_admits, ask_placed, none_admits, level_entered, level_same}
 use Rattle.req_table.proofs.Members.{member_more}
+use Rattle.req_table.proofs.waiting.Waiting.admit.Goals.{In_ok-place, In_err-place}
 use Rattle.req_table.proofs.waiting.Waiting.admit.Goals as goal
+
+-- where the key has a place
+module _ (c : In_ok-place) where
+  abbrev T : List (List Key)
+  T = c.self.inside.tables.items
+
+  fits : c.args.level < length T
+  fits = subst (λ (z : List (List Key)). c.args.level < length z) (sym c.self.view_is) c.requires
+
+  entered : Enters (row T c.args.level) c.args.key c.in_ok-place.place c.admit.new.self
+  entered =
+      level_entered T c.args.level c.index_mut.result.now c.admit.new.self c.args.key c.in_ok-place.place c.in_ok-place.field-0-1
+      fits c.index_mut.ensures.value c.in_ok-place.ensures.offers c.in_ok-place.ensures.stands
+
+-- where memory is refused
+unchanged : (c : In_err-place) → set c.self.inside.tables.items c.args.level c.admit.new.self ≡ c.self.inside.tables.items
+unchanged c =
+    level_same c.self.inside.tables.items c.args.level c.index_mut.result.now c.admit.new.self
+    (subst (λ (z : List (List Key)). c.args.level < length z) (sym c.self.view_is) c.requires) c.index_mut.ensures.value c.in_err-place.ensures.refused
 
 pub invariant_of-self-2 : goal.invariant_of-self-2
 invariant_of-self-2 c =
-    let T : List (List Key) = c.self.inside.tables.items in
-    let l : ℕ = c.args.level in
-    let new : List Key = c.admit.new.self in
-    let same : length T ≡ length c.args.self.now = ap length c.self.view_is in
-    let fits : l < length T = omega (arith, same, c.requires) in
-    let read : c.index_mut.result.now ≡ row T l = row_read T l c.index_mut.result.now fits c.index_mut.ensures.value in
-    let enters : Enters (row T l) c.args.key c.in_ok-place.place new = subst (λ (z : List Key). Enters z c.args.key c.in_ok-place.place new) read (offered_enters c.index_mut.result.now new c.args.key c.in_ok-place.place c.in_ok-place.field-0-1 c.in_ok-place.ensures.offers c.in_ok-place.ensures.stands) in
-    let count : c.count.result ≡ length (row T l) = subst (λ (z : List (List Key)). c.count.result ≡ length (row z l)) (sym c.self.view_is) c.count.ensures.value in
-    let within : c.in_ok-place.place < length new = slice_get_within new c.in_ok-place.place c.args.key c.in_ok-place.ensures.stands in
-    member_more c.self.inside.asked T l new c.self.invariant fits (let ne : c.count.result ≡ 0 → ⊥ = c.if-count-eq0.false in omega (arith, count, ne)) (omega (arith, within))
+    let w = (goal.at.invariant_of-self-2 c).In_ok-place in
+    let count : c.count.result ≡ length (row (T w) c.args.level) = subst (λ (z : List (List Key)). c.count.result ≡ length (row z c.args.level)) (sym c.self.view_is) c.count.ensures.value in
+    let within : c.in_ok-place.place < length c.admit.new.self = slice_get_within c.admit.new.self c.in_ok-place.place c.args.key c.in_ok-place.ensures.stands in
+    member_more c.self.inside.asked (T w) c.args.level c.admit.new.self c.self.invariant (fits w)
+    (let ne : c.count.result ≡ 0 → ⊥ = c.if-count-eq0.false in omega (arith, count, ne)) (omega (arith, within))
 
 pub invariant_of-self : goal.invariant_of-self
 invariant_of-self c =
-    let T : List (List Key) = c.self.inside.tables.items in
-    let l : ℕ = c.args.level in
-    let same : length T ≡ length c.args.self.now = ap length c.self.view_is in
-    let fits : l < length T = omega (arith, same, c.requires) in
-    let read : c.index_mut.result.now ≡ row T l = row_read T l c.index_mut.result.now fits c.index_mut.ensures.value in
-    let unchanged : set T l c.admit.new.self ≡ T = ap (set T l) (c.in_err-place.ensures.refused ∙ read) ∙ set-get_or T l [] in
-    subst (AreMembers c.self.inside.asked) (sym unchanged) c.self.invariant
+    subst (AreMembers c.self.inside.asked) (sym (unchanged (goal.at.invariant_of-self c).In_err-place)) c.self.invariant
 
 pub returns-clause-admits : goal.returns-clause-admits
-returns-clause-admits c =
-    let T : List (List Key) = c.self.inside.tables.items in
-    let l : ℕ = c.args.level in
-    let new : List Key = c.admit.new.self in
-    let same : length T ≡ length c.args.self.now = ap length c.self.view_is in
-    let fits : l < length T = omega (arith, same, c.requires) in
-    let read : c.index_mut.result.now ≡ row T l = row_read T l c.index_mut.result.now fits c.index_mut.ensures.value in
-    let enters : Enters (row T l) c.args.key c.in_ok-place.place new = subst (λ (z : List Key). Enters z c.args.key c.in_ok-place.place new) read (offered_enters c.index_mut.result.now new c.args.key c.in_ok-place.place c.in_ok-place.field-0-1 c.in_ok-place.ensures.offers c.in_ok-place.ensures.stands) in
-    λ m. subst (λ (z : List (List Key)). Admits z (child.Ask l c.args.key m) (set T l new)) c.self.view_is (ask_admits T l c.args.key c.in_ok-place.place new fits enters m)
+returns-clause-admits c m =
+    let w = (goal.at.returns-clause-admits c).In_ok-place in
+    subst (λ (z : List (List Key)). Admits z (child.Ask c.args.level c.args.key m) (set (T w) c.args.level c.admit.new.self)) c.self.view_is
+    (ask_admits (T w) c.args.level c.args.key c.in_ok-place.place c.admit.new.self (fits w) (entered w) m)
 
 pub returns-clause-stands : goal.returns-clause-stands
 returns-clause-stands c =
-    let T : List (List Key) = c.self.inside.tables.items in
-    let l : ℕ = c.args.level in
-    let new : List Key = c.admit.new.self in
-    let same : length T ≡ length c.args.self.now = ap length c.self.view_is in
-    let fits : l < length T = omega (arith, same, c.requires) in
-    let read : c.index_mut.result.now ≡ row T l = row_read T l c.index_mut.result.now fits c.index_mut.ensures.value in
-    let enters : Enters (row T l) c.args.key c.in_ok-place.place new = subst (λ (z : List Key). Enters z c.args.key c.in_ok-place.place new) read (offered_enters c.index_mut.result.now new c.args.key c.in_ok-place.place c.in_ok-place.field-0-1 c.in_ok-place.ensures.offers c.in_ok-place.ensures.stands) in
-    ask_placed T l c.args.key c.in_ok-place.place new fits enters
+    let w = (goal.at.returns-clause-stands c).In_ok-place in
+    ask_placed (T w) c.args.level c.args.key c.in_ok-place.place c.admit.new.self (fits w) (entered w)
 
 pub returns-in_err-place-clause-admits : goal.returns-in_err-place-clause-admits
-returns-in_err-place-clause-admits c =
+returns-in_err-place-clause-admits c m =
     let T : List (List Key) = c.self.inside.tables.items in
-    let l : ℕ = c.args.level in
-    let same : length T ≡ length c.args.self.now = ap length c.self.view_is in
-    let fits : l < length T = omega (arith, same, c.requires) in
-    let read : c.index_mut.result.now ≡ row T l = row_read T l c.index_mut.result.now fits c.index_mut.ensures.value in
-    let unchanged : set T l c.admit.new.self ≡ T = ap (set T l) (c.in_err-place.ensures.refused ∙ read) ∙ set-get_or T l [] in
-    λ m. subst (λ (z : List (List Key)). Admits z (child.Ask l c.args.key m) (set T l c.admit.new.self)) c.self.view_is
-    (subst (Admits T (child.Ask l c.args.key m)) (sym unchanged) (none_admits T (child.Ask l c.args.key m)))
+    let asked = child.Ask c.args.level c.args.key m in
+    subst (λ (z : List (List Key)). Admits z asked (set T c.args.level c.admit.new.self)) c.self.view_is
+    (subst (Admits T asked) (sym (unchanged (goal.at.returns-in_err-place-clause-admits c).In_err-place)) (none_admits T asked))

@@ -1,4 +1,4 @@
-use Rattle.std.proofs.Common.{◌≡◌, ◌∙◌, ◌<◌, ℕ, List, [], length, set, sym, ap, subst, arith}
+use Rattle.std.proofs.Common.{◌≡◌, ◌∙◌, ◌<◌, ℕ, List, [], length, set, sym, ap, subst}
 use Rattle.std.proofs.lemmas.List.{set-set}
 use Rattle.req_table.specs.declared.Key.{Key}
 use Rattle.req_table.specs.Places.{AreMembers}
@@ -9,8 +9,7 @@ pub invariant_of-self : goal.invariant_of-self
 invariant_of-self c =
     let T : List (List Key) = c.self.inside.tables.items in
     let l : ℕ = c.args.level in
-    let long : length T ≡ length c.args.self.now = ap length c.self.view_is in
-    let fits : l < length T = omega (arith, long, c.requires.level) in
+    let fits : l < length T = subst (λ (z : List (List Key)). l < length z) (sym c.self.view_is) c.requires.level in
     let out : set (set T l c.swap.new.x) l c.new.result ≡ set T l [] = set-set T l c.swap.new.x c.new.result ∙ ap (set T l) c.new.ensures in
     subst (AreMembers c.remove.new.self) (sym out)
     (member_gone c.self.inside.asked c.remove.new.self T l c.self.invariant fits c.remove.ensures.room c.remove.ensures.own c.remove.ensures.others)
@@ -19,8 +18,7 @@ pub invariant_of-self-else-len-gt-MOST_LEFT : goal.invariant_of-self-else-len-gt
 invariant_of-self-else-len-gt-MOST_LEFT c =
     let T : List (List Key) = c.self.inside.tables.items in
     let l : ℕ = c.args.level in
-    let long : length T ≡ length c.args.self.now = ap length c.self.view_is in
-    let fits : l < length T = omega (arith, long, c.requires.level) in
+    let fits : l < length T = subst (λ (z : List (List Key)). l < length z) (sym c.self.view_is) c.requires.level in
     let empty : c.swap.new.x ≡ [] = c.swap.ensures.x_after ∙ c.requires.empty in
     subst (λ (z : List Key). AreMembers c.remove.new.self (set T l z)) (sym empty)
     (member_gone c.self.inside.asked c.remove.new.self T l c.self.invariant fits c.remove.ensures.room c.remove.ensures.own c.remove.ensures.others)
