@@ -1,5 +1,5 @@
 -- References that are noted for pairs, list by list.
-use Rattle.std.proofs.Common.{◌≡◌, ℕ, zero, suc, ◌+◌, ◌<◌, List, [], ◌∷◌, ◌++◌, length, take, get_or, slice_get, Some, Ok, refl, sym, ◌∙◌, ap, subst, arith, append_assoc, ◌⊎◌, inl, inr}
+use Rattle.std.proofs.Common.{◌≡◌, ℕ, zero, suc, ◌+◌, ◌<◌, List, [], ◌∷◌, ◌++◌, length, take, get_or, slice_get, Some, Ok, refl, sym, ◌∙◌, ap, subst, arith, append_assoc}
 use Rattle.std.specs.List.{AllZip}
 use Rattle.std.specs.declared.vec.Vec.{Vec}
 use Rattle.std.specs.declared.alloc.Global.{Global}
@@ -7,6 +7,8 @@ use Rattle.std.proofs.lemmas.List.{take_more, append-nil}
 use Rattle.slot_table.specs.declared.Admission.{Admission}
 use Rattle.slot_table.specs.declared.Admission.TheVariants.{Found, Added}
 use Rattle.slot_table.specs.Placing.{IsPlaced}
+use Rattle.slot_table.proofs.Listing.{in_front, in_back}
+pub use Rattle.slot_table.proofs.Listing.{in_either}
 use Rattle.dd_store.specs.declared.StoreFault.{StoreFault}
 use Rattle.dd_store.specs.declared.StoreFault.TheVariants.{Full, OutOfMemory}
 use Rattle.dd_store.specs.declared.reference.Ref.{Ref}
@@ -16,7 +18,7 @@ use Rattle.dd_store.specs.Marks.{is_marked, plain_pair}
 use Rattle.slot_table.specs.Lists.{IsIn}
 use Rattle.dd_store.specs.Growing.{Grows, IsStopped}
 use Rattle.dd_store.specs.Levels.{list_at, all_at, plain_list, Names, IsHalted}
-use Rattle.dd_store.proofs.Places.{slice_get-push, slice_get-append}
+use Rattle.dd_store.proofs.Places.{slice_get-push}
 
 module _ {A B : Type 0} (R : A → B → Type 0) where
   pub zip_push : (xs : List A) (ys : List B) (x : A) (y : B) → AllZip R xs ys → R x y → AllZip R (xs ++ x ∷ []) (ys ++ y ∷ [])
@@ -38,21 +40,6 @@ zip_weaker R Q [] [] f h = tt
 zip_weaker R Q [] (y ∷ ys) f h = absurd h
 zip_weaker R Q (x ∷ xs) [] f h = absurd h
 zip_weaker R Q (x ∷ xs) (y ∷ ys) f h = (f zero x y refl h.0, zip_weaker R Q xs ys (λ i u v e r. f (suc i) u v e r) h.1)
-
-pub in_front : (xs ys : List Pair) (p : Pair) → IsIn xs p → IsIn (xs ++ ys) p
-in_front xs ys p h = (h.0, slice_get-append xs ys h.0 p h.1)
-
-pub in_back : (xs ys : List Pair) (p : Pair) → IsIn ys p → IsIn (xs ++ ys) p
-in_back [] ys p h = h
-in_back (x ∷ xs) ys p h = let w = in_back xs ys p h in (suc w.0, w.1)
-
-pub in_either : (xs ys : List Pair) (i : ℕ) (p : Pair) → slice_get (xs ++ ys) i ≡ Some p → IsIn xs p ⊎ IsIn ys p
-in_either [] ys i p e = inr (i, e)
-in_either (x ∷ xs) ys zero p e = inl (zero, e)
-in_either (x ∷ xs) ys (suc i) p e = elim (in_either xs ys i p e) [
-  | inl front ↦ inl (suc front.0, front.1)
-  | inr back ↦ inr back
-]
 
 -- the pairs of one part are among those of all
 pub part_in : (parts : List (Vec (Vec Pair Global) Global)) (k s : ℕ) (part : Vec (Vec Pair Global) Global) → k < length parts → part ≡ get_or parts k part
