@@ -8,6 +8,7 @@ use net_bench::reader::{parse_bench, read_bench};
 use std::alloc::{AllocError, Global};
 use std::test::Fail;
 
+/// The smallest circuit of ISCAS-85: six NAND gates.
 pub(crate) static C17: &str =
     "INPUT(1)\nINPUT(2)\nINPUT(3)\nINPUT(6)\nINPUT(7)\nOUTPUT(22)\nOUTPUT(23)\n10 = NAND(1, 3)\n11 = NAND(3, 6)\n16 = NAND(2, 11)\n19 = NAND(11, 7)\n22 = NAND(10, 16)\n23 = NAND(16, 19)\n";
 

@@ -9,6 +9,7 @@ use std::sync::Wait;
 use std::test::Fail;
 use std::thread::Threads;
 
+/// The smallest circuit of ISCAS-85: six NAND gates.
 pub(crate) static C17: &str =
     "INPUT(1)\nINPUT(2)\nINPUT(3)\nINPUT(6)\nINPUT(7)\nOUTPUT(22)\nOUTPUT(23)\n10 = NAND(1, 3)\n11 = NAND(3, 6)\n16 = NAND(2, 11)\n19 = NAND(11, 7)\n22 = NAND(10, 16)\n23 = NAND(16, 19)\n";
 
@@ -16,6 +17,7 @@ pub(crate) static C17: &str =
 pub(crate) static C17B: &str =
     "INPUT(1)\nINPUT(2)\nINPUT(3)\nINPUT(6)\nINPUT(7)\nOUTPUT(22)\nOUTPUT(23)\n10 = NAND(1, 3)\n11 = NAND(3, 6)\n16 = NAND(2, 11)\n19 = NAND(11, 6)\n22 = NAND(10, 16)\n23 = NAND(16, 19)\n";
 
+/// The report of these two.
 pub(crate) static REPORT: &str =
     "EQUAL 22\nDIFFER 23 at 1=0 2=0 3=0 6=0 7=1 first=1 second=0\n1 equal, 1 different, 0 unmatched\n";
 

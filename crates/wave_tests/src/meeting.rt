@@ -26,6 +26,7 @@ pub(crate) struct Meeting {
 }
 
 impl Meeting {
+    /// A place where so many threads are to be at once.
     pub(crate) fn of(wanted: u32) -> Meeting {
         Meeting {
             wanted,

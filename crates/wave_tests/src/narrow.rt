@@ -11,6 +11,7 @@ pub(crate) struct Narrow {
 }
 
 impl Narrow {
+    /// Levels of at most so many requests are the caller's.
     pub(crate) fn new(most: usize) -> Narrow {
         Narrow {
             most: AtomicUsize::new(most),

@@ -19,6 +19,7 @@ use std::sync::Wait;
 use std::test::Fail;
 use std::thread::Threads;
 
+/// The smallest circuit of ISCAS-85: six NAND gates.
 pub(crate) static C17: &str =
     "INPUT(1)\nINPUT(2)\nINPUT(3)\nINPUT(6)\nINPUT(7)\nOUTPUT(22)\nOUTPUT(23)\n10 = NAND(1, 3)\n11 = NAND(3, 6)\n16 = NAND(2, 11)\n19 = NAND(11, 7)\n22 = NAND(10, 16)\n23 = NAND(16, 19)\n";
 
@@ -26,6 +27,7 @@ pub(crate) static C17: &str =
 static C17B: &str =
     "INPUT(1)\nINPUT(2)\nINPUT(3)\nINPUT(6)\nINPUT(7)\nOUTPUT(22)\nOUTPUT(23)\n10 = NAND(1, 3)\n11 = NAND(3, 6)\n16 = NAND(2, 11)\n19 = NAND(11, 6)\n22 = NAND(10, 16)\n23 = NAND(16, 19)\n";
 
+/// The netlist of a text that is one.
 pub(crate) fn read<R: Abort>(rt: &R, alloc: Global, text: &str) -> Netlist {
     parse_bench(alloc, text.as_bytes()).expect(rt, "a netlist")
 }
@@ -108,7 +110,8 @@ pub(crate) fn built<R: Threads + Wait + Sync, G: Monitor>(
     requires paired { IsPaired (circuit both.first.now) (circuit both.second.now) None both.pairing.now }
     requires levels { store.old.levels ≡ length both.pairing.now.names }
     ensures first { IfOk result (λ b. AreDiagrams (circuit both.entry.first.now) (first_level both.entry.pairing.now) store.new b.first) }
-    ensures second { IfOk result (λ b. AreDiagrams (circuit both.entry.second.now) (second_level both.entry.pairing.now) store.new b.second) }
+    ensures second { IfOk result
+        (λ b. AreDiagrams (circuit both.entry.second.now) (second_level both.entry.pairing.now) store.new b.second) }
 {
     let Paired {
         first,

@@ -74,7 +74,8 @@ fn twice_in_one(
     pair: (Ref, Ref),
 ) -> Result<Vec<Vec<(Ref, Ref)>>, AllocError>
     ensures count { IfOk result (λ lists. length lists.items ≡ 16) }
-    ensures only { IfOk result (λ lists. (s : ℕ) (p : Pair) → IsIn (list_at lists.items s) p → (s ≡ shard) × (b : Bool) × (p ≡ mark_both b pair)) }
+    ensures only { IfOk result (λ lists. (s : ℕ) (p : Pair) → IsIn (list_at lists.items s) p
+        → (s ≡ shard) × (b : Bool) × (p ≡ mark_both b pair)) }
 {
     let (lo, hi) = pair;
     let mut lists = Vec::new(alloc);
@@ -145,7 +146,8 @@ fn four_parts(
     second: (Ref, Ref),
 ) -> Result<Vec<Vec<Vec<(Ref, Ref)>>>, AllocError>
     ensures count { IfOk result (λ parts. All (λ part. length part.items ≡ 16) parts.items) }
-    ensures only { IfOk result (λ parts. (s : ℕ) (p : Pair) → IsIn (all_at parts.items s) p → (s < 16 → s ≡ shard) × (b : Bool) × ((p ≡ mark_both b first) ⊎ (p ≡ mark_both b second))) }
+    ensures only { IfOk result (λ parts. (s : ℕ) (p : Pair) → IsIn (all_at parts.items s) p
+        → (s < 16 → s ≡ shard) × (b : Bool) × ((p ≡ mark_both b first) ⊎ (p ≡ mark_both b second))) }
 {
     let (lo, hi) = first;
     let one = twice_in_one(alloc, shard, (lo, hi))?;

@@ -21,6 +21,7 @@ use wave_engine::wave;
 // Operands are places in a list of known references: the constants, the variables by level, and the answers so far.
 const ZERO: usize = 0;
 
+/// The first four variables.
 pub(crate) const A: usize = 2;
 
 pub(crate) const B: usize = 3;

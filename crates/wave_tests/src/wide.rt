@@ -50,8 +50,8 @@ pub(crate) fn sums<R: Abort>(rt: &R, alloc: Global) -> Vec<Step> {
     pairs(rt, alloc, Op::Or, FACTOR + 66, 65)
 }
 
-/// Does the sums in a store that has the products and room for so many nodes, and is left with as many as are named. Where it is not refused,
-/// a second wave, by a core, adds nothing and answers the same.
+/// Does the sums in a store that has the products and room for so many nodes, and is left with as many as are named. Where it is not
+/// refused, a second wave, by a core, adds nothing and answers the same.
 fn sums_within<R: Threads + Wait + Abort + Sync>(
     rt: &R,
     alloc: Global,
