@@ -25,6 +25,7 @@ use Rattle.gate_plan.specs.Building.{References, reference_of}
 use Rattle.gate_plan.specs.Conjoining.{conjunctions, AreConjoined}
 use Rattle.gate_plan.specs.Need.{IsCounted, IsLean, IsComplete, HasNode}
 use Rattle.gate_plan.specs.Needing.{IsNeededValue, HasNeed}
+use Rattle.gate_plan.proofs.Counted.{adds_as}
 use Rattle.gate_plan.proofs.Needs.{complete}
 use Rattle.gate_plan.proofs.Ranks.{any_default}
 use Rattle.gate_plan.proofs.Together.{of_map}
@@ -87,13 +88,6 @@ complete_both n V W T one two = record { present = λ v g c. by v g c c.is_value
 pub needed_in : (a b : Circuit) (given : Option Circuit) (p : Paired) (f : List Bool → Bool) → IsNeededValue a b given p f → IsNeededIn a b given p f
 needed_in a b None p f v = v
 needed_in a b (Some c) p f v = inl v
-
-adds_counted : (S T : Nodes) (D E : ℕ → (List Bool → Bool) → Type 0) → ((v : ℕ) (f : List Bool → Bool) → D v f → E v f) → AddsDescribed S T D → AddsDescribed S T E
-adds_counted S T D E h i = record { keeps = i.keeps; described = λ m has. by m (i.described m has) }
-  where
-    by : (m : Ref) → Has S m ⊎ ((v : ℕ) × (lo : Ref) × (hi : Ref) × (part T m ≡ node v lo hi) × OfEither (D v) (den T m)) → Has S m ⊎ ((v : ℕ) × (lo : Ref) × (hi : Ref) × (part T m ≡ node v lo hi) × OfEither (E v) (den T m))
-    by m (inl k) = inl k
-    by m (inr k) = inr (k.0, k.1, k.2, k.3, either_more (D k.0) (E k.0) (h k.0) (den T m) k.4)
 
 -- ---- the references of what is compared
 
@@ -233,7 +227,7 @@ module _ (n m k : Net) (p : Paired) (S T : Nodes) (refs : References) (built : A
     lean_left =
         lean_next (length p.names) (IsNeededIn (circuit n) (circuit m) (Some (circuit k)) p) S T sound
         (lean_more (length p.names) (IsNeededValue (circuit n) (circuit m) (Some (circuit k)) p) (IsNeededIn (circuit n) (circuit m) (Some (circuit k)) p) (λ f v. inl v) S need.lean)
-        (adds_counted S T (IsWanted S (conjunctions (references refs of) given_ref)) (IsCounted (length p.names) (IsNeededIn (circuit n) (circuit m) (Some (circuit k)) p)) wanted_counted adds)
+        (adds_as S T (IsWanted S (conjunctions (references refs of) given_ref)) (IsCounted (length p.names) (IsNeededIn (circuit n) (circuit m) (Some (circuit k)) p)) wanted_counted adds)
 
     pub over_left : (e : WaveFault) → IsWaveFault S (conjunctions (references refs of) given_ref) T e → e ≡ wave_faults.Full → IsOver (circuit n) (circuit m) (Some (circuit k)) p T
     over_left e fault is = record { lean = lean_left; over = by (subst (IsWaveFault S (conjunctions (references refs of) given_ref) T) is fault).1 }

@@ -14,7 +14,7 @@ use Rattle.check_tool.specs.Splitting.{IsSplit}
 use Rattle.check_tool.specs.Ending.{Written, IsSaidOf}
 use Rattle.check_tool.specs.Faults.{fault_status}
 use Rattle.check_tool.specs.Opening.{Try, Extends, opened, AreTried}
-use Rattle.check_tool.specs.Running.{IsOpenFault, AreTwo, first_paths, second_paths, text_paths, order_paths, given_paths, later_paths, IsShort, AreTexts, HasTexts, IsLaterFault, IsToolFault}
+use Rattle.check_tool.specs.Running.{IsOpenFault, AreTwo, first_paths, second_paths, text_paths, order_paths, path_in, later_paths, IsShort, AreTexts, HasTexts, IsLaterFault, IsToolFault}
 
 -- ---- tries
 
@@ -152,15 +152,15 @@ module _ (told : List ℕ → Option (List ℕ)) (broken : List ℕ → Type 0) 
   later_fault tries (CannotOpen GivenFile obstacle) (inr f) = absurd f.2.2
   later_fault tries (CannotOpen OrderFile obstacle) (inl f) = absurd f
   later_fault tries (CannotOpen OrderFile obstacle) (inr f) =
-      (f.2.0, f.2.1, has_texts told input o.texts one two texts, ap (λ l. opened (text_paths o.texts) ++ l) (f.1 ∙ ap (λ l. opened (given_paths o.given) ++ l) f.2.2) ∙ opened_twice (text_paths o.texts) (given_paths o.given) ((f.2.0, false) ∷ []))
+      (f.2.0, f.2.1, has_texts told input o.texts one two texts, ap (λ l. opened (text_paths o.texts) ++ l) (f.1 ∙ ap (λ l. opened (path_in o.given) ++ l) f.2.2) ∙ opened_twice (text_paths o.texts) (path_in o.given) ((f.2.0, false) ∷ []))
   later_fault tries (BadOrder fault) (inl f) = absurd f
   later_fault tries (BadOrder fault) (inr f) =
-      (f.2.0, f.2.1, has_texts told input o.texts one two texts, ap (λ l. opened (text_paths o.texts) ++ l) (f.1 ∙ ap (λ l. opened (given_paths o.given) ++ l) (f.2.2.0 ∙ ap opened (sym f.2.1)) ∙ sym (opened_more (given_paths o.given) (order_paths o.order))) ∙ sym (opened_more (text_paths o.texts) (later_paths o)), f.2.2.1)
+      (f.2.0, f.2.1, has_texts told input o.texts one two texts, ap (λ l. opened (text_paths o.texts) ++ l) (f.1 ∙ ap (λ l. opened (path_in o.given) ++ l) (f.2.2.0 ∙ ap opened (sym f.2.1)) ∙ sym (opened_more (path_in o.given) (order_paths o.order))) ∙ sym (opened_more (text_paths o.texts) (later_paths o)), f.2.2.1)
   later_fault tries OutOfMemory (inl f) =
-      (are_two told input o.texts one two texts, tried_more (text_paths o.texts) (later_paths o) tries (tried_first (given_paths o.given) (order_paths o.order) tries f))
+      (are_two told input o.texts one two texts, tried_more (text_paths o.texts) (later_paths o) tries (tried_first (path_in o.given) (order_paths o.order) tries f))
   later_fault tries OutOfMemory (inr f) = (
     are_two told input o.texts one two texts,
-    tried_more (text_paths o.texts) (later_paths o) tries (subst (λ l. AreTried (later_paths o) l) (sym f.1) (tried_more (given_paths o.given) (order_paths o.order) f.0 (subst (λ p. AreTried p f.0) (sym f.2.1) f.2.2))),
+    tried_more (text_paths o.texts) (later_paths o) tries (subst (λ l. AreTried (later_paths o) l) (sym f.1) (tried_more (path_in o.given) (order_paths o.order) f.0 (subst (λ p. AreTried p f.0) (sym f.2.1) f.2.2))),
   )
 
 -- ---- two files

@@ -34,7 +34,7 @@ use Rattle.net_bench.specs.Statement.{is_word}
 use Rattle.check_tool.specs.declared.help.Mark.{Mark}
 use Rattle.check_tool.specs.declared.help.Mark.TheVariants.{Line as in_line, Broken, Listed}
 use Rattle.check_tool.specs.Quoting.{remark}
-use Rattle.check_tool.specs.Running.{first_paths, second_paths, order_paths, IsReadOf}
+use Rattle.check_tool.specs.Running.{path_in, first_paths, second_paths, order_paths, IsReadOf}
 
 -- what the first text is called: the path of its file, or what it is
 abbrev pub first_name : Texts → List ℕ
@@ -316,11 +316,6 @@ help_text o fault = help_line (fault_spot o.texts o.given o.vcd o.order fault) (
 abbrev pub help_quoting : Options → ToolFault → List ℕ → List ℕ
 help_quoting o fault quoted = help_line (fault_spot o.texts o.given o.vcd o.order fault)
     (shown_help o.order fault quoted ++ (codes ": " ++ quoted))
-
--- a path, where there is one
-abbrev pub path_in : Option (Bor (List ℕ)) → List (List ℕ)
-path_in None = []
-path_in (Some path) = path.now ∷ []
 
 -- the file of a text that was refused, where it came from one
 abbrev pub refused_paths : Options → ToolFault → List (List ℕ)

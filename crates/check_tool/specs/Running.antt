@@ -105,14 +105,14 @@ order_paths Best = []
 order_paths Auto = []
 order_paths Cones = []
 
--- the file that is opened for the condition
-abbrev pub given_paths : Option (Bor (List ℕ)) → List (List ℕ)
-given_paths None = []
-given_paths (Some path) = path.now ∷ []
+-- a path, where there is one
+abbrev pub path_in : Option (Bor (List ℕ)) → List (List ℕ)
+path_in None = []
+path_in (Some path) = path.now ∷ []
 
 -- the files that are opened behind those of the texts, in this order
 abbrev pub later_paths : Options → List (List ℕ)
-later_paths o = given_paths o.given ++ order_paths o.order
+later_paths o = path_in o.given ++ order_paths o.order
 
 -- all files that are opened, in this order
 abbrev pub paths_of : Options → List (List ℕ)
@@ -366,7 +366,7 @@ IsOrderFault told broken choice tries fault = (path : List ℕ) × (order_paths 
 -- Why the condition's file was not opened, and whether it was tried.
 abbrev pub IsGivenFault : Option (Bor (List ℕ)) → List Try → ToolFault → Type 0
 IsGivenFault given tries (CannotOpen GivenFile obstacle) = (path : Bor (List ℕ)) × (given ≡ Some path) × (tries ≡ (path.now, false) ∷ [])
-IsGivenFault given tries OutOfMemory = AreTried (given_paths given) tries
+IsGivenFault given tries OutOfMemory = AreTried (path_in given) tries
 IsGivenFault given tries (CannotOpen First obstacle) = ⊥
 IsGivenFault given tries (CannotOpen Second obstacle) = ⊥
 IsGivenFault given tries (CannotOpen OrderFile obstacle) = ⊥
@@ -381,7 +381,7 @@ IsGivenFault given tries (Check fault) = ⊥
 
 -- why the order that is asked for was not had, where the condition's file was opened before
 abbrev pub IsOrderFaultBehind : (List ℕ → Option (List ℕ)) → (broken : List ℕ → Type 0) → Options → List Try → ToolFault → Type 0
-IsOrderFaultBehind told broken o tries fault = (ts : List Try) × (tries ≡ opened (given_paths o.given) ++ ts)
+IsOrderFaultBehind told broken o tries fault = (ts : List Try) × (tries ≡ opened (path_in o.given) ++ ts)
     × IsOrderFault told broken o.order ts fault
 
 -- Why the files behind those of the texts were not had.
@@ -415,7 +415,7 @@ IsUnopened input o tries GivenFile =
     (path : Bor (List ℕ)) × (o.given ≡ Some path) × HasTexts input o.texts × (tries ≡ opened (text_paths o.texts) ++ (path.now, false) ∷ [])
 IsUnopened input o tries OrderFile =
     (path : List ℕ) × (order_paths o.order ≡ path ∷ []) × HasTexts input o.texts
-    × (tries ≡ opened (text_paths o.texts ++ given_paths o.given) ++ (path, false) ∷ [])
+    × (tries ≡ opened (text_paths o.texts ++ path_in o.given) ++ (path, false) ∷ [])
 
 -- the device of the first text has failed: its file, or the input where it is the whole text; the parts of a divided input are read
 -- from memory, which cannot fail

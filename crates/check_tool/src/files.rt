@@ -5,7 +5,7 @@ ghost use Rattle.command_line.specs.declared.options.OrderChoice.TheVariants.{Au
 ghost use Rattle.check_report.specs.Devices.{told_by};
 ghost use Rattle.net_order.specs.OrderText.{IsOrderText};
 ghost use Rattle.check_tool.specs.Opening.{Extends, HasFailedAt, Try, opened};
-ghost use Rattle.check_tool.specs.Running.{IsOpenFault, order_paths, given_paths, later_paths, IsGivenOf, IsGivenFrom, IsOrderOf};
+ghost use Rattle.check_tool.specs.Running.{IsOpenFault, order_paths, path_in, later_paths, IsGivenOf, IsGivenFrom, IsOrderOf};
 ghost use Rattle.check_tool.specs.Running.{IsListFault, IsOrderFault, IsGivenFault, IsLaterFault};
 
 use crate::fault::{Place, ToolFault};
@@ -92,7 +92,7 @@ fn order_of<F: Folder>(
 fn open_given<F: Folder>(folder: &mut F, path: Option<&str>) -> Result<Option<F::File>, ToolFault>
     ensures given { IfOk result (λ file. IsGivenOf (F.told folder.old) path.entry (told_by F.File.remaining file)) }
     ensures named { IfOk result (λ file. IsGivenFrom path.entry (told_by F.File.origin file)) }
-    ensures opened { OnOk result (Extends (F.tries folder.old) (F.tries folder.new) (opened (given_paths path.entry))) }
+    ensures opened { OnOk result (Extends (F.tries folder.old) (F.tries folder.new) (opened (path_in path.entry))) }
     ensures kept { F.told folder.new ≡ F.told folder.old }
     ensures unsaved { F.saves folder.new ≡ F.saves folder.old }
     ensures fault { IfErr result (λ fault. (tries : List Try) × Extends (F.tries folder.old) (F.tries folder.new) tries

@@ -1,9 +1,9 @@
 //! Where a fault stands, and what it points at there: the line behind a fault's own.
 ghost use Rattle.std.specs.Prelude.{◌≡◌, ◌∷◌, [], Some, IfOk, IfSome, string_bytes};
 ghost use Rattle.check_tool.specs.Helping.{first_name, second_name, in_text, on_line, where_of, text_spot, order_spot, given_spot};
-ghost use Rattle.check_tool.specs.Helping.{file_spot, fault_spot, help_line, help_text, help_quoting, path_in, refused_paths, text_mark};
+ghost use Rattle.check_tool.specs.Helping.{file_spot, fault_spot, help_line, help_text, help_quoting, refused_paths, text_mark};
 ghost use Rattle.check_tool.specs.Helping.{order_mark, fault_mark};
-ghost use Rattle.check_tool.specs.Running.{first_paths, second_paths, order_paths};
+ghost use Rattle.check_tool.specs.Running.{first_paths, second_paths, order_paths, path_in};
 
 use crate::fault::{Place, ToolFault};
 use crate::remedy::{help_against, help_shown};

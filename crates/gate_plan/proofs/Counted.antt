@@ -19,7 +19,7 @@ use Rattle.dd_store.specs.View.{part, Has, Keeps, IsOneNode, IsMade, IsFull}
 use Rattle.dd_store.proofs.Lacking.{no_diagram}
 use Rattle.dd_store.proofs.Laws.{den-false, den-true}
 use Rattle.dd_store.proofs.Storing.{Makes-cases, count-with_node, shard-le-count, node_in_shard, node-of}
-use Rattle.dd_store.proofs.View.{parts, denotes, same_ref, keeps-refl, keeps-trans, of_part}
+use Rattle.dd_store.proofs.View.{parts, denotes, same_ref, keeps-trans, of_part}
 use Rattle.expand_work.specs.declared.fault.WaveFault.{WaveFault}
 use Rattle.expand_work.specs.declared.fault.WaveFault.TheVariants as wave_faults
 use Rattle.reduce_up.specs.Reducing.{AddsDescribed}
@@ -44,10 +44,8 @@ adds_trans S T U D sound i j = record { keeps = keeps-trans S T U i.keeps j.keep
     later m (inl h) = earlier m h (i.described m h)
     later m (inr k) = inr k
 
-pub adds_same : (S T : Nodes) (D : ℕ → (List Bool → Bool) → Type 0) → T ≡ S → AddsDescribed S T D
-adds_same S T D e = subst (λ z. AddsDescribed S z D) (sym e) (record { keeps = keeps-refl S; described = λ m h. inl h })
-
-adds_as : (S T : Nodes) (D E : ℕ → (List Bool → Bool) → Type 0) → ((v : ℕ) (f : List Bool → Bool) → D v f → E v f) → AddsDescribed S T D → AddsDescribed S T E
+-- what fewer values describe, more do
+pub adds_as : (S T : Nodes) (D E : ℕ → (List Bool → Bool) → Type 0) → ((v : ℕ) (f : List Bool → Bool) → D v f → E v f) → AddsDescribed S T D → AddsDescribed S T E
 adds_as S T D E h i = record { keeps = i.keeps; described = λ m has. by m (i.described m has) }
   where
     by : (m : Ref) → Has S m ⊎ ((v : ℕ) × (lo : Ref) × (hi : Ref) × (part T m ≡ node v lo hi) × OfEither (D v) (den T m)) → Has S m ⊎ ((v : ℕ) × (lo : Ref) × (hi : Ref) × (part T m ≡ node v lo hi) × OfEither (E v) (den T m))

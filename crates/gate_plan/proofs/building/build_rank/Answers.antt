@@ -1,13 +1,14 @@
 use Rattle.std.proofs.Common.{rules, refl, inr, ◌≡◌, ◌∙◌, arith, ◌≤◌, Err}
 use Rattle.dd_store.specs.Nodes.{Nodes, count_of}
 use Rattle.expand_work.specs.declared.fault.WaveFault.TheVariants.{OutOfMemory}
+use Rattle.reduce_up.proofs.Reduction.{adds_none}
 use Rattle.gate_plan.specs.Building.{input_level, folds_at}
 use Rattle.gate_plan.specs.Need.{IsCounted}
 use Rattle.gate_plan.specs.Needing.{IsPlacedValue}
 use Rattle.gate_plan.specs.Asking.{AnyAsksAt}
 use Rattle.gate_plan.specs.Plans.{plan_copies, plan_folds}
 use Rattle.gate_plan.proofs.Asked.{none_unasked, next_unasked, rank_unasked, still_within, within_kept}
-use Rattle.gate_plan.proofs.Counted.{adds_same, adds_next}
+use Rattle.gate_plan.proofs.Counted.{adds_next}
 use Rattle.gate_plan.proofs.Ranks.{below_greatest}
 use Rattle.gate_plan.proofs.Running.{copies_fit, all_copied, rank_right}
 use Rattle.gate_plan.proofs.building.build_rank.Goals as goal
@@ -22,7 +23,7 @@ copy_rank-requires-clause-below g c = (
 pub loop-fold-init : goal.loop-fold-init
 loop-fold-init g c = record {
   sound = c.levels.ensures.sound;
-  adds = adds_same c.args.store.now c.args.store.now (IsCounted c.args.store.now.levels (IsPlacedValue c.args.store.now.levels c.args.sides.now)) refl;
+  adds = adds_none c.args.store.now c.args.store.now (IsCounted c.args.store.now.levels (IsPlacedValue c.args.store.now.levels c.args.sides.now)) refl;
   held = c.requires.held;
   bound = refl;
   within = none_unasked c.args.store.now c.args.store.now (λ j. AnyAsksAt c.args.sides.now c.args.store.now c.args.rank j) (inr refl);

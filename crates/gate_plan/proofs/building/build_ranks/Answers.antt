@@ -2,18 +2,19 @@ use Rattle.std.proofs.Common.{rules, refl, inr, arith, ◌∙◌, ◌≡◌, ◌
 use Rattle.dd_store.specs.Nodes.{Nodes, count_of}
 use Rattle.expand_work.specs.declared.fault.WaveFault.TheVariants.{OutOfMemory}
 use Rattle.net_bench.specs.Circuit.{greatest}
+use Rattle.reduce_up.proofs.Reduction.{adds_none}
 use Rattle.gate_plan.specs.Building.{AllRight, ranks_of}
 use Rattle.gate_plan.specs.Need.{IsCounted}
 use Rattle.gate_plan.specs.Needing.{IsPlacedValue}
 use Rattle.gate_plan.specs.Asking.{AnyAsksIn, AnyAsksBelow, IsWithinOrUnasked}
 use Rattle.gate_plan.proofs.Asked.{none_unasked, next_unasked, still_within, within_kept}
-use Rattle.gate_plan.proofs.Counted.{adds_same, adds_next}
+use Rattle.gate_plan.proofs.Counted.{adds_next}
 use Rattle.gate_plan.proofs.building.build_ranks.Goals as goal
 
 pub loop-below-init : goal.loop-below-init
 loop-below-init g c = record {
   sound = c.levels.ensures.sound;
-  adds = adds_same c.args.store.now c.args.store.now (IsCounted c.args.store.now.levels (IsPlacedValue c.args.store.now.levels c.args.sides.now)) refl;
+  adds = adds_none c.args.store.now c.args.store.now (IsCounted c.args.store.now.levels (IsPlacedValue c.args.store.now.levels c.args.sides.now)) refl;
   held = c.requires.held;
   bound = refl;
   within = none_unasked c.args.store.now c.args.store.now (λ k. AnyAsksIn c.args.sides.now c.args.store.now (k + 1)) (inr refl);

@@ -3,11 +3,12 @@ use Rattle.dd_store.specs.Graph.{bit}
 use Rattle.dd_store.specs.Nodes.{Nodes, den}
 use Rattle.dd_store.specs.View.{Has, Keeps}
 use Rattle.dd_store.proofs.View.{keeps}
+use Rattle.reduce_up.proofs.Reduction.{adds_none}
 use Rattle.gate_plan.specs.Building.{reference_of, wave_fault_of}
 use Rattle.gate_plan.specs.Folds.{IsVariable}
 use Rattle.gate_plan.specs.Need.{IsCounted}
 use Rattle.gate_plan.specs.Needing.{IsBuildFault}
-use Rattle.gate_plan.proofs.Counted.{adds_same, adds_next, within_next, fault_next, variable_adds, variable_within, variable_fault}
+use Rattle.gate_plan.proofs.Counted.{adds_next, within_next, fault_next, variable_adds, variable_within, variable_fault}
 use Rattle.gate_plan.proofs.Lists.{pushed}
 use Rattle.gate_plan.proofs.Running.{variable_next}
 use Rattle.gate_plan.proofs.inputs.make_variables.Goals as goal
@@ -15,7 +16,7 @@ use Rattle.gate_plan.proofs.inputs.make_variables.Goals as goal
 pub loop-level-init : goal.loop-level-init
 loop-level-init c = record {
   sound = c.levels-level-end.ensures.sound;
-  adds = adds_same c.args.store.now c.args.store.now (IsCounted c.args.store.now.levels (IsVariable c.args.store.now.levels)) refl;
+  adds = adds_none c.args.store.now c.args.store.now (IsCounted c.args.store.now.levels (IsVariable c.args.store.now.levels)) refl;
   within = inr refl;
   each = search;
   has = λ v lt. absurd (omega arith);
@@ -46,7 +47,7 @@ pub returns-in-Err-clause-adds : goal.returns-in-Err-clause-adds
 returns-in-Err-clause-adds c =
     let S = c.loop-level.store in
     let T = c.variable.new.self in
-    adds_next c.args.store.now S T IsVariable c.loop-level.invariant.sound c.loop-level.invariant.adds (adds_same S T (IsCounted S.levels (IsVariable S.levels)) c.in-Err.ensures.refused)
+    adds_next c.args.store.now S T IsVariable c.loop-level.invariant.sound c.loop-level.invariant.adds (adds_none S T (IsCounted S.levels (IsVariable S.levels)) c.in-Err.ensures.refused)
 
 pub returns-in-Err-clause-within : goal.returns-in-Err-clause-within
 returns-in-Err-clause-within c = within_next c.args.store.now c.loop-level.store c.variable.new.self c.loop-level.invariant.within (inr c.in-Err.ensures.refused)
