@@ -2,7 +2,7 @@
 use Rattle.std.proofs.Common.{◌≡◌, ◌∙◌, ap, sym, refl, subst, ℕ, ◌+◌, ◌<◌, ◌≤◌, Bool, List, [], ◌∷◌, ◌++◌, map, length, get_or, take, drop, append_assoc, Option, Some}
 use Rattle.std.specs.Prelude.{slice_get, slice_index, All, ◌↔◌}
 use Rattle.std.specs.List.{AllZip}
-use Rattle.std.proofs.lemmas.List.{take_more, take_all, drop_more}
+use Rattle.std.proofs.lemmas.List.{take_more, take_all, drop_more, get_or_default}
 use Rattle.net_bench.specs.Circuit.{Circuit}
 use Rattle.net_bench.specs.Labels.{IsFunctionOf}
 use Rattle.net_order.specs.Order.{Paired, first_level, second_level, name_of, names_of}
@@ -19,7 +19,6 @@ use Rattle.check_report.specs.Report.{Compared, AreFunctions, IsVerdictOf, Calls
 use Rattle.check_report.specs.Conditions.{everywhere, AgreeWhere}
 use Rattle.check_report.specs.Comparing.{AreSignals, IsInside, HaveVerdicts, HaveAllVerdicts, DenotesWhere, subject_at, compared_of}
 use Rattle.report_text.proofs.Wording.{there}
-use Rattle.gate_plan.proofs.Ranks.{any_default}
 use Rattle.check_report.proofs.Calling.{exact}
 use Rattle.check_report.proofs.Restricting.{verdict_where}
 
@@ -69,7 +68,7 @@ module _ (asked : Asked) (holds : List Bool → Bool) (a b : Circuit) (p : Paire
       let c : Compared = record { role = subject.role; name = name_of a subject.named; first = first.1.0; second = second.1.0 } in
       let e : compared_of told S role name one two ≡ compared_of told S subject.role (name_of a subject.named) r q = λ j. compared_of told S (er j) (en j) (eo j) (et j) in
       let plain : IsVerdictOf S.levels asked everywhere (compared_of told S subject.role (name_of a subject.named) r q) v = subst (λ z. IsVerdictOf S.levels asked everywhere z v) e is in
-      next S.levels all i subject c v verdicts more levels lt (any_default all i subject _ lt) h
+      next S.levels all i subject c v verdicts more levels lt (get_or_default all i subject _ lt) h
       (record {
         role = refl;
         name = refl;

@@ -2,7 +2,7 @@
 use Rattle.std.proofs.Common.{◌≡◌, ◌∙◌, ◌⊎◌, inl, inr, ap, sym, refl, subst, arith, ℕ, ◌+◌, ◌<◌, ◌≤◌, Bool, List, map, length, get_or, Option, Some, None}
 use Rattle.std.specs.Prelude.{◌&&◌, All, Contains, slice_get, slice_index}
 use Rattle.std.proofs.Math.ListN.{get_or-append}
-use Rattle.std.proofs.lemmas.List.{get_or-append-add, get_or-map, length-map, length-append}
+use Rattle.std.proofs.lemmas.List.{get_or-append-add, get_or-map, length-map, length-append, get_or_default}
 use Rattle.std.proofs.lemmas.List.Elements.{Contains-append_cases, All-append, All-map, AllZip-get_or, length_all_zip}
 use Rattle.dd_store.specs.declared.reference.Ref.{Ref}
 use Rattle.dd_store.specs.declared.reference.Reference.TheVariants.{False}
@@ -27,7 +27,6 @@ use Rattle.gate_plan.specs.Need.{IsCounted, IsLean, IsComplete, HasNode}
 use Rattle.gate_plan.specs.Needing.{IsNeededValue, HasNeed}
 use Rattle.gate_plan.proofs.Counted.{adds_as}
 use Rattle.gate_plan.proofs.Needs.{complete}
-use Rattle.gate_plan.proofs.Ranks.{any_default}
 use Rattle.gate_plan.proofs.Together.{of_map}
 use Rattle.check_report.specs.declared.subject.Subject.{Subject}
 use Rattle.check_report.specs.Conditions.{HoldsWhere, everywhere, output_of, restricted}
@@ -265,11 +264,11 @@ module _ (n m k : Net) (p : Paired) (S T : Nodes) (refs : References) (built : A
         where
           by : Contains of v.subject → IsFunctionIn (circuit n) (circuit m) p v.subject v.whole → (q : Ref) × Has T q × Agree T.levels (den T q) f
           by (i, lt, at) (inl function) =
-              let here : subject_at of i ≡ v.subject = any_default of i _ v.subject lt ∙ at in
+              let here : subject_at of i ≡ v.subject = get_or_default of i _ v.subject lt ∙ at in
               denoted n net (slice_index p.first) v.subject.first (inside_of v.subject (i, lt, at)).1 (reference_of answers i)
               (subst (λ (s : Subject). DenotesWhere as_built shown.holds (circuit n) (slice_index p.first) T s.first (reference_of answers i)) here (shown.first i lt)) f v.holds v.whole v.condition function v.restriction
           by (i, lt, at) (inr function) =
-              let here : subject_at of i ≡ v.subject = any_default of i _ v.subject lt ∙ at in
+              let here : subject_at of i ≡ v.subject = get_or_default of i _ v.subject lt ∙ at in
               denoted m net' (slice_index p.second) v.subject.second (inside_of v.subject (i, lt, at)).2 (reference_of answers (length of + i))
               (subst (λ (s : Subject). DenotesWhere as_built shown.holds (circuit m) (slice_index p.second) T s.second (reference_of answers (length of + i))) here (shown.second i lt)) f v.holds v.whole v.condition function v.restriction
 
@@ -304,7 +303,7 @@ no_other (Some x) h = absurd (h x refl)
 -- the output of a condition, read off its list
 pub given_is : (refs : List Ref) (outputs all : List ℕ) (s : ℕ) (r : Ref) → s ≡ get_or outputs 0 s → outputs ≡ all → 0 < length outputs → slice_get refs s ≡ Some r → reference_of refs (slice_index all 0) ≡ r
 given_is refs outputs all s r at same lt found =
-    ap (λ (z : List ℕ). reference_of refs (get_or z 0 0)) (sym same) ∙ ap (reference_of refs) (any_default outputs 0 0 s lt ∙ sym at) ∙ there refs s r False found
+    ap (λ (z : List ℕ). reference_of refs (get_or z 0 0)) (sym same) ∙ ap (reference_of refs) (get_or_default outputs 0 0 s lt ∙ sym at) ∙ there refs s r False found
 
 module _ (a b : Circuit) (given : Option Circuit) (p : Paired) (S : Nodes) (refs : References) (built : AreBuilt a b given p S refs) (of : List Subject) (all : of ≡ subjects a b p) (rs : List Ref) (er : rs ≡ references refs of) where
   pub all_known : All (Has S) rs

@@ -5,6 +5,7 @@ use Rattle.std.specs.Option.{option_map_or}
 use Rattle.std.proofs.lemmas.List.Elements.{Contains-append_left, Contains-append_right, Contains-append_cases}
 use Rattle.std.proofs.lemmas.Bool.{ne_eqb}
 use Rattle.std.proofs.lemmas.Bool.Decides.{nat_tests}
+use Rattle.std.proofs.lemmas.List.{get_or_default}
 use Rattle.net_bench.specs.declared.netlist.GateLine.{GateLine}
 use Rattle.net_bench.specs.Circuit.{Net, IsNet, greatest, rank_of}
 use Rattle.net_bench.specs.Labels.{is_complemented}
@@ -13,10 +14,10 @@ use Rattle.gate_plan.specs.declared.steps.Copied.{Copied}
 use Rattle.gate_plan.specs.Plans.{RankSteps, IsPlan, step_of, step_at, copy_of, folds_of, operand_at, plan_steps, plan_copies, plan_folds}
 use Rattle.gate_plan.specs.Building.{first_operand, IsStepBelow, IsCopyBelow}
 use Rattle.gate_plan.proofs.Lists.{same_number, lt_or_le}
-use Rattle.gate_plan.proofs.Ranks.{any_default, out_below, operand_below, some_operand}
+use Rattle.gate_plan.proofs.Ranks.{out_below, operand_below, some_operand}
 
 pub all_of : {X : Type 0} (P : X → Type 0) (xs : List X) → ((x : X) → Contains xs x → P x) → All P xs
-all_of P xs h k d lt = h (get_or xs k d) (k, lt, any_default xs k (get_or xs k d) d lt)
+all_of P xs h k d lt = h (get_or xs k d) (k, lt, get_or_default xs k (get_or xs k d) d lt)
 
 -- ---- lists of what gates of a rank have
 
@@ -139,7 +140,7 @@ pub is_copy : (g : GateLine) → length g.operands ≡ 1 → copy_of g ≡ Some 
 is_copy g e = ap (λ b. cond b (Some (copied_of g)) None) (eq-eqb (length g.operands) 1 e)
 
 pub among_operands : (g : GateLine) (i : ℕ) → i < length g.operands → Contains g.operands (operand_at g i)
-among_operands g i lt = (i, lt, any_default g.operands i (operand_at g i) 0 lt)
+among_operands g i lt = (i, lt, get_or_default g.operands i (operand_at g i) 0 lt)
 
 -- ---- all within the netlist
 

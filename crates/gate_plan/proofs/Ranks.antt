@@ -1,18 +1,13 @@
 -- The gates of a netlist and their ranks.
 use Rattle.std.proofs.Common.{◌≡◌, ℕ, zero, suc, ◌+◌, ◌<◌, ◌≤◌, List, [], ◌∷◌, length, map, get_or, refl, sym, ◌∙◌, ap, subst, arith, ◌⊎◌, inl, inr}
 use Rattle.std.specs.Prelude.{Contains, All, slice_index, IsTrue}
+use Rattle.std.proofs.lemmas.List.{get_or_default}
 use Rattle.net_bench.specs.declared.netlist.GateLine.{GateLine}
 use Rattle.net_bench.specs.Statement.{takes_one}
 use Rattle.net_bench.specs.Circuit.{Net, circuit, IsNet, greatest, variables_of, rank_of}
 use Rattle.net_bench.proofs.OneLabelling.{at_contained}
 use Rattle.net_bench.proofs.Chains.{greatest_above, lower}
 use Rattle.gate_plan.proofs.Lists.{lt_or_le}
-
--- within a list the default does not matter
-pub any_default : {X : Type 0} (xs : List X) (i : ℕ) (c d : X) → i < length xs → get_or xs i c ≡ get_or xs i d
-any_default [] i c d lt = absurd (omega arith)
-any_default (x ∷ xs) zero c d lt = refl
-any_default (x ∷ xs) (suc i) c d lt = any_default xs i c d (omega arith)
 
 module _ (net : Net) (h : IsNet net) where
   pub gate_rank : (g : GateLine) → Contains net.gates g → rank_of net g ≡ greatest (map (slice_index net.ranks) g.operands) + 1
@@ -48,9 +43,9 @@ module _ (net : Net) (h : IsNet net) where
   one_gate g k a b e = by (lt_or_le a.0 b.0) (lt_or_le b.0 a.0)
     where
       by : (a.0 < b.0) ⊎ (b.0 ≤ a.0) → (b.0 < a.0) ⊎ (a.0 ≤ b.0) → g ≡ k
-      by (inl lt) z = absurd (h.one_gate a.0 b.0 g lt b.1 (ap (λ y. y.out) a.2 ∙ e ∙ ap (λ y. y.out) (sym b.2) ∙ ap (λ y. y.out) (any_default net.gates b.0 k g b.1)))
-      by (inr le) (inl lt) = absurd (h.one_gate b.0 a.0 k lt a.1 (ap (λ y. y.out) b.2 ∙ sym e ∙ ap (λ y. y.out) (sym a.2) ∙ ap (λ y. y.out) (any_default net.gates a.0 g k a.1)))
-      by (inr le) (inr ge) = let at : a.0 ≡ b.0 = omega arith in sym a.2 ∙ ap (λ i. get_or net.gates i g) at ∙ any_default net.gates b.0 g k b.1 ∙ b.2
+      by (inl lt) z = absurd (h.one_gate a.0 b.0 g lt b.1 (ap (λ y. y.out) a.2 ∙ e ∙ ap (λ y. y.out) (sym b.2) ∙ ap (λ y. y.out) (get_or_default net.gates b.0 k g b.1)))
+      by (inr le) (inl lt) = absurd (h.one_gate b.0 a.0 k lt a.1 (ap (λ y. y.out) b.2 ∙ sym e ∙ ap (λ y. y.out) (sym a.2) ∙ ap (λ y. y.out) (get_or_default net.gates a.0 g k a.1)))
+      by (inr le) (inr ge) = let at : a.0 ≡ b.0 = omega arith in sym a.2 ∙ ap (λ i. get_or net.gates i g) at ∙ get_or_default net.gates b.0 g k b.1 ∙ b.2
 
 -- no item's number is above the greatest
 pub below_greatest : {X : Type 0} (f : X → ℕ) (xs : List X) (x : X) → Contains xs x → f x ≤ greatest (map f xs)

@@ -1,7 +1,7 @@
 -- One fold of a rank takes each gate's value so far to the next, and the copies and folds of a rank make its gates right.
 use Rattle.std.proofs.Common.{◌≡◌, ◌≢◌, ℕ, zero, suc, ◌+◌, ◌<◌, ◌≤◌, ◌==◌, ◌⊎◌, inl, inr, Bool, true, false, cond, min, List, [], ◌∷◌, ◌++◌, length, map, get_or, Some, None, refl, sym, ◌∙◌, ap, subst, arith, eq-eqb}
 use Rattle.std.specs.Prelude.{Contains, All, slice_index, unwrap_or}
-use Rattle.std.proofs.lemmas.List.{length-map, get_or_past}
+use Rattle.std.proofs.lemmas.List.{length-map, get_or_past, get_or_default}
 use Rattle.std.proofs.lemmas.Bool.{ne_eqb}
 use Rattle.dd_store.specs.declared.reference.Ref.{Ref}
 use Rattle.dd_store.specs.declared.reference.Reference.TheVariants.{False}
@@ -29,7 +29,7 @@ use Rattle.gate_plan.specs.Building.{Placed, input_level, reference_of, first_op
 use Rattle.gate_plan.specs.Needing.{IsPlacedValue}
 use Rattle.gate_plan.proofs.Folding.{fold_step, fold_start, one_operand, so_far_last}
 use Rattle.gate_plan.proofs.Lists.{same_number, lt_or_le, at_end, before_end}
-use Rattle.gate_plan.proofs.Ranks.{any_default, above_none, input_rank, operand_lower, some_operand, operand_below, one_gate, rank_top}
+use Rattle.gate_plan.proofs.Ranks.{above_none, input_rank, operand_lower, some_operand, operand_below, one_gate, rank_top}
 use Rattle.gate_plan.proofs.Picking.{in_picks, has_pick, folds_within, step_is, has_step_of, copied_of, copy_is, is_copy, among_operands, copies_below, steps_below, all_of}
 use Rattle.gate_plan.proofs.Together.{asked_holds, image, of_map, refs_there}
 use Rattle.gate_plan.proofs.Writing.{IsCopiedTo, IsNotCopied, copied_at, length-copied_all, IsAnsweredTo, IsNoStep, answered_at, length-answered_all, zip_at, zip_length}
@@ -245,7 +245,7 @@ module _ (net : Net) (h : IsNet net) (level : ℕ → ℕ) where
       answer s u =
           let d : Step = record { out = 0; op = plain_op And; first = None; second = 0 } in
           let t : Step = get_or ss u.place d in
-          let p = in_picks net r (λ g. step_of g j) net.gates t (u.place, u.low, any_default ss u.place t d u.low) in
+          let p = in_picks net r (λ g. step_of g j) net.gates t (u.place, u.low, get_or_default ss u.place t d u.low) in
           let q = step_is p.0 j t p.3 in
           let dia : IsDiagram T (get_or answers u.place False) (entry_value S (entry_of refs t)) = zip_at (λ e r. IsDiagram T r (entry_value S e)) (entry_of refs) ss answers u.place d False z u.low in (
             p.0,
@@ -435,7 +435,7 @@ all_copied sides plans S built new r right copied = (
       let m = copied.0 in
       let old = get_or built k [] in
       let was = refs_there built k (omega arith) in
-      let is : refs ≡ copied_all old (plan_copies one.net one.net.gates r) = sym there ∙ any_default new k refs [] (omega arith) ∙ copied.1 k one old lt at was in
+      let is : refs ≡ copied_all old (plan_copies one.net one.net.gates r) = sym there ∙ get_or_default new k refs [] (omega arith) ∙ copied.1 k one old lt at was in
       copies_next one.net (plans one (k, lt, at)).sound (input_level one) S old old refs r (plan_copies one.net one.net.gates r) (right.1 k one old lt at was) refl refl is,
 )
 
@@ -494,9 +494,9 @@ inputs_all net level variables refs items i e long short each ins others = recor
   each = each;
   inputs = λ s among.
       let a : Contains items s = subst (λ z. Contains z s) (sym e) among in
-      let at : get_or items a.0 0 ≡ s = any_default items a.0 0 s a.1 ∙ a.2 in
+      let at : get_or items a.0 0 ≡ s = get_or_default items a.0 0 s a.1 ∙ a.2 in
       subst (λ z. reference_of refs z ≡ reference_of variables (level z)) at (ins a.0 (let lt = a.1 in omega arith));
   others = λ s none. others s (λ k lt at.
       let lt' : k < length items = omega arith in
-      none (subst (λ z. Contains z s) e (k, lt', any_default items k s 0 lt' ∙ at)));
+      none (subst (λ z. Contains z s) e (k, lt', get_or_default items k s 0 lt' ∙ at)));
 }

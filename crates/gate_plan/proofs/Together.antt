@@ -1,7 +1,7 @@
 -- Netlists and their references, list beside list.
 use Rattle.std.proofs.Common.{◌≡◌, ◌∙◌, ap, sym, refl, subst, ℕ, zero, suc, ◌+◌, ◌<◌, ◌≤◌, ◌⊎◌, inl, inr, List, [], ◌∷◌, ◌++◌, map, length, get_or, take, drop, append_assoc, append-nil, arith, Some}
 use Rattle.std.specs.Prelude.{Contains, slice_get}
-use Rattle.std.proofs.lemmas.List.{take_all, drop_more, length-map, length-append}
+use Rattle.std.proofs.lemmas.List.{take_all, drop_more, length-map, length-append, get_or_default}
 use Rattle.std.proofs.lemmas.List.{get_or-set_same, get_or-set_other}
 use Rattle.std.proofs.Math.ListN.{get_or-map, set}
 use Rattle.std.proofs.lemmas.List.Elements.{Contains-append_left, Contains-append_right, Contains-append_cases}
@@ -13,7 +13,6 @@ use Rattle.gate_plan.specs.declared.steps.Step.{Step}
 use Rattle.gate_plan.specs.Plans.{plan_steps, plan_copies}
 use Rattle.gate_plan.specs.Building.{Placed, Levelled, levelled_of, Each, asked, entry_of, copied_all}
 use Rattle.gate_plan.proofs.Lists.{lt_or_le, at_end, before_end}
-use Rattle.gate_plan.proofs.Ranks.{any_default}
 use Rattle.gate_plan.proofs.Writing.{zip_parts}
 
 -- ---- lists
@@ -44,7 +43,7 @@ drop_all (x ∷ xs) (suc i) h = drop_all xs i (omega (arith, h))
 
 -- the references at a place
 pub refs_there : (built : List (List Ref)) (k : ℕ) → k < length built → get_or built k (get_or built k []) ≡ get_or built k []
-refs_there built k lt = any_default built k (get_or built k []) [] lt
+refs_there built k lt = get_or_default built k (get_or built k []) [] lt
 
 -- a list that has something stands at a place that is there
 pub there_place : (xs : List (List Ref)) (k s : ℕ) → s < length (get_or xs k []) → k < length xs
@@ -54,11 +53,11 @@ there_place (x ∷ xs) (suc k) s lt = let h = there_place xs k s lt in omega ari
 
 -- two that stand at one place are one
 pub same_at : {X : Type 0} (xs : List X) (i k : ℕ) (x y : X) → k ≡ i → i < length xs → get_or xs i x ≡ x → get_or xs k y ≡ y → y ≡ x
-same_at xs i k x y e lt at_x at_y = sym at_y ∙ ap (λ z. get_or xs z y) e ∙ any_default xs i y x lt ∙ at_x
+same_at xs i k x y e lt at_x at_y = sym at_y ∙ ap (λ z. get_or xs z y) e ∙ get_or_default xs i y x lt ∙ at_x
 
 -- what stands at a place of a list that is as another there, stands there in that too
 pub there_at : (now was : List (List Ref)) (i : ℕ) (d : List Ref) → i < length now → ((refs : List Ref) → get_or now i refs ≡ get_or was i refs) → get_or was i (get_or now i d) ≡ get_or now i d
-there_at now was i d lt same = sym (same (get_or now i d)) ∙ any_default now i (get_or now i d) d lt
+there_at now was i d lt same = sym (same (get_or now i d)) ∙ get_or_default now i (get_or now i d) d lt
 
 -- what was lent whole comes back whole
 pub lent : (items new : List (List Ref)) (n : ℕ) → n ≡ length items → length new ≡ length items → take n (new ++ drop (length new) items) ≡ new
@@ -200,4 +199,4 @@ pub levelled_at : (sides : List Placed) (all : List Levelled) → map levelled_o
 levelled_at sides all e k l lt at =
     let n : length sides ≡ length all = sym (length-map sides levelled_of) ∙ ap length e in
     let x = element sides k (omega arith) in
-    (x.0, omega arith, x.1, ap levelled_of (sym x.1) ∙ sym (get_or-map levelled_of sides k x.0) ∙ ap (λ (z : List Levelled). get_or z k (levelled_of x.0)) e ∙ any_default all k (levelled_of x.0) l lt ∙ at)
+    (x.0, omega arith, x.1, ap levelled_of (sym x.1) ∙ sym (get_or-map levelled_of sides k x.0) ∙ ap (λ (z : List Levelled). get_or z k (levelled_of x.0)) e ∙ get_or_default all k (levelled_of x.0) l lt ∙ at)

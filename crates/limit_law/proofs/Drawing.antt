@@ -1,5 +1,5 @@
 -- The diagram of a function is drawn in a store within its limit, or some function that is counted has no room there.
-use Rattle.std.proofs.Common.{◌≡◌, ◌≢◌, ◌∙◌, ℕ, zero, suc, ◌+◌, ◌<◌, ◌≤◌, ◌⊎◌, inl, inr, Bool, true, false, cond, List, [], ◌∷◌, ◌++◌, length, drop, refl, sym, ap, subst, arith, append_assoc}
+use Rattle.std.proofs.Common.{◌≡◌, ◌≢◌, ◌∙◌, ℕ, zero, suc, ◌+◌, ◌<◌, ◌≤◌, ◌⊎◌, inl, inr, Bool, true, false, cond, List, [], ◌∷◌, ◌++◌, length, drop, refl, sym, ap, subst, arith}
 use Rattle.std.specs.Prelude.{Ok, Err}
 use Rattle.std.proofs.Math.Seq.{drop-append_seam}
 use Rattle.std.proofs.lemmas.List.{length-append, append-nil}
@@ -14,6 +14,7 @@ use Rattle.dd_store.specs.Parts.Part.{node}
 use Rattle.dd_store.specs.View.{part, Has, top, Keeps, IsMade, IsOneNode}
 use Rattle.dd_store.proofs.Lacking.{depends, no_diagram}
 use Rattle.dd_store.proofs.Laws.{den-false, den-true}
+use Rattle.dd_store.proofs.References.{seam, longer}
 use Rattle.dd_store.proofs.Storing.{CanMake, Makes-branch, Makes-cases, Makes-sound, count-with_node}
 use Rattle.dd_store.proofs.View.{absent, denotes, keeps-refl, keeps-trans, kept_den, kept_top, made, parts, same_ref, top-node, top-part}
 use Rattle.reduce_up.proofs.Below.{node_reads}
@@ -24,12 +25,6 @@ use Rattle.gate_plan.proofs.Counted.{bit_between, counted_as}
 use Rattle.limit_law.proofs.Making.{make}
 
 -- ---- lists of bits
-
-seam : (p : List Bool) (b : Bool) (q : List Bool) → (p ++ b ∷ []) ++ q ≡ p ++ b ∷ q
-seam p b q = append_assoc p (b ∷ []) q
-
-longer : (p : List Bool) (b : Bool) (v : ℕ) → length p ≡ v → length (p ++ b ∷ []) ≡ suc v
-longer p b v h = simp length-append (omega arith)
 
 behind : (v : ℕ) (q x : List Bool) → length q ≡ v → drop v (q ++ x) ≡ x
 behind v q x e = ap (λ k. drop k (q ++ x)) (sym e) ∙ drop-append_seam q x

@@ -2,7 +2,7 @@
 use Rattle.std.proofs.Common.{◌≡◌, ◌≢◌, ◌⊎◌, inl, inr, ℕ, zero, suc, ◌+◌, ◌<◌, ◌≤◌, List, [], ◌∷◌, ◌++◌, refl, sym, ap, ◌∙◌, length, get_or, take, drop, add-one, drop-cons, append_assoc, arith}
 use Rattle.std.specs.Prelude.{Contains, All}
 use Rattle.std.proofs.lemmas.Bool.{cases_lt}
-use Rattle.std.proofs.lemmas.List.{take_more}
+use Rattle.std.proofs.lemmas.List.{take_more, get_or_default}
 
 pub same_or : (s t : ℕ) → (s ≡ t) ⊎ (s ≢ t)
 same_or s t = elim (cases_lt s t) [
@@ -13,14 +13,8 @@ same_or s t = elim (cases_lt s t) [
   ]
 ]
 
--- within a list the default does not matter
-pub any_default : {X : Type 0} (xs : List X) (i : ℕ) (c d : X) → i < length xs → get_or xs i c ≡ get_or xs i d
-any_default [] i c d low = absurd (omega arith)
-any_default (x ∷ xs) zero c d low = refl
-any_default (x ∷ xs) (suc i) c d low = any_default xs i c d (omega arith)
-
 pub contained_at : {X : Type 0} (xs : List X) (i : ℕ) (d : X) → i < length xs → Contains xs (get_or xs i d)
-contained_at xs i d low = (i, low, any_default xs i (get_or xs i d) d low)
+contained_at xs i d low = (i, low, get_or_default xs i (get_or xs i d) d low)
 
 pub all_of : {X : Type 0} (P : X → Type 0) (xs : List X) → ((x : X) → Contains xs x → P x) → All P xs
 all_of P xs h i d low = h (get_or xs i d) (contained_at xs i d low)

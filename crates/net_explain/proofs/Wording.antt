@@ -1,11 +1,12 @@
 -- The lines of an explanation, and the parts of a VCD, one more.
 use Rattle.std.proofs.Common.{◌≡◌, ℕ, ◌+◌, ◌<◌, ◌≤◌, ◌==◌, Bool, false, List, [], ◌∷◌, ◌++◌, Some, None, Option, refl, sym, ap, ◌∙◌, length, get_or, drop, arith}
 use Rattle.std.proofs.lemmas.Bool.Decides.{nat_tests}
+use Rattle.std.proofs.lemmas.List.{get_or_default}
 use Rattle.net_explain.specs.declared.differing.Inner.{Inner}
 use Rattle.net_explain.specs.declared.explaining.GateCount.{GateCount}
 use Rattle.net_explain.specs.Text.{behind_text, inner_text, inners_text, parts_text}
 use Rattle.net_explain.specs.Vcd.{change_text, changes_text, var_text, vars_text}
-use Rattle.net_explain.proofs.Lists.{any_default, drop_all, drop_here}
+use Rattle.net_explain.proofs.Lists.{drop_all, drop_here}
 
 pub inners_next : (names : List (List ℕ)) (is : List Inner) (p : ℕ) (i : Inner) → p < length is → i ≡ get_or is p i →
     inners_text names (drop p is) ≡ inner_text names i ++ inners_text names (drop (p + 1) is)
@@ -17,7 +18,7 @@ inners_over names is p high = ap (inners_text names) (drop_all is p high)
 pub vars_next : (k : ℕ) (names : List (List ℕ)) (p : ℕ) (name : List ℕ) → p < length names → name ≡ get_or names p [] →
     vars_text (k + p) (drop p names) ≡ var_text (k + p) name ++ vars_text (k + (p + 1)) (drop (p + 1) names)
 vars_next k names p name low at =
-    let here : name ≡ get_or names p name = at ∙ any_default names p [] name low in
+    let here : name ≡ get_or names p name = at ∙ get_or_default names p [] name low in
     let same : k + p + 1 ≡ k + (p + 1) = omega arith in
     ap (vars_text (k + p)) (drop_here names p name low here) ∙ ap (λ j. var_text (k + p) name ++ vars_text j (drop (p + 1) names)) same
 
@@ -28,7 +29,7 @@ pub changes_next : (k : ℕ) (bits : List Bool) (p : ℕ) → p < length bits �
     changes_text (k + p) (drop p bits) ≡ change_text (k + p) (get_or bits p false) ++ changes_text (k + (p + 1)) (drop (p + 1) bits)
 changes_next k bits p low =
     let same : k + p + 1 ≡ k + (p + 1) = omega arith in
-    ap (changes_text (k + p)) (drop_here bits p (get_or bits p false) low (any_default bits p false (get_or bits p false) low)) ∙
+    ap (changes_text (k + p)) (drop_here bits p (get_or bits p false) low (get_or_default bits p false (get_or bits p false) low)) ∙
     ap (λ j. change_text (k + p) (get_or bits p false) ++ changes_text j (drop (p + 1) bits)) same
 
 pub changes_over : (k : ℕ) (bits : List Bool) (p : ℕ) → length bits ≤ p → changes_text (k + p) (drop p bits) ≡ []

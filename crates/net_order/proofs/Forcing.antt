@@ -42,9 +42,3 @@ forced_low names sides given s e = filter_low (length names) (reverse (moved (le
 
 pub all_forced_low : (names : List (List ℕ)) (sides given : List Sided) (numbers : List ℕ) → numbers ≡ forced_back names sides given → All (λ s. s < length names) numbers
 all_forced_low names sides given numbers is = subst (All (λ s. s < length names)) (sym is) (all_of (λ s. s < length names) (forced_back names sides given) (forced_low names sides given))
-
--- an item is the same whatever stands for one that is missing
-pub same_default : {X : Type 0} (xs : List X) (i : ℕ) (d e : X) → i < length xs → get_or xs i d ≡ get_or xs i e
-same_default [] i d e low = absurd (omega arith)
-same_default (x ∷ xs) zero d e low = refl
-same_default (x ∷ xs) (suc i) d e low = same_default xs i d e (omega arith)

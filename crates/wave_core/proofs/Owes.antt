@@ -1,6 +1,6 @@
 -- The children of a record become due, and the next key of a table is expanded.
 use Rattle.std.proofs.Common.{◌≡◌, ℕ, inl, ◌+◌, ◌*◌, ◌<◌, ◌≤◌, Bool, true, false, cond, eqb, ◌&&◌, List, [], ◌∷◌, ◌++◌, length, get_or, set, map, filter, All, Contains, refl, sym, ap, ◌∙◌, subst, arith, append-nil, append_assoc, mod-lt, le_of_suc-le-suc}
-use Rattle.std.proofs.lemmas.List.{length-set, length-map}
+use Rattle.std.proofs.lemmas.List.{length-set, length-map, get_or_default}
 use Rattle.std.proofs.lemmas.List.Elements.{filter-append, All-contains}
 use Rattle.dd_store.specs.Nodes.{Nodes}
 use Rattle.req_table.specs.declared.Key.{Key}
@@ -20,7 +20,7 @@ use Rattle.wave_core.specs.declared.Event.TheVariants.{Expand}
 use Rattle.wave_core.specs.View.{View, IsKept, IsTable, by_place, list_of, number_of, state_of, wave_of_view, owe_of, owe_all}
 use Rattle.wave_core.specs.Step.{IsStep, only, row_here, asks_here, IsNext}
 use Rattle.wave_core.proofs.Places.{eqb_comm, at_pair_is}
-use Rattle.wave_core.proofs.Grid.{place, pair_grows, get_or-default, got, set_twice, read_back}
+use Rattle.wave_core.proofs.Grid.{place, pair_grows, got, set_twice, read_back}
 use Rattle.wave_core.proofs.Machines.{still}
 
 -- what a child adds to the due list of a pair
@@ -50,7 +50,7 @@ owed_is S n w by (Ask l x m) d bb size s k kb =
     let ob : o < w = mod-lt _ some in
     let room = place w w by o (length d) bb ob size in
     let old = get_or d (by * w + o) [] in
-    pair_grows w d by o old (old ++ x ∷ []) x ob room (get_or-default d (by * w + o) [] old room) refl s k kb
+    pair_grows w d by o old (old ++ x ∷ []) x ob room (get_or_default d (by * w + o) [] old room) refl s k kb
     ∙ ap (λ l. by_place w d s k ++ l) (only_owned (eqb s by) (eqb k o) (eqb o k) x (eqb_comm k o))
 
 pub owed_all : (S : Nodes) (n w by : ℕ) (r : Record) (d : List (List Key)) → by < w → length d ≡ w * w → (s k : ℕ) → k < w
@@ -71,7 +71,7 @@ forgiven w by o x d D old new bb ob size D-is is undo =
     let room = place w w by o (length d) bb ob size in
     let a = get_or d p [] in
     let back = read_back d p (a ++ x ∷ []) old room (is ∙ ap (λ l. get_or l p old) D-is) in
-    ap (λ l. set l p new) D-is ∙ set_twice d p a (a ++ x ∷ []) new (get_or-default d p [] a room) (undo a x back)
+    ap (λ l. set l p new) D-is ∙ set_twice d p a (a ++ x ∷ []) new (get_or_default d p [] a room) (undo a x back)
 
 -- the key of a table at the place that its row has come to
 pub next_at : (row rest : List Key) (x : Key) → length row < length (row ++ rest) → get_or (row ++ rest) (length row) x ≡ x → (more : List Key) × (rest ≡ x ∷ more)
@@ -141,7 +141,7 @@ module _ (S : Nodes) (v : View) (h : IsKept v) (by : ℕ) (bb : by < v.workers) 
           due = λ s k sb kb. owed_all S v.levels v.workers by (record_of S x) v.due bb h.shape.due s k kb;
           taken = λ k kb. sym (append-nil (list_of v.taken k));
           waiting = λ k kb. sym (append-nil (list_of v.waiting k));
-          rows = λ k m kb mb. pair_grows v.levels v.rows by l row (row ++ record_of S x ∷ []) (record_of S x) lb room (get_or-default v.rows (by * v.levels + l) [] row room) refl k m mb;
+          rows = λ k m kb mb. pair_grows v.levels v.rows by l row (row ++ record_of S x ∷ []) (record_of S x) lb room (get_or_default v.rows (by * v.levels + l) [] row room) refl k m mb;
           at = λ k kb. omega arith;
         },
       )

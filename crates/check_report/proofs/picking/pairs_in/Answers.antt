@@ -1,8 +1,8 @@
 use Rattle.std.proofs.Common.{◌≡◌, ◌∙◌, ◌<◌, Vec, ap, arith, get_or, length}
 use Rattle.std.specs.declared.alloc.Global.{Global}
+use Rattle.std.proofs.lemmas.List.{get_or_default}
 use Rattle.check_report.specs.declared.subject.Subject.{Subject}
 use Rattle.report_text.specs.declared.outcome.PairKind.TheVariants.{Output}
-use Rattle.gate_plan.proofs.Ranks.{any_default}
 use Rattle.check_report.proofs.Picks.{share_no, share_yes}
 use Rattle.check_report.proofs.picking.pairs_in.Goals as goal
 use Rattle.check_report.proofs.picking.pairs_in.Goals.{then-shares-place+in_ok-push, else-shares-place}
@@ -17,6 +17,6 @@ loop-place-preserved c =
           same (ap (λ (v : Vec Subject Global). v.items) w.pairs-is ∙ w.in_ok-push.ensures.items)
       | else-shares-place w ↦
           let s = get_or c.args.subjects.now c.loop-place.place (record { role = Output; named = 0; first = 0; second = 0 }) in
-          share_no c.args.share c.args.subjects.now c.args.shares.now c.loop-place.place s low c.requires (any_default c.args.subjects.now c.loop-place.place _ s low) c.loop-place.pairs.items _ _ c.loop-place.invariant
+          share_no c.args.share c.args.subjects.now c.args.shares.now c.loop-place.place s low c.requires (get_or_default c.args.subjects.now c.loop-place.place _ s low) c.loop-place.pairs.items _ _ c.loop-place.invariant
           (λ same. omega arith) (ap (λ (v : Vec Subject Global). v.items) w.pairs-is)
     ]

@@ -1,10 +1,10 @@
 use Rattle.std.proofs.Common.{arith, ◌≡◌, ◌-◌, ◌<◌, ◌≤◌, ◌∷◌, ◌++◌, [], length, map, take, get_or, set, sym, ap, ◌∙◌, subst}
 use Rattle.std.specs.Prelude.{Contains}
-use Rattle.std.proofs.lemmas.List.{take_more, take_all, length-set}
+use Rattle.std.proofs.lemmas.List.{take_more, take_all, length-set, get_or_default}
 use Rattle.net_bench.specs.Circuit.{greatest, rank_of}
 use Rattle.gate_plan.specs.Plans.{AddsGate, Plans, rank_at, no_steps}
 use Rattle.gate_plan.proofs.Planning.{plans_next}
-use Rattle.gate_plan.proofs.Ranks.{above_none, rank_top, any_default}
+use Rattle.gate_plan.proofs.Ranks.{above_none, rank_top}
 use Rattle.gate_plan.proofs.steps.Plan.new.Goals as goal
 
 pub index_mut-requires : goal.index_mut-requires
@@ -30,7 +30,7 @@ loop-gate-preserved c =
     let count : length ranks ≡ greatest (map (rank_of net) net.gates) = c.loop-gate.invariant.count ∙ ap (λ gs. greatest (map (rank_of net) gs)) c.gates-gate-items.ensures.value in
     let row : AddsGate (rank_at ranks (rank_of net g)) g c.add_gate.new.self =
     subst (λ z. AddsGate z g c.add_gate.new.self)
-    (c.index_mut.ensures.value ∙ ap (λ n. get_or ranks (n - 1) c.index_mut.result.now) c.rank-rank.ensures.value ∙ any_default ranks (rank_of net g - 1) c.index_mut.result.now no_steps (omega arith))
+    (c.index_mut.ensures.value ∙ ap (λ n. get_or ranks (n - 1) c.index_mut.result.now) c.rank-rank.ensures.value ∙ get_or_default ranks (rank_of net g - 1) c.index_mut.result.now no_steps (omega arith))
     c.in_ok-add_gate.ensures in
     let next : Plans net (take i gates ++ g ∷ []) (set ranks (rank_of net g - 1) c.add_gate.new.self) = plans_next net (take i gates) g ranks c.add_gate.new.self c.loop-gate.invariant.plans low (omega arith) row in
     record {

@@ -1,13 +1,14 @@
 use Rattle.std.proofs.Common.{◌≡◌, rules, ℕ, ◌+◌, ◌*◌, ◌<◌, ◌≤◌, ◌^◌, ◌∷◌, All, set, length, sym, ap, ◌∙◌, subst, arith}
 use Rattle.std.specs.List.{sum_by}
 use Rattle.std.specs.Vec.{vec_len}
+use Rattle.std.proofs.lemmas.List.{get_or_default}
 use Rattle.dd_store.specs.Nodes.{Nodes}
 use Rattle.req_table.specs.declared.Item.TheVariants.{Ask}
 use Rattle.req_table.specs.Keys.{level_of}
 use Rattle.wave_core.specs.declared.Event.TheVariants.{Keep}
 use Rattle.wave_core.specs.Step.{IsStep, IsAllowed}
 use Rattle.wave_core.specs.View.{View, IsKept, by_place, state_of, wave_of_view}
-use Rattle.wave_core.proofs.Grid.{get_or-default, place}
+use Rattle.wave_core.proofs.Grid.{place}
 use Rattle.wave_core.proofs.Machines.{view_in, in_due}
 use Rattle.wave_core.proofs.Keeping.{keep_step, keep_kept, kept_back, kept_fits, first_below}
 use Rattle.wave_core.proofs.machine.Machine.keep.Goals as goal
@@ -46,7 +47,7 @@ invariant_of-self-in-Ok c =
     let n = c.level_of-level.result in
     let nb = first_below c.args.store.now v c.self.invariant c.args.by n key rest c.index.result.now bb (below v c.args.self.now c.args.store.now c.args.by view bb c.requires.below) c.index.ensures seen c.level_of-level.ensures in
     let first : c.index_mut-in-Ok.result.now ≡ key ∷ rest =
-    c.index_mut-in-Ok.ensures.value ∙ get_or-default v.due (c.args.by * v.workers + c.args.by) c.index_mut-in-Ok.result.now c.index.result.now (in_due v c.self.invariant c.args.by c.args.by bb bb) ∙ sym c.index.ensures ∙ seen in
+    c.index_mut-in-Ok.ensures.value ∙ get_or_default v.due (c.args.by * v.workers + c.args.by) c.index_mut-in-Ok.result.now c.index.result.now (in_due v c.self.invariant c.args.by c.args.by bb bb) ∙ sym c.index.ensures ∙ seen in
     let popped : c.index_mut-in-Ok.result.now ≡ key ∷ c.pop.new.self = first ∙ ap (λ l. key ∷ l) (sym (c.pop.ensures rest key first)) in
     keep_kept c.args.store.now v c.self.invariant c.args.by bb key n c.index_mut.result.now c.put_both.new.first c.index_mut-2.result.now c.put_both.new.second c.index_mut-in-Ok.result.now c.pop.new.self c.index_mut-3.result.now c.admit.new.self c.in-Ok.field-0.1
     c.index_mut.ensures.value c.index_mut-2.ensures.value c.index_mut-in-Ok.ensures.value c.index_mut-3.ensures.value c.in_ok-put_both.ensures.first c.in_ok-put_both.ensures.second popped c.in-Ok.ensures.offers nb c.level_of-level.ensures
@@ -61,7 +62,7 @@ returns-in-Ok-clause-ok c =
     let n = c.level_of-level.result in
     let nb = first_below c.args.store.now v c.self.invariant c.args.by n key rest c.index.result.now bb (below v c.args.self.now c.args.store.now c.args.by view bb c.requires.below) c.index.ensures seen c.level_of-level.ensures in
     let first : c.index_mut-in-Ok.result.now ≡ key ∷ rest =
-    c.index_mut-in-Ok.ensures.value ∙ get_or-default v.due (c.args.by * v.workers + c.args.by) c.index_mut-in-Ok.result.now c.index.result.now (in_due v c.self.invariant c.args.by c.args.by bb bb) ∙ sym c.index.ensures ∙ seen in
+    c.index_mut-in-Ok.ensures.value ∙ get_or_default v.due (c.args.by * v.workers + c.args.by) c.index_mut-in-Ok.result.now c.index.result.now (in_due v c.self.invariant c.args.by c.args.by bb bb) ∙ sym c.index.ensures ∙ seen in
     let popped : c.index_mut-in-Ok.result.now ≡ key ∷ c.pop.new.self = first ∙ ap (λ l. key ∷ l) (sym (c.pop.ensures rest key first)) in
     let after : View = record v { sent = set v.sent (c.args.by * v.workers + c.args.by) c.put_both.new.first; taken = set v.taken c.args.by c.put_both.new.second; tables = set v.tables (c.args.by * v.levels + n) c.admit.new.self; due = set v.due (c.args.by * v.workers + c.args.by) c.pop.new.self; kept = v.kept + 1 } in
     let all = (subst (λ (u : View). IsAllowed (wave_of_view c.args.store.now u) (state_of u) (Keep c.args.by)) (sym view) c.if-not-can_keep.ensures).2 in

@@ -1,11 +1,12 @@
 use Rattle.std.proofs.Common.{◌≡◌, ◌<◌, ◌≤◌, ◌+◌, ◌*◌, List, [], ◌∷◌, ◌++◌, set, length, refl, sym, ap, ap₂, subst, arith, ◌∙◌, length-append}
+use Rattle.std.proofs.lemmas.List.{get_or_default}
 use Rattle.req_table.specs.declared.Key.{Key}
 use Rattle.req_table.specs.declared.Item.{Item}
 use Rattle.req_table.specs.Lanes.{sent_by, ends, asks_at}
 use Rattle.wave_core.specs.declared.Event.TheVariants.{Take}
 use Rattle.wave_core.specs.View.{View, IsKept, IsTable, by_place, list_of, number_of, state_of, wave_of_view}
 use Rattle.wave_core.specs.Step.{IsStep, at_one}
-use Rattle.wave_core.proofs.Grid.{got, get_or-default, read_back, set_same, set_twice, place}
+use Rattle.wave_core.proofs.Grid.{got, read_back, set_same, set_twice, place}
 use Rattle.wave_core.proofs.Machines.{view_in, still}
 use Rattle.wave_core.proofs.Taking.{take_step, take_kept, ask_counted, ask_beyond, ask_offered, end_tables, end_beyond, end_counted, ends_by_le}
 use Rattle.wave_core.proofs.machine.Machine.take.Goals as goal
@@ -18,7 +19,7 @@ invariant_of-self-then-level-self c =
     let item = c.in-Some.item in
     let (rest, seen) = c.in-Some.ensures in
     let room : c.args.by < length v.waiting = subst (λ n. c.args.by < n) (sym h.shape.waiting) bb in
-    let first : c.index_mut-then-level-self.result.now ≡ item ∷ rest = c.index_mut-then-level-self.ensures.value ∙ get_or-default v.waiting c.args.by c.index_mut-then-level-self.result.now c.index.result.now room ∙ sym c.index.ensures ∙ seen in
+    let first : c.index_mut-then-level-self.result.now ≡ item ∷ rest = c.index_mut-then-level-self.ensures.value ∙ get_or_default v.waiting c.args.by c.index_mut-then-level-self.result.now c.index.result.now room ∙ sym c.index.ensures ∙ seen in
     let popped : c.index_mut-then-level-self.result.now ≡ item ∷ c.pop.new.self = first ∙ ap (λ l. item ∷ l) (sym (c.pop.ensures rest item first)) in
     let far : v.levels ≤ c.in-Ask.level = omega arith in
     take_kept v h c.args.by bb item c.index_mut.result.now c.put.new.self c.index_mut-then-level-self.result.now c.pop.new.self c.index_mut.ensures.value c.in_ok-put.ensures.ok c.index_mut-then-level-self.ensures.value popped v.counted v.tables h.shape.counted h.shape.tables
@@ -33,7 +34,7 @@ invariant_of-self-in-Ok c =
     let item = c.in-Some.item in
     let (rest, seen) = c.in-Some.ensures in
     let room : c.args.by < length v.waiting = subst (λ n. c.args.by < n) (sym h.shape.waiting) bb in
-    let first : c.index_mut-in-Ok.result.now ≡ item ∷ rest = c.index_mut-in-Ok.ensures.value ∙ get_or-default v.waiting c.args.by c.index_mut-in-Ok.result.now c.index.result.now room ∙ sym c.index.ensures ∙ seen in
+    let first : c.index_mut-in-Ok.result.now ≡ item ∷ rest = c.index_mut-in-Ok.ensures.value ∙ get_or_default v.waiting c.args.by c.index_mut-in-Ok.result.now c.index.result.now room ∙ sym c.index.ensures ∙ seen in
     let popped : c.index_mut-in-Ok.result.now ≡ item ∷ c.pop-in-Ok.new.self = first ∙ ap (λ l. item ∷ l) (sym (c.pop-in-Ok.ensures rest item first)) in
     let near : c.in-Ask.level < v.levels = omega arith in
     let new = set v.tables (c.args.by * v.levels + c.in-Ask.level) c.admit.new.self in
@@ -49,7 +50,7 @@ invariant_of-self-then-from-self c =
     let item = c.in-Some.item in
     let (rest, seen) = c.in-Some.ensures in
     let room : c.args.by < length v.waiting = subst (λ n. c.args.by < n) (sym h.shape.waiting) bb in
-    let first : c.index_mut-then-from-self.result.now ≡ item ∷ rest = c.index_mut-then-from-self.ensures.value ∙ get_or-default v.waiting c.args.by c.index_mut-then-from-self.result.now c.index.result.now room ∙ sym c.index.ensures ∙ seen in
+    let first : c.index_mut-then-from-self.result.now ≡ item ∷ rest = c.index_mut-then-from-self.ensures.value ∙ get_or_default v.waiting c.args.by c.index_mut-then-from-self.result.now c.index.result.now room ∙ sym c.index.ensures ∙ seen in
     let popped : c.index_mut-then-from-self.result.now ≡ item ∷ c.pop-then-from-self.new.self = first ∙ ap (λ l. item ∷ l) (sym (c.pop-then-from-self.ensures rest item first)) in
     let far : v.workers ≤ c.in-End.from = omega arith in
     take_kept v h c.args.by bb item c.index_mut.result.now c.put.new.self c.index_mut-then-from-self.result.now c.pop-then-from-self.new.self c.index_mut.ensures.value c.in_ok-put.ensures.ok c.index_mut-then-from-self.ensures.value popped v.counted v.tables h.shape.counted h.shape.tables
@@ -64,7 +65,7 @@ invariant_of-self-in-End c =
     let item = c.in-Some.item in
     let (rest, seen) = c.in-Some.ensures in
     let room : c.args.by < length v.waiting = subst (λ n. c.args.by < n) (sym h.shape.waiting) bb in
-    let first : c.index_mut-in-End-2.result.now ≡ item ∷ rest = c.index_mut-in-End-2.ensures.value ∙ get_or-default v.waiting c.args.by c.index_mut-in-End-2.result.now c.index.result.now room ∙ sym c.index.ensures ∙ seen in
+    let first : c.index_mut-in-End-2.result.now ≡ item ∷ rest = c.index_mut-in-End-2.ensures.value ∙ get_or_default v.waiting c.args.by c.index_mut-in-End-2.result.now c.index.result.now room ∙ sym c.index.ensures ∙ seen in
     let popped : c.index_mut-in-End-2.result.now ≡ item ∷ c.pop-in-End.new.self = first ∙ ap (λ l. item ∷ l) (sym (c.pop-in-End.ensures rest item first)) in
     let near : c.in-End.from < v.workers = omega arith in
     let one = c.index_mut-in-End.result.now + 1 in
@@ -120,7 +121,7 @@ returns-then-level-self-clause-ok c =
     let item = c.in-Some.item in
     let (rest, seen) = c.in-Some.ensures in
     let room : c.args.by < length v.waiting = subst (λ n. c.args.by < n) (sym h.shape.waiting) bb in
-    let first : c.index_mut-then-level-self.result.now ≡ item ∷ rest = c.index_mut-then-level-self.ensures.value ∙ get_or-default v.waiting c.args.by c.index_mut-then-level-self.result.now c.index.result.now room ∙ sym c.index.ensures ∙ seen in
+    let first : c.index_mut-then-level-self.result.now ≡ item ∷ rest = c.index_mut-then-level-self.ensures.value ∙ get_or_default v.waiting c.args.by c.index_mut-then-level-self.result.now c.index.result.now room ∙ sym c.index.ensures ∙ seen in
     let popped : c.index_mut-then-level-self.result.now ≡ item ∷ c.pop.new.self = first ∙ ap (λ l. item ∷ l) (sym (c.pop.ensures rest item first)) in
     let tables : List (List Key) = v.tables in
     subst (λ (u : View). IsStep (wave_of_view c.args.store.now u) (state_of u) (Take c.args.by) (state_of (record v { waiting = set v.waiting c.args.by c.pop.new.self; taken = set v.taken c.args.by c.put.new.self; counted = v.counted; tables = tables }))) c.self.view_is
@@ -134,7 +135,7 @@ returns-in-Ok-clause-ok c =
     let item = c.in-Some.item in
     let (rest, seen) = c.in-Some.ensures in
     let room : c.args.by < length v.waiting = subst (λ n. c.args.by < n) (sym h.shape.waiting) bb in
-    let first : c.index_mut-in-Ok.result.now ≡ item ∷ rest = c.index_mut-in-Ok.ensures.value ∙ get_or-default v.waiting c.args.by c.index_mut-in-Ok.result.now c.index.result.now room ∙ sym c.index.ensures ∙ seen in
+    let first : c.index_mut-in-Ok.result.now ≡ item ∷ rest = c.index_mut-in-Ok.ensures.value ∙ get_or_default v.waiting c.args.by c.index_mut-in-Ok.result.now c.index.result.now room ∙ sym c.index.ensures ∙ seen in
     let popped : c.index_mut-in-Ok.result.now ≡ item ∷ c.pop-in-Ok.new.self = first ∙ ap (λ l. item ∷ l) (sym (c.pop-in-Ok.ensures rest item first)) in
     let tables : List (List Key) = set v.tables (c.args.by * v.levels + c.in-Ask.level) c.admit.new.self in
     subst (λ (u : View). IsStep (wave_of_view c.args.store.now u) (state_of u) (Take c.args.by) (state_of (record v { waiting = set v.waiting c.args.by c.pop-in-Ok.new.self; taken = set v.taken c.args.by c.put.new.self; counted = v.counted; tables = tables }))) c.self.view_is

@@ -1,7 +1,7 @@
 use Rattle.std.proofs.Common.{drop}
+use Rattle.std.proofs.lemmas.List.{get_or_default}
 use Rattle.wave_core.specs.Step.{IsFinished}
 use Rattle.wave_core.specs.Cores.{core_wave, core_state}
-use Rattle.wave_core.proofs.Grid.{get_or-default}
 use Rattle.wave_core.proofs.Drives.{chosen, chosen_all, same_then, of_true, of_false}
 use Rattle.wave_core.proofs.Stepped.{reaches_more}
 use Rattle.wave_core.proofs.waves.Core.choose.Goals as goal
@@ -19,6 +19,6 @@ loop-choice-preserved c =
     let open' = of_false c.finished.result (IsFinished (core_wave x) (core_state x)) (¬ IsFinished (core_wave x) (core_state x)) c.if-finished.false c.finished.ensures.value in
     record {
       same = same_then v x c.turn_by.new.self c.loop-choice.invariant.same c.turn_by.ensures.same;
-      drives = chosen v x c.turn_by.new.self c.args.choices.now c.loop-choice.choice-index _ c.loop-choice-test.true (get_or-default c.args.choices.now c.loop-choice.choice-index 0 _ c.loop-choice-test.true) c.loop-choice.invariant.same open' c.in_ok-turn_by.ensures.ok c.loop-choice.invariant.drives;
+      drives = chosen v x c.turn_by.new.self c.args.choices.now c.loop-choice.choice-index _ c.loop-choice-test.true (get_or_default c.args.choices.now c.loop-choice.choice-index 0 _ c.loop-choice-test.true) c.loop-choice.invariant.same open' c.in_ok-turn_by.ensures.ok c.loop-choice.invariant.drives;
       runs = reaches_more v x c.turn_by.new.self _ c.loop-choice.invariant.same c.in_ok-turn_by.ensures.ok c.loop-choice.invariant.runs;
     }
