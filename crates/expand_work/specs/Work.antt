@@ -1,6 +1,6 @@
 -- What the functions of a worker say.
 use Rattle.std.specs.Prelude.{◌≡◌, ◌≢◌, ℕ, ◌+◌, ◌-◌, ◌<◌, ◌≤◌, Bool, ◌==◌, cond, List, [], ◌∷◌, ◌++◌, length, map, slice_index}
-use Rattle.std.specs.Prelude.{slice_index_or, slice_set, All}
+use Rattle.std.specs.Prelude.{slice_set, All}
 use Rattle.dd_store.specs.Nodes.{Nodes}
 -- the list of a number, among lists
 pub use Rattle.req_table.specs.Places.{row as at}
