@@ -1,5 +1,5 @@
 -- A level in parts, divided by shard, of which the diagrams are picked.
-use Rattle.std.proofs.Common.{◌≡◌, ◌≢◌, ℕ, zero, suc, ◌+◌, ◌<◌, ◌≤◌, ◌⊎◌, inl, inr, cond, List, [], ◌∷◌, ◌++◌, length, map, take, drop, get_or, slice_get, Some, Contains, refl, sym, ap, ◌∙◌, subst, arith, append_assoc, append-nil, ne_eqb, length-append}
+use Rattle.std.proofs.Common.{◌≡◌, ◌≢◌, ℕ, zero, suc, ◌+◌, ◌<◌, ◌≤◌, inl, inr, cond, List, [], ◌∷◌, ◌++◌, length, map, take, drop, get_or, slice_get, Some, Contains, refl, sym, ap, ◌∙◌, subst, arith, append_assoc, append-nil, ne_eqb, length-append}
 use Rattle.std.specs.List.{AllZip}
 use Rattle.std.specs.Prelude.{Result, Ok, Err, OnOk}
 use Rattle.std.specs.declared.vec.Vec.{Vec}
@@ -11,6 +11,7 @@ use Rattle.std.proofs.Math.ListN.{get_or-eq_default}
 use Rattle.std.proofs.lemmas.Option.{slice_get_within, slice_get_read, get_or_from_slice_get}
 use mathlib.Core.Logic.{dite}
 use native.Mathlib.Decide.{ℕ_discrete}
+use Rattle.slot_table.proofs.Listing.{in_either}
 use Rattle.dd_store.specs.declared.reference.Ref.{Ref}
 use Rattle.dd_store.specs.Graph.{Pair}
 use Rattle.dd_store.specs.Codes.{shard_of_pair}
@@ -41,14 +42,9 @@ use Rattle.reduce_up.proofs.OverParts.{slice_get-behind}
 use Rattle.reduce_up.proofs.Parting.{chosen-in, chosen-many, zip_chosen, zip_span}
 
 -- ---- lists of all parts
-in_split : (xs ys : List Pair) (q : Pair) → IsIn (xs ++ ys) q → IsIn xs q ⊎ IsIn ys q
-in_split [] ys q w = inr w
-in_split (x ∷ xs) ys q (zero, e) = inl (0, e)
-in_split (x ∷ xs) ys q (suc i, e) = elim (in_split xs ys q (i, e)) [ inl w ↦ inl (suc w.0, w.1) | inr w ↦ inr w ]
-
 part_in : (parts : List (Vec (Vec Pair Global) Global)) (s : ℕ) (q : Pair) → IsIn (all_at parts s) q → (k : ℕ) × (k < length parts) × ((d : Vec (Vec Pair Global) Global) → IsIn (list_at (get_or parts k d).items s) q)
 part_in [] s q w = absurd (let l = slice_get_within [] w.0 q w.1 in omega (arith, l))
-part_in (p ∷ ps) s q w = elim (in_split (list_at p.items s) (all_at ps s) q w) [
+part_in (p ∷ ps) s q w = elim (in_either (list_at p.items s) (all_at ps s) w.0 q w.1) [
   | inl here ↦ (0, omega arith, λ d. here)
   | inr more ↦ let m = part_in ps s q more in let l = m.1 in (suc m.0, omega (arith, l), m.2)
 ]

@@ -1,6 +1,5 @@
 -- Nodes of a store by their names: what stands behind a reference that has two children, and the nodes that a level gets.
-use Rattle.std.proofs.Common.{◌≡◌, ◌≢◌, ℕ, ◌⊎◌, inl, inr, Bool, true, false, List, Some, refl, sym, ap, ◌∙◌, subst}
-use Rattle.dd_store.specs.declared.reference.NodeId.{NodeId}
+use Rattle.std.proofs.Common.{◌≡◌, ◌≢◌, ℕ, ◌⊎◌, inl, inr, List, Some, sym, ap, ◌∙◌, subst}
 use Rattle.dd_store.specs.declared.reference.Ref.{Ref}
 use Rattle.dd_store.specs.declared.reference.Reference.TheVariants.{False, True, Node}
 use Rattle.dd_store.specs.Graph.{Pair}
@@ -10,31 +9,17 @@ use Rattle.dd_store.specs.Marks.{is_marked, mark_both, plain_pair}
 use Rattle.dd_store.specs.Adding.{GrowsLevel}
 use Rattle.dd_store.specs.Nodes.{Nodes, IsNodeOf, IsThere}
 use Rattle.dd_store.specs.Parts.Part.{node}
-use Rattle.dd_store.specs.View.{part, part_of, Has, IsOneNode}
+use Rattle.dd_store.specs.View.{part, Has}
 use Rattle.dd_store.proofs.AddingAll.{grown_plain}
 use Rattle.dd_store.proofs.Marks.{mark_both-twice}
-use Rattle.dd_store.proofs.Places.{none_some}
 use Rattle.dd_store.proofs.Storing.{children-of, IsRef-node}
-use Rattle.dd_store.proofs.View.{opposite-negate}
+use Rattle.dd_store.proofs.View.{part-children, same_node}
 use Rattle.reduce_up.specs.Sharing.{IsOfPair}
-
--- the part of a reference that has two children
-pub node_part : (S : Nodes) (v : ℕ) (lo hi r : Ref) → IsNodeOf S v lo hi r → part S r ≡ node v lo hi
-node_part S v lo hi False h = absurd (none_some (lo, hi) h.1)
-node_part S v lo hi True h = absurd (none_some (lo, hi) h.1)
-node_part S v lo hi (Node m b) h = ap (part_of m) h.1 ∙ ap (λ u. node u lo hi) h.0
 
 -- what stands for two children is in the store, with its part
 pub there_part : (S : Nodes) (v : ℕ) (lo hi r : Ref) → Has S lo → IsThere S v lo hi r → Has S r × (((lo ≡ hi) × (r ≡ lo)) ⊎ ((lo ≢ hi) × (part S r ≡ node v lo hi)))
 there_part S v lo hi r h (inl e) = (subst (Has S) (sym e.1) h, inl e)
-there_part S v lo hi r h (inr n) = (IsRef-node S v lo hi r n.1, inr (n.0, node_part S v lo hi r n.1))
-
--- one node stands for a name with a mark and without
-pub one_name : (S : Nodes) (m : NodeId) (b c : Bool) → IsOneNode S (Node m b) (Node m c)
-one_name S m true true = inl refl
-one_name S m true false = inr (refl, opposite-negate S (Node m false))
-one_name S m false true = inr (refl, opposite-negate S (Node m true))
-one_name S m false false = inl refl
+there_part S v lo hi r h (inr n) = (IsRef-node S v lo hi r n.1, inr (n.0, part-children S v lo hi r n.1))
 
 -- where nodes have the children of listed pairs, each reference is an old one, or of the node of such a pair
 pub grown_of_pair : (S T : Nodes) (v : ℕ) (lists : ℕ → List Pair) → GrowsLevel S T v (plain_lists lists) → (r : Ref) → Has T r
@@ -47,4 +32,4 @@ grown_of_pair S T v lists g (Node m b) h = elim (grown_plain S T v lists g m h.0
     of p at is =
         let c = is_marked p.1 in
         let own : IsNodeOf T v p.0 p.1 (Node m c) = (at, children-of T m c h.0 h.1 ∙ ap (λ z. Some (mark_both c z)) (sym is) ∙ ap (λ z. Some z) (mark_both-twice c p)) in
-        (Node m c, ((h.0, h.1), node_part T v p.0 p.1 (Node m c) own), one_name T m b c)
+        (Node m c, ((h.0, h.1), part-children T v p.0 p.1 (Node m c) own), same_node T m b c)

@@ -4,6 +4,7 @@ use Rattle.std.proofs.Math.Seq.{get_or-append_seam}
 use Rattle.std.proofs.lemmas.List.{length-append, take_more, take_more_set, get_or_append_left, get_or-map, length-map}
 use mathlib.Core.Logic.{dite}
 use native.Mathlib.Decide.{ℕ_discrete}
+use Rattle.slot_table.proofs.Listing.{in_either}
 use Rattle.dd_store.proofs.Places.{slice_get-append}
 use Rattle.req_table.specs.Places.{row, AreNone, IsLastLevel}
 use Rattle.req_table.proofs.Standing.{stands_none}
@@ -53,11 +54,6 @@ over_one n p e = same (over_parts n (p ∷ [])) p (over-long n (p ∷ []) ∙ sy
     same (x ∷ xs) (y ∷ ys) l h = λ i. h 0 (omega arith) i ∷ same xs ys (omega (arith, l)) (λ v b. h (suc v) (omega (arith, b))) i
 
 -- ---- the last level that has something
-in_either : {X : Type 0} (xs ys : List X) (q : ℕ) (x : X) → slice_get (xs ++ ys) q ≡ Some x → ((r : ℕ) × (slice_get xs r ≡ Some x)) ⊎ ((r : ℕ) × (slice_get ys r ≡ Some x))
-in_either [] ys q x h = inr (q, h)
-in_either (y ∷ xs) ys zero x h = inl (0, h)
-in_either (y ∷ xs) ys (suc q) x h = elim (in_either xs ys q x h) [ inl a ↦ inl (suc a.0, a.1) | inr b ↦ inr b ]
-
 module _ {X : Type 0} (n end : ℕ) (ps : List (List (List X))) (p : List (List X)) (le : end ≤ n) where
   pushed : (w : ℕ) → w < end → row (over_parts n (ps ++ p ∷ [])) w ≡ row (over_parts n ps) w ++ row p w
   pushed w lt =

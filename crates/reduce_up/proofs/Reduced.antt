@@ -5,6 +5,7 @@ use Rattle.std.proofs.lemmas.Bool.{cases_lt}
 use Rattle.std.proofs.lemmas.List.{length-append}
 use Rattle.std.proofs.lemmas.Option.{slice_get_within}
 use Rattle.slot_table.specs.Lists.{IsOnce}
+use Rattle.slot_table.proofs.Listing.{in_back}
 use Rattle.dd_store.specs.Nodes.{Nodes}
 use Rattle.dd_store.proofs.Places.{slice_get-append}
 use Rattle.req_table.specs.declared.Key.{Key}
@@ -15,10 +16,6 @@ use Rattle.reduce_up.specs.ByPlace.{AreAdmitted}
 use Rattle.req_table.specs.Places.{row, StandsAt, AreNone}
 use Rattle.reduce_up.specs.Up.{AreMore, AreCounted}
 use Rattle.slot_table.specs.Lists.{IsIn}
-
-pub in_back : {X : Type 0} (a b : List X) (x : X) → IsIn b x → IsIn (a ++ b) x
-in_back [] b x h = h
-in_back (y ∷ a) b x h = let w = in_back a b x h in (suc w.0, w.1)
 
 -- before the last level nothing is reduced
 pub none_reduced : (T : List (List Key)) (v count : ℕ) → AreCounted T v v count count

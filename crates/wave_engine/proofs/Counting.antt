@@ -22,7 +22,7 @@ use Rattle.wave_engine.specs.Down.{HaveSplit}
 use Rattle.req_table.specs.Places.{row, StandsAt, IsPlaced, AreNone, IsNextLevel}
 use Rattle.req_table.proofs.Standing.{in_lists, stands_some}
 use Rattle.reduce_up.proofs.Answering.{root_for}
-use Rattle.reduce_up.proofs.Reduced.{in_back}
+use Rattle.slot_table.proofs.Listing.{in_back}
 
 -- what was split before level v, and how many requests more there may be where they are bounded
 pub record IsCounted (s : Nodes) (entries : List Entry) (tables : List (List Key)) (bound left before after v : ℕ) : Type 0 where
