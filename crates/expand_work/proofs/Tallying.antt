@@ -1,10 +1,11 @@
 -- How many requests the workers recorded: as many as are reached, each once.
-use Rattle.std.proofs.Common.{◌≡◌, ℕ, zero, suc, ◌+◌, ◌%◌, ◌^◌, ◌<◌, ◌≤◌, inl, inr, List, [], ◌++◌, map, length, slice_index_or, slice_get, Some, refl, sym, ap, ◌∙◌, subst, arith}
+use Rattle.std.proofs.Common.{◌≡◌, ℕ, zero, suc, ◌+◌, ◌%◌, ◌^◌, ◌<◌, ◌≤◌, inl, inr, List, [], ◌∷◌, ◌++◌, map, length, slice_index_or, slice_get, Some, refl, sym, ap, ◌∙◌, subst, arith}
 use Rattle.std.specs.List.{sum_by}
 use Rattle.std.proofs.lemmas.Bool.{cases_lt}
 use Rattle.std.proofs.lemmas.List.{length-append, length-map, get_or-map, get_or_default}
-use Rattle.std.proofs.lemmas.Option.{slice_get_within, get_or_from_slice_get}
+use Rattle.std.proofs.lemmas.Option.{slice_get-get_or, slice_get_within, get_or_from_slice_get}
 use Rattle.slot_table.specs.Lists.{IsIn, IsOnce}
+use Rattle.slot_table.proofs.Pigeons.{pigeons}
 use Rattle.dd_store.specs.Nodes.{Nodes}
 use Rattle.req_table.specs.declared.Key.{Key}
 use Rattle.req_table.specs.declared.Record.{Record}
@@ -14,6 +15,7 @@ use Rattle.req_table.specs.Reached.{IsReached, root, child}
 use Rattle.req_table.specs.Tables.{row_at}
 use Rattle.req_table.specs.Settled.{IsClosure, key_of, level_of_rows}
 use Rattle.req_table.proofs.Lists.{Has, has_of, contains_of, each, map_has, Has-append_left, Has-append_right, Has-append_cases}
+use Rattle.expand_work.specs.Bounds.{AreFew}
 use Rattle.expand_work.specs.Parts.{sum_below}
 use Rattle.expand_work.specs.Expanded.{row_of}
 use Rattle.expand_work.specs.Gathered.{PartsView, AreParts, HaveExpanded, count_in}
@@ -143,6 +145,17 @@ module _ (S : Nodes) (n : ℕ) (roots : List Key) (p : PartsView) (h : AreParts 
     count = let c = counted in omega (arith, e, c);
   }
 
+  in_below : (x : Key) → Has (keys_below S.levels R) x → IsIn (keys_below S.levels R) x
+  in_below x h = let c = contains_of (keys_below S.levels R) x h in (c.0, slice_get-get_or (keys_below S.levels R) c.0 x c.1 ∙ ap (λ z. Some z) c.2)
+
+  -- where they recorded at most n, at most n are reached
+  pub few_reached : (most : ℕ) → count_in p.rows ≤ most → AreFew S n roots most
+  few_reached most le requests once reached =
+      let fits : length requests ≤ length (keys_below S.levels R) = pigeons (λ j k. j ≡ k) requests (keys_below S.levels R) once
+      (λ i k at. (k, refl, in_below k (all_below (wave_of S n) roots R h.closure k (reached k (i, slice_get_within requests i k at, get_or_from_slice_get requests i k k at))))) (λ j k l a b. a ∙ sym b) in
+      let c = counted in
+      omega (arith, fits, c, le)
+
 -- where nothing is asked for nothing is expanded
 none_reached : (w : Wave) (x : Key) → IsReached w [] x → ⊥
 none_reached w x (root c) = has_of [] x c
@@ -156,3 +169,7 @@ none_expanded S n before = record {
   all = λ x h. absurd (none_reached (wave_of S n) x h);
   count = omega arith;
 }
+
+pub none_few : (S : Nodes) (n most : ℕ) → AreFew S n [] most
+none_few S n most [] once reached = omega arith
+none_few S n most (x ∷ xs) once reached = absurd (none_reached (wave_of S n) x (reached x (0, omega arith, refl)))

@@ -1,6 +1,5 @@
 //! Who does waves by threads.
-ghost use Rattle.std.specs.Prelude.{◌≡◌, ◌<◌, ◌≤◌, ◌⊎◌, ◌-◌, ◌^◌};
-ghost use Rattle.expand_work.specs.Bounds.{most_of};
+ghost use Rattle.std.specs.Prelude.{◌≡◌, ◌≤◌, ◌⊎◌, ◌-◌, ◌^◌};
 
 use crate::Monitor;
 use std::alloc::Global;
@@ -47,14 +46,13 @@ pub struct Crew<'a, R, G> {
 
 impl<'a, R, G: Monitor> Crew<'a, R, G> {
     /// The most requests that a level may have before the workers are called in, where so many are expected of the whole wave. One worker
-    /// is called in for a whole wave or never, and none for a wave whose requests are bounded.
+    /// is called in for a whole wave or never.
     pub fn most_alone(&self, expected: usize) -> usize
-        ensures bounded { most_of (G.bound self.now.monitor.now) < 2 ^ 64 - 1 → result ≡ 2 ^ 64 - 1 }
         ensures one { self.now.workers.count ≡ 1 → (result ≡ 0) ⊎ (result ≡ 2 ^ 64 - 1) }
     {
         let workers = self.workers.count();
         let most = self.monitor.most_alone(workers, expected);
-        if self.monitor.most_requests() < usize::MAX || (workers == 1 && most > 0) {
+        if workers == 1 && most > 0 {
             usize::MAX
         } else {
             most

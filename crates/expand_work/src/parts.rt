@@ -1,9 +1,10 @@
 //! All requests that the roots of a wave ask for, as the workers in threads recorded them: nothing is put together.
-ghost use Rattle.std.specs.Prelude.{◌≡◌, ◌≢◌, ◌<◌, ◌%◌, ◌^◌, length, map, slice_index_or, All, IfOk, IfErr, IfSome, OnOk, []};
+ghost use Rattle.std.specs.Prelude.{◌≡◌, ◌≢◌, ◌<◌, ◌≤◌, ◌-◌, ◌%◌, ◌^◌, true, length, map, slice_index_or, All, IfOk, IfErr, IfSome, OnOk, OnErr, []};
 ghost use Rattle.req_table.specs.Keys.{IsKey};
 ghost use Rattle.req_table.specs.Settled.{key_of};
 ghost use Rattle.expand_work.specs.declared.part.Part.{Part as PartValue};
 ghost use Rattle.expand_work.specs.Expanded.{row_of};
+ghost use Rattle.expand_work.specs.Bounds.{AreFew};
 ghost use Rattle.expand_work.specs.Gathered.{AreParts, AreSettled, HaveExpanded, count_in, noted_of};
 ghost use Rattle.expand_work.specs.Lean.{lean_row, AreLean};
 ghost use Rattle.expand_work.specs.Spaces.{rows_in, without_rows};
@@ -114,6 +115,17 @@ impl Parts {
         total
     }
 
+    /// Whether they are known to be at most so many, or any number will do.
+    pub(crate) fn are_few(&self, most: usize) -> bool
+        ensures { result ≡ true → most < 2 ^ 64 - 1 → count_in self.now.rows ≤ most }
+    {
+        let mut total: u64 = 0;
+        for rows in &self.rows {
+            total = total.saturating_add(rows.total());
+        }
+        most == usize::MAX || total <= most as u64
+    }
+
     /// The rows of all workers, whose children are told by their owners, and the rest.
     pub fn open(self) -> (Vec<Rows>, Notes)
         ensures rows { AreLean self.rows result.0.items }
@@ -151,18 +163,22 @@ fn split_parts(
 /// by this number. The workers work in the memory of an earlier wave as far as there is some; after a refusal it is given back. The
 /// spaces count what was expanded. The ports, by worker, go with no lanes any more, and only tell what was sent and taken.
 ///
-/// NoWorker: a thread could not be started; then those that run are told to stop. OutOfMemory: a growth was refused, and
-/// every thread was started. All threads have ended before any answer is given.
+/// NoWorker: a thread could not be started, or the workers came to more requests than they may; then those that run are told to stop.
+/// Whatever the threads do, those that are expanded meanwhile are no more than they may be. OutOfMemory: a growth was refused, and every
+/// thread was started. All threads have ended before any answer is given.
 pub fn expand_parts<R: Threads + Wait + Sync, G: Monitor>(
     crew: &Crew<'_, R, G>,
     store: &Store,
     roots: &[Key],
+    most: usize,
     spaces: &mut Spaces,
 ) -> Result<(Parts, Vec<Port>), WaveFault>
     requires roots { All (IsKey store.now) roots.now }
     ensures parts { IfOk result (λ r. AreParts store.now crew.now.workers.count roots.now r.0) }
     ensures settled { IfOk result (λ r. AreSettled store.now crew.now.workers.count roots.now r.0 r.1.items) }
     ensures expanded { OnOk result (HaveExpanded store.now crew.now.workers.count roots.now spaces.old spaces.new) }
+    ensures refused { OnErr result (spaces.new ≡ spaces.old) }
+    ensures few { most < 2 ^ 64 - 1 → OnOk result (AreFew store.now crew.now.workers.count roots.now most) }
     ensures fault { IfErr result (λ f. f ≢ WaveFault.Full) }
     ensures unbounded { IfErr result (λ f. f ≢ WaveFault.TooManyRequests) }
 {
@@ -175,6 +191,7 @@ pub fn expand_parts<R: Threads + Wait + Sync, G: Monitor>(
         lanes: &lanes,
         store,
         roots,
+        most: most as u64,
     };
     let used = spaces.take_all(alloc);
     let parts = run_workers(crew.rt, wave, ports, used, crew.monitor)?;
@@ -185,6 +202,9 @@ pub fn expand_parts<R: Threads + Wait + Sync, G: Monitor>(
         store: Snapshot::of(store),
     };
     let parts = Parts { rows, notes };
+    if !parts.are_few(most) {
+        return Err(WaveFault::NoWorker);
+    }
     spaces.add(parts.count());
     Ok((parts, settled.ports))
 }

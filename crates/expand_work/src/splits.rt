@@ -29,6 +29,13 @@ impl Splits {
         Splits { count: 0 }
     }
 
+    /// So many were split: those of a wave that is done anew are not counted twice.
+    pub fn back_to(&mut self, count: usize)
+        ensures { self.new ≡ count }
+    {
+        self.count = count;
+    }
+
     /// The record of a request, which is one more.
     #[inline(always)]
     pub fn split(&mut self, store: &Store, key: Key) -> Record

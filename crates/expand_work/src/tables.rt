@@ -168,6 +168,16 @@ impl Tables {
         }
     }
 
+    /// How many keys the level has, where a table of the level has them.
+    pub fn count(&self, level: u16) -> usize
+        requires { level < length self.now }
+    {
+        match &self.levels[level as usize].held {
+            Held::Here(table) => table.len(),
+            _ => 0,
+        }
+    }
+
     /// Takes the level's table out, with its keys in order of admission, for the level to be expanded; none where that was done before.
     pub fn take(&mut self, level: u16) -> Option<Table>
         requires { level < length self.old }

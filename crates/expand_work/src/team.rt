@@ -1,5 +1,5 @@
 //! The workers of a wave: the last on the caller's thread, each other in a thread of its own.
-ghost use Rattle.std.specs.Prelude.{◌≡◌, ◌≢◌, ◌≤◌, [], length, All, IfOk, IfErr, Err, if◌then◌else◌, vec_capacity};
+ghost use Rattle.std.specs.Prelude.{◌≡◌, ◌≢◌, ◌≤◌, true, [], length, All, IfOk, IfErr, Err, if◌then◌else◌, vec_capacity};
 ghost use Rattle.std.specs.List.{AllZip};
 ghost use Rattle.std.specs.Thread.{IsSync};
 ghost use Rattle.req_table.specs.Keys.{IsKey};
@@ -16,7 +16,7 @@ use lane_queue::{Lanes, Port};
 use req_table::Key;
 use std::alloc::{AllocError, Global};
 use std::sync::Wait;
-use std::sync::atomic::{AtomicBool, Ordering};
+use std::sync::atomic::{AtomicBool, AtomicU64, Ordering};
 use std::thread;
 use std::thread::{Promise, PromisedHandle, Scope, Threads};
 
@@ -65,7 +65,14 @@ fn join_all<'a, R: Threads>(
     }
 }
 
-// What the threads come to, once all of them were joined: where one was not started that comes first.
+// Whether the workers have done the wave: each was started, and they came to no more requests than they may.
+fn have_done(started: bool, site: Site<'_>) -> bool
+    ensures { result ≡ true → started ≡ true }
+{
+    started && !site.is_over()
+}
+
+// What the threads come to, once all of them were joined: where they have not done the wave that comes first.
 fn outcome_of(started: bool, joined: Result<Vec<Part>, WaveFault>) -> Result<Vec<Part>, WaveFault>
     ensures { result ≡ (if started then joined else Err WaveFault.NoWorker) }
 {
@@ -117,6 +124,8 @@ fn start<'s, E, R: Wait + Sync, G: Monitor>(
         store,
         roots,
         stop,
+        come,
+        most,
         keeps,
     } = site;
     let promise = PartOf {
@@ -138,6 +147,8 @@ fn start<'s, E, R: Wait + Sync, G: Monitor>(
             store,
             roots,
             stop,
+            come,
+            most,
             keeps,
         };
         work(rt, site, port, space, monitor)
@@ -177,13 +188,14 @@ fn start_all<'s, E, R: Wait + Sync, G: Monitor>(
     Ok(children)
 }
 
-/// What the workers of a wave share: their lanes, the store and all roots.
+/// What the workers of a wave share: their lanes, the store, all roots, and how many requests they may come to.
 #[derive(Clone, Copy)]
 pub struct Wave<'a> {
     pub alloc: Global,
     pub lanes: &'a Lanes,
     pub store: &'a Store,
     pub roots: &'a [Key],
+    pub most: u64,
 }
 
 // The parts of all workers by number, once all threads were joined. The caller's thread does the last worker's part, and each other
@@ -216,7 +228,8 @@ fn work_all<'s, E, R: Threads + Wait + Sync, G: Monitor>(
     let last = work(rt, site, own, space, monitor);
     let others = join_all(rt, children, parts);
     let joined = with_last(others, last);
-    outcome_of(started, joined)
+    let done = have_done(started, site);
+    outcome_of(done, joined)
 }
 
 /// The parts of all workers by number, once all threads have ended.
@@ -239,9 +252,12 @@ pub fn run_workers<R: Threads + Wait + Sync, G: Monitor>(
         lanes,
         store,
         roots,
+        most,
     } = wave;
     let stop = AtomicBool::new(false);
     let stop = &stop;
+    let come = AtomicU64::new(0);
+    let come = &come;
     let keeps = used.keeps();
     thread::scope(
         thread::scope_env(),
@@ -260,6 +276,8 @@ pub fn run_workers<R: Threads + Wait + Sync, G: Monitor>(
                 store,
                 roots,
                 stop,
+                come,
+                most,
                 keeps,
             };
             work_all(scope, rt, site, ports, used, monitor)

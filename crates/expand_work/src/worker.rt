@@ -131,7 +131,7 @@ fn expand_level<G: Monitor>(
 }
 
 // Sends what is due, keeps what it owns itself, and ends the level; takes until the level is closed, tells the monitor, and
-// expands the level's keys.
+// expands the level's keys, unless the workers have come to too many.
 fn do_level<R: Wait, G: Monitor>(
     rt: &R,
     site: Site<'_>,
@@ -153,6 +153,10 @@ fn do_level<R: Wait, G: Monitor>(
         ..
     } = &mut worker;
     take_until_closed(rt, site, port, senders, tables, level)?;
+    if !site.admits(tables.count(level)) {
+        site.stop.store(true, Ordering::SeqCst);
+        return Err(WorkFault::Stopped);
+    }
     monitor.at_level(worker.port.number(), level);
     Ok(expand_level(site, worker, level, monitor)?)
 }
@@ -250,7 +254,7 @@ fn run_levels<R: Wait, G: Monitor>(
 /// and splits the distinct keys that it was asked for at that level.
 ///
 /// The flag is read when a level begins and whenever the lane is empty; once it is set the answer is Stopped. A worker
-/// that meets want of memory sets it before it answers. What it fills stands in the memory of an earlier wave where there is some. After
+/// that meets want of memory, or a level with which the workers come to more requests than they may, sets it before it answers. What it fills stands in the memory of an earlier wave where there is some. After
 /// a refusal the port and this memory are gone.
 pub fn work<R: Wait, G: Monitor>(
     rt: &R,

@@ -1,7 +1,8 @@
 //! Waves by threads: the diagrams of a list of requests (Ochi, Yasuoka and Yajima 1993).
-ghost use Rattle.std.specs.Prelude.{◌≡◌, ◌≢◌, ◌<◌, ◌≤◌, All, Err, IfErr, OnOk};
+ghost use Rattle.std.specs.Prelude.{◌≡◌, ◌≢◌, ◌<◌, ◌≤◌, ◌-◌, ◌^◌, All, Err, IfErr, OnOk};
 ghost use Rattle.dd_store.specs.Nodes.{count_of};
 ghost use Rattle.req_table.specs.Keys.{IsKey};
+ghost use Rattle.expand_work.specs.Bounds.{AreFew};
 ghost use Rattle.expand_work.specs.Gathered.{AreParts, HaveExpanded};
 ghost use Rattle.reduce_up.specs.Waves.{AnswersWave, entries_for};
 
@@ -60,6 +61,7 @@ fn answer_parts<R: Threads + Sync, G: Monitor>(
     requires roots { All (IsKey store.old) roots.now }
     requires parts { AreParts store.old crew.now.workers.count roots.now parts }
     ensures wave { AnswersWave store.old (entries_for roots.now) (entries_for roots.now) result store.new }
+    ensures served { IfErr result (λ e. e ≢ WaveFault.NoWorker) }
     ensures unbounded { IfErr result (λ e. e ≢ WaveFault.TooManyRequests) }
     ensures memory { count_of store.old ≤ store.old.limit → result ≡ Err WaveFault.OutOfMemory → count_of store.new ≤ store.new.limit }
     ensures expanded { rooms.new ≡ rooms.old }
@@ -86,22 +88,26 @@ fn answer_parts<R: Threads + Sync, G: Monitor>(
 /// The diagram of each request, without a computed table.
 ///
 /// The requests, and all that they ask for, are expanded by workers in threads, and reduced from the last level up (Ochi,
-/// Yasuoka and Yajima 1993). NoWorker is answered where a worker's thread could not be started;
-/// what no other thread could be started for, the caller's thread does. All of it is done in the memory of an earlier wave as far as there
+/// Yasuoka and Yajima 1993). NoWorker is answered where a worker's thread could not be started, and where the requests are more than the
+/// most; then nothing is reduced. What no other thread could be started for in a reduction, the caller's thread does. All of it is done in the memory of an earlier wave as far as there
 /// is some, and leaves its own for the next; after a refusal the workers' is given back.
 pub fn shared_wave<R: Threads + Wait + Sync, G: Monitor>(
     crew: &Crew<'_, R, G>,
     store: &mut Store,
     roots: &[Key],
+    most: usize,
     rooms: &mut Rooms,
 ) -> Result<Vec<Ref>, WaveFault>
     requires roots { All (IsKey store.old) roots.now }
     ensures wave { AnswersWave store.old (entries_for roots.now) (entries_for roots.now) result store.new }
+    ensures few { most < 2 ^ 64 - 1 → OnOk result (AreFew store.old crew.now.workers.count roots.now most) }
+    ensures untouched { result ≡ Err WaveFault.NoWorker → store.new ≡ store.old }
+    ensures rooms { result ≡ Err WaveFault.NoWorker → rooms.new ≡ rooms.old }
     ensures expanded { OnOk result (HaveExpanded store.old crew.now.workers.count roots.now rooms.old rooms.new) }
     ensures unbounded { IfErr result (λ e. e ≢ WaveFault.TooManyRequests) }
     ensures memory { count_of store.old ≤ store.old.limit → result ≡ Err WaveFault.OutOfMemory → count_of store.new ≤ store.new.limit }
 {
     let _ = store.levels();
-    let (parts, _) = expand_parts(crew, store, roots, &mut rooms.spaces)?;
+    let (parts, _) = expand_parts(crew, store, roots, most, &mut rooms.spaces)?;
     answer_parts(crew, store, roots, parts, rooms)
 }

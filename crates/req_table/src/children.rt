@@ -1,5 +1,5 @@
 //! The children of a wave's requests, by level.
-ghost use Rattle.std.specs.Prelude.{◌≡◌, ◌<◌, ◌≤◌, ◌%◌, ◌^◌, [], length, replicate, set, IfOk, OnOk};
+ghost use Rattle.std.specs.Prelude.{◌-◌, ◌≡◌, ◌<◌, ◌≤◌, ◌%◌, ◌^◌, [], length, replicate, set, IfOk, OnOk};
 ghost use Rattle.std.specs.List.{sum_by};
 ghost use Rattle.req_table.specs.Places.{row, AreEmpty, IsNextLevel, IsLastLevel};
 
@@ -131,6 +131,17 @@ impl Rows {
         let mut total: u64 = 0;
         for row in &self.rows {
             total = total.wrapping_add(row.len() as u64);
+        }
+        total
+    }
+
+    /// How many requests all levels have, or the greatest number.
+    pub fn total(&self) -> u64
+        ensures { result < 2 ^ 64 - 1 → result ≡ sum_by (λ row. length row) self.now }
+    {
+        let mut total: u64 = 0;
+        for row in &self.rows {
+            total = total.saturating_add(row.len() as u64);
         }
         total
     }

@@ -82,7 +82,13 @@ pub fn expand_all<R: Threads + Wait + Sync, G: Monitor>(
         workers: Workers::new(workers),
         monitor,
     };
-    let (parts, ports) = expand_parts(&crew, store, roots, &mut Spaces::keeping(alloc))?;
+    let (parts, ports) = expand_parts(
+        &crew,
+        store,
+        roots,
+        usize::MAX,
+        &mut Spaces::keeping(alloc),
+    )?;
     let records = merge_rows(alloc, store, roots, &parts, workers)?;
     Ok(Expanded { records, ports })
 }

@@ -1,21 +1,24 @@
 -- What the caller's thread and the workers have expanded, taken together, and what of that the caller's thread has reduced.
-use Rattle.std.proofs.Common.{◌≡◌, ◌∙◌, ℕ, ◌+◌, ◌-◌, ◌%◌, ◌^◌, ◌<◌, ◌≤◌, inl, inr, List, ◌++◌, length, Some, ap, subst, arith, Contains, All}
+use Rattle.std.proofs.Common.{◌≡◌, ◌∙◌, ℕ, ◌+◌, ◌-◌, ◌%◌, ◌^◌, ◌<◌, ◌≤◌, inl, inr, List, ◌++◌, length, Option, Some, None, refl, sym, ap, subst, arith, Contains, All}
 use Rattle.std.proofs.lemmas.List.{length-append}
 use Rattle.std.proofs.lemmas.List.Elements.{Contains-append_left, Contains-append_right, Contains-append_cases}
 use Rattle.std.proofs.lemmas.Option.{slice_get-get_or, slice_get_within, get_or_from_slice_get}
 use Rattle.slot_table.specs.Lists.{IsIn}
+use Rattle.slot_table.proofs.Pigeons.{pigeons}
 use Rattle.dd_store.specs.Nodes.{Nodes, IsSound}
 use Rattle.req_table.specs.declared.Key.{Key}
 use Rattle.req_table.specs.declared.placed.Placed.{Placed}
 use Rattle.req_table.specs.Keys.{IsKey, level_of, wave_of}
 use Rattle.req_table.specs.Reached.{IsReached, root as root_of, child as child_from}
 use Rattle.req_table.proofs.Waved.{deeper}
+use Rattle.expand_work.specs.Bounds.{AreFew, most_of}
 use Rattle.expand_work.specs.Gathered.{HaveExpanded}
 use Rattle.expand_work.proofs.Once.{once_append}
 use Rattle.reduce_up.specs.Known.{unknown}
 use Rattle.reduce_up.specs.Waves.{Entry, IsEntry, requests_of}
 use Rattle.reduce_up.proofs.Closed.{reached_key}
 use Rattle.reduce_up.specs.ByPlace.{AreExpanded}
+use Rattle.wave_engine.specs.Bounds.{AreAtMost, AreMoreThan, ArePast}
 use Rattle.wave_engine.specs.Down.{HaveSplit}
 use Rattle.wave_engine.specs.Front.{keys_from}
 use Rattle.req_table.specs.Places.{StandsAt}
@@ -67,6 +70,23 @@ module _ (S : Nodes) (w : IsSound S) (entries : List Entry) (good : All (IsEntry
     count = let l : length (c.requests ++ h.requests) ≡ length c.requests + length h.requests = length-append c.requests h.requests in let a = c.count in let b = h.count in omega (arith, l, a, b);
   }
 
+  -- where no more were split than a bound, and no more were handed over than are left of it, both together are within it
+  pub at_most_both : (split split' : ℕ) (c : HaveSplit S entries T v split split') (most left : ℕ) → length c.requests ≤ most → left ≡ most - length c.requests → AreFew S n (keys_from v T) left
+      → (shared shared' : ℕ) → HaveExpanded S n (keys_from v T) shared shared' → AreAtMost most S entries
+  at_most_both split split' c most left le is few shared shared' h requests once reached =
+      let all : List Key = c.requests ++ h.requests in
+      let fits : length requests ≤ length all = pigeons (λ j k. j ≡ k) requests all once (λ i k at. (k, refl, in_all k (reached k (i, slice_get_within requests i k at, get_or_from_slice_get requests i k k at)))) (λ j k l a b. a ∙ sym b) in
+      let rest : length h.requests ≤ left = few h.requests h.once h.reached in
+      let l = length-append c.requests h.requests in
+      omega (arith, fits, rest, l, le, is)
+    where
+      in_all : (k : Key) → IsReached (wave_of S 1) (requests_of entries) k → IsIn (c.requests ++ h.requests) k
+      in_all k r =
+          elim (reached_sorted S entries roots T rows v x Over stands_over (λ k y b l m o e. child_from b l m o e) k r) [
+            | inl a ↦ in_of (c.requests ++ h.requests) k (Contains-append_left c.requests h.requests k (contains_of c.requests k (c.whole a.0 a.1 k a.2 a.3)))
+            | inr o ↦ in_of (c.requests ++ h.requests) k (Contains-append_right c.requests h.requests k (h.all k o))
+          ]
+
   -- what stands before level v was reduced: these are the requests above that level
   pub have_reduced : (before after : ℕ) → AreCounted T 0 v before after → HaveReduced S (requests_of entries) v before after
   have_reduced before after m = record {
@@ -113,3 +133,8 @@ module _ (S : Nodes) (entries : List Entry) (new : ℕ) (v w : AtRest) (e : v �
 
   pub reduced_view : (from : ℕ) → HaveReduced S (requests_of (unknown v.held entries)) from v.reduced new → HaveReduced S (requests_of (unknown w.held entries)) from w.reduced new
   reduced_view from h = subst (λ (z : AtRest). HaveReduced S (requests_of (unknown z.held entries)) from z.reduced new) e h
+
+-- requests past the number by which a bound is told are past the bound
+pub past_bound : (S : Nodes) (entries : List Entry) (o : Option ℕ) (n : ℕ) → n ≡ most_of o → n < 2 ^ 64 - 1 → AreMoreThan n S entries → ArePast o S entries
+past_bound S entries None n is lt more = absurd (omega (arith, is, lt))
+past_bound S entries (Some m) n is lt more = subst (λ z. AreMoreThan z S entries) is more

@@ -13,7 +13,7 @@ use Rattle.req_table.specs.Keys.{child_of}
 use Rattle.reduce_up.specs.Waves.{Entry}
 use Rattle.req_table.specs.Places.{row, StandsAt, AreNone, AreEmpty}
 use Rattle.reduce_up.specs.ByPlace.{AreAdmitted, IsSplitAt, AreExpanded}
-use Rattle.wave_engine.specs.Down.{Grow, IsRowExpanded, AreWaiting, IsDown}
+use Rattle.wave_engine.specs.Down.{Grow, IsRowExpanded, AreWaiting, IsDown, IsDownWithin}
 use Rattle.reduce_up.specs.Placed.{joined}
 use Rattle.wave_engine.specs.Front.{keys_from}
 use Rattle.reduce_up.specs.Up.{IsWithinBelow, AreReducedBelow}
@@ -202,6 +202,9 @@ module _ (s : Nodes) (entries : List Entry) (roots : List Placed) (v : ℕ) (W :
 
       same : length (row W v) ≡ length (row T v)
       same = ap length (g.waits.same v (omega arith))
+
+  pub going_within : v ≤ s.levels → bound < 2 ^ 64 - 1 → IsDownWithin bound s entries v W rows roots before after
+  going_within le b = (record { tables = T; bound = le; expanded = g.expanded; once = g.once; split = g.counted.split; waits = g.waits }, let e = g.counted.sum b in omega (arith, e))
 
   pub going_down : v ≤ s.levels → IsDown s entries v W rows roots before after
   going_down le = record { tables = T; bound = le; expanded = g.expanded; once = g.once; split = g.counted.split; waits = g.waits }

@@ -6,7 +6,7 @@ ghost use Rattle.reduce_up.specs.Waves.{IsEntry};
 ghost use Rattle.req_table.specs.Places.{row, IsPlaced};
 ghost use Rattle.wave_engine.specs.Bounds.{AreMoreThan, AreAtMost};
 ghost use Rattle.reduce_up.specs.ByPlace.{AreAdmitted, AreExpanded};
-ghost use Rattle.wave_engine.specs.Down.{IsDown};
+ghost use Rattle.wave_engine.specs.Down.{IsDown, IsDownWithin};
 
 use crate::workspace::Down;
 use dd_store::{Ref, Store};
@@ -47,6 +47,19 @@ pub(crate) struct Limits {
     pub(crate) wave: usize,
 }
 
+impl Limits {
+    /// How many requests the workers may come to, where the caller's thread has split so many.
+    pub(crate) fn left(self, split: usize) -> usize
+        ensures { self.wave < 2 ^ 64 - 1 → result ≡ self.wave - split }
+    {
+        if self.wave == usize::MAX {
+            usize::MAX
+        } else {
+            self.wave.saturating_sub(split)
+        }
+    }
+}
+
 /// Where the caller may have so many requests of a level, workers are called in only where levels are wide on average.
 const WIDE: usize = 1 << 10;
 
@@ -78,6 +91,8 @@ pub(crate) fn expand(
     requires rows { down.old.rows ≡ replicate store.now.levels [] }
     ensures down { IfOk result (λ v. IsDown store.now entries.now v down.new.requests down.new.rows down.new.roots.items
         down.old.splits down.new.splits) }
+    ensures few { limits.wave < 2 ^ 64 - 1 → IfOk result (λ v. IsDownWithin limits.wave store.now entries.now v down.new.requests
+        down.new.rows down.new.roots.items down.old.splits down.new.splits) }
     ensures wide { IfOk result (λ v. v < store.now.levels → limits.level < length (row down.new.requests v)) }
     ensures alone { limits.level ≡ 2 ^ 64 - 1 → IfOk result (λ v. v ≡ store.now.levels) }
     ensures refused { IfErr result (λ e. e ≢ WaveFault.Full) }

@@ -60,9 +60,6 @@ impl<'a, R: Threads + Wait + Sync, G: Monitor> Runner<'a, R, G> {
             (self.old.workspace.down.splits + self.old.workspace.rooms) (self.new.workspace.down.splits + self.new.workspace.rooms)) }
         ensures reduced { OnOk result ((v : ℕ) × HaveReduced store.old
             (requests_of (unknown computed.old entries.now)) v self.old.workspace.up.reductions self.new.workspace.up.reductions) }
-        ensures all_reduced { most_of (G.bound self.old.workspace.crew.now.monitor.now) < 2 ^ 64 - 1
-            → OnOk result (HaveReduced store.old (requests_of
-            (unknown computed.old entries.now)) store.old.levels self.old.workspace.up.reductions self.new.workspace.up.reductions) }
         ensures memory { count_of store.old ≤ store.old.limit → result ≡ Err WaveFault.OutOfMemory → count_of store.new ≤ store.new.limit }
         ensures monitor { self.new.workspace.crew.now.monitor ≡ self.old.workspace.crew.now.monitor }
         ensures kept { IfOk result (λ answers. IsKeptWave computed.old entries.now answers.items computed.new) }
@@ -179,9 +176,6 @@ impl<'a, R: Threads + Wait + Sync, G: Monitor> Engine<'a, R, G> {
             (requests_of (unknown self.old.held entries.now)) self.old.expanded self.new.expanded) }
         ensures reduced { OnOk result ((v : ℕ) × HaveReduced store.old
             (requests_of (unknown self.old.held entries.now)) v self.old.reduced self.new.reduced) }
-        ensures all_reduced { most_of self.old.bound < 2 ^ 64 - 1
-            → OnOk result (HaveReduced store.old (requests_of
-            (unknown self.old.held entries.now)) store.old.levels self.old.reduced self.new.reduced) }
         ensures memory { count_of store.old ≤ store.old.limit → result ≡ Err WaveFault.OutOfMemory → count_of store.new ≤ store.new.limit }
         ensures kept { IfOk result (λ answers. IsKeptWave self.old.held entries.now answers.items self.new.held) }
         ensures refused { OnErr result (self.new ≡ self.old) }

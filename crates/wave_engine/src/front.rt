@@ -1,6 +1,7 @@
 //! What is handed to the workers at a wide level, and their answers.
-ghost use Rattle.std.specs.Prelude.{◌≡◌, ◌≢◌, ◌<◌, ◌≤◌, [], length, Err, All, IfOk, IfErr, OnOk, map, ◌+◌, ◌++◌};
+ghost use Rattle.std.specs.Prelude.{◌≡◌, ◌≢◌, ◌<◌, ◌≤◌, ◌-◌, ◌^◌, [], length, Err, All, IfOk, IfErr, OnOk, map, ◌+◌, ◌++◌};
 ghost use Rattle.dd_store.specs.Nodes.{IsSound, count_of};
+ghost use Rattle.expand_work.specs.Bounds.{AreFew};
 ghost use Rattle.expand_work.specs.Gathered.{HaveExpanded};
 ghost use Rattle.reduce_up.specs.Reducing.{AddsDescribed};
 ghost use Rattle.reduce_up.specs.Waves.{IsEntry, IsWanted, IsWaveFault};
@@ -16,11 +17,12 @@ use std::alloc::{AllocError, Global};
 use std::sync::Wait;
 use std::thread::Threads;
 
-/// The requests from a level on.
+/// The requests from a level on, and how many the workers may come to.
 #[derive(Drop)]
 pub(crate) struct Frontier<'a> {
     pub(crate) requests: &'a Waiting,
     pub(crate) from: u16,
+    pub(crate) most: usize,
 }
 
 /// Puts the requests of a table behind others.
@@ -86,7 +88,8 @@ fn put_answers(
 }
 
 /// Has the requests from a level on answered by the workers, in one wave, and puts the answers in their places. The workers work in
-/// the memory of an earlier wave as far as there is some. It answers how many requests they expanded.
+/// the memory of an earlier wave as far as there is some. It answers how many requests they expanded. NoWorker is answered where a thread
+/// could not be started, and where they are more than they may be: the store is as it was then.
 pub(crate) fn hand_over<R: Threads + Wait + Sync, G: Monitor>(
     crew: &Crew<'_, R, G>,
     rooms: &mut Rooms,
@@ -106,6 +109,10 @@ pub(crate) fn hand_over<R: Threads + Wait + Sync, G: Monitor>(
     ensures within { OnOk result (IsWithinBelow store.old frontier.now.requests.now frontier.now.from store.new) }
     ensures expanded { OnOk result (HaveExpanded store.old crew.now.workers.count
         (keys_from frontier.now.from frontier.now.requests.now) rooms.old rooms.new) }
+    ensures few { frontier.now.most < 2 ^ 64 - 1 → OnOk result (AreFew store.old crew.now.workers.count
+        (keys_from frontier.now.from frontier.now.requests.now) frontier.now.most) }
+    ensures untouched { result ≡ Err WaveFault.NoWorker → store.new ≡ store.old }
+    ensures rooms { result ≡ Err WaveFault.NoWorker → rooms.new ≡ rooms.old }
     ensures fault { IfErr result (λ e. IsWaveFault store.old entries.now store.new e) }
     ensures unbounded { IfErr result (λ e. e ≢ WaveFault.TooManyRequests) }
     ensures memory { count_of store.old ≤ store.old.limit → result ≡ Err WaveFault.OutOfMemory → count_of store.new ≤ store.new.limit }
@@ -121,7 +128,7 @@ pub(crate) fn hand_over<R: Threads + Wait + Sync, G: Monitor>(
         return Ok(0);
     }
     let before = rooms.expanded();
-    let found = shared_wave(crew, store, asked, rooms)?;
+    let found = shared_wave(crew, store, asked, frontier.most, rooms)?;
     match put_answers(answers, frontier.requests, frontier.from, found.as_slice()) {
         Ok(()) => Ok(rooms.expanded().wrapping_sub(before) as usize),
         Err(_) => Err(WaveFault::OutOfMemory),

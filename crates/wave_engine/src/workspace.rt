@@ -7,7 +7,7 @@ ghost use Rattle.reduce_up.specs.Waves.{IsEntry, AnswersWave, requests_of};
 ghost use Rattle.expand_work.specs.Bounds.{most_of};
 ghost use Rattle.expand_work.specs.Gathered.{HaveExpanded};
 ghost use Rattle.wave_engine.specs.Bounds.{AreMoreThan, AreAtMost, ArePast};
-ghost use Rattle.wave_engine.specs.Down.{IsDown};
+ghost use Rattle.wave_engine.specs.Down.{IsDown, IsDownWithin};
 ghost use Rattle.wave_engine.specs.Resting.{HaveReduced};
 ghost use Rattle.reduce_up.specs.Up.{ComesTo};
 
@@ -50,6 +50,8 @@ fn go_down(
     requires operands { All (IsEntry store.now) entries.now }
     ensures down { IfOk result (λ v. IsDown store.now entries.now v down.new.requests down.new.rows down.new.roots.items
         down.old.splits down.new.splits) }
+    ensures few { limits.wave < 2 ^ 64 - 1 → IfOk result (λ v. IsDownWithin limits.wave store.now entries.now v down.new.requests
+        down.new.rows down.new.roots.items down.old.splits down.new.splits) }
     ensures answers { OnOk result (length up.new.answers.items ≡ store.now.levels) }
     ensures counted { up.new.reductions ≡ up.old.reductions }
     ensures alone { limits.level ≡ 2 ^ 64 - 1 → IfOk result (λ v. v ≡ store.now.levels) }
@@ -123,45 +125,42 @@ impl<'a, R: Threads + Wait + Sync, G: Monitor> Workspace<'a, R, G> {
         self.up.reductions.count()
     }
 
-    /// The diagram of each operation on its two operands.
-    ///
-    /// The requests of all operations together are expanded on the caller's thread, down to the first level that has more of them
-    /// than the monitor lets the caller have; from there on they are the workers', in threads. They are reduced from the last level
-    /// up. NoWorker is answered where a worker's thread could not be started; entries that all have terminal cases start none.
-    /// TooManyRequests is answered where the requests are more than the monitor allows; none of them are reduced then.
-    pub(crate) fn wave(
+    /// The diagram of each operation on its two operands, within limits: the requests before the first level that is too wide for the caller's
+    /// thread are its own, and from there on they are the workers'. NoWorker is answered where they have not done theirs; the store and
+    /// all counts but that of the requests that were split are as they were then.
+    fn attempt(
         &mut self,
         store: &mut Store,
         entries: &[(Op, Ref, Ref)],
+        limits: Limits,
     ) -> Result<Vec<Ref>, WaveFault>
         requires operands { All (IsEntry store.old) entries.now }
         ensures wave { AnswersWave store.old entries.now entries.now result store.new }
-        ensures past { result ≡ Err WaveFault.TooManyRequests → ArePast (G.bound self.old.crew.now.monitor.now) store.old entries.now }
-        ensures within_bound { most_of (G.bound self.old.crew.now.monitor.now) < 2 ^ 64 - 1
-            → OnOk result (AreAtMost (most_of (G.bound self.old.crew.now.monitor.now)) store.old entries.now) }
-        ensures alone { most_of (G.bound self.old.crew.now.monitor.now) < 2 ^ 64 - 1 → result ≢ Err WaveFault.NoWorker }
+        ensures bounded { result ≡ Err WaveFault.TooManyRequests → limits.wave < 2 ^ 64 - 1 }
+        ensures past { result ≡ Err WaveFault.TooManyRequests → AreMoreThan limits.wave store.old entries.now }
+        ensures within_bound { limits.wave < 2 ^ 64 - 1 → OnOk result (AreAtMost limits.wave store.old entries.now) }
+        ensures alone { limits.level ≡ 2 ^ 64 - 1 → result ≢ Err WaveFault.NoWorker }
+        ensures untouched { result ≡ Err WaveFault.NoWorker → store.new ≡ store.old }
+        ensures rooms { result ≡ Err WaveFault.NoWorker → self.new.rooms ≡ self.old.rooms }
+        ensures up { result ≡ Err WaveFault.NoWorker → self.new.up.reductions ≡ self.old.up.reductions }
         ensures expanded { OnOk result (HaveExpanded store.old 1 (requests_of entries.now) (self.old.down.splits + self.old.rooms)
             (self.new.down.splits + self.new.rooms)) }
         ensures reduced { OnOk result ((v : ℕ) × HaveReduced store.old
             (requests_of entries.now) v self.old.up.reductions self.new.up.reductions) }
-        ensures all_reduced { most_of (G.bound self.old.crew.now.monitor.now) < 2 ^ 64 - 1
-            → OnOk result (HaveReduced store.old (requests_of entries.now) store.old.levels self.old.up.reductions self.new.up.reductions) }
         ensures memory { count_of store.old ≤ store.old.limit → result ≡ Err WaveFault.OutOfMemory → count_of store.new ≤ store.new.limit }
         ensures monitor { self.new.crew.now.monitor ≡ self.old.crew.now.monitor }
     {
-        let levels = store.levels();
+        let _ = store.levels();
         let alloc = self.crew.alloc;
-        let limits = Limits {
-            level: self.crew.most_alone(self.sizes.expected_over(levels)),
-            wave: self.crew.monitor.most_requests(),
-        };
         let before = self.down.splits.count();
         let from = go_down(alloc, store, entries, &mut self.down, &mut self.up, limits)?;
         let alone = self.down.splits.count().wrapping_sub(before);
         self.crew.monitor.at_requests(alone);
+        let most = limits.left(alone);
         let frontier = Frontier {
             requests: &self.down.requests,
             from,
+            most,
         };
         let shared = hand_over(
             self.crew,
@@ -179,5 +178,49 @@ impl<'a, R: Threads + Wait + Sync, G: Monitor> Workspace<'a, R, G> {
             Ok(answers) => Ok(answers),
             Err(_) => Err(WaveFault::OutOfMemory),
         }
+    }
+
+    /// The diagram of each operation on its two operands.
+    ///
+    /// The requests of all operations together are expanded on the caller's thread, down to the first level that has more of them
+    /// than the monitor lets the caller have; from there on they are the workers', in threads. They are reduced from the last level
+    /// up. Where the monitor bounds the requests, and the workers have not done theirs, for want of a thread or since they came to too
+    /// many, the caller's thread does the wave anew: it refuses exactly where the requests are more than the monitor allows, and none of
+    /// them are reduced then (TooManyRequests). With no bound NoWorker is answered where a worker's thread could not be started; entries
+    /// that all have terminal cases start none.
+    pub(crate) fn wave(
+        &mut self,
+        store: &mut Store,
+        entries: &[(Op, Ref, Ref)],
+    ) -> Result<Vec<Ref>, WaveFault>
+        requires operands { All (IsEntry store.old) entries.now }
+        ensures wave { AnswersWave store.old entries.now entries.now result store.new }
+        ensures past { result ≡ Err WaveFault.TooManyRequests → ArePast (G.bound self.old.crew.now.monitor.now) store.old entries.now }
+        ensures within_bound { most_of (G.bound self.old.crew.now.monitor.now) < 2 ^ 64 - 1
+            → OnOk result (AreAtMost (most_of (G.bound self.old.crew.now.monitor.now)) store.old entries.now) }
+        ensures alone { most_of (G.bound self.old.crew.now.monitor.now) < 2 ^ 64 - 1 → result ≢ Err WaveFault.NoWorker }
+        ensures expanded { OnOk result (HaveExpanded store.old 1 (requests_of entries.now) (self.old.down.splits + self.old.rooms)
+            (self.new.down.splits + self.new.rooms)) }
+        ensures reduced { OnOk result ((v : ℕ) × HaveReduced store.old
+            (requests_of entries.now) v self.old.up.reductions self.new.up.reductions) }
+        ensures memory { count_of store.old ≤ store.old.limit → result ≡ Err WaveFault.OutOfMemory → count_of store.new ≤ store.new.limit }
+        ensures monitor { self.new.crew.now.monitor ≡ self.old.crew.now.monitor }
+    {
+        let levels = store.levels();
+        let limits = Limits {
+            level: self.crew.most_alone(self.sizes.expected_over(levels)),
+            wave: self.crew.monitor.most_requests(),
+        };
+        let before = self.down.splits.count();
+        let result = self.attempt(store, entries, limits);
+        if limits.wave == usize::MAX || !matches!(result, Err(WaveFault::NoWorker)) {
+            return result;
+        }
+        self.down.splits.back_to(before);
+        let alone = Limits {
+            level: usize::MAX,
+            wave: limits.wave,
+        };
+        self.attempt(store, entries, alone)
     }
 }

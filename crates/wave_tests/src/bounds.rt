@@ -110,16 +110,21 @@ fn within<R: Threads + Wait + Abort + Sync>(
     })
 }
 
-// A wave of seven requests is done within a bound of seven, on the caller's thread, and refused within six, before a node is made.
+// A wave of seven requests is done within a bound of seven, whoever expands it, and refused within less, before a node is made.
 #[test]
 fn bound_of_a_wave(rt: HostRuntime) -> Result<(), Fail> {
-    let done = within(&rt, rt.alloc(), 4, 7, 0)?;
-    assert!(rt; done.fault.is_none() && done.told == 7 && done.workers == 0);
-    assert!(rt; done.added > 0);
-    for most in [0, 1, 2, 3, 6] {
-        let refused = within(&rt, rt.alloc(), 4, most, 0)?;
-        assert!(rt; refused.fault == Some(WaveFault::TooManyRequests));
-        assert!(rt; refused.told == 0 && refused.workers == 0 && refused.added == 0);
+    for workers in 1..17 {
+        for alone in [0, 1, 2, 4] {
+            let done = within(&rt, rt.alloc(), workers, 7, alone)?;
+            assert!(rt; done.fault.is_none() && done.told == 7);
+            assert!(rt; (done.workers > 0) == (alone == 0 || (alone < 4 && workers > 1)));
+            assert!(rt; done.added > 0);
+            for most in [0, 1, 2, 3, 6] {
+                let refused = within(&rt, rt.alloc(), workers, most, alone)?;
+                assert!(rt; refused.fault == Some(WaveFault::TooManyRequests));
+                assert!(rt; refused.added == 0);
+            }
+        }
     }
     Ok(())
 }

@@ -77,6 +77,8 @@ fn work_alone<R: Wait + Abort, G: Monitor>(
         store,
         roots: &[task.root],
         stop,
+        come: &AtomicU64::new(0),
+        most: u64::MAX,
         keeps: task.keeps,
     };
     work(rt, site, port, None, monitor)
@@ -201,6 +203,8 @@ fn work_until_told<R: Wait>(
         store,
         roots: &[],
         stop: flags.stop,
+        come: &AtomicU64::new(0),
+        most: u64::MAX,
         keeps: false,
     };
     let fault = work(rt, site, port, None, &Free).err();

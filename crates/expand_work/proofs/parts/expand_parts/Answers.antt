@@ -1,11 +1,11 @@
-use Rattle.std.proofs.Common.{◌+◌, ◌%◌, ◌^◌, map, length, sym, ap, ◌∙◌, subst, arith}
+use Rattle.std.proofs.Common.{rules, ◌+◌, ◌%◌, ◌^◌, map, length, sym, ap, ◌∙◌, subst, arith}
 use Rattle.dd_store.specs.Nodes.{Nodes}
 use Rattle.expand_work.specs.Gathered.{AreParts, AreSettled}
 use Rattle.expand_work.specs.Lean.{AreLean}
 use Rattle.expand_work.specs.Spaces.{records_in, noted_in}
 use Rattle.lane_queue.specs.Joining.{ArePorts, AreRetired}
 use Rattle.expand_work.proofs.Expanding.{new_ports, parts_ports, are_parts, are_settled, records_as, noted_as, parts_lean}
-use Rattle.expand_work.proofs.Tallying.{have_expanded}
+use Rattle.expand_work.proofs.Tallying.{have_expanded, few_reached}
 use Rattle.expand_work.proofs.parts.expand_parts.Goals as goal
 
 pub run_workers-requires-clause-ports : goal.run_workers-requires-clause-ports
@@ -40,7 +40,16 @@ invariant_of-parts g c =
     subst (λ (z : Nodes). AreLean (map (records_in z) c.in_ok-ports.filled.items) c.in_ok-ports.rows.items) (sym c.of.ensures)
     (parts_lean c.args.store.now c.in_ok-lanes.lanes c.args.roots.now c.in_ok-parts.parts.items c.in_ok-parts.ensures.parts c.in_ok-ports.filled.items c.in_ok-ports.ensures.spaces c.in_ok-ports.rows.items c.in_ok-ports.ensures.rows)
 
+pub invariant_of-parts-2 : goal.invariant_of-parts-2
+invariant_of-parts-2 g c =
+    subst (λ (z : Nodes). AreLean (map (records_in z) c.in_ok-ports.filled.items) c.in_ok-ports.rows.items) (sym c.of.ensures)
+    (parts_lean c.args.store.now c.in_ok-lanes.lanes c.args.roots.now c.in_ok-parts.parts.items c.in_ok-parts.ensures.parts c.in_ok-ports.filled.items c.in_ok-ports.ensures.spaces c.in_ok-ports.rows.items c.in_ok-ports.ensures.rows)
+
 pub returns-clause-expanded : goal.returns-clause-expanded
 returns-clause-expanded g c =
     have_expanded c.args.store.now c.args.crew.now.workers.count c.args.roots.now _ (returns-clause-parts g c) c.args.spaces.now c.add.new.self
     (c.add.ensures ∙ (λ i. (c.take_all-used.ensures i + c.count.ensures i) % 2 ^ 64))
+
+pub returns-clause-few : goal.returns-clause-few
+returns-clause-few g c = λ bounded.
+    few_reached c.args.store.now c.args.crew.now.workers.count c.args.roots.now _ (returns-clause-parts g c) c.args.most (c.are_few.ensures (search rules) bounded)

@@ -27,7 +27,7 @@ returns g c =
     let rest = c.pop.new.self.items in
     let own = c.in-Some.own in
     let parts = judged _ _ c.with_last-joined.result c.outcome_of.result c.outcome_of.ensures (λ t.
-    let e = eqb-true c.len-2.result c.len-count.result t in
+    let e = eqb-true c.len-2.result c.len-count.result (c.have_done-done.ensures t) in
     let works = each_has_its l s r children rest c.in_ok-children.ensures (let p = c.len-2.ensures in let m = c.len-count.ensures in search rules) in
     IfOk-weaker c.with_last-joined.result _ _ (λ v j.
     all_worked l ports rest own c.requires.ports c.in-Some.ensures.items s r children j.before.items v.items j.part works

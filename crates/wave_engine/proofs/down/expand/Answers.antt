@@ -10,7 +10,7 @@ use Rattle.req_table.proofs.Standing.{made_empty}
 use Rattle.reduce_up.specs.ByPlace.{AreExpanded}
 use Rattle.wave_engine.proofs.Children.{keys_stand, row_taken}
 use Rattle.wave_engine.proofs.Counting.{too_many, all_counted}
-use Rattle.wave_engine.proofs.Waiting.{IsGoing, going_start, going_passed, going_next, going_down, splice, waiting_admitted}
+use Rattle.wave_engine.proofs.Waiting.{IsGoing, going_start, going_passed, going_next, going_down, going_within, splice, waiting_admitted}
 use Rattle.wave_engine.proofs.down.expand.Goals.{else-limits-lt18446744073709551615-via-then-limits-lt18446744073709551615+else-count-left, else-limits-lt18446744073709551615-via-else-limits-lt18446744073709551615}
 use Rattle.wave_engine.proofs.down.expand.Goals.{In-Some, In_default}
 use Rattle.wave_engine.proofs.down.expand.Goals as goal
@@ -40,6 +40,11 @@ pub returns-then-count-most-clause-down : goal.returns-then-count-most-clause-do
 returns-then-count-most-clause-down c =
     let w = (goal.at.returns-then-count-most-clause-down c).In-Some in
     going_down _ _ _ w.in-Some.next _ _ _ _ _ _ _ (here w) (let f = fit w in omega (arith, f))
+
+pub returns-then-count-most-clause-few : goal.returns-then-count-most-clause-few
+returns-then-count-most-clause-few c = λ bounded.
+    let w = (goal.at.returns-then-count-most-clause-few c).In-Some in
+    going_within _ _ _ w.in-Some.next _ _ _ _ _ _ _ (here w) (let f = fit w in omega (arith, f)) bounded
 
 pub returns-then-count-left-clause-past : goal.returns-then-count-left-clause-past
 returns-then-count-left-clause-past c = λ _.
@@ -130,6 +135,9 @@ loop-next-preserved c =
 
 pub returns-clause-down : goal.returns-clause-down
 returns-clause-down c = going_down _ _ _ c.levels-levels.result _ _ _ _ _ _ _ (passed (goal.at.returns-clause-down c).In_default) (let l = c.levels-levels.ensures.value in omega (arith, l))
+
+pub returns-clause-few : goal.returns-clause-few
+returns-clause-few c = λ bounded. going_within _ _ _ c.levels-levels.result _ _ _ _ _ _ _ (passed (goal.at.returns-clause-few c).In_default) (let l = c.levels-levels.ensures.value in omega (arith, l)) bounded
 
 pub returns-clause-within_bound : goal.returns-clause-within_bound
 returns-clause-within_bound c = λ bounded same.

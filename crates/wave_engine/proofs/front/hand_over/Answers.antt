@@ -10,8 +10,9 @@ use Rattle.reduce_up.proofs.Waving.{within_still}
 use Rattle.wave_engine.specs.Front.{keys_from, ArePut}
 use Rattle.req_table.specs.Keys.{IsKey}
 use Rattle.req_table.specs.declared.Key.{Key}
+use Rattle.expand_work.specs.Bounds.{AreFew}
 use Rattle.expand_work.specs.Gathered.{HaveExpanded}
-use Rattle.expand_work.proofs.Tallying.{none_expanded}
+use Rattle.expand_work.proofs.Tallying.{none_expanded, none_few}
 use Rattle.wave_engine.proofs.Fronting.{front_none, front_keys, none_over, none_within, over_adds, over_within, over_fault, over_reduced, zip_length}
 use Rattle.wave_engine.proofs.front.hand_over.Goals as goal
 
@@ -97,3 +98,13 @@ returns-in-Ok-put_answers-clause-expanded g c =
 
 pub returns-clause-memory : goal.returns-clause-memory
 returns-clause-memory g c = λ old _. within_still c.args.store.now (entries_for c.as_slice-asked.result.now) c.shared_wave.new.store c.in_ok-found.ensures.wave.within old
+
+pub returns-then-is_empty-clause-few : goal.returns-then-is_empty-clause-few
+returns-then-is_empty-clause-few g c = λ _.
+    let front : c.in-Ok.front.items ≡ keys_from c.args.frontier.now.from c.args.frontier.now.requests.now = c.in-Ok.ensures in
+    let none : keys_from c.args.frontier.now.from c.args.frontier.now.requests.now ≡ [] = front_none (keys_from c.args.frontier.now.from c.args.frontier.now.requests.now) (let z : (length c.as_slice-asked.result.now == 0) ≡ true = sym c.is_empty.ensures ∙ c.if-is_empty.true in let l : length c.as_slice-asked.result.now ≡ 0 = grind (arith, nat_tests, z) in sym (ap length (c.as_slice-asked.ensures.value ∙ front)) ∙ l) in
+    subst (λ (ks : List Key). AreFew c.args.store.now c.args.crew.now.workers.count ks c.args.frontier.now.most) (sym none) (none_few c.args.store.now c.args.crew.now.workers.count c.args.frontier.now.most)
+
+pub returns-in-Ok-put_answers-clause-few : goal.returns-in-Ok-put_answers-clause-few
+returns-in-Ok-put_answers-clause-few g c = λ bounded.
+    subst (λ (ks : List Key). AreFew c.args.store.now c.args.crew.now.workers.count ks c.args.frontier.now.most) (c.as_slice-asked.ensures.value ∙ c.in-Ok.ensures) (c.in_ok-found.ensures.few bounded)

@@ -36,9 +36,3 @@ returns-in-Ok-clause-reduced g c =
       reduced_view c.args.store.now c.args.entries.now _ _ _ c.self.view_is made.0
           (reduced_on _ _ c.reduced-made.result c.reduced.result _ _ _ c.reduced-made.ensures c.reduced.ensures refl refl c.args.store.now _ made.0 made.1),
     )
-
-pub returns-in-Ok-clause-all_reduced : goal.returns-in-Ok-clause-all_reduced
-returns-in-Ok-clause-all_reduced g c = λ bounded.
-    let bounded' = subst (λ (e : AtRest). most_of e.bound < 2 ^ 64 - 1) (sym c.self.view_is) bounded in
-    reduced_view c.args.store.now c.args.entries.now _ _ _ c.self.view_is c.args.store.now.levels
-    (reduced_on _ _ c.reduced-made.result c.reduced.result _ _ _ c.reduced-made.ensures c.reduced.ensures refl refl c.args.store.now _ c.args.store.now.levels (c.in-Ok.ensures.all_reduced bounded'))

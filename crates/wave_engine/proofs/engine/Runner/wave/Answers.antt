@@ -70,8 +70,3 @@ pub returns-in-Ok-settle-clause-reduced : goal.returns-in-Ok-settle-clause-reduc
 returns-in-Ok-settle-clause-reduced g c =
     let made = c.in_ok-found.ensures.reduced in
     (made.0, subst (λ (es : List Entry). HaveReduced c.args.store.now (requests_of es) made.0 c.args.self.now.workspace.up.reductions c.wave.new.self.up.reductions) (c.requests.ensures ∙ c.in-Ok.ensures.requests) made.1)
-
-pub returns-in-Ok-settle-clause-all_reduced : goal.returns-in-Ok-settle-clause-all_reduced
-returns-in-Ok-settle-clause-all_reduced g c = λ bounded.
-    subst (λ (es : List Entry). HaveReduced c.args.store.now (requests_of es) c.args.store.now.levels c.args.self.now.workspace.up.reductions c.wave.new.self.up.reductions) (c.requests.ensures ∙ c.in-Ok.ensures.requests)
-    (c.in_ok-found.ensures.all_reduced bounded)
