@@ -72,7 +72,8 @@ pub fn judge<H: Threads + Wait + Sync, R1: Source, R2: Source, R3: Source, G: Mo
         let s = context.now.settings.now in
         result ≡ Err (CheckFault.Wave WaveFault.TooManyRequests)
         → (order : OrderValue) × IsAllowed s.order order × IsSomeAnd (G.bound context.now.monitor.now) (AreTooWide told s.matching order) }
-    // No worker is wanted where the monitor sets a bound, nor where an order is sought or cones may be taken, whatever the monitor.
+    // A thread that cannot be started refuses nothing if the monitor sets a bound, nor if an order is sought or cones may be taken, whatever
+    // the monitor.
     ensures alone { most_of (G.bound context.now.monitor.now) < 2 ^ 64 - 1 → result ≢ Err (CheckFault.Wave WaveFault.NoWorker) }
     ensures hired { result ≡ Err (CheckFault.Wave WaveFault.NoWorker) → NamesOrder context.now.settings.now.order }
     // A fault has its cause, and what comes before it was accepted.
@@ -215,7 +216,8 @@ pub fn check<H: Threads + Wait + Sync, R1: Source, R2: Source, R3: Source, G: Mo
         let s = context.now.settings.now in
         result ≡ Err (CheckFault.Wave WaveFault.TooManyRequests)
         → (order : OrderValue) × IsAllowed s.order order × IsSomeAnd (G.bound context.now.monitor.now) (AreTooWide told s.matching order) }
-    // No worker is wanted where the monitor sets a bound, nor where an order is sought or cones may be taken, whatever the monitor.
+    // A thread that cannot be started refuses nothing if the monitor sets a bound, nor if an order is sought or cones may be taken, whatever
+    // the monitor.
     ensures alone { most_of (G.bound context.now.monitor.now) < 2 ^ 64 - 1 → result ≢ Err (CheckFault.Wave WaveFault.NoWorker) }
     ensures hired { result ≡ Err (CheckFault.Wave WaveFault.NoWorker) → NamesOrder context.now.settings.now.order }
     // A fault has its cause, and what comes before it was accepted. What is to be explained is refused only where the first netlist has no

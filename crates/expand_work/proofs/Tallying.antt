@@ -148,7 +148,7 @@ module _ (S : Nodes) (n : ℕ) (roots : List Key) (p : PartsView) (h : AreParts 
   in_below : (x : Key) → Has (keys_below S.levels R) x → IsIn (keys_below S.levels R) x
   in_below x h = let c = contains_of (keys_below S.levels R) x h in (c.0, slice_get-get_or (keys_below S.levels R) c.0 x c.1 ∙ ap (λ z. Some z) c.2)
 
-  -- where they recorded at most n, at most n are reached
+  -- if they recorded at most so many requests, at most so many are reached
   pub few_reached : (most : ℕ) → count_in p.rows ≤ most → AreFew S n roots most
   few_reached most le requests once reached =
       let fits : length requests ≤ length (keys_below S.levels R) = pigeons (λ j k. j ≡ k) requests (keys_below S.levels R) once
@@ -170,6 +170,7 @@ none_expanded S n before = record {
   count = omega arith;
 }
 
+-- from no roots any number is enough
 pub none_few : (S : Nodes) (n most : ℕ) → AreFew S n [] most
 none_few S n most [] once reached = omega arith
 none_few S n most (x ∷ xs) once reached = absurd (none_reached (wave_of S n) x (reached x (0, omega arith, refl)))

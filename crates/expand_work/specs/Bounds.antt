@@ -11,7 +11,7 @@ abbrev pub most_of : Option ℕ → ℕ
 most_of None = 2 ^ 64 - 1
 most_of (Some n) = n
 
--- at most n requests are reached from the roots: no list of them in which none stands twice is longer
+-- at most n requests are reached from the roots: a list of them that has none twice is never longer than n
 abbrev pub AreFew : Nodes → ℕ → List Key → ℕ → Type 0
 AreFew S workers roots n =
     (requests : List Key) → IsOnce requests → ((x : Key) → Contains requests x → IsReached (wave_of S workers) roots x) → length requests ≤ n

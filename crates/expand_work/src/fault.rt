@@ -14,7 +14,7 @@ use thiserror::Error;
 pub enum WaveFault {
     /// A growth was refused.
     OutOfMemory,
-    /// A thread could not be started.
+    /// A thread could not be started, or the workers stopped since there are more requests than they may expand.
     NoWorker,
     /// The store holds, or would hold, more nodes than its limit.
     Full,

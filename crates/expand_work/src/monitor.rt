@@ -31,8 +31,8 @@ pub trait Monitor: Watch + Sync {
         0
     }
 
-    /// The most requests that a wave of an engine may have. A wave that is bounded so is the caller's alone, so that no more than
-    /// three times as many are ever held; which waves are refused does not depend on the workers.
+    /// The most requests that a wave of an engine may have; the greatest number bounds nothing. No request beyond the bound is expanded, so
+    /// no more than three times as many are ever held. Which waves are refused depends neither on the workers nor on their number.
     fn most_requests(&self) -> usize
         ensures bound { result ≡ most_of (bound self.now) };
 
@@ -40,8 +40,8 @@ pub trait Monitor: Watch + Sync {
     /// store has so far.
     fn at_rank(&self, _rank: u32, _ranks: u32, _nodes: u64) {}
 
-    /// Is told how many requests were expanded: by the caller's thread those of all its levels of a wave at once, by a worker those of a
-    /// level.
+    /// Is notified how many requests were expanded: by the caller's thread those of all its levels of a wave at once, by a worker those of a
+    /// level. If the caller's thread does a wave again that the workers have not done, the requests that are expanded twice are counted twice.
     fn at_requests(&self, _requests: usize) {}
 
     /// Is told by the caller's thread how an attempt within so many nodes has ended, or a round of pairs that were tried by their cones.

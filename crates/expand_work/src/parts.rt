@@ -115,7 +115,7 @@ impl Parts {
         total
     }
 
-    /// Whether they are known to be at most so many, or any number will do.
+    /// Whether there are at most so many requests. The greatest number bounds nothing.
     pub(crate) fn are_few(&self, most: usize) -> bool
         ensures { result ≡ true → most < 2 ^ 64 - 1 → count_in self.now.rows ≤ most }
     {
@@ -163,9 +163,11 @@ fn split_parts(
 /// by this number. The workers work in the memory of an earlier wave as far as there is some; after a refusal it is given back. The
 /// spaces count what was expanded. The ports, by worker, go with no lanes any more, and only tell what was sent and taken.
 ///
-/// NoWorker: a thread could not be started, or the workers came to more requests than they may; then those that run are told to stop.
-/// Whatever the threads do, those that are expanded meanwhile are no more than they may be. OutOfMemory: a growth was refused, and every
-/// thread was started. All threads have ended before any answer is given.
+/// `most` is the most requests that the workers may expand together; the greatest number bounds nothing.
+///
+/// NoWorker: a thread could not be started, or the requests are more than the most; then the threads that run are stopped, and no more
+/// requests than the most are expanded. OutOfMemory: a growth was refused, and every thread was started. All threads have ended before any
+/// answer is given.
 pub fn expand_parts<R: Threads + Wait + Sync, G: Monitor>(
     crew: &Crew<'_, R, G>,
     store: &Store,

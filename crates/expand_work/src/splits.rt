@@ -29,7 +29,7 @@ impl Splits {
         Splits { count: 0 }
     }
 
-    /// So many were split: those of a wave that is done anew are not counted twice.
+    /// Sets the count to what it was before a wave that is done again, so that no request of it is counted twice.
     pub fn back_to(&mut self, count: usize)
         ensures { self.new ≡ count }
     {

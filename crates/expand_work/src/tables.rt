@@ -168,13 +168,13 @@ impl Tables {
         }
     }
 
-    /// How many keys the level has, where a table of the level has them.
+    /// How many keys the level has, or 0 if no table of the level has them.
     pub fn count(&self, level: u16) -> usize
         requires { level < length self.now }
     {
-        match &self.levels[level as usize].held {
-            Held::Here(table) => table.len(),
-            _ => 0,
+        match self.keys(level) {
+            Some(keys) => keys.len(),
+            None => 0,
         }
     }
 

@@ -65,18 +65,18 @@ fn join_all<'a, R: Threads>(
     }
 }
 
-// Whether the workers have done the wave: each was started, and they came to no more requests than they may.
+// Whether the workers may have done the whole wave: each was started, and they found no more requests than they may expand.
 fn have_done(started: bool, site: Site<'_>) -> bool
     ensures { result ≡ true → started ≡ true }
 {
-    started && !site.is_over()
+    started && !site.is_past_bound()
 }
 
-// What the threads come to, once all of them were joined: where they have not done the wave that comes first.
-fn outcome_of(started: bool, joined: Result<Vec<Part>, WaveFault>) -> Result<Vec<Part>, WaveFault>
-    ensures { result ≡ (if started then joined else Err WaveFault.NoWorker) }
+// What the threads come to, once all of them were joined. That they have not done the whole wave is reported before any other fault.
+fn outcome_of(done: bool, joined: Result<Vec<Part>, WaveFault>) -> Result<Vec<Part>, WaveFault>
+    ensures { result ≡ (if done then joined else Err WaveFault.NoWorker) }
 {
-    if started {
+    if done {
         joined
     } else {
         Err(WaveFault::NoWorker)
@@ -124,7 +124,7 @@ fn start<'s, E, R: Wait + Sync, G: Monitor>(
         store,
         roots,
         stop,
-        come,
+        found,
         most,
         keeps,
     } = site;
@@ -147,7 +147,7 @@ fn start<'s, E, R: Wait + Sync, G: Monitor>(
             store,
             roots,
             stop,
-            come,
+            found,
             most,
             keeps,
         };
@@ -188,7 +188,8 @@ fn start_all<'s, E, R: Wait + Sync, G: Monitor>(
     Ok(children)
 }
 
-/// What the workers of a wave share: their lanes, the store, all roots, and how many requests they may come to.
+/// What the workers of a wave are given: their lanes, the store, all roots, and the most requests that they may expand together, or the
+/// greatest number if there is no bound.
 #[derive(Clone, Copy)]
 pub struct Wave<'a> {
     pub alloc: Global,
@@ -256,8 +257,8 @@ pub fn run_workers<R: Threads + Wait + Sync, G: Monitor>(
     } = wave;
     let stop = AtomicBool::new(false);
     let stop = &stop;
-    let come = AtomicU64::new(0);
-    let come = &come;
+    let found = AtomicU64::new(0);
+    let found = &found;
     let keeps = used.keeps();
     thread::scope(
         thread::scope_env(),
@@ -276,7 +277,7 @@ pub fn run_workers<R: Threads + Wait + Sync, G: Monitor>(
                 store,
                 roots,
                 stop,
-                come,
+                found,
                 most,
                 keeps,
             };

@@ -130,8 +130,8 @@ fn expand_level<G: Monitor>(
     })
 }
 
-// Sends what is due, keeps what it owns itself, and ends the level; takes until the level is closed, tells the monitor, and
-// expands the level's keys, unless the workers have come to too many.
+// Sends what is due, keeps what it owns itself, and ends the level; takes until the level is closed, notifies the monitor, and
+// expands the level's keys. If the workers have more requests with these than they may expand, it expands nothing and stops them all.
 fn do_level<R: Wait, G: Monitor>(
     rt: &R,
     site: Site<'_>,
@@ -253,9 +253,9 @@ fn run_levels<R: Wait, G: Monitor>(
 /// and keeps what it owns itself; it ends the level on every lane, takes until every sender has ended it, tells the monitor,
 /// and splits the distinct keys that it was asked for at that level.
 ///
-/// The flag is read when a level begins and whenever the lane is empty; once it is set the answer is Stopped. A worker
-/// that meets want of memory, or a level with which the workers come to more requests than they may, sets it before it answers. What it fills stands in the memory of an earlier wave where there is some. After
-/// a refusal the port and this memory are gone.
+/// The flag is read when a level begins and whenever the lane is empty; once it is set the answer is Stopped. A worker sets it before it
+/// answers if it is refused memory, or if its level takes the workers past the most requests that they may expand. It works in the memory
+/// of an earlier wave as far as there is some. After a refusal the port and this memory are gone.
 pub fn work<R: Wait, G: Monitor>(
     rt: &R,
     site: Site<'_>,

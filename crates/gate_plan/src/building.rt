@@ -250,7 +250,7 @@ fn begin<'a>(
 /// Builds the diagrams of all signals of two netlists, and of a condition where there is one, over the variables of their pairing: all
 /// variables in level order, then per rank the copies and one wave for each fold number, of all netlists together. What an earlier wave of
 /// the build was asked for is answered at once while it is held. A wave's requests are expanded by as many threads as there are workers;
-/// NoWorker is answered where one could not be started.
+/// NoWorker is answered only if the monitor sets no bound, and one could not be started.
 pub fn build<R: Threads + Wait + Sync, G: Monitor>(
     crew: &Crew<'_, R, G>,
     store: &mut Store,

@@ -5,9 +5,10 @@
 //! parts their children stand in (`reduced`), and counts them (`counted`). `shared_wave` gives each
 //! request its diagram, adds nodes below the answers alone, or complements of such, and answers
 //! Full only where the store is over its limit, or at it and lacks a node that is wanted (`wave`);
-//! exactly the requests that are reached were expanded (`expanded`); OutOfMemory leaves a store
-//! within its limit that was so (`memory`); requests are never too many (`unbounded`). `Sought`
-//! knows which entries a computed table answers, and puts answers and computed table together
+//! exactly the requests that are reached were expanded (`expanded`), no more than it may expand
+//! (`few`); OutOfMemory leaves a store within its limit that was so (`memory`); more requests than
+//! it may expand are reported as NoWorker (`unbounded`), which leaves the store as it was
+//! (`untouched`). `Sought` knows which entries a computed table answers, and puts answers and computed table together
 //! (`Sought::settle`: `answers`, `kept`, `refused`).
 //!
 //! **Only tests show** when threads share a level (4,096 records, two workers) and how many, and

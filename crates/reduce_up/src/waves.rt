@@ -88,9 +88,11 @@ fn answer_parts<R: Threads + Sync, G: Monitor>(
 /// The diagram of each request, without a computed table.
 ///
 /// The requests, and all that they ask for, are expanded by workers in threads, and reduced from the last level up (Ochi,
-/// Yasuoka and Yajima 1993). NoWorker is answered where a worker's thread could not be started, and where the requests are more than the
-/// most; then nothing is reduced. What no other thread could be started for in a reduction, the caller's thread does. All of it is done in the memory of an earlier wave as far as there
-/// is some, and leaves its own for the next; after a refusal the workers' is given back.
+/// Yasuoka and Yajima 1993). `most` is the most requests that the workers may expand; the greatest number bounds nothing.
+///
+/// NoWorker is answered if a worker's thread could not be started, and if the requests are more than the most; then nothing is
+/// reduced. If a thread cannot be started in a reduction, the caller's thread does its work. All of it is done in the memory of an
+/// earlier wave as far as there is some, and leaves its own for the next; after a refusal the workers' is given back.
 pub fn shared_wave<R: Threads + Wait + Sync, G: Monitor>(
     crew: &Crew<'_, R, G>,
     store: &mut Store,

@@ -1,5 +1,5 @@
 //! The children of a wave's requests, by level.
-ghost use Rattle.std.specs.Prelude.{◌-◌, ◌≡◌, ◌<◌, ◌≤◌, ◌%◌, ◌^◌, [], length, replicate, set, IfOk, OnOk};
+ghost use Rattle.std.specs.Prelude.{◌≡◌, ◌<◌, ◌≤◌, ◌-◌, ◌%◌, ◌^◌, [], length, replicate, set, IfOk, OnOk};
 ghost use Rattle.std.specs.List.{sum_by};
 ghost use Rattle.req_table.specs.Places.{row, AreEmpty, IsNextLevel, IsLastLevel};
 
@@ -135,7 +135,7 @@ impl Rows {
         total
     }
 
-    /// How many requests all levels have, or the greatest number.
+    /// How many requests all levels have together. The greatest number says that they may be more.
     pub fn total(&self) -> u64
         ensures { result < 2 ^ 64 - 1 → result ≡ sum_by (λ row. length row) self.now }
     {

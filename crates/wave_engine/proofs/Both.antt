@@ -70,7 +70,7 @@ module _ (S : Nodes) (w : IsSound S) (entries : List Entry) (good : All (IsEntry
     count = let l : length (c.requests ++ h.requests) ≡ length c.requests + length h.requests = length-append c.requests h.requests in let a = c.count in let b = h.count in omega (arith, l, a, b);
   }
 
-  -- where no more were split than a bound, and no more were handed over than are left of it, both together are within it
+  -- if at most so many were split as a bound allows, and at most so many handed over as are left of it, all of them are within the bound
   pub at_most_both : (split split' : ℕ) (c : HaveSplit S entries T v split split') (most left : ℕ) → length c.requests ≤ most → left ≡ most - length c.requests → AreFew S n (keys_from v T) left
       → (shared shared' : ℕ) → HaveExpanded S n (keys_from v T) shared shared' → AreAtMost most S entries
   at_most_both split split' c most left le is few shared shared' h requests once reached =
@@ -134,7 +134,7 @@ module _ (S : Nodes) (entries : List Entry) (new : ℕ) (v w : AtRest) (e : v �
   pub reduced_view : (from : ℕ) → HaveReduced S (requests_of (unknown v.held entries)) from v.reduced new → HaveReduced S (requests_of (unknown w.held entries)) from w.reduced new
   reduced_view from h = subst (λ (z : AtRest). HaveReduced S (requests_of (unknown z.held entries)) from z.reduced new) e h
 
--- requests past the number by which a bound is told are past the bound
+-- requests that are more than the number of a bound are past the bound
 pub past_bound : (S : Nodes) (entries : List Entry) (o : Option ℕ) (n : ℕ) → n ≡ most_of o → n < 2 ^ 64 - 1 → AreMoreThan n S entries → ArePast o S entries
 past_bound S entries None n is lt more = absurd (omega (arith, is, lt))
 past_bound S entries (Some m) n is lt more = subst (λ z. AreMoreThan z S entries) is more

@@ -203,6 +203,7 @@ module _ (s : Nodes) (entries : List Entry) (roots : List Placed) (v : ℕ) (W :
       same : length (row W v) ≡ length (row T v)
       same = ap length (g.waits.same v (omega arith))
 
+  -- and within a bound at most so many requests were split
   pub going_within : v ≤ s.levels → bound < 2 ^ 64 - 1 → IsDownWithin bound s entries v W rows roots before after
   going_within le b = (record { tables = T; bound = le; expanded = g.expanded; once = g.once; split = g.counted.split; waits = g.waits }, let e = g.counted.sum b in omega (arith, e))
 

@@ -49,7 +49,7 @@ pub record IsDown (s : Nodes) (entries : List Entry) (v : ℕ) (waiting : List (
   pub split : HaveSplit s entries tables v before after
   pub waits : AreWaiting tables v waiting
 
--- the same, and no more were split than n
+-- the same, and at most n requests were split
 abbrev pub IsDownWithin : ℕ → Nodes → List Entry → ℕ → List (List Key) → List (List (Placed × Placed)) → List Placed → ℕ → ℕ → Type 0
 IsDownWithin n s entries v waiting rows roots before after =
     (d : IsDown s entries v waiting rows roots before after) × (length d.split.requests ≤ n)

@@ -48,7 +48,7 @@ pub(crate) struct Limits {
 }
 
 impl Limits {
-    /// How many requests the workers may come to, where the caller's thread has split so many.
+    /// How many requests the workers may expand after the caller's thread has split so many; the greatest number if there is no bound.
     pub(crate) fn left(self, split: usize) -> usize
         ensures { self.wave < 2 ^ 64 - 1 → result ≡ self.wave - split }
     {

@@ -157,9 +157,11 @@ impl<'a, R: Threads + Wait + Sync, G: Monitor> Engine<'a, R, G> {
     ///
     /// What has a terminal case, or was asked for in an earlier wave and is still held, is answered at once. The requests of all other
     /// operations together are expanded on the caller's thread, down to the first level that has more of them than the monitor lets the
-    /// caller have; from there on they are the workers', in threads. They are reduced from the last level up. NoWorker is answered
-    /// where a worker's thread could not be started; entries that are all answered at once start none. TooManyRequests is answered
-    /// where the requests are more than the monitor allows; none of them are reduced then.
+    /// caller have; from there on the workers expand them, in threads. They are reduced from the last level up.
+    ///
+    /// TooManyRequests is answered if the requests are more than the monitor allows; none of them are reduced then. It does not depend on
+    /// the workers: within a bound the caller's thread does again what they have not done. NoWorker is answered only without a bound, if a
+    /// worker's thread could not be started; entries that are all answered at once start none.
     pub fn wave(
         &mut self,
         store: &mut Store,

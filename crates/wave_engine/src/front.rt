@@ -17,7 +17,7 @@ use std::alloc::{AllocError, Global};
 use std::sync::Wait;
 use std::thread::Threads;
 
-/// The requests from a level on, and how many the workers may come to.
+/// The requests from a level on, and the most that the workers may expand, or the greatest number if there is no bound.
 #[derive(Drop)]
 pub(crate) struct Frontier<'a> {
     pub(crate) requests: &'a Waiting,
@@ -88,8 +88,8 @@ fn put_answers(
 }
 
 /// Has the requests from a level on answered by the workers, in one wave, and puts the answers in their places. The workers work in
-/// the memory of an earlier wave as far as there is some. It answers how many requests they expanded. NoWorker is answered where a thread
-/// could not be started, and where they are more than they may be: the store is as it was then.
+/// the memory of an earlier wave as far as there is some. It answers how many requests they expanded. NoWorker is answered if a thread
+/// could not be started, and if the requests are more than the workers may expand; then the store is as it was.
 pub(crate) fn hand_over<R: Threads + Wait + Sync, G: Monitor>(
     crew: &Crew<'_, R, G>,
     rooms: &mut Rooms,

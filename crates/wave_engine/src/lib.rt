@@ -2,18 +2,18 @@
 //!
 //! **Promises.** `Engine::wave` gives each entry its diagram, whatever is held and wherever workers are called in
 //! (`wave`); exactly the requests of which nothing is held were expanded, each once, modulo 2^64 (`expanded`), and of these
-//! the caller's thread has reduced exactly those above some level, each once (`reduced`), with a bound all
-//! (`all_reduced`). The computed table has then each request's answer (`kept`), a refused wave changes nothing
+//! the caller's thread has reduced exactly those above some level, each once (`reduced`). The computed table has then each request's answer (`kept`), a refused wave changes nothing
 //! (`refused`), and what is held stays right (`right`). Requests are refused only past the monitor's bound (`past`,
-//! `within_bound`), and with a bound no worker is wanted (`alone`); OutOfMemory leaves a store within its limit that was
-//! so (`memory`). `Engine::new` and `forget` hold nothing (`empty`, `right`). `wave` is one wave with a computed table
+//! `within_bound`), whether workers were called in or not, and with a bound a thread that cannot be started refuses nothing
+//! (`alone`); OutOfMemory leaves a store within its limit that was so (`memory`). `Engine::new` and `forget` hold nothing (`empty`, `right`). `wave` is one wave with a computed table
 //! of the caller's.
 //!
 //! **Only tests show** that ample memory suffices, and when workers are called in: always, never, and at the levels
 //! that the numbers of `Free` say (`wave_tests`).
 //!
 //! **Begin** with `engine` and `workspace`: a wave goes `down`, what waits before the first wide level (`sizes`) is handed over by
-//! `front`, and the levels before it are reduced as one part.
+//! `front`, and the levels before it are reduced as one part. Within a bound the caller's thread does the wave again if the workers
+//! have not done their part.
 #![tactic(auto)]
 
 mod down;

@@ -125,9 +125,9 @@ impl<'a, R: Threads + Wait + Sync, G: Monitor> Workspace<'a, R, G> {
         self.up.reductions.count()
     }
 
-    /// The diagram of each operation on its two operands, within limits: the requests before the first level that is too wide for the caller's
-    /// thread are its own, and from there on they are the workers'. NoWorker is answered where they have not done theirs; the store and
-    /// all counts but that of the requests that were split are as they were then.
+    /// The diagram of each operation on its two operands, within limits. The caller's thread expands the requests before the first level that
+    /// is too wide for it, and the workers expand those from there on. NoWorker is answered if the workers have not done their part; then the
+    /// store and all counts are as they were, except for the count of the requests that the caller's thread has split.
     fn attempt(
         &mut self,
         store: &mut Store,
@@ -183,11 +183,13 @@ impl<'a, R: Threads + Wait + Sync, G: Monitor> Workspace<'a, R, G> {
     /// The diagram of each operation on its two operands.
     ///
     /// The requests of all operations together are expanded on the caller's thread, down to the first level that has more of them
-    /// than the monitor lets the caller have; from there on they are the workers', in threads. They are reduced from the last level
-    /// up. Where the monitor bounds the requests, and the workers have not done theirs, for want of a thread or since they came to too
-    /// many, the caller's thread does the wave anew: it refuses exactly where the requests are more than the monitor allows, and none of
-    /// them are reduced then (TooManyRequests). With no bound NoWorker is answered where a worker's thread could not be started; entries
-    /// that all have terminal cases start none.
+    /// than the monitor lets the caller have; from there on the workers expand them, in threads. They are reduced from the last level
+    /// up.
+    ///
+    /// If the monitor bounds the requests and the workers have not done their part, since a thread could not be started or since they
+    /// found more requests than were left of the bound, the caller's thread does the whole wave again without them. So TooManyRequests
+    /// is always the answer of the caller's own count: there are more requests than the monitor allows, and none of them were reduced.
+    /// Without a bound NoWorker is answered if a worker's thread could not be started; entries that all have terminal cases start none.
     pub(crate) fn wave(
         &mut self,
         store: &mut Store,
