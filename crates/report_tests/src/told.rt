@@ -1,4 +1,6 @@
-//! What a monitor is told of a comparison, in one order and in the best.
+//! What a monitor is told of a comparison, in one order, in the best, and by workers.
+ghost use Rattle.std.specs.Prelude.{◌<◌, ◌≤◌};
+
 use crate::failing::C17;
 use check_report::{CheckFault, Choice, Context, Picked, Settings, judge};
 use dd_store::Watch;
@@ -12,9 +14,11 @@ use std::test::Fail;
 use std::thread::Threads;
 
 /// Adds up what it is told: how often of a rank, their numbers, those of the last ranks, the nodes, the requests, the attempts that have
-/// decided, and those that were given up for a wave's requests.
+/// decided, those that were given up for a wave's requests, and how often a worker came to a level. The caller's thread may have so many
+/// requests of a level.
 #[derive(Drop)]
 struct Listener {
+    alone: usize,
     times: AtomicUsize,
     ranks: AtomicU64,
     last_ranks: AtomicU64,
@@ -22,12 +26,14 @@ struct Listener {
     requests: AtomicUsize,
     decided: AtomicUsize,
     wide: AtomicUsize,
+    levels: AtomicUsize,
 }
 
 impl Listener {
     /// One that has heard nothing.
-    fn new() -> Listener {
+    fn new(alone: usize) -> Listener {
         Listener {
+            alone,
             times: AtomicUsize::new(0),
             ranks: AtomicU64::new(0),
             last_ranks: AtomicU64::new(0),
@@ -35,6 +41,7 @@ impl Listener {
             requests: AtomicUsize::new(0),
             decided: AtomicUsize::new(0),
             wide: AtomicUsize::new(0),
+            levels: AtomicUsize::new(0),
         }
     }
 }
@@ -44,10 +51,12 @@ impl Watch for Listener {
 }
 
 impl Monitor for Listener {
-    fn at_level(&self, _worker: u32, _level: u16) {}
+    fn at_level(&self, _worker: u32, _level: u16) {
+        self.levels.fetch_add(1, Ordering::SeqCst);
+    }
 
     fn most_alone(&self, _workers: u32, _expected: usize) -> usize {
-        usize::MAX
+        self.alone
     }
 
     fn most_requests(&self) -> usize {
@@ -86,7 +95,21 @@ struct Told {
     requests: usize,
     decided: usize,
     wide: usize,
+    levels: usize,
 }
+
+/// By how many workers a netlist is compared, and the most requests of a level before they are called in.
+#[derive(Clone, Copy, Drop)]
+struct Called {
+    workers: u32,
+    alone: usize,
+}
+
+/// By the caller's thread only.
+const ALONE: Called = Called {
+    workers: 1,
+    alone: usize::MAX,
+};
 
 /// What a monitor is told of the comparison of a netlist with itself, within so many nodes.
 fn told_of<R: Threads + Wait + Sync>(
@@ -95,12 +118,15 @@ fn told_of<R: Threads + Wait + Sync>(
     text: &str,
     order: Choice,
     limit: u32,
-) -> Result<Told, CheckFault> {
+    called: Called,
+) -> Result<Told, CheckFault>
+    requires workers { (0 < called.workers) × (called.workers ≤ 16) }
+{
     let settings = Settings {
         matching: Match::Name,
         order,
         picked: Picked::All,
-        workers: 1,
+        workers: called.workers,
         limit: u64::from(limit.max(1)),
         sizes: false,
         json: false,
@@ -109,7 +135,7 @@ fn told_of<R: Threads + Wait + Sync>(
         vcd: false,
         causes: false,
     };
-    let monitor = Listener::new();
+    let monitor = Listener::new(called.alone);
     let mut first = Through::new(text.as_bytes());
     let mut second = Through::new(text.as_bytes());
     let mut nothing: Option<Through<&[u8]>> = None;
@@ -128,16 +154,24 @@ fn told_of<R: Threads + Wait + Sync>(
         requests: monitor.requests.load(Ordering::SeqCst),
         decided: monitor.decided.load(Ordering::SeqCst),
         wide: monitor.wide.load(Ordering::SeqCst),
+        levels: monitor.levels.load(Ordering::SeqCst),
     })
 }
 
 // C17 has three ranks. The limit is above the first budget, so the best order's one attempt is bounded by that.
 #[test]
 fn told_of_a_bounded_attempt(rt: HostRuntime) -> Result<(), Fail> {
-    let single = told_of(&rt, rt.alloc(), C17, Choice::One(Order::Interleave), 70_000)?;
+    let single = told_of(
+        &rt,
+        rt.alloc(),
+        C17,
+        Choice::One(Order::Interleave),
+        70_000,
+        ALONE,
+    )?;
     assert!(rt; single.times == 3 && single.ranks == 6 && single.last_ranks == 9);
     assert!(rt; single.nodes > 15 && single.requests > 0);
-    let best = told_of(&rt, rt.alloc(), C17, Choice::Best, 70_000)?;
+    let best = told_of(&rt, rt.alloc(), C17, Choice::Best, 70_000, ALONE)?;
     assert!(rt; single.decided == 0 && single.wide == 0);
     assert!(rt;
         best == Told {
@@ -145,6 +179,23 @@ fn told_of_a_bounded_attempt(rt: HostRuntime) -> Result<(), Fail> {
             ..single
         }
     );
+    Ok(())
+}
+
+// Workers are called into the waves of an attempt, each of which has a bound, and expand the same requests.
+#[test]
+fn workers_in_an_attempt(rt: HostRuntime) -> Result<(), Fail> {
+    let called = Called {
+        workers: 2,
+        alone: 0,
+    };
+    let best = told_of(&rt, rt.alloc(), C17, Choice::Best, 70_000, ALONE)?;
+    let shared = told_of(&rt, rt.alloc(), C17, Choice::Best, 70_000, called)?;
+    let auto = told_of(&rt, rt.alloc(), C17, Choice::Auto, 70_000, called)?;
+    assert!(rt; best.levels == 0 && shared.levels > 0 && auto.levels > 0);
+    let levels = shared.levels;
+    assert!(rt; shared == Told { levels, ..best });
+    assert!(rt; auto.decided == 1 && auto.requests == best.requests);
     Ok(())
 }
 
@@ -200,9 +251,10 @@ fn requests_for_each_node(rt: HostRuntime) -> Result<(), Fail> {
         &text,
         Choice::One(Order::Interleave),
         LIMIT,
+        ALONE,
     )?;
     assert!(rt; single.requests > 8 * LIMIT as usize);
-    let best = told_of(&rt, rt.alloc(), &text, Choice::Best, LIMIT)?;
+    let best = told_of(&rt, rt.alloc(), &text, Choice::Best, LIMIT, ALONE)?;
     assert!(rt; best.decided == 1 && best.wide == 1);
     Ok(())
 }

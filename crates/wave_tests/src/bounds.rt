@@ -6,7 +6,7 @@ use crate::waves::{How, Way, crew_of, entries_of, run, start};
 use dd_store::{Ref, Store, Watch};
 use expand_work::{Monitor, WaveFault};
 use req_table::{ComputedTable, Op};
-use std::alloc::Global;
+use std::alloc::{AllocError, Global};
 use std::process::Abort;
 use std::sync::Wait;
 use std::sync::atomic::{AtomicUsize, Ordering};
@@ -73,13 +73,13 @@ fn product_of_sums<R: Threads + Wait + Abort + Sync>(
         workers: 1,
         way: Way::Threads,
     };
-    let made = run(rt, alloc, store, &mut known, &sums, how);
-    assert!(rt; made.is_ok());
+    run(rt, alloc, store, &mut known, &sums, how).expect(rt, "out of memory");
     let steps = [(Op::And, 6, 7)];
     entries_of(rt, alloc, store, known.as_slice(), &steps)
 }
 
-/// That wave by so many workers, who are called in at a level of more requests than the caller's thread may have.
+/// That wave by so many workers, who are called in at a level of more requests than the caller's thread may have. It fails if memory is
+/// refused.
 fn within<R: Threads + Wait + Abort + Sync>(
     rt: &R,
     alloc: Global,
@@ -101,31 +101,68 @@ fn within<R: Threads + Wait + Abort + Sync>(
     let mut computed = ComputedTable::new(alloc, 1)?;
     let entries = entries.as_slice();
     let crew = crew_of(rt, alloc, workers, &monitor);
-    let answers = wave(&crew, &mut store, &mut computed, entries);
+    let fault = wave(&crew, &mut store, &mut computed, entries).err();
+    if fault == Some(WaveFault::OutOfMemory) {
+        return Err(Fail::from(AllocError));
+    }
     Ok(Seen {
-        fault: answers.err(),
+        fault,
         told: monitor.told.load(Ordering::SeqCst),
         workers: monitor.workers.load(Ordering::SeqCst),
         added: store.count().saturating_sub(before),
     })
 }
 
-// A wave of seven requests is done within a bound of seven, whoever expands it, and refused within less, before a node is made.
+/// Whether a wave was done, and each of its seven requests expanded once.
+fn is_done(seen: &Seen) -> bool {
+    seen.fault.is_none() && seen.told == 7 && seen.added > 0
+}
+
+/// Whether a wave was refused for its requests before a node was made, and none were expanded past this bound.
+fn is_refused(seen: &Seen, most: usize) -> bool {
+    seen.fault == Some(WaveFault::TooManyRequests) && seen.told <= most && seen.added == 0
+}
+
+// A wave of seven requests is done within a bound of seven and refused within less, by any number of workers, whichever level they are
+// called in at.
 #[test]
 fn bound_of_a_wave(rt: HostRuntime) -> Result<(), Fail> {
     for workers in 1..17 {
         for alone in [0, 1, 2, 4] {
             let done = within(&rt, rt.alloc(), workers, 7, alone)?;
-            assert!(rt; done.fault.is_none() && done.told == 7);
+            assert!(rt; is_done(&done));
             assert!(rt; (done.workers > 0) == (alone == 0 || (alone < 4 && workers > 1)));
-            assert!(rt; done.added > 0);
             for most in [0, 1, 2, 3, 6] {
                 let refused = within(&rt, rt.alloc(), workers, most, alone)?;
-                assert!(rt; refused.fault == Some(WaveFault::TooManyRequests));
-                assert!(rt; refused.added == 0);
+                assert!(rt; is_refused(&refused, most));
             }
         }
     }
+    Ok(())
+}
+
+// However the threads run, a wave of exactly its bound is done, and one of one more is refused.
+#[test]
+fn bound_by_any_schedule(rt: HostRuntime) -> Result<(), Fail> {
+    for turn in 0..200 {
+        for workers in 1..17 {
+            let alone = turn % 3;
+            let done = within(&rt, rt.alloc(), workers, 7, alone)?;
+            assert!(rt; is_done(&done));
+            let refused = within(&rt, rt.alloc(), workers, 6, alone)?;
+            assert!(rt; is_refused(&refused, 6));
+        }
+    }
+    Ok(())
+}
+
+// Within a bound a thread that cannot be started changes no answer: tests/growths.py refuses each start in turn, and each growth.
+#[test]
+fn bound_without_a_thread(rt: HostRuntime) -> Result<(), Fail> {
+    let done = within(&rt, rt.alloc(), 4, 7, 0)?;
+    assert!(rt; done.fault.is_none() && done.added > 0);
+    let refused = within(&rt, rt.alloc(), 4, 6, 0)?;
+    assert!(rt; is_refused(&refused, 6));
     Ok(())
 }
 

@@ -2,7 +2,8 @@
 //!
 //! They show what no contract can: that calls with ample memory succeed (`refused`: what a refused wave leaves), that
 //! threads meet in a level and in its shards (`meeting`, `stores`, `wide`), when workers are called in (`earlier`),
-//! that each request is told once (`bounds`), and that each number of workers answers the same (`workers`, `widths`).
+//! that each request is told once, and a wave refused exactly if it has more than its bound (`bounds`), and that each
+//! number of workers answers the same (`workers`, `widths`).
 //! **Begin** with `waves` and `ways`.
 #![tactic(auto)]
 

@@ -77,7 +77,7 @@ fn work_alone<R: Wait + Abort, G: Monitor>(
         store,
         roots: &[task.root],
         stop,
-        come: &AtomicU64::new(0),
+        found: &AtomicU64::new(0),
         most: u64::MAX,
         keeps: task.keeps,
     };
@@ -203,7 +203,7 @@ fn work_until_told<R: Wait>(
         store,
         roots: &[],
         stop: flags.stop,
-        come: &AtomicU64::new(0),
+        found: &AtomicU64::new(0),
         most: u64::MAX,
         keeps: false,
     };
