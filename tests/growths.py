@@ -28,6 +28,8 @@ TESTS = [
     # Three operations over three levels: by a core, on the caller's thread and with workers. What was there is found after a refusal,
     # and the same wave then gives the right diagrams.
     ("wave_tests", "refused::refused_wave"),
+    # A wave within its bound and one past it, by four threads: where a start is refused the answers are the same.
+    ("wave_tests", "bounds::bound_without_a_thread"),
 ]
 # How a test says that it was refused something.
 REFUSED = re.compile(rb"\b(error|memory|a variable|a variable is refused|out of memory): (AllocError|AllocFailed|OutOfMemory|NoWorker)\b")

@@ -8,7 +8,8 @@ until a run meets no refusal, or, where there are too many, some N are drawn, by
 by J processes (2). Wide rows are run within little address space as well, where the system itself refuses. A run must end
 in time, with status 3, nothing written and one line on want of memory or of a worker; or with the very report that it
 gives without refusals. Of a row whose waves call their workers in, each start of the first of these waves is refused in
-every run, and growths while its workers run, where the others have to be told to stop.
+every run, and growths while its workers run, where the others have to be told to stop. If a row names no order, a thread
+that cannot be started costs no report: only the very report is right then.
 """
 import argparse
 import os
@@ -26,9 +27,10 @@ sys.path.append(str(TOP / "bench"))
 import circuits  # noqa: E402
 
 # Where want of memory may stand, and a worker that could not be started.
-REFUSED = {
+OUT_OF_MEMORY = {
     lines(f"bddcheck: {place}out of memory") for place in ("", "first: ", "second: ", "given: ", "order: ", "build: ")
-} | {lines("bddcheck: build: a worker could not be started")}
+}
+NO_WORKER = {lines("bddcheck: build: a worker could not be started")}
 # A run without refusals takes a small part of a second; a run that takes so long hangs.
 HANGS = 60
 
@@ -66,8 +68,9 @@ EACH, EACH_START, STARTS_FROM, GROWTHS_FROM = ("gs", "at"), ("s", "at"), ("s", "
 WAYS = [EACH, GROWTHS_FROM, EACH_START, STARTS_FROM]
 
 
-# Wide enough that a wave calls its workers in, so that a run takes seconds.
+# Wide enough that a wave calls its workers in, so that a run takes seconds: of products, and of the bits of a multiplier.
 CALLED_IN = 21
+MULTIPLIED = 10
 
 
 @dataclass
@@ -81,6 +84,18 @@ class Row:
     draws: int = 10
     # By how many runs its growths are counted.
     counts: int = 3
+
+    def faults(self, what):
+        """What a run may say that was refused a growth or a start, or a start only."""
+        named = NO_WORKER if self.names_order() else set()
+        return named if what == "s" else OUT_OF_MEMORY | named
+
+    def names_order(self):
+        """Whether the words name an order, or imply the declared one."""
+        words = [str(word) for word in self.words]
+        if "--order" in words:
+            return words[words.index("--order") + 1] not in ("auto", "best", "cones")
+        return any(word in words for word in ("--order-file", "--sizes", "--limit"))
 
 
 def rows(place):
@@ -126,12 +141,19 @@ def rows(place):
         yield Row(f"parity by {workers}", [*declared, "--workers", workers, chain, tree])
         yield Row(f"products by {workers}", ["--workers", workers, "--sizes", one, folded])
     yield wide_row(place, 2)
+    yield searched_row(place, 2)
 
 
 def wide_row(place, workers):
     """Products whose first waves stay on the caller's thread, and whose later ones call so many workers in."""
     wider = written(place, f"wider{workers}", products(CALLED_IN))
     return Row(f"wider products by {workers}", ["--order", "declared", "--workers", workers, wider, wider], draws=2, counts=1)
+
+
+def searched_row(place, workers):
+    """Multipliers by the bare command, some of whose attempts call so many workers in, though their waves are bounded."""
+    multiplied = written(place, f"multiplied{workers}", multiplier(circuits.array, MULTIPLIED))
+    return Row(f"auto, multipliers by {workers}", ["--workers", workers, multiplied, multiplied], draws=1, counts=1)
 
 
 @dataclass
@@ -174,15 +196,15 @@ class Figures:
         self.wrong += other.wrong
 
 
-def fault_of(right, seen, refused):
-    """What is wrong with a run, or None."""
+def fault_of(right, seen, refused, faults):
+    """What is wrong with a run that may say one of these faults, or None."""
     if refused is None:
         return f"ended by force: {seen}"
     if seen == right:
         return None
     if refused == 0:
         return f"nothing was refused: {seen}"
-    if seen.status != 3 or seen.out or seen.err not in REFUSED:
+    if seen.status != 3 or seen.out or seen.err not in faults:
         return str(seen)
     return None
 
@@ -194,7 +216,7 @@ def try_places(refuser, row, what, mode, places, whole, after=0):
     figures = Figures()
     for place in places:
         seen, _, refused = refuser.run(row, what, **{mode: place}, after=after)
-        fault = fault_of(right, seen, refused)
+        fault = fault_of(right, seen, refused, row.faults(what))
         if fault:
             figures.wrong.append(f"{what} {mode} {place}: {fault}")
         figures.tried += 1
@@ -267,12 +289,13 @@ def try_workers(refuser, row, workers, places):
 
 def worker_tasks(refuser, pool, rng):
     """What is refused to the workers whom a wave calls in: a start, or a growth while the others run."""
-    for workers in (2, 4):
-        row = wide_row(refuser.place, workers)
-        most = refuser.run(row, "g", after=workers)[1] or 0
-        places = [1, 2, 3] + [rng.randrange(1, max(2, most // 2)) for _ in range(7)]
-        name = f"{row.name}: each start of a first wave, and growths of its workers"
-        yield name, pool.submit(try_workers, refuser, row, workers, places)
+    for made in (wide_row, searched_row):
+        for workers in (2, 4):
+            row = made(refuser.place, workers)
+            most = refuser.run(row, "g", after=workers)[1] or 0
+            places = [1, 2, 3] + [rng.randrange(1, max(2, most // 2)) for _ in range(7)]
+            name = f"{row.name}: each start of a first wave, and growths of its workers"
+            yield name, pool.submit(try_workers, refuser, row, workers, places)
 
 
 def try_bounds(refuser, row):
@@ -281,7 +304,7 @@ def try_bounds(refuser, row):
     for kib in bounds:
         seen = run([refuser.program, *row.words], row.given, HANGS, preexec_fn=lambda: bound(kib))
         # Whether something was refused shows in the answer alone.
-        fault = fault_of(right, seen, 1)
+        fault = fault_of(right, seen, 1, row.faults("gs"))
         if fault:
             figures.wrong.append(f"{kib} KiB: {fault}")
         figures.tried += 1
@@ -289,9 +312,9 @@ def try_bounds(refuser, row):
     return figures
 
 
-def starts_of(refuser, workers):
-    """How many threads a wide pair starts with so many workers."""
-    return refuser.run(wide_row(refuser.place, workers), "s")[1]
+def starts_of(refuser, made, workers):
+    """How many threads the run of such a row starts with so many workers."""
+    return refuser.run(made(refuser.place, workers), "s")[1]
 
 
 def bound(kib):
@@ -329,8 +352,10 @@ def main():
             is_wrong = any(figures.wrong for figures in results.values())
             if is_wrong or time.monotonic() - begun >= settings.seconds:
                 break
-        starts = [starts_of(refuser, workers) for workers in (1, 2, 4, 16)]
-        tally.check("more workers start more threads", starts == sorted(set(starts)), starts)
+        for name, made in (("products", wide_row), ("multipliers by the bare command", searched_row)):
+            starts = [starts_of(refuser, made, workers) for workers in (1, 2, 4, 16)]
+            tally.check(f"{name}: one worker starts no thread, more workers start more", starts == sorted(set(starts)) and starts[0] == 0, starts)
+            tally.figures(f"{name}: 1, 2, 4 and 16 workers start {', '.join(map(str, starts))} threads")
     total = Figures()
     for name, figures in results.items():
         tally.check(f"{name}: {figures.tried} runs", not figures.wrong, "; ".join(figures.wrong[:3]))

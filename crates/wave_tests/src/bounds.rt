@@ -141,19 +141,45 @@ fn bound_of_a_wave(rt: HostRuntime) -> Result<(), Fail> {
     Ok(())
 }
 
-// However the threads run, a wave of exactly its bound is done, and one of one more is refused.
-#[test]
-fn bound_by_any_schedule(rt: HostRuntime) -> Result<(), Fail> {
+/// That wave two hundred times within exactly its bound and within one less, by this number of workers and by the three numbers above it.
+fn two_hundred_turns<R: Threads + Wait + Abort + Sync>(
+    rt: &R,
+    alloc: Global,
+    least: u32,
+) -> Result<(), Fail>
+    requires workers { (0 < least) × (least ≤ 13) }
+{
     for turn in 0..200 {
-        for workers in 1..17 {
+        for more in 0..4 {
             let alone = turn % 3;
-            let done = within(&rt, rt.alloc(), workers, 7, alone)?;
+            let done = within(rt, alloc, least + more, 7, alone)?;
             assert!(rt; is_done(&done));
-            let refused = within(&rt, rt.alloc(), workers, 6, alone)?;
+            let refused = within(rt, alloc, least + more, 6, alone)?;
             assert!(rt; is_refused(&refused, 6));
         }
     }
     Ok(())
+}
+
+// However the threads run, a wave of exactly its bound is done, and one of one more is refused.
+#[test]
+fn bound_by_up_to_four(rt: HostRuntime) -> Result<(), Fail> {
+    two_hundred_turns(&rt, rt.alloc(), 1)
+}
+
+#[test]
+fn bound_by_up_to_eight(rt: HostRuntime) -> Result<(), Fail> {
+    two_hundred_turns(&rt, rt.alloc(), 5)
+}
+
+#[test]
+fn bound_by_up_to_twelve(rt: HostRuntime) -> Result<(), Fail> {
+    two_hundred_turns(&rt, rt.alloc(), 9)
+}
+
+#[test]
+fn bound_by_up_to_sixteen(rt: HostRuntime) -> Result<(), Fail> {
+    two_hundred_turns(&rt, rt.alloc(), 13)
 }
 
 // Within a bound a thread that cannot be started changes no answer: tests/growths.py refuses each start in turn, and each growth.

@@ -1,0 +1,111 @@
+#!/usr/bin/env python3
+"""That the report is the same by any number of workers, and so are the attempts that are given up.
+
+usage: tests/workers.py PROGRAM [FOLDER ..] [--jobs J] [--seconds N] [--orders ORDER,ORDER ..]
+
+Each pair is compared in the orders `auto` and `best` by 1, 2, 3, 4, 7 and 16 workers. The status, the report and what --verbose says of
+each attempt have to be those of one worker, byte for byte. The pairs are some of examples/ and some that bench/circuits.py writes, of
+which the multipliers of ten bits have waves that call workers in; where a FOLDER is given, in their place those of its folders NAME/:
+a.bench with b.bench and, if it is there, with c.bench. A run of such a pair that takes N (120) seconds is stopped; if one worker takes
+as long, the pair is not tried in this order, and is counted.
+"""
+import argparse
+import pathlib
+import sys
+from dataclasses import dataclass
+
+import kit
+from kit import C17, C17B, TOP, Tally, netlist, run, written
+
+sys.path.append(str(TOP / "bench"))
+import circuits  # noqa: E402
+
+WORKERS = [1, 2, 3, 4, 7, 16]
+EXAMPLES = [("adder8_ripple", "adder8_lookahead"), ("adder8_ripple", "adder8_wrong"), ("s27", "s27_wrong"), ("pairs", "pairs")]
+
+
+def made(build, *words):
+    """The text of a circuit that bench/circuits.py builds."""
+    net = circuits.Netlist()
+    build(net, *words)
+    return net.text().encode()
+
+
+def own_pairs(place):
+    """The pairs that are tried without a folder, by name."""
+    texts = [
+        ("c17", C17, C17B),
+        ("parity", made(circuits.parity, 24, circuits.chain), made(circuits.parity, 24, circuits.tree)),
+        ("alu", made(circuits.alu, 16, circuits.and_or_alu), made(circuits.alu, 16, circuits.tree_alu)),
+        ("multiplier of 7 bits", made(circuits.multiplier, 7, circuits.array), made(circuits.multiplier, 7, circuits.wallace)),
+        ("multiplier of 10 bits", made(circuits.multiplier, 10, circuits.array), made(circuits.multiplier, 10, circuits.wallace)),
+        ("no output", netlist("INPUT(a)"), netlist("INPUT(a)")),
+    ]
+    for number, (name, first, second) in enumerate(texts):
+        yield name, [written(place, f"{number}a", first), written(place, f"{number}b", second)]
+    for first, second in EXAMPLES:
+        yield f"{first} {second}", [TOP / "examples" / f"{name}.bench" for name in (first, second)]
+
+
+def folder_pairs(folders):
+    for folder in folders:
+        for place in sorted(path.parent for path in folder.glob("*/a.bench")):
+            for second in ("b.bench", "c.bench"):
+                if (place / second).exists():
+                    yield f"{place.name} {second[0]}", [place / "a.bench", place / second]
+
+
+def seen(program, order, workers, pair, seconds):
+    """A run: its status, its report and what it says of its attempts."""
+    one = run([program, "--order", order, "--workers", workers, "--verbose", *pair], seconds=seconds)
+    return one.status, one.out, [line for line in one.err.split(b"\n") if b"budget" in line]
+
+
+@dataclass
+class Found:
+    """What differs by the number of workers, and whether one worker took too long."""
+
+    name: str
+    differs: list
+    too_long: bool = False
+
+
+def compared(program, name, order, pair, seconds):
+    first = seen(program, order, 1, pair, seconds)
+    if first[0] is None:
+        return Found(f"{name} by {order}", [], True)
+    # Busy processors may take several workers longer than one.
+    others = {workers: seen(program, order, workers, pair, 4 * seconds) for workers in WORKERS[1:]}
+    return Found(f"{name} by {order}", [f"{workers} workers: {other}, one: {first}" for workers, other in others.items() if other != first])
+
+
+def main():
+    parser = argparse.ArgumentParser(usage=__doc__.split("usage: ")[1].split("\n")[0])
+    parser.add_argument("program")
+    parser.add_argument("folders", nargs="*", type=pathlib.Path)
+    parser.add_argument("--jobs", type=int, default=2)
+    parser.add_argument("--seconds", type=float, default=120)
+    parser.add_argument("--orders", type=lambda text: text.split(","), default=["auto", "best"])
+    settings = parser.parse_args()
+    tally, too_long = Tally("workers"), []
+    with kit.folder() as place, kit.pool(settings.jobs) as pool:
+        pairs = list(folder_pairs(settings.folders) if settings.folders else own_pairs(place))
+        tasks = [
+            pool.submit(compared, settings.program, name, order, pair, settings.seconds)
+            for name, pair in pairs
+            for order in settings.orders
+        ]
+        for task in tasks:
+            found = task.result()
+            if found.too_long:
+                too_long.append(found.name)
+            else:
+                tally.check(found.name, not found.differs, "; ".join(found.differs)[:2000])
+    if too_long:
+        tally.figures(f"one worker took longer than {settings.seconds:.0f} s, so these were not tried: {', '.join(too_long)}")
+    tally.end()
+    sys.exit(tally.failed > 0)
+
+
+if __name__ == "__main__":
+    kit.ended(main)
