@@ -2,11 +2,14 @@
 """Measures bddcheck by several numbers of workers against one, on pairs of netlists and on single waves.
 
 usage: bench/turns.py PROGRAM [FOLDER ..] [--before PROGRAM] [--workers N,N ..] [--repeats K] [--rest SECONDS] [--waves N,N ..] [--busy N] [--only WORD]
+                              [--words "WORD .."]
 
 A FOLDER has folders NAME/ with a.bench, b.bench and order, as for peers.py. --waves adds netlists whose run is nearly one
 wave: the disjunction of two sums of N/2 products over variables of their own, all first factors before all second ones,
 which comes to nearly 2^(N + 1) requests. --before measures an older program beside the first one. --busy has N other processes run
-all the while, which never wait.
+all the while, which never wait. --words has these words in place of the order file, as `--words=` for the bare command: then the
+folders need no order file, and a run may also end with differences or undecided pairs, in each column alike. With --verbose among
+these words the table has how many attempts of a run were given up for a wave's requests, and how many for nodes.
 
 Each pair is run K times (5), and within each time by each number of workers (1,2,4), one after the other and SECONDS (1)
 apart, since a host may take processors away after some seconds of full load. It prints a table in Markdown:
@@ -25,8 +28,9 @@ import time
 from measure import run
 
 
-def words_of(program, workers, folder):
-    return [program, "--workers", str(workers), "--order-file", *(str(folder / name) for name in ("order", "a.bench", "b.bench"))]
+def words_of(program, workers, folder, words):
+    order = ["--order-file", str(folder / "order")] if words is None else words
+    return [program, "--workers", str(workers), *order, *(str(folder / name) for name in ("a.bench", "b.bench"))]
 
 
 def write_wave(folder, size):
@@ -67,8 +71,9 @@ def measured(folder, settings):
     for _ in range(settings.repeats):
         for (_, program, workers), column in zip(settings.columns, runs):
             time.sleep(settings.rest)
-            one = run(words_of(program, workers, folder), 600)
-            if one.status != 0:
+            one = run(words_of(program, workers, folder, settings.words), 600)
+            wanted = [0] if settings.words is None else [0, 1, 3] if not runs[0] else [runs[0][0].status]
+            if one.status not in wanted:
                 sys.exit(f"status {one.status} of {folder.name}:\n{one.output}")
             column.append(one)
     return runs
@@ -88,6 +93,8 @@ def row_of(folder, settings):
     for kind in (clocks, works):
         cells += ["{:.2f}, {:.2f}".format(*(a / b for a, b in zip(one, kind[0]))) for one in kind[1:]]
     cells += ["{:.0f}".format(max(one.megabytes for one in column)) for column in runs]
+    if settings.words and "--verbose" in settings.words:
+        cells.append(", ".join(str(runs[0][0].output.count(why)) for why in ("too many requests in one wave", "more nodes\n")))
     return cells + ["{:.1f} %".format(100 * (after[0] - before[0]) / (after[1] - before[1]))]
 
 
@@ -103,6 +110,7 @@ def settings_of():
     parser.add_argument("--waves", type=numbers, default=[])
     parser.add_argument("--busy", type=int, default=0)
     parser.add_argument("--only", default="")
+    parser.add_argument("--words", type=str.split)
     settings = parser.parse_args()
     programs = [("", settings.program)] + ([("before, ", settings.before)] if settings.before else [])
     settings.columns = [(when, program, workers) for when, program in programs for workers in settings.workers]
@@ -113,10 +121,13 @@ def main():
     settings = settings_of()
     names = [f"{when}{workers}" for when, _, workers in settings.columns]
     head = ["pair", f"{names[0]} s"] + [f"{name} / {names[0]}" for name in names[1:]] + [f"work of {name}" for name in names[1:]]
-    head += [f"MB of {name}" for name in names] + ["host took"]
+    head += [f"MB of {name}" for name in names]
+    head += ["given up: requests, nodes"] if settings.words and "--verbose" in settings.words else []
+    head += ["host took"]
     print("| " + " | ".join(head) + " |\n|" + " --- |" * len(head))
     with tempfile.TemporaryDirectory() as room, others(settings.busy):
-        pairs = [pair for folder in settings.folders for pair in sorted(folder.iterdir()) if (pair / "order").exists()]
+        wanted = "order" if settings.words is None else "b.bench"
+        pairs = [pair for folder in settings.folders for pair in sorted(folder.iterdir()) if (pair / wanted).exists()]
         pairs += [write_wave(pathlib.Path(room) / f"wave{size}", size) for size in settings.waves]
         for pair in pairs:
             if settings.only in pair.name:
