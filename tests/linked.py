@@ -1,5 +1,5 @@
 #!/usr/bin/env python3
-"""That the program stands on the ported crates that docs/DECISIONS.md says it stands on: each is named, in crates.txt and in the code, by a
+"""That the program uses the ported crates that docs/decisions/toolchain.md names: each is named, in crates.txt and in the code, by a
 crate that the program links.
 
 usage: tests/linked.py
