@@ -131,6 +131,7 @@ def blocks(text):
 def functions(module):
     """The public functions of a module: their names and the texts of their clauses."""
     names = module.handed.get("/".join(module.path), set())
+    types = set().union(*module.handed.values())
     spans = list(blocks(module.text))
     for match in re.finditer(r"^( *)(pub )?(?:const )?fn (\w+)", module.text, re.M):
         home = next((s for s in spans if s[2] <= match.start() < s[3]), None)
@@ -138,7 +139,7 @@ def functions(module):
             reached = bool(match.group(2)) and (module.is_public or match.group(3) in names)
             owner = ""
         else:
-            reached = home[0] is not None and (module.is_public or home[0] in names)
+            reached = home[0] is not None and (module.is_public or home[0] in types)
             reached = reached and (home[1] or bool(match.group(2)))
             owner = f"{home[0]}::"
         if reached:
