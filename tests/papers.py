@@ -38,6 +38,8 @@ def main():
     tally.check("the README has the options of --help", not missing, missing)
     compared = run([sys.executable, str(TOP / "tools" / "definitions.py")])
     tally.check("docs/DEFINITIONS.md has what public contracts cite", compared.status == 0, compared)
+    cited = run([sys.executable, str(TOP / "tools" / "proved.py")])
+    tally.check("the contracts have each clause that docs/PROVED.md and docs/TESTING.md name", cited.status == 0, cited)
     for script, picture in (("picture.py", "crates.svg"), ("wave.py", "wave.svg")):
         drawn = run([sys.executable, str(TOP / "tools" / script)])
         is_drawn = drawn.status == 0 and drawn.out == (TOP / "docs" / picture).read_bytes()
