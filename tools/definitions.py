@@ -1,12 +1,17 @@
 #!/usr/bin/env python3
-"""Compares the definitions that public contracts cite with docs/DEFINITIONS.md.
+"""Compares docs/DEFINITIONS.md with the definitions that public contracts cite.
 
-A public contract is one of a function that users of a crate can call: a `pub fn` that stands in a public module, that
-`lib.rt` hands out by name, or that is a method of such a type; each function of such a trait; and each `pub fn` of a program.
-A definition is a name that a clause of it takes from the `specs/` of a crate of this repository.
+A public contract is one of a function that users of a crate can call: a `pub fn` of a public module, one that `lib.rt` exports by
+name, or a method of a type that it exports; each function of such a trait; and each `pub fn` of a program. A definition is a name
+that a clause of it takes from the `specs/` of a crate of this repository.
 
-Prints what is cited and not on the page, and what the page has and its file does not define, and exits 1 where there is
-either. With --uses it prints each cited definition with the functions that cite it.
+The page has a section for each crate, in it a bold line for each file of `specs/`, and below that one item for each name:
+"- `name`: what it is". The page has to have every definition that a public contract cites, or that docs/PROVED.md names in
+parentheses, and no other, except those that a definition on the page is made of.
+
+Prints each mistake, and exits 1 if there is one: an item that does not explain exactly one name, a name that is explained twice, a
+definition that is missing, one that its file does not have, and one that nothing asks for. With --uses it prints each cited definition
+with the functions that cite it.
 """
 import re
 import sys
@@ -160,16 +165,56 @@ def cited():
 
 
 def listed():
-    """The names that the page has, each with its file: those before the first colon of an item, under a crate and a file."""
-    rows, crate, file = [], "", ""
-    for line in re.sub(r"\n +", " ", PAGE.read_text()).splitlines():
+    """The names that the page explains, each with its file, and what is wrong with its items."""
+    rows, wrong, crate, file = [], [], "", ""
+    for number, line in enumerate(PAGE.read_text().splitlines(), 1):
         if line.startswith("## "):
-            crate = re.match(r"## (\w+)", line).group(1)
-        elif line.startswith("**"):
+            crate, file = re.match(r"## (\w+)", line).group(1), ""
+        elif line.startswith("**") and crate in CRATES:
             file = f"{crate}/specs/{line.split('**')[1]}.antt"
-        elif line.startswith("- "):
-            rows += [(name, file) for name in re.findall(rf"`({WORD})`", line.split(":")[0])]
-    return rows
+        elif line.startswith("- ") and crate in CRATES:
+            item = re.match(rf"- `({WORD})`: \S", line)
+            if not item or not file:
+                wrong.append(f"line {number}: not an item that explains one name of a file: {line}")
+            elif (item.group(1), file) in rows:
+                wrong.append(f"line {number}: {item.group(1)} is explained twice")
+            else:
+                rows.append((item.group(1), file))
+    return rows, wrong
+
+
+def named():
+    """The names in parentheses in the tables of docs/PROVED.md: definitions, and fields of definitions."""
+    cells = re.findall(r"^\|.*\|", (TOP / "docs" / "PROVED.md").read_text(), re.M)
+    groups = re.findall(r"\((`[^)]*`)\)", "\n".join(cells))
+    return set(re.findall(rf"`({WORD})`", " ".join(groups)))
+
+
+def is_defined(name):
+    """Whether some file of specs/ defines the name, not only a field of it."""
+    return any(defines(str(path.relative_to(TOP / "crates")), name) for path in (TOP / "crates").glob("*/specs/*.antt"))
+
+
+def block(file, name):
+    """The lines of a definition."""
+    match = defines(file, name)
+    return re.split(r"\n\s*\n", text_of(file)[match.start() :], maxsplit=1)[0] if match else ""
+
+
+def parts(name, file):
+    """What the definition is made of: the names in it, each with its file."""
+    text = text_of(file)
+    known = {}
+    for path, names in re.findall(r"^(?:pub )?use Rattle\.([\w.]+?)\.(\{[^}]*\})", text, re.M):
+        crate, *rest = path.split(".")
+        if crate in CRATES and rest[:1] == ["specs"] and "declared" not in rest:
+            for there, alias in names_in(names):
+                known[alias] = origin(there, f"{crate}/specs/{'/'.join(rest[1:])}.antt")
+    for word in set(re.findall(WORD, block(file, name))) - {name}:
+        if word in known:
+            yield known[word]
+        elif defines(file, word):
+            yield word, file
 
 
 def text_of(file):
@@ -203,17 +248,22 @@ def home(file, name):
 
 def main():
     uses = cited()
-    rows = listed()
+    rows, wrong = listed()
     if "--uses" in sys.argv[1:]:
         for (name, file), names in sorted(uses.items(), key=lambda use: (use[0][1], use[0][0])):
             print(f"{file} {name}: {' '.join(sorted(names))}")
-    missing = sorted((file, name) for name, file in uses.keys() - set(rows))
-    stale = sorted((file, name) for name, file in rows if not defines(file, name))
-    for file, name in missing:
-        print(f"cited by a public contract and not on the page: {name} of {file}")
-    for file, name in stale:
-        print(f"on the page and not defined: {name} of {file}")
-    return 1 if missing or stale else 0
+    asked = {name for name in named() if is_defined(name)}
+    rests = {part for row in rows for part in parts(*row)}
+    wrong += [f"cited by a public contract and not on the page: {name} of {file}" for name, file in sorted(uses.keys() - set(rows))]
+    wrong += [f"named by docs/PROVED.md and not on the page: {name}" for name in sorted(asked - {name for name, _ in rows})]
+    for name, file in rows:
+        if not defines(file, name):
+            wrong.append(f"on the page and not defined: {name} of {file}")
+        elif (name, file) not in uses and name not in asked and (name, file) not in rests:
+            wrong.append(f"on the page, but nothing asks for it: {name} of {file}")
+    for mistake in wrong:
+        print(mistake)
+    return 1 if wrong else 0
 
 
 CRATES = crates()
