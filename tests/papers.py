@@ -1,24 +1,60 @@
 #!/usr/bin/env python3
-"""That the program's own help, its manual page, its completions and the README name the same options, that docs/DEFINITIONS.md has
-the definitions that public contracts cite, that docs/crates.svg and docs/wave.svg are what their scripts draw, and that the README
-names the kit that is here.
+"""That the documents fit together and fit the code.
+
+The program's own help, its manual page, its completions and the README name the same options. docs/DEFINITIONS.md has the definitions that
+public contracts cite. Each link of each document leads to a file and a heading that are there, and each path in a code span is there.
+Each picture is what its script draws. Each crate is in docs/ARCHITECTURE.md. Each term in italics is in docs/GLOSSARY.md. Each run that the
+README shows prints what stands below it. The README names the logic of the kit that is here. No document has a word that the project has
+given up, or a place that is still to be filled.
 
 usage: tests/papers.py PROGRAM
 """
 import re
+import shlex
 import shutil
 import sys
 
+import pages
 from kit import TOP, Tally, run, say
+
+# A picture, and the words that print it on standard output. Each picture of docs/ has a row.
+DRAWN = {
+    "docs/crates.svg": ["tools/picture.py"],
+    "docs/wave.svg": ["tools/wave.py"],
+}
+
+# Words that this project no longer uses for what they are named after, and what to write instead. Only those that hardly mean anything
+# else are here; they are looked for in prose, not in code.
+GIVEN_UP = {
+    r"(?:is|are|was|were|be|been) told|tells? (?!\w+ apart|apart)": "reports, prints, says, knows",
+    r"wrong bod(?:y|ies)": "planted bug",
+    r"behind": "after, below",
+    r"to and fro": "in serpentine order",
+    r"complement marks?": "complement bit, complement edge",
+    r"stands(?! for\b)": "is",
+    r"(?:doors?|stairs)": "the plain word",
+}
+
+# A path in a code span: of a folder of the repository, or of a crate.
+PATH = re.compile(r"(?:\.ci|tools|tests|docs|bench|examples|crates)/[\w./-]+")
+IN_A_CRATE = re.compile(r"(\w+)/(?:src|specs|proofs|wrong-bodies|must-fail)\b[\w./-]*")
+# What is there only after a build, and capitals that stand for a name.
+PASSED_OVER = re.compile(r"/out/|/out$|(?:^|/)[A-Z]+(?:/|$|\.(?!md))")
+
+TERMS_ARE_IN = ("README.md", "docs/ARCHITECTURE.md", "docs/DEFINITIONS.md")
 
 
 def options_in(text):
     return set(re.findall(r"--[a-z][a-z-]*", text))
 
 
-def main():
-    tally = Tally("papers")
-    helped = run([sys.argv[1], "--help"])
+def crates():
+    lines = [line.partition("#")[0] for line in (TOP / "crates.txt").read_text().splitlines()]
+    return {line.split(":")[0].split()[0] for line in lines if ":" in line}
+
+
+def check_options(tally, program, readme):
+    helped = run([program, "--help"])
     wanted = options_in(helped.out.decode())
     tally.check("help names options", len(wanted) > 5, helped)
     manual = (TOP / "docs" / "bddcheck.1").read_text().replace("\\-", "-")
@@ -32,24 +68,120 @@ def main():
     }
     for name, options in papers.items():
         tally.check(f"{name} has the options of --help", options == wanted, options ^ wanted)
-    readme = (TOP / "README.md").read_text()
-    told = options_in(readme)
-    missing = wanted - told - {"--help"}
+    missing = wanted - options_in(readme) - {"--help"}
     tally.check("the README has the options of --help", not missing, missing)
-    compared = run([sys.executable, str(TOP / "tools" / "definitions.py")])
-    tally.check("docs/DEFINITIONS.md has what public contracts cite", compared.status == 0, compared)
-    cited = run([sys.executable, str(TOP / "tools" / "proved.py")])
-    tally.check("the contracts have each clause that docs/PROVED.md and docs/TESTING.md name", cited.status == 0, cited)
-    for script, picture in (("picture.py", "crates.svg"), ("wave.py", "wave.svg")):
-        drawn = run([sys.executable, str(TOP / "tools" / script)])
-        is_drawn = drawn.status == 0 and drawn.out == (TOP / "docs" / picture).read_bytes()
-        tally.check(f"docs/{picture} is what tools/{script} draws", is_drawn, drawn)
+
+
+def check_kit(tally, readme):
     if shutil.which("rt"):
         kit = run(["rt", "version"])
         lines = [f"Proved with `{line}`." for line in kit.out.decode().splitlines()]
         tally.check("the README names the kit that `rt version` prints", len(lines) == 1 and lines[0] in readme.splitlines(), kit)
     else:
         say("papers: there is no `rt`, so the kit that the README names was not compared")
+
+
+def check_pictures(tally):
+    for picture in sorted((TOP / "docs").rglob("*.svg")):
+        name = str(picture.relative_to(TOP))
+        if tally.check(f"{name} has a row of what draws it", name in DRAWN):
+            drawn = run([sys.executable, TOP / DRAWN[name][0], *DRAWN[name][1:]])
+            is_drawn = drawn.status == 0 and drawn.out == picture.read_bytes()
+            tally.check(f"{name} is what {' '.join(DRAWN[name])} draws", is_drawn, drawn)
+    for name in DRAWN:
+        tally.check(f"{name} is there", (TOP / name).exists())
+
+
+def broken_link(page, target):
+    """Why a link of a page leads nowhere; None if it does not."""
+    if re.match(r"[a-z]+:", target):
+        return None
+    path, _, heading = target.partition("#")
+    goal = (page.parent / path).resolve() if path else page
+    if not goal.is_relative_to(TOP) or not goal.exists():
+        return f"{target}: no such file"
+    if heading and goal.suffix == ".md" and heading not in pages.anchors(goal.read_text()):
+        return f"{target}: no such heading"
+    return None
+
+
+def paths_in(text, names):
+    """The paths of the repository that code spans name, as they stand there, with where they would be."""
+    for word in (word for span in pages.spans(text) for word in span.split()):
+        word = re.sub(r":\d+$|[.,;:]$", "", word)
+        if PASSED_OVER.search(word):
+            continue
+        if PATH.fullmatch(word):
+            yield word, TOP / word
+        elif (found := IN_A_CRATE.fullmatch(word)) and found[1] in names:
+            yield word, TOP / "crates" / word
+
+
+def check_links(tally, texts):
+    names = crates()
+    for page, text in texts.items():
+        name = page.relative_to(TOP)
+        broken = [why for target in pages.links(text) if (why := broken_link(page, target))]
+        tally.check(f"{name}: each link leads somewhere", not broken, broken)
+        absent = sorted({word for word, path in paths_in(text, names) if not path.exists() and not path.with_name(path.name + ".antt").exists()})
+        tally.check(f"{name}: each path in a code span is there", not absent, absent)
+
+
+def check_crates(tally, texts):
+    names = crates()
+    told = set(pages.spans((TOP / "docs" / "ARCHITECTURE.md").read_text()))
+    tally.check("docs/ARCHITECTURE.md names each crate", names <= told, names - told)
+    for page, text in texts.items():
+        for head, rows in pages.tables(text):
+            if head[0].strip("` ").lower() in ("crate", "crates"):
+                others = {span for row in rows for span in pages.spans(row[0])} - names
+                tally.check(f"{page.relative_to(TOP)}: a table's crates are crates", not others, others)
+
+
+def check_terms(tally):
+    glossary = TOP / "docs" / "GLOSSARY.md"
+    if not tally.check("docs/GLOSSARY.md is there", glossary.exists()):
+        return
+    terms = [pages.root(term) for term in pages.terms_in_bold(glossary.read_text())]
+    twice = {term for term in terms if terms.count(term) > 1}
+    tally.check("docs/GLOSSARY.md has each term once", not twice, twice)
+    for name in TERMS_ARE_IN:
+        missing = {term for term in pages.terms_in_italics((TOP / name).read_text()) if pages.root(term) not in terms}
+        tally.check(f"{name}: its terms in italics are in docs/GLOSSARY.md", not missing, missing)
+
+
+def check_words(tally, texts):
+    for page, text in texts.items():
+        name, plain = page.relative_to(TOP), " ".join(pages.prose(text).split())
+        for word, instead in GIVEN_UP.items():
+            found = [plain[max(0, at.start() - 30) : at.end() + 30] for at in re.finditer(rf"\b{word}\b", plain, re.I)]
+            tally.check(f"{name}: write {instead}", not found, found)
+        open_places = re.findall(r"@@.{0,40}", text)
+        tally.check(f"{name}: no place is still to be filled", not open_places, open_places)
+
+
+def check_runs(tally, program, readme):
+    for shown in pages.runs(readme, "tools/bddcheck.sh"):
+        seen = run([program, *shlex.split(shown.words)], cwd=TOP)
+        tally.check(f"the README's run of {shown.words} prints what it shows", shown.is_of(seen.out.decode()), seen)
+
+
+def main():
+    tally = Tally("papers")
+    readme = (TOP / "README.md").read_text()
+    texts = {page: page.read_text() for page in pages.all_pages()}
+    check_options(tally, sys.argv[1], readme)
+    compared = run([sys.executable, str(TOP / "tools" / "definitions.py")])
+    tally.check("docs/DEFINITIONS.md has what public contracts cite", compared.status == 0, compared)
+    cited = run([sys.executable, str(TOP / "tools" / "proved.py")])
+    tally.check("the contracts have each clause that docs/PROVED.md and docs/TESTING.md name", cited.status == 0, cited)
+    check_pictures(tally)
+    check_links(tally, texts)
+    check_crates(tally, texts)
+    check_terms(tally)
+    check_words(tally, texts)
+    check_runs(tally, sys.argv[1], readme)
+    check_kit(tally, readme)
     tally.end()
     sys.exit(tally.failed > 0)
 
