@@ -1,7 +1,12 @@
 #!/bin/sh
-# Puts bddcheck where it belongs: tools/install.sh PREFIX, as /usr/local or ~/.local. The program, its manual page,
-# completions for bash, zsh and fish, and rtl2bench go below PREFIX; DESTDIR, if it is set, stands before it, for those who make packages.
-# In a clone it takes the proved program and builds it where that is needed; in an unpacked release the one beside it.
+# Puts bddcheck where it belongs: tools/install.sh PREFIX, as /usr/local or ~/.local. Below PREFIX go
+#
+#   bin                       bddcheck, rtl2bench, bddcheck-join, bddcheck-vcd
+#   share/man, completions    the manual page; what bash, zsh and fish complete
+#   share/doc/bddcheck        the documents that the manual page names, and examples, in the folders that they have in the repository
+#
+# DESTDIR, if it is set, is put before PREFIX, for those who make packages. In a clone the proved program is built if that is needed;
+# BDDCHECK names another program to install. In an unpacked release this script copies what is beside it.
 usage='usage: install.sh PREFIX'
 case ${1-} in
 '' | -*) echo "$usage" >&2 && exit 2 ;;
@@ -9,21 +14,33 @@ esac
 [ $# -eq 1 ] || { echo "$usage" >&2 && exit 2; }
 prefix=${DESTDIR-}$1
 here=$(cd "$(dirname "$0")" && pwd -P) || exit 4
-if [ -x "$here/bddcheck" ]; then
-    program=$here/bddcheck manual=$here/bddcheck.1 completions=$here/completions
-else
-    top=$(dirname "$here")
-    "$here/bddcheck.sh" --help >/dev/null </dev/null || exit
-    program=$top/crates/bddcheck/out/bddcheck manual=$top/docs/bddcheck.1 completions=$here/completions
+if [ -x "$here/bin/bddcheck" ]; then
+    mkdir -p "$prefix" && cp -RP "$here/bin" "$here/share" "$prefix" && (cd "$here" && find bin share ! -type d) | sed "s|^|$prefix/|"
+    exit
+fi
+top=$(dirname "$here")
+program=${BDDCHECK-}
+if [ -z "$program" ]; then
+    "$here/build.py" || exit
+    program=$top/crates/bddcheck/out/bddcheck
 fi
 put() {
-    mkdir -p "$(dirname "$3")" && install -m "$1" "$2" "$3" && echo "$3"
+    mkdir -p "$(dirname "$prefix/$3")" && install -m "$1" "$2" "$prefix/$3" && echo "$prefix/$3"
 }
-put 755 "$program" "$prefix/bin/bddcheck" &&
-    put 644 "$manual" "$prefix/share/man/man1/bddcheck.1" &&
-    put 644 "$completions/bddcheck.bash" "$prefix/share/bash-completion/completions/bddcheck" &&
-    put 644 "$completions/_bddcheck" "$prefix/share/zsh/site-functions/_bddcheck" &&
-    put 644 "$completions/bddcheck.fish" "$prefix/share/fish/vendor_completions.d/bddcheck.fish" &&
-    put 755 "$here/rtl2bench.sh" "$prefix/share/bddcheck/rtl2bench.sh" &&
-    put 755 "$here/rtl2bench.py" "$prefix/share/bddcheck/rtl2bench.py" &&
-    ln -sf ../share/bddcheck/rtl2bench.sh "$prefix/bin/rtl2bench" && echo "$prefix/bin/rtl2bench"
+# A script below share/bddcheck, and the command by which it is called.
+script() {
+    put 755 "$here/$1" "share/bddcheck/$1" && ln -sf "../share/bddcheck/$1" "$prefix/bin/$2" && echo "$prefix/bin/$2"
+}
+documents() {
+    for path in CHANGELOG.md docs/FLOWS.md docs/CI.md docs/CLUSTER.md docs/ORDERS.md docs/report.schema.json docs/report.example.json \
+        $(cd "$top" && find examples -type f | sort); do
+        put 644 "$top/$path" "share/doc/bddcheck/$path" || return
+    done
+}
+put 755 "$program" bin/bddcheck &&
+    put 644 "$top/docs/bddcheck.1" share/man/man1/bddcheck.1 &&
+    put 644 "$here/completions/bddcheck.bash" share/bash-completion/completions/bddcheck &&
+    put 644 "$here/completions/_bddcheck" share/zsh/site-functions/_bddcheck &&
+    put 644 "$here/completions/bddcheck.fish" share/fish/vendor_completions.d/bddcheck.fish &&
+    put 755 "$here/rtl2bench.py" share/bddcheck/rtl2bench.py &&
+    script rtl2bench.sh rtl2bench && script join.py bddcheck-join && script vcd.py bddcheck-vcd && documents

@@ -1,13 +1,14 @@
 #!/usr/bin/env python3
 """Joins the reports of all shares of one comparison, as bddcheck --share K/N writes them, to the report of the whole.
 
-usage: tools/join.py FIRST.bench SHARE ..
+usage: bddcheck-join FIRST.bench SHARE ..
 
 FIRST.bench is the first netlist of the comparison, and each SHARE a file with the report of one share, in any order: all by lines, or all
 as JSON. The report goes to standard output: the pairs of outputs in the order of FIRST's OUTPUT lines, the next states in the order of its
-DFF lines, what has no partner, and the counts of all. The status is that of bddcheck: 1 where something differs or has no partner, else 3
-where something is undecided, else 0. It is 2 where the files are not exactly the shares of one comparison, with a line that says why.
+DFF lines, what has no partner, and the counts of all. The status is that of bddcheck: 1 if something differs or has no partner, else 3
+if something is undecided, else 0. It is 2 if the files are not exactly the shares of one comparison, with a line that says why.
 """
+# tools/install.sh installs this script as bddcheck-join.
 from __future__ import annotations
 
 import json
@@ -225,7 +226,7 @@ def main(words):
         print(__doc__.strip())
         return 0
     if len(words) < 2 or any(word.startswith("-") for word in words):
-        print("join: usage: tools/join.py FIRST.bench SHARE ..", file=sys.stderr)
+        print("join: usage: bddcheck-join FIRST.bench SHARE ..", file=sys.stderr)
         return 2
     try:
         subjects = subjects_of(pathlib.Path(words[0]).read_bytes())

@@ -1,23 +1,24 @@
 #!/bin/sh
 # Makes a bench netlist for bddcheck of a design that yosys reads, and compares what two such netlists say of their registers.
+# tools/install.sh installs it as rtl2bench.
 #
-# usage: tools/rtl2bench.sh [OPTIONS] FILE .. -o OUT.bench
-#        tools/rtl2bench.sh --compare [--match name|position] [--leave-out FACT,..] FIRST.bench SECOND.bench
+# usage: rtl2bench [OPTIONS] FILE .. -o OUT.bench
+#        rtl2bench --compare [--match name|position] [--leave-out FACT,..] FIRST.bench SECOND.bench
 #
 # FILE is Verilog (.v), SystemVerilog (.sv), BLIF as abc writes it (.blif), or a netlist mapped to the cells of --liberty.
 #
-#   --sv                the files behind it are SystemVerilog, whatever their names
+#   --sv                the files that follow are SystemVerilog, whatever their names
 #   --top NAME          the top module; without it yosys looks for it
 #   --liberty FILE      the functions of the cells that a mapped netlist names; may be repeated
 #   -D NAME[=VALUE]     defines a macro; -I FOLDER is searched for included files
 #   --name-style net    a register has the name of the net that it drives, a port's before others (the default)
-#   --name-style cell   the name that its cell tells, where one does: q[3] for a cell q_reg[3] or q_reg_3_
-#   --like OTHER.bench  the name that OTHER.bench has for it, where one of its nets or its cell has that name
+#   --name-style cell   the name in its cell's name, if it has one: q[3] for a cell q_reg[3] or q_reg_3_
+#   --like OTHER.bench  the name that OTHER.bench has for it, if one of its nets or its cell has that name
 #   --undefined 0|1     x, z and nets without a driver are this; without it each is an input of its own
 #
 # Nothing is optimised; case tables and memories become gates and registers. OUT.bench has a comment of each register with what the format
 # does not hold: latch or flip-flop, clock, edge, asynchronous reset and set, initial value. --compare pairs registers as bddcheck
-# does, and tells where these differ; --leave-out kind, clock, edge, clear, set or init does not look at it.
+# does, and prints what differs; --leave-out kind, clock, edge, clear, set or init does not look at it.
 #
 # Status: 0, done or alike; 1, registers differ; 2, wrong words; 3, a step failed, and standard error says why: there is no OUT.bench then.
 script=$0
@@ -88,7 +89,7 @@ includes() {
 dialect='' tables='' out='' top=-auto-top style=net like='' undefined=''
 while [ $# -gt 0 ]; do
     case $1 in
-    -o | --top | --liberty | -D | -I | --name-style | --like | --undefined) [ $# -gt 1 ] || wrong "$1 wants a word behind it" ;;
+    -o | --top | --liberty | -D | -I | --name-style | --like | --undefined) [ $# -gt 1 ] || wrong "$1 wants a word after it" ;;
     esac
     case $1 in
     -o) out=$2 && shift ;;

@@ -1,13 +1,14 @@
 #!/usr/bin/env python3
 """Writes the assignment of a pair that differs as a VCD of one step, with the values of all signals of both netlists.
 
-usage: tools/vcd.py [--of NAME] [--match name|position] [-o OUT] FIRST SECOND [REPORT]
+usage: bddcheck-vcd [--of NAME] [--match name|position] [-o OUT] FIRST SECOND [REPORT]
 
-REPORT is what bddcheck says of FIRST and SECOND, as lines or as JSON, and standard input where it is not given. The pair is the first one
-that differs, or that of NAME: an output of FIRST, or `NEXT name` for the next state of a register. A variable that the report does not
-tell is 0, as with `--assignment ones`. The signals stand in the scopes `first` and `second`, by their names. Where the values of the pair
-are not those of the report, or nothing differs, there is no VCD, and the status is 1; it is 2 where a file cannot be read as what it is.
+REPORT is what bddcheck says of FIRST and SECOND, as lines or as JSON; without it the report is read from standard input. The pair is the
+first one that differs, or that of NAME: an output of FIRST, or `NEXT name` for the next state of a register. A variable that the report
+does not have is 0, as with `--assignment ones`. The signals are in the scopes `first` and `second`, by their names. If the values of the
+pair are not those of the report, or nothing differs, there is no VCD, and the status is 1; it is 2 if a file cannot be read as what it is.
 """
+# tools/install.sh installs this script as bddcheck-vcd.
 from __future__ import annotations
 
 import argparse
