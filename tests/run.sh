@@ -5,7 +5,7 @@
 #
 # usage: tests/run.sh [--seed N] [--long] [PART ..]
 #
-# PART is stored, examples, explained, papers, linked, edits, joining, vcd, objects, devices, signals, refusals, growths, workers, fuzz, second, flows or cluster; all of them where none is named. Second is a
+# PART is stored, examples, explained, papers, shipped, linked, edits, joining, vcd, objects, devices, signals, refusals, growths, workers, fuzz, second, flows or cluster; all of them where none is named. Second is a
 # part of these on the program as the kit's other compiler builds it, where rt ci has left that. --long goes on with
 # refusals and fuzz, by other seeds, until it is stopped or something fails. BDDCHECK names another program than the proved one.
 cd "$(dirname "$0")/.." || exit 2
@@ -18,7 +18,7 @@ while :; do
     *) break ;;
     esac
 done
-[ $# -gt 0 ] || set -- stored examples explained papers linked edits joining vcd objects devices signals refusals growths workers fuzz second flows cluster
+[ $# -gt 0 ] || set -- stored examples explained papers shipped linked edits joining vcd objects devices signals refusals growths workers fuzz second flows cluster
 
 # What the parts print goes on, and their last lines are added up.
 passed=0 failed=0
@@ -70,7 +70,7 @@ second() {
 parts() {
     for name; do
         case $name in
-        stored | examples | papers | objects | devices | signals | workers) part "$name" python3 "tests/$name.py" "$program" ;;
+        stored | examples | papers | shipped | objects | devices | signals | workers) part "$name" python3 "tests/$name.py" "$program" ;;
         edits | linked | joining) part "$name" python3 "tests/$name.py" ;;
         refusals | fuzz | explained | vcd) part "$name" python3 "tests/$name.py" "$program" ${seed:+--seed "$seed"} ;;
         growths) part growths python3 tests/growths.py crates ;;
