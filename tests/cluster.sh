@@ -14,7 +14,8 @@ ended() {
 trap ended EXIT
 trap 'exit 130' INT TERM
 
-mkdir "$place/bin" "$place/blocks" && ln -s "$(realpath "$program")" "$place/bin/bddcheck" || exit 2
+mkdir "$place/bin" "$place/blocks" && ln -s "$(realpath "$program")" "$place/bin/bddcheck" &&
+    ln -s "$top/tools/join.py" "$place/bin/bddcheck-join" || exit 2
 PATH=$place/bin:$PATH
 # The blocks of the page: 1, 2 and so on.
 awk -v place="$place/blocks" '
@@ -24,7 +25,7 @@ awk -v place="$place/blocks" '
 
 # A folder as the recipes want it, in which they are run.
 begin() {
-    mkdir "$place/$1" && cd "$place/$1" && ln -s "$top/tools" tools &&
+    mkdir "$place/$1" && cd "$place/$1" &&
         cp "$top/examples/adder8_ripple.bench" golden.bench && cp "$top/examples/adder8_wrong.bench" revised.bench || exit 2
     bddcheck --order cones golden.bench revised.bench >whole.txt
 }
@@ -80,7 +81,7 @@ while [ "$index" -lt "${shards:?a number of shards}" ]; do
     echo "$index $? $(grep -c ^DIFFER "share.$index") $(ls "touched.$index")" >>bazel.log
     index=$((index + 1))
 done
-tools/join.py golden.bench share.* >report.txt
+bddcheck-join golden.bench share.* >report.txt
 check 'recipes 6 and 7, shards as Bazel numbers them'
 awk -v shards="$shards" '{ wrong += ($2 != ($3 > 0)) || ($4 != "touched." $1) } END { exit wrong || NR != shards }' bazel.log
 told 'the status and the touched file of each shard' $? bazel.log
