@@ -19,7 +19,7 @@ from kit import C17, C17B, TOP, Tally, folder, run, written
 PATH = re.compile(r"(?:tools|tests|docs|bench|examples|crates)/[\w./-]+")
 COMMAND = re.compile(r"\b(?:bddcheck(?:-\w+)?|rtl2bench)\b")
 # What a document says of the repository, and not of what is installed, begins so.
-OF_A_CLONE = re.compile(r"In a clone\b.*?\.(?=\s|$)", re.S)
+OF_A_CLONE = re.compile(r"In a clone\b.*?\.(?=[\s)]|$)", re.S)
 
 
 def files_below(place):
