@@ -11,7 +11,7 @@ from kit import TOP
 SPAN = re.compile(r"(`+)(.+?)(?<!`)\1(?!`)", re.S)
 BOLD = re.compile(r"\*\*(.+?)\*\*", re.S)
 ITALIC = re.compile(r"(?<![\w*\\])\*(?![\s*])([^*]+?)(?<!\s)\*(?![\w*])")
-LINK = re.compile(r"\[((?:[^\[\]]|\[[^\]]*\])*)\]\(\s*<?([^)\s>]+)>?\s*\)")
+LINK = re.compile(r"\[((?:[^\[\]]|\[[^\]]*\])*)\]\(\s*<?([^)\s>]+)>?(?:\s+\"[^\"]*\")?\s*\)")
 HEADING = re.compile(r"^#{1,6}\s+(.*?)\s*#*$", re.M)
 # A term has at most so many words; more of them in italics are a sentence.
 WORDS_OF_A_TERM = 4
@@ -66,12 +66,8 @@ def anchor(heading):
 
 def anchors(text):
     """The names of all headings; of two that are alike the second ends in -1."""
-    found = {}
-    for heading in HEADING.findall(without_blocks(text)):
-        name = anchor(heading)
-        found[name if name not in found else f"{name}-{found[name]}"] = 1
-        found[name] += name in found
-    return set(found)
+    names = [anchor(heading) for heading in HEADING.findall(without_blocks(text))]
+    return {name + (f"-{names[:at].count(name)}" if name in names[:at] else "") for at, name in enumerate(names)}
 
 
 def terms_in_italics(text):
@@ -85,7 +81,7 @@ def terms_in_bold(text):
 
 
 def root(term):
-    """A term without capitals, marks of punctuation and the ending of a plural."""
+    """A term without capitals, punctuation and the ending of a plural."""
     term = re.sub(r"[^\w\- ]", "", term.replace("`", "").lower()).strip()
     if term.endswith("ies"):
         return term[:-3] + "y"
@@ -120,13 +116,13 @@ class Shown:
     lines: list[str]
 
     def is_of(self, output):
-        """Whether the program's output has these lines, where a line of three dots stands for any number of lines."""
+        """Whether the program's output has these lines, if a line of three dots stands for any number of lines."""
         parts = [r"(?:[^\n]*\n)*?" if line == "..." else re.escape(line) + r"\n" for line in self.lines]
         return bool(re.fullmatch("".join(parts), output))
 
 
 def runs(text, command):
-    """The runs of a command that stand in a page as `    $ COMMAND WORDS`."""
+    """The runs of a command that a page shows as `    $ COMMAND WORDS`."""
     found, current = [], None
     for line in text.split("\n"):
         if line.startswith(f"    $ {command} "):

@@ -3,8 +3,8 @@
 
 The program's own help, its manual page, its completions and the README name the same options. docs/DEFINITIONS.md has the definitions that
 public contracts cite. Each link of each document leads to a file and a heading that are there, and each path in a code span is there.
-Each picture is what its script draws. Each crate is in docs/ARCHITECTURE.md. Each term in italics is in docs/GLOSSARY.md. Each run that the
-README shows prints what stands below it. The README names the logic of the kit that is here. No document has a word that the project has
+Each picture is what its script draws. Each crate is in docs/ARCHITECTURE.md, and each name of the code that a page about the code has is in the code. Each term in italics is in docs/GLOSSARY.md. Each run that the
+README shows prints the lines below it. The README names the logic of the kit that is here. No document has a word that the project has
 given up, or a place that is still to be filled.
 
 usage: tests/papers.py PROGRAM
@@ -41,6 +41,7 @@ IN_A_CRATE = re.compile(r"(\w+)/(?:src|specs|proofs|wrong-bodies|must-fail)\b[\w
 # What is there only after a build, and capitals that stand for a name.
 PASSED_OVER = re.compile(r"/out/|/out$|(?:^|/)[A-Z]+(?:/|$|\.(?!md))")
 
+ABOUT_THE_CODE = ("docs/ARCHITECTURE.md", "docs/PROVED.md", "docs/DEFINITIONS.md", "docs/CALLING.md", "docs/GLOSSARY.md")
 TERMS_ARE_IN = ("README.md", "docs/ARCHITECTURE.md", "docs/DEFINITIONS.md")
 
 
@@ -109,7 +110,7 @@ def broken_link(page, target):
 
 
 def paths_in(text, names):
-    """The paths of the repository that code spans name, as they stand there, with where they would be."""
+    """The paths of the repository that code spans name, as they are written there, with where they would be."""
     for word in (word for span in pages.spans(text) for word in span.split()):
         word = re.sub(r":\d+$|[.,;:]$", "", word)
         if PASSED_OVER.search(word):
@@ -139,6 +140,25 @@ def check_crates(tally, texts):
             if head[0].strip("` ").lower() in ("crate", "crates"):
                 others = {span for row in rows for span in pages.spans(row[0])} - names
                 tally.check(f"{page.relative_to(TOP)}: a table's crates are crates", not others, others)
+
+
+def words_of_the_code():
+    """All identifiers of the sources, the definitions, the proofs, the planted bugs and the scripts."""
+    files = [path for name in ("crates", "tools", "tests", "bench") for path in (TOP / name).rglob("*")]
+    kinds = {".rt", ".antt", ".edit", ".py", ".sh", ".txt"}
+    read = [path for path in files if path.suffix in kinds and "out" not in path.parts]
+    return {word for path in [*read, TOP / "crates.txt"] for word in re.findall(r"\w+", path.read_text(errors="replace"))}
+
+
+def check_names(tally, texts):
+    """Each name of the code in a page about the code, as `build` or `net_bench::parse_bench`, is in the code."""
+    known = words_of_the_code()
+    for page, text in texts.items():
+        name = str(page.relative_to(TOP))
+        if name.startswith("docs/decisions/") or name in ABOUT_THE_CODE:
+            spans = [span for span in pages.spans(text) if re.fullmatch(r"[A-Za-z_]\w*(?:::\w+)*", span)]
+            unknown = {word for span in spans for word in span.split("::")} - known
+            tally.check(f"{name}: each name of the code is in the code", not unknown, unknown)
 
 
 def check_terms(tally):
@@ -181,6 +201,7 @@ def main():
     check_pictures(tally)
     check_links(tally, texts)
     check_crates(tally, texts)
+    check_names(tally, texts)
     check_terms(tally)
     check_words(tally, texts)
     check_runs(tally, sys.argv[1], readme)
