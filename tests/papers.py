@@ -1,11 +1,11 @@
 #!/usr/bin/env python3
 """That the documents fit together and fit the code.
 
-The program's own help, its manual page, its completions and the README name the same options. docs/DEFINITIONS.md has the definitions that
-public contracts cite. Each link of each document leads to a file and a heading that are there, and each path in a code span is there.
-Each picture is what its script draws. Each crate is in docs/ARCHITECTURE.md, and each name of the code that a page about the code has is in the code. Each term in italics is in docs/GLOSSARY.md. Each run that the
-README shows prints the lines below it. The README names the logic of the kit that is here. No document has a word that the project has
-given up, or a place that is still to be filled.
+The program's own help, its manual page, its completions and the README name the same options, and the same orders. docs/DEFINITIONS.md has
+the definitions that public contracts cite. Each link of each document leads to a file and a heading that are there, and each path in a code
+span is there. Each picture is what its script draws. Each crate is in docs/ARCHITECTURE.md, and a page about the code names nothing that
+the code does not have. Each term in italics is in docs/GLOSSARY.md. Each run that the README shows prints the lines below it. The README
+names the logic of the kit that is here. No document has a word that the project has given up, or a place that is still to be filled.
 
 usage: tests/papers.py PROGRAM
 """
@@ -71,6 +71,18 @@ def check_options(tally, program, readme):
         tally.check(f"{name} has the options of --help", options == wanted, options ^ wanted)
     missing = wanted - options_in(readme) - {"--help"}
     tally.check("the README has the options of --help", not missing, missing)
+
+
+def check_orders(tally):
+    """The values of --order are those of the parser."""
+    source = (TOP / "crates" / "command_line" / "src" / "arguments.rt").read_text()
+    found = re.search(r'ORDERS: \[&str; \d+\] = \[(.*?)\]', source, re.S)
+    orders = set(re.findall(r'"(\w+)"', found[1])) if found else set()
+    tally.check("the parser has orders", len(orders) > 1)
+    files = ["README.md", "docs/ORDERS.md", "docs/bddcheck.1", "docs/report.schema.json"]
+    for name in files + [f"tools/completions/{shell}" for shell in ("bddcheck.bash", "_bddcheck", "bddcheck.fish")]:
+        missing = orders - set(re.findall(r"\w+", (TOP / name).read_text()))
+        tally.check(f"{name} has the orders of the parser", not missing, missing)
 
 
 def check_kit(tally, readme):
@@ -194,6 +206,7 @@ def main():
     readme = (TOP / "README.md").read_text()
     texts = {page: page.read_text() for page in pages.all_pages()}
     check_options(tally, sys.argv[1], readme)
+    check_orders(tally)
     compared = run([sys.executable, str(TOP / "tools" / "definitions.py")])
     tally.check("docs/DEFINITIONS.md has what public contracts cite", compared.status == 0, compared)
     cited = run([sys.executable, str(TOP / "tools" / "proved.py")])
