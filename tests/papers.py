@@ -31,7 +31,7 @@ GIVEN_UP = {
     r"behind": "after, below",
     r"to and fro": "in serpentine order",
     r"complement marks?": "complement bit, complement edge",
-    r"stands(?! for\b)": "is",
+    r"stands(?! for\b| in (?:the|its|their) way\b)": "is",
     r"(?:doors?|stairs)": "the plain word",
 }
 
