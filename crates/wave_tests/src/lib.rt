@@ -10,6 +10,8 @@
 #[cfg(test)]
 mod bounds;
 #[cfg(test)]
+mod by_hand;
+#[cfg(test)]
 mod children;
 #[cfg(test)]
 mod clocks;

@@ -24,7 +24,7 @@ pub(crate) static C17: &str =
     "INPUT(1)\nINPUT(2)\nINPUT(3)\nINPUT(6)\nINPUT(7)\nOUTPUT(22)\nOUTPUT(23)\n10 = NAND(1, 3)\n11 = NAND(3, 6)\n16 = NAND(2, 11)\n19 = NAND(11, 7)\n22 = NAND(10, 16)\n23 = NAND(16, 19)\n";
 
 /// Gate 19 reads 6 in place of 7.
-static C17B: &str =
+pub(crate) static C17B: &str =
     "INPUT(1)\nINPUT(2)\nINPUT(3)\nINPUT(6)\nINPUT(7)\nOUTPUT(22)\nOUTPUT(23)\n10 = NAND(1, 3)\n11 = NAND(3, 6)\n16 = NAND(2, 11)\n19 = NAND(11, 6)\n22 = NAND(10, 16)\n23 = NAND(16, 19)\n";
 
 /// The netlist of a text that is one.
@@ -41,7 +41,7 @@ fn signal<R: Abort>(rt: &R, netlist: &Netlist, name: &str) -> Signal
 }
 
 /// Sees that the only steps of a rank are these two, by Nand: each with its output and its operands.
-fn are_nands<R: Abort>(
+pub(crate) fn are_nands<R: Abort>(
     rt: &R,
     netlist: &Netlist,
     plan: &Plan,
