@@ -1,11 +1,7 @@
-use Rattle.std.proofs.Common.{◌≡◌, ℕ, ◌+◌, ◌<◌, ◌≤◌, ◌-◌, ◌^◌, List, length, take, ap, sym, ◌∙◌, subst, arith}
+use Rattle.std.proofs.Common.{◌≡◌, ℕ, ◌+◌, ◌<◌, ◌-◌, ◌^◌, List, length, take, ap, sym, ◌∙◌, arith}
 use Rattle.std.specs.List.{sum_by}
-use Rattle.std.proofs.lemmas.List.{take_all}
 use Rattle.std.proofs.lemmas.List.Sums.{sum_by_more}
 use Rattle.req_table.specs.declared.placed.Placed.{Placed}
-use Rattle.expand_work.specs.Gathered.{PartsView}
-use Rattle.expand_work.specs.Lean.{AreLean}
-use Rattle.expand_work.proofs.Leaning.{lean_count}
 use Rattle.expand_work.proofs.parts.Parts.are_few.Goals as goal
 
 pub loop-rows-preserved : goal.loop-rows-preserved

@@ -1,16 +1,15 @@
-use Rattle.std.proofs.Common.{rules, ◌≡◌, ◌<◌, ◌≤◌, ◌-◌, ◌^◌, List, length, All, sym, subst, arith}
+use Rattle.std.proofs.Common.{◌≡◌, ◌≤◌, ◌-◌, List, length, All, sym, subst, arith}
 use Rattle.std.specs.List.{AllZip}
 use Rattle.dd_store.specs.declared.reference.Ref.{Ref}
 use Rattle.req_table.specs.declared.Key.{Key}
 use Rattle.reduce_up.specs.Reducing.{AddsDescribed}
-use Rattle.reduce_up.specs.Waves.{IsWanted, AnswersEach, IsWaveFault, requests_of}
+use Rattle.reduce_up.specs.Waves.{IsWanted, AnswersEach, IsWaveFault}
 use Rattle.reduce_up.proofs.Waving.{not_full, wave_unchanged, wave_given_up, wave_done, within_still}
 use Rattle.std.proofs.lemmas.Result.{err_from_is_err_and}
 use Rattle.req_table.specs.declared.placed.Placed.{Placed}
 use Rattle.expand_work.specs.Bounds.{AreFew}
 use Rattle.expand_work.specs.Gathered.{HaveExpanded}
 use Rattle.wave_engine.specs.Down.{IsDown, IsDownWithin}
-use Rattle.wave_engine.specs.Resting.{HaveReduced}
 use Rattle.reduce_up.specs.Up.{AreCounted, ComesTo, AreReducedBelow, IsWithinBelow, AreReady}
 use Rattle.wave_engine.proofs.Both.{have_both, have_reduced, at_most_both}
 use Rattle.wave_engine.proofs.Whole.{entries_kept, down_ready, adds_both, fault_back}
