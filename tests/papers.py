@@ -14,6 +14,7 @@ import shlex
 import shutil
 import sys
 
+import decisions
 import pages
 from kit import TOP, Tally, run, say
 
@@ -216,6 +217,7 @@ def main():
     check_crates(tally, texts)
     check_names(tally, texts)
     check_terms(tally)
+    decisions.check_decisions(tally)
     check_words(tally, texts)
     check_runs(tally, sys.argv[1], readme)
     check_kit(tally, readme)
