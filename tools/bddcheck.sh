@@ -1,8 +1,8 @@
 #!/bin/sh
-# Compares two netlists: tools/bddcheck.sh [OPTIONS] [FIRST SECOND]; --help says more. On its first use, and after a
-# change of the sources, it proves and builds the program, which takes minutes and is told on standard error. Paths are the
-# caller's own, and a symbolic link to this file does as well. The status is the program's, 0 to 3; 4 where it could not be
-# built.
+# Compares two netlists: tools/bddcheck.sh [OPTIONS] [FIRST SECOND]; --help says more. Where the program is not built, or is older
+# than a source, its sources answer before their proof, in about a minute for each call, and two lines on standard error say so
+# (tools/unproved.py). tools/build.py proves and builds the program. Paths are the caller's own, and a symbolic link to this file
+# serves as well. The status is the program's, 0 to 3; 4 if there is no answer, and one line on standard error says why.
 script=$0
 while [ -L "$script" ]; do
     link=$(readlink "$script") || exit 4
@@ -13,14 +13,15 @@ while [ -L "$script" ]; do
 done
 top=$(cd "$(dirname "$script")/.." && pwd -P) || exit 4
 program=$top/crates/bddcheck/out/bddcheck
-changed() {
-    [ ! -x "$program" ] || [ -n "$(find "$top/crates.txt" "$top/crates" -name out -prune -o -type f -newer "$program" -print | head -n 1)" ]
-}
-if changed; then
-    command -v rt >/dev/null || {
-        echo 'bddcheck.sh: the command rt is not found; it comes with the kit by which the program is proved (README.md says which)' >&2
-        exit 4
-    }
-    "$top/tools/build.py" || exit 4
+if [ -x "$program" ] && [ -z "$(find "$top/crates.txt" "$top/crates" -name out -prune -o -type f -newer "$program" -print | head -n 1)" ]; then
+    exec "$program" "$@"
 fi
-exec "$program" "$@"
+command -v rt >/dev/null || {
+    echo 'bddcheck.sh: the program is not built, and the command rt, which builds it, is not found: take a release archive, which needs no rt' >&2
+    exit 4
+}
+command -v python3 >/dev/null || {
+    echo 'bddcheck.sh: the program is not built, and python3, which rt needs, is not found: install it, or take a release archive' >&2
+    exit 4
+}
+exec python3 "$top/tools/unproved.py" "$@"

@@ -1,23 +1,35 @@
 #!/usr/bin/env python3
-"""Proves and builds the program, crate after crate. tools/bddcheck.sh calls it.
+"""Proves and builds the program, crate after crate. The program is then crates/bddcheck/out/bddcheck.
 
 usage: tools/build.py [--jobs N] [--lanes N]
 
-Each crate that the program stands on is proved behind those below it, by N jobs: as many as there are processors, and 3 GB of
-free memory for each. Where there are four of them, crates that do not stand on each other are proved side by side, in two lanes:
-`rt` keeps the crates below the one that it checks to itself, so the second lane works in a copy of the sources, and `rt` takes
-over what is proved there. (`rt run` in the program's folder does the same by one lane, without a word on the way.)
-Standard error tells how many crates are done, what is worked on, the time so far, and about how long it will still take, by the
-lines that were proved so far and those that are left. What an earlier call has proved is kept. A second call waits for the
-first, and takes what that has built.
+`rt` proves a crate and keeps the crates below it to itself meanwhile, so crates of one folder are proved one after the other.
+Therefore each crate is proved in a folder of its own, which has the sources of the crates that it needs and, as hard links, their
+built libraries; what is proved there is moved into the repository, where the crates above find it. So up to three crates are proved
+side by side (two where there are fewer than four processors or less memory), each as soon as the libraries that it needs are built.
+The crate with which the longest chain begins has N jobs and the usual priority; the others have half as many jobs and a lower
+priority, so they use the processors that the first leaves idle. N is the number of processors, with 3 GB of free memory for each.
+Last, `rt run` builds the program in the repository. The folders are below .git, or in the temporary folder where there is no .git;
+where neither can hold hard links of the repository's files, crates are proved one after the other in the repository itself.
 
-Status 0: built. 4: not built, since `rt` is missing or a crate was not proved; the reason is on standard error.
+Standard error reports how many crates are proved, what is being proved, the time so far, and about how long it will still take, by
+what the crates so far have taken for each of their lines. What an earlier call has proved is kept, also of a call that was stopped
+or killed. A second call waits for the first, and takes what that has built.
+
+Status 0: built. 4: not built, since `rt` is missing, a crate was not proved or a folder could not be written; the reason is on
+standard error. 128 and the signal's number: stopped.
 """
 import argparse
+import contextlib
+import ctypes
 import fcntl
+import functools
+import hashlib
 import os
 import pathlib
 import shutil
+import signal
+import stat
 import subprocess
 import sys
 import tempfile
@@ -32,20 +44,31 @@ MEMORY_OF_A_JOB = 3 << 30
 BEGUN = time.monotonic()
 # What a check costs before its first function, in lines of code that could be proved meanwhile.
 LINES_OF_A_START = 500
+# A crate that ended sooner was proved before, so it says nothing of what lines cost.
+SECONDS_OF_NOTHING = 10
+# While nothing begins or ends, a line says so often, in seconds, how far it is.
+SECONDS_OF_SILENCE = 180
+LOWER_PRIORITY = 5
+LIBC = ctypes.CDLL(None)
+END_WITH_PARENT = 1
 
 
 def say(text):
     seconds = int(time.monotonic() - BEGUN)
-    print(f"bddcheck.sh: {seconds // 60:2}:{seconds % 60:02} {text}", file=sys.stderr, flush=True)
+    print(f"build.py: {seconds // 60:2}:{seconds % 60:02} {text}", file=sys.stderr, flush=True)
+
+
+def listed():
+    """Each crate of crates.txt with its line."""
+    for line in (TOP / "crates.txt").read_text().splitlines():
+        line = line.partition("#")[0].strip()
+        if ":" in line:
+            yield line.partition(":")[0].split()[0], line
 
 
 def below():
-    """Of each crate of the repository that the program stands on: the crates of the repository below it."""
-    named = {}
-    for line in (TOP / "crates.txt").read_text().splitlines():
-        name, colon, libraries = line.partition("#")[0].partition(":")
-        if colon:
-            named[name.split()[0]] = libraries.split()
+    """Of each crate of the repository that the program needs: the crates of the repository that it names."""
+    named = {name: line.partition(":")[2].split() for name, line in listed()}
     needed, waiting = {}, [PROGRAM]
     while waiting:
         crate = waiting.pop()
@@ -55,13 +78,18 @@ def below():
     return needed
 
 
-def lines_of(crate):
-    return sum(file.read_bytes().count(b"\n") for file in (TOP / "crates" / crate / "src").rglob("*.rt"))
+def sources_of(crate):
+    """The files of a crate that its proof reads, in a fixed order."""
+    folder = TOP / "crates" / crate
+    return sorted(file for part in ("src", "specs", "proofs") for file in (folder / part).rglob("*") if file.is_file())
 
 
 def costs_of(needed):
     """What the proof of each crate costs, in lines. A program reads the code of all that it links."""
-    costs = {crate: LINES_OF_A_START + lines_of(crate) for crate in needed}
+    costs = {}
+    for crate in needed:
+        lines = sum(file.read_bytes().count(b"\n") for file in sources_of(crate) if file.suffix == ".rt")
+        costs[crate] = LINES_OF_A_START + lines
     costs[PROGRAM] += sum(costs.values()) // 10
     return costs
 
@@ -77,6 +105,14 @@ def jobs_here():
     return max(1, min(len(os.sched_getaffinity(0)), free_memory() // MEMORY_OF_A_JOB))
 
 
+def lanes_for(jobs):
+    """How many crates are proved side by side: each after the first takes about as much memory as one of its jobs."""
+    others = max(0, free_memory() // MEMORY_OF_A_JOB - jobs)
+    if jobs >= 4:
+        return 1 + max(1, min(2, others))
+    return 1 + min(jobs - 1, others)
+
+
 class Build:
     """The crates that are proved, those that are worked on, and those that wait for them."""
 
@@ -87,7 +123,10 @@ class Build:
         for crate in self.needed:
             self.chain_from(crate)
         self.begun, self.done, self.running, self.failed = set(), set(), {}, False
+        # The lines and the seconds of the crates that were proved in this call.
+        self.seen = [0, 0.0]
         self.changed = threading.Condition()
+        self.children = set()
 
     def chain_from(self, crate):
         """The cost of the longest chain of crates from this one to the program."""
@@ -96,14 +135,54 @@ class Build:
             self.behind[crate] = self.costs[crate] + max(map(self.chain_from, above), default=0)
         return self.behind[crate]
 
-    def minutes_left(self):
-        """About how many minutes are left, by what was done so far; nothing before the first crate is done."""
-        lines = sum(self.costs[crate] for crate in self.done)
+    def all_below(self, crate):
+        found, waiting = [], list(self.needed[crate])
+        while waiting:
+            other = waiting.pop()
+            if other not in found:
+                found.append(other)
+                waiting += self.needed[other]
+        return found
+
+    @functools.lru_cache(maxsize=None)
+    def sum_of(self, crate):
+        """A sum of the kit and of all the sources on which the library of a crate rests."""
+        total = hashlib.sha256(kit().encode())
+        for file in [TOP / "crates.txt", TOP / "HANDLES", *sources_of(crate)]:
+            if file.exists():
+                total.update(repr((str(file.relative_to(TOP)), file.read_bytes())).encode())
+        for other in sorted(self.needed[crate]):
+            total.update(self.sum_of(other).encode())
+        return total.hexdigest()
+
+    def seconds_left(self):
+        """About how many seconds are left, by what the lines so far have taken: the longest chain of crates that is left, or, if they
+        are more, the seconds of all lines that are left, shared by those that are proved side by side. None before the first crate is proved."""
+        lines, seconds = self.seen
         if not lines:
-            return ""
-        left = sum(self.costs.values()) - lines
-        minutes = (time.monotonic() - BEGUN) / lines * left / 60
-        return f"; some {minutes:.0f} minutes more" if minutes >= 1 else ""
+            return None
+        each, now = seconds / lines, time.monotonic()
+        left = {}
+        for crate in self.needed:
+            if crate not in self.done:
+                spent = now - self.running[crate] if crate in self.running else 0
+                left[crate] = max(0.0, self.costs[crate] * each - spent)
+        chains = {}
+
+        def chain(crate):
+            if crate not in chains:
+                above = [other for other in left if crate in self.needed[other]]
+                chains[crate] = left[crate] + max(map(chain, above), default=0)
+            return chains[crate]
+
+        return max([sum(left.values()) / max(1, self.lanes), *map(chain, left)])
+
+    def tell(self):
+        """Reports how far the build is. The caller holds the lock."""
+        seconds = self.seconds_left()
+        more = f"; about {max(1, round(seconds / 60))} minutes more" if seconds is not None else ""
+        now = " and ".join(self.running)
+        say(f"{len(self.done)} of {len(self.needed)} crates proved; now {now}{more}")
 
     def next(self):
         """A crate whose lower crates are proved, with the longest chain above it; None where nothing is left to begin."""
@@ -113,12 +192,20 @@ class Build:
                 if ready:
                     crate = max(ready, key=self.behind.get)
                     self.begun.add(crate)
-                    self.running[crate] = None
-                    now = " and ".join(self.running)
-                    say(f"{len(self.done)} of {len(self.needed)} crates proved; now {now}{self.minutes_left()}")
+                    self.running[crate] = time.monotonic()
+                    self.tell()
                     return crate
-                self.changed.wait()
+                if not self.changed.wait(SECONDS_OF_SILENCE) and self.running and self.speaks():
+                    self.tell()
             return None
+
+    def speaks(self):
+        """Whether the last line is so old that another is due. The caller holds the lock."""
+        last, self.last = getattr(self, "last", 0.0), time.monotonic()
+        if self.last - last < SECONDS_OF_SILENCE - 1:
+            self.last = last
+            return False
+        return True
 
     def is_longest(self, crate):
         """Whether the longest chain of all crates that are not proved begins with this one."""
@@ -126,69 +213,211 @@ class Build:
             return all(self.behind[other] <= self.behind[crate] for other in self.needed if other not in self.done)
 
     def stop(self):
-        """Begins no further crate, where some are left after an interrupt."""
+        """Begins no further crate, and ends what is running."""
         with self.changed:
-            self.failed = self.failed or len(self.begun) < len(self.needed)
+            self.failed = self.failed or len(self.done) < len(self.needed)
+            for child in self.children:
+                child.terminate()
             self.changed.notify_all()
 
     def ended(self, crate, is_proved, told):
         with self.changed:
-            del self.running[crate]
+            seconds = time.monotonic() - self.running.pop(crate)
             if is_proved:
                 self.done.add(crate)
-            else:
+                if seconds > SECONDS_OF_NOTHING:
+                    self.seen[0] += self.costs[crate]
+                    self.seen[1] += seconds
+            elif not self.failed:
                 self.failed = True
                 say(f"{crate} was not proved:\n{told}")
             self.changed.notify_all()
 
+    def run(self, folder, crate, jobs, priority):
+        """What `rt` says of a crate that is proved in a folder by so many jobs, and whether it is proved. The program is built by running it."""
+        words = ["rt", "run", "--jobs", str(jobs), "--", "--help"] if crate == PROGRAM else ["rt", "lib", "--jobs", str(jobs)]
 
-def prove(folder, crate, jobs):
-    """What `rt` says of a crate that is checked by so many jobs, and whether it is proved. The program is built by running it."""
-    words = ["rt", "run", "--jobs", str(jobs), "--", "--help"] if crate == PROGRAM else ["rt", "lib", "--jobs", str(jobs)]
-    run = subprocess.run(
-        words, cwd=folder / "crates" / crate, stdin=subprocess.DEVNULL, stdout=subprocess.PIPE, stderr=subprocess.STDOUT
-    )
-    return run.returncode == 0, run.stdout.decode(errors="replace")
+        def begin():
+            LIBC.prctl(END_WITH_PARENT, signal.SIGKILL)
+            os.nice(priority)
+
+        with self.changed:
+            if self.failed:
+                return False, ""
+            child = subprocess.Popen(
+                words,
+                cwd=folder / "crates" / crate,
+                stdin=subprocess.DEVNULL,
+                stdout=subprocess.PIPE,
+                stderr=subprocess.STDOUT,
+                preexec_fn=begin,
+            )
+            self.children.add(child)
+        told = child.communicate()[0]
+        with self.changed:
+            self.children.remove(child)
+        return child.returncode == 0, told.decode(errors="replace")
 
 
-def lane(build, folder, jobs):
-    """Proves crate after crate in a folder of sources: by all jobs where the longest chain of crates begins with it, else by half of
-    them. The program itself is built in the repository alone."""
+@functools.lru_cache(maxsize=None)
+def kit():
+    return subprocess.run(["rt", "version"], stdout=subprocess.PIPE, check=False).stdout.decode(errors="replace")
+
+
+@contextlib.contextmanager
+def held(crate):
+    """Has a crate's folder, as `rt` does that works in it, so that none works there meanwhile."""
+    folder = os.open(TOP / "crates" / crate, os.O_RDONLY)
+    try:
+        with contextlib.suppress(OSError):
+            fcntl.flock(folder, fcntl.LOCK_EX)
+        yield
+    finally:
+        os.close(folder)
+
+
+def remove(path):
+    shutil.rmtree(path, ignore_errors=True)
+
+
+def linked(one, other):
+    """Gives each file of a folder a second name in another. `rt` removes the files of a library before it makes them anew, and writes into none."""
+    remove(other)
+    shutil.copytree(one, other, copy_function=os.link)
+
+
+class Place:
+    """The folder in which a crate is proved beside others."""
+
+    def __init__(self, build, room, crate):
+        self.build, self.crate, self.folder = build, crate, room / crate
+        self.own = TOP / "crates" / crate / "out"
+        self.out = self.folder / "crates" / crate / "out"
+
+    def record(self):
+        return self.own / "built.sum"
+
+    def sum(self):
+        """What is noted beside a built library: what it rests on, and the stamp that `rt` gave it."""
+        stamp = self.own / "rlib" / "stamp"
+        return f"{self.build.sum_of(self.crate)} {stamp.read_text()}\n" if stamp.exists() else ""
+
+    def is_built(self):
+        """Whether an earlier call has proved this very text. If that is wrong, the program's own build proves it again."""
+        return self.record().exists() and self.record().read_text() == self.sum()
+
+    def fill(self):
+        """Lays out the sources that the crate needs, the libraries below it, and what earlier checks of it have kept."""
+        self.folder.mkdir(parents=True, exist_ok=True)
+        if (TOP / "HANDLES").exists():
+            shutil.copy(TOP / "HANDLES", self.folder)
+        crates = [self.crate, *self.build.all_below(self.crate)]
+        (self.folder / "crates.txt").write_text("".join(f"{line}\n" for name, line in listed() if name in crates))
+        for crate in crates:
+            to = self.folder / "crates" / crate
+            to.mkdir(parents=True, exist_ok=True)
+            for part in ("src", "specs", "proofs"):
+                remove(to / part)
+            for file in sources_of(crate):
+                copy = to / file.relative_to(TOP / "crates" / crate)
+                copy.parent.mkdir(parents=True, exist_ok=True)
+                shutil.copyfile(file, copy)
+            if crate != self.crate:
+                linked(TOP / "crates" / crate / "out" / "rlib", to / "out" / "rlib")
+        self.out.mkdir(exist_ok=True)
+        with held(self.crate):
+            if (self.own / "rlib" / "stamp").exists():
+                linked(self.own / "rlib", self.out / "rlib")
+            self.move("incremental", self.own, self.out)
+
+    def move(self, name, one, other):
+        if (one / name).exists():
+            remove(other / name)
+            other.mkdir(exist_ok=True)
+            (one / name).rename(other / name)
+
+    def keep(self, is_proved):
+        """Moves what was proved into the repository."""
+        with held(self.crate):
+            self.move("incremental", self.out, self.own)
+            if is_proved:
+                self.record().unlink(missing_ok=True)
+                self.move("rlib", self.out, self.own)
+                self.record().write_text(self.sum())
+        remove(self.folder)
+
+    def prove(self, jobs, priority):
+        if self.is_built():
+            return True, ""
+        is_proved = False
+        try:
+            self.fill()
+            is_proved, told = self.build.run(self.folder, self.crate, jobs, priority)
+        finally:
+            self.keep(is_proved)
+        return is_proved, told
+
+
+def lane(build, room, jobs):
+    """Proves crate after crate: by all jobs where the longest chain of crates begins with it, else by half of them and at a lower
+    priority. Without a room, and for the program itself, that is done in the repository."""
     while crate := build.next():
-        at = TOP if crate == PROGRAM else folder
-        build.ended(crate, *prove(at, crate, jobs if build.is_longest(crate) else max(1, jobs // 2)))
+        is_longest = build.is_longest(crate)
+        share, priority = (jobs, 0) if is_longest or not room else (max(1, jobs // 2), LOWER_PRIORITY)
+        try:
+            if crate == PROGRAM or not room:
+                build.ended(crate, *build.run(TOP, crate, share, priority))
+            else:
+                build.ended(crate, *Place(build, room, crate).prove(share, priority))
+        except OSError as error:
+            build.ended(crate, False, f"{error.filename or room}: {error.strerror}")
 
 
-def copied(room):
-    """A copy of the sources, without what was proved."""
-    folder = pathlib.Path(room)
-    shutil.copytree(TOP / "crates", folder / "crates", ignore=shutil.ignore_patterns("out"))
-    for name in ("crates.txt", "HANDLES"):
-        shutil.copy(TOP / name, folder)
-    return folder
+def is_ours(folder):
+    """Whether a folder is a real one, of this user alone."""
+    found = os.lstat(folder)
+    return stat.S_ISDIR(found.st_mode) and found.st_uid == os.geteuid() and not found.st_mode & 0o022
+
+
+def room_for_lanes():
+    """A folder that stays after a call that was killed, and takes hard links of the repository's files; None where there is none."""
+    name = f"bddcheck-build-{os.geteuid()}-{hashlib.sha256(str(TOP).encode()).hexdigest()[:12]}"
+    for room in (TOP / ".git" / "bddcheck-build", pathlib.Path(tempfile.gettempdir()) / name):
+        with contextlib.suppress(OSError):
+            if room.parent.is_dir():
+                room.mkdir(mode=0o700, exist_ok=True)
+                if is_ours(room):
+                    (room / "link").unlink(missing_ok=True)
+                    os.link(TOP / "crates.txt", room / "link")
+                    (room / "link").unlink()
+                    return room
+    return None
 
 
 def build_all(jobs, lanes):
-    """Whether all crates were proved, each by so many jobs, in one lane or in two."""
+    """Whether all crates were proved, each by so many jobs, so many side by side."""
     build = Build()
-    with tempfile.TemporaryDirectory(prefix="bddcheck-build-") as room:
-        second = None
-        if lanes > 1:
-            second = threading.Thread(target=lane, args=(build, copied(room), jobs))
-            second.start()
-        try:
-            lane(build, TOP, jobs)
-        finally:
-            build.stop()
-            if second:
-                second.join()
+    room = room_for_lanes() if lanes > 1 else None
+    build.lanes = lanes if room else 1
+    others = [threading.Thread(target=lane, args=(build, room, jobs)) for _ in range(build.lanes)]
+    for other in others:
+        other.start()
+    try:
+        for other in others:
+            other.join()
+    finally:
+        build.stop()
+        for other in others:
+            other.join()
+        if room:
+            remove(room)
     if not build.failed:
         say(f"{len(build.done)} of {len(build.needed)} crates proved; {PROGRAM} is built")
     return not build.failed
 
 
 def alone(lock):
-    """Waits until no other call builds, and tells whether one has built the program meanwhile. The lock goes with the process."""
+    """Waits until no other call builds, and says whether one has built the program meanwhile. The lock goes with the process."""
     begun = time.time()
     try:
         fcntl.flock(lock, fcntl.LOCK_EX | fcntl.LOCK_NB)
@@ -199,19 +428,25 @@ def alone(lock):
         return BUILT.exists() and BUILT.stat().st_mtime > begun
 
 
+def stopped(number, _):
+    sys.exit(128 + number)
+
+
 def main():
     parser = argparse.ArgumentParser(usage=__doc__.split("usage: ")[1].split("\n")[0])
     parser.add_argument("--jobs", type=int)
     parser.add_argument("--lanes", type=int)
     settings = parser.parse_args()
+    for number in (signal.SIGINT, signal.SIGTERM, signal.SIGHUP):
+        signal.signal(number, stopped)
     if not shutil.which("rt"):
-        say("the command `rt` is not found. It comes with the kit by which the program is proved; README.md says which one")
+        say("the command `rt` is not found. It comes with the kit that proves the program; README.md names those that do")
         return NOT_BUILT
     with open(TOP / "crates.txt") as lock:
         if alone(lock):
             return 0
         jobs = settings.jobs or jobs_here()
-        lanes = settings.lanes or (2 if jobs >= 4 else 1)
+        lanes = settings.lanes or lanes_for(jobs)
         say(f"proving and building the program by {jobs} jobs: half an hour from nothing on four processors, later only what changed")
         if not build_all(jobs, lanes):
             return NOT_BUILT

@@ -1,0 +1,264 @@
+#!/usr/bin/env python3
+"""Answers as the program does, before it is proved: `rt try` compiles its sources with run-time checks and runs them once.
+
+usage: tools/unproved.py [OPTIONS] [FIRST SECOND]
+
+tools/bddcheck.sh calls it when the program is not built, or older than a source. The report, the faults and the status 0 to 3 are those
+of the program. Two lines on standard error say first that this is not the proved program, and how to build that.
+
+`rt try` gives the program another working folder, and standard input as a file. So each path becomes the path of a link in a folder
+of this call, and the faults name the caller's path again. A path that leads to an open file of this process, as those of a shell's
+<(..), leads there by its number. `rt` takes no lock for this, so several calls, and a build, can run at once.
+
+Status 4: no answer, and one line on standard error that says why: `rt` is missing, a file was to be written, the report is over
+1 MiB, the run needs more time than it has here, a run-time check failed, or there is no room for temporary files. If the sources
+do not compile, the compiler's own lines come before that line.
+"""
+import contextlib
+import ctypes
+import os
+import pathlib
+import re
+import shutil
+import signal
+import subprocess
+import sys
+import tempfile
+
+TOP = pathlib.Path(__file__).resolve().parent.parent
+NO_ANSWER = 4
+# The options that take a value, and those of them whose value is the path of a file that is read.
+VALUED = "--match --order --order-file --given --only --share --explain --vcd --workers --limit --memory --format --assignment".split()
+READ = ("--order-file", "--given")
+# Options by which no netlist is read.
+ASKING = ("-h", "--help", "-V", "--version")
+# What `rt try` gives a program of its standard input.
+MOST_INPUT = 64 << 20
+# How long the compiled sources may run.
+SECONDS = 300
+# What the compiled sources and their object code need of the temporary folder.
+BYTES_OF_A_TRY = 100 << 20
+END_WITH_PARENT = 1
+LIBC = ctypes.CDLL(None)
+
+
+def say(text):
+    with contextlib.suppress(OSError):
+        os.write(2, f"bddcheck.sh: {text}\n".encode(errors="surrogateescape"))
+
+
+def time_of_a_build():
+    processors = len(os.sched_getaffinity(0))
+    much = "half an hour" if processors >= 4 else "an hour" if processors >= 2 else "two hours"
+    return f"about {much} on the {processors} processor{'s' * (processors > 1)} here"
+
+
+def way_to_build():
+    return f"tools/build.py proves and builds the program, in {time_of_a_build()}"
+
+
+class NoAnswer(Exception):
+    """Why there is no answer from the sources."""
+
+
+class Asked:
+    """The words of a call, with a link in place of each path, and what they ask of standard input."""
+
+    def __init__(self, words, place):
+        if not all(map(is_text, words)):
+            raise NoAnswer(f"a word of the command line is no UTF-8, and the unproved sources take no such word; {way_to_build()}")
+        self.place, self.paths = place, {}
+        self.words, self.texts, self.asks, self.writes = [], [], False, False
+        option, is_ended = None, False
+        for word in words:
+            if option:
+                self.words.append(self.link(word) if option in READ else word)
+                option = None
+            elif is_ended or word == "-" or not word.startswith("-"):
+                self.texts.append(word)
+                self.words.append(word if word == "-" else self.link(word))
+            else:
+                name, equals, value = word.partition("=")
+                is_ended = word == "--"
+                option = name if name in VALUED and not equals else None
+                self.asks = self.asks or word in ASKING
+                self.writes = self.writes or name == "--vcd"
+                self.words.append(f"{name}={self.link(value)}" if equals and name in READ else word)
+
+    def link(self, path):
+        """The path of a link to what the caller's path names. An empty word, which can name no file, stays as it is."""
+        if not path:
+            return path
+        link = f"{self.place}/{len(self.paths)}-"
+        os.symlink(followed(path), link)
+        self.paths[link.encode()] = path.encode()
+        return link
+
+    def wants_input(self):
+        return not self.asks and ("-" in self.texts or not self.texts)
+
+    def named(self, said):
+        """What was said, with the caller's paths in place of the links."""
+        for link, path in self.paths.items():
+            said = said.replace(link, path)
+        return said
+
+
+def is_text(word):
+    try:
+        word.encode()
+        return True
+    except UnicodeEncodeError:
+        return False
+
+
+def followed(path):
+    """The path from the root on. If it leads to an open file of this process, that file's path by the number of the process."""
+    path = os.path.join(os.getcwd(), path)
+    at = path
+    for _ in range(40):
+        folder, name = os.path.split(at)
+        folder = os.path.realpath(folder)
+        if folder == f"/proc/{os.getpid()}/fd":
+            return f"{folder}/{name}"
+        if not os.path.islink(f"{folder}/{name}"):
+            break
+        at = os.path.join(folder, os.readlink(f"{folder}/{name}"))
+    return path
+
+
+def take_input(to):
+    """Writes standard input to a file, all of it, since `rt try` does not wait for a slow writer."""
+    much = 0
+    with open(to, "wb") as file:
+        while True:
+            try:
+                taken = os.read(0, 1 << 20)
+            except OSError as error:
+                raise NoAnswer(f"standard input cannot be read ({error.strerror})") from error
+            much += len(taken)
+            if much > MOST_INPUT:
+                raise NoAnswer(f"standard input has more than {MOST_INPUT >> 20} MiB, which the unproved sources do not take; {way_to_build()}")
+            if not taken:
+                return
+            file.write(taken)
+
+
+def end_with_parent():
+    LIBC.prctl(END_WITH_PARENT, signal.SIGTERM)
+
+
+def tried(words, given, place):
+    """What `rt try` writes to standard output and to standard error on these words."""
+    environment = {**os.environ, "TMPDIR": place}
+    words = ["rt", "try", "--seconds", str(SECONDS), "--", *words]
+    with open(given, "rb") as stdin, open(f"{place}/report", "wb+") as out, open(f"{place}/said", "wb+") as err:
+        child = subprocess.Popen(
+            words, cwd=TOP / "crates" / "bddcheck", stdin=stdin, stdout=out, stderr=err, env=environment, preexec_fn=end_with_parent
+        )
+        try:
+            child.wait()
+        except BaseException:
+            child.terminate()
+            with contextlib.suppress(subprocess.TimeoutExpired):
+                child.wait(20)
+            raise
+        out.seek(0)
+        err.seek(0)
+        return out.read(), err.read()
+
+
+# The last lines that `rt try` writes after what the program has written, and those before it.
+AFTER = re.compile(rb"(?:^(?:checked|interpreter|races): .*\n)*^run=.*\n\Z", re.M)
+BEFORE = re.compile(rb"\A(?:^rt: .*\n)+", re.M)
+ENDED = re.compile(rb"^run=ended status=([0-3]) .*proved=no\n\Z", re.M)
+
+
+def answered(asked, out, err):
+    """The status of the program, its report and what it said, or why there is no answer."""
+    after = AFTER.search(err)
+    ended = after and ENDED.search(err)
+    if ended:
+        return int(ended[1]), out, asked.named(BEFORE.sub(b"", err[: after.start()]))
+    raise NoAnswer(why_not(asked, err))
+
+
+def why_not(asked, err):
+    if b"No space left on device" in err or room_in(asked.place) < 1 << 20:
+        return f"there is no room for temporary files in {os.path.dirname(asked.place)}"
+    if b"\nchecked: no-answer: the program wrote more than" in err:
+        return f"the report is over 1 MiB, the most that the unproved sources can print; {way_to_build()}"
+    if b"\nchecked: no-answer: the program did not end" in err:
+        return f"the unproved sources, which are many times slower, have not answered within {SECONDS} seconds; {way_to_build()}"
+    write(2, asked.named(err))
+    if b"\nrun=fault " in err:
+        return f"a run-time check of the unproved sources failed, as the lines above say; {way_to_build()}"
+    return "`rt try` did not run the sources, as the lines above say"
+
+
+def room_in(folder):
+    found = os.statvfs(folder)
+    return found.f_bavail * found.f_frsize
+
+
+def answer(words, place):
+    if room_in(place) < BYTES_OF_A_TRY:
+        raise NoAnswer(f"there is no room for temporary files in {os.path.dirname(place)}: {BYTES_OF_A_TRY >> 20} MiB are needed")
+    asked = Asked(words, place)
+    if asked.writes:
+        raise NoAnswer(f"--vcd writes a file, which the unproved sources cannot; {way_to_build()}")
+    say(
+        "the program is not built, so this answer comes from its sources before their proof, by a build with run-time checks, which takes"
+        " a minute for each call and is many times slower"
+    )
+    say(way_to_build())
+    given = os.devnull
+    if asked.wants_input():
+        given = f"{place}/input"
+        take_input(given)
+    status, out, said = answered(asked, *tried(asked.words, given, place))
+    write(2, said)
+    if not write(1, out):
+        write(2, b"bddcheck: report: cannot be written\n")
+        return 3
+    return status
+
+
+def write(to, text):
+    """Whether all of a text could be written."""
+    try:
+        while text:
+            text = text[os.write(to, text) :]
+        return True
+    except OSError:
+        return False
+
+
+def stopped(number, _):
+    sys.exit(128 + number)
+
+
+def main():
+    for number in (signal.SIGINT, signal.SIGTERM, signal.SIGHUP):
+        signal.signal(number, stopped)
+    if not shutil.which("rt"):
+        say("the program is not built, and the command `rt`, which builds it, is not found: take a release archive, which needs no `rt`")
+        return NO_ANSWER
+    try:
+        place = tempfile.mkdtemp(prefix="bddcheck-")
+    except OSError as error:
+        say(f"there is no folder for temporary files ({error.strerror or error}); {way_to_build()}")
+        return NO_ANSWER
+    try:
+        return answer(sys.argv[1:], place)
+    except NoAnswer as why:
+        say(str(why))
+    except OSError as error:
+        say(f"temporary files cannot be written in {os.path.dirname(place)} ({error.strerror})")
+    finally:
+        shutil.rmtree(place, ignore_errors=True)
+    return NO_ANSWER
+
+
+if __name__ == "__main__":
+    sys.exit(main())
