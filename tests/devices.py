@@ -85,8 +85,11 @@ class Devices:
         place = rb"\rbddcheck: attempt 1, rank \d+ of \d+, \d+ nodes, \d+ requests, \d+ MB\x1b\[K"
         right = (status, out) == (0, C17_EQUAL)
         self.tally.check("a line on a terminal", right and re.fullmatch(rb"(?:(?:" + place + rb")+\r\x1b\[K)+", told), (out, told))
-        seen = run(["script", "-qec", f"{self.program} --verbose {self.c17} {self.c17}", "/dev/null"]) if shutil.which("script") else None
-        self.tally.check("no line of a short run on a terminal", seen is None or b"\x1b" not in seen.out, seen)
+        if shutil.which("script"):
+            seen = run(["script", "-qec", f"{self.program} --verbose {self.c17} {self.c17}", "/dev/null"])
+            self.tally.check("no line of a short run on a terminal", b"\x1b" not in seen.out, seen)
+        else:
+            self.tally.skip("script is not installed (Debian: bsdutils), so a short run on a terminal was not tried")
         self.refused_on_terminal()
 
     def refused_on_terminal(self):
