@@ -6,7 +6,7 @@ usage: tests/growths.py FOLDER [--jobs J]
 FOLDER is the one of the crates. The library refuse.c is compiled by cc and preloaded to the program that `rt test` leaves
 in the crate's out/. Of each test below the N-th growth or start is refused for N = 1, 2, .. until some runs in a row meet
 no refusal. Each run must end in time: the test has passed, or it has failed with want of memory or of a worker; never an
-assertion, a fault or a hang. Where a program is missing or older than a source, nothing is counted.
+assertion, a fault or a hang. A test whose program is missing or older than a source is skipped.
 """
 import argparse
 import os
@@ -15,7 +15,7 @@ import re
 import sys
 
 import kit
-from kit import Tally, run, say
+from kit import Tally, run
 from refusals import compiled
 
 # Crates, and their tests by name.
@@ -96,7 +96,7 @@ def main():
             if is_newer_than_sources(program, settings.crates):
                 tasks.append((test, pool.submit(try_test, program, test, library, place)))
             else:
-                say(f"growths: `rt test` in {crate} has left no program of these sources, so nothing was tried with {test}")
+                tally.skip(f"{test}: there is no program of these sources in {crate}, where `rt test` leaves it")
         for test, task in tasks:
             tried, met, passed, fault = task.result()
             tally.check(f"{test}: {tried} runs", fault is None and met > 0, fault or "nothing was refused")

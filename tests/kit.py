@@ -51,10 +51,10 @@ def run(words, given=b"", seconds=60, environment=None, **more):
 
 
 class Tally:
-    """Counts the checks of a part. Each failed one is told at once."""
+    """Counts the checks of a part. Each failed one is told at once, and so is what is skipped, with what it lacks."""
 
     def __init__(self, part):
-        self.part, self.passed, self.failed = part, 0, 0
+        self.part, self.passed, self.failed, self.skipped = part, 0, 0, 0
 
     def check(self, name, is_right, seen=""):
         if is_right:
@@ -69,11 +69,17 @@ class Tally:
         wanted = Run(status, out, err)
         return self.check(name, run == wanted, f"{run}; wanted {wanted}")
 
+    def skip(self, what):
+        """Notes that something is not tried here: what, and what it lacks."""
+        self.skipped += 1
+        print(f"SKIPPED {self.part}: {what}", flush=True)
+
     def figures(self, text):
         print(f"{self.part}: {text}", flush=True)
 
     def end(self):
-        print(f"{self.part}: {self.passed} passed, {self.failed} failed", flush=True)
+        skipped = f", {self.skipped} skipped" if self.skipped else ""
+        print(f"{self.part}: {self.passed} passed, {self.failed} failed{skipped}", flush=True)
 
 
 def folder():
