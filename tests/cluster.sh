@@ -1,11 +1,11 @@
 #!/bin/sh
 # Runs the recipes of docs/CLUSTER.md as they stand there and compares the joined report with that of a single run: by GNU parallel, by an array of Slurm
-# with daemons of its own on this machine, and by what Bazel gives a shard of a test. What is not installed is said and not counted.
+# with daemons of its own on this machine, and by what Bazel gives a shard of a test. What is not installed, or does not start, is skipped and counted as that.
 # usage: tests/cluster.sh PROGRAM
 program=${1:?PROGRAM}
 top=$(cd "$(dirname "$0")/.." && pwd) || exit 2
 place=$(mktemp -d) || exit 2
-passed=0 failed=0 daemons=
+passed=0 failed=0 skipped=0 daemons=
 ended() {
     # Each is one of the daemons that were started here; slurmd goes first, and munged, which both need, last.
     for daemon in $daemons; do kill "$daemon" 2>/dev/null && wait "$daemon" 2>/dev/null; done
@@ -44,7 +44,10 @@ check() {
     cmp report.txt whole.txt
     told "$1" $? report.txt whole.txt ./*.log
 }
-skip() { echo "cluster: $*"; }
+skip() {
+    skipped=$((skipped + 1))
+    echo "SKIPPED cluster: $*"
+}
 
 # ---- GNU parallel
 
@@ -66,7 +69,7 @@ END
     sh ../blocks/2 >parallel.log 2>&1 </dev/null
     check 'recipe 2, parallel over ssh'
 else
-    skip 'parallel is not installed, so recipes 1 and 2 were not tried'
+    skip 'parallel is not installed (Debian: parallel), so recipes 1 and 2 were not tried'
 fi
 
 # ---- Bazel
@@ -161,8 +164,8 @@ if command -v munged >/dev/null && command -v slurmctld >/dev/null && command -v
         tail -n 20 "$place"/slurm/*.out | sed 's/^/cluster: /'
     fi
 else
-    skip 'slurmctld, slurmd, sbatch or munged is not installed, so recipes 3 to 5 were not tried'
+    skip 'slurmctld, slurmd, sbatch or munged is not installed (Debian: slurm-wlm, munge), so recipes 3 to 5 were not tried'
 fi
 
-echo "cluster: $passed passed, $failed failed"
+echo "cluster: $passed passed, $failed failed, $skipped skipped"
 [ "$failed" -eq 0 ]

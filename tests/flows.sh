@@ -9,8 +9,8 @@ for name in berkeley-abc yosys-abc abc; do
     abc=$(command -v $name) && break
 done
 if [ -z "$abc" ] || ! command -v yosys >/dev/null; then
-    echo 'flows: yosys or abc is not installed, so no recipe was tried'
-    echo 'flows: 0 passed, 0 failed'
+    echo 'SKIPPED flows: yosys or abc is not installed (Debian: yosys, berkeley-abc), so no recipe and no pair was tried'
+    echo 'flows: 0 passed, 0 failed, 1 skipped'
     exit
 fi
 place=$(mktemp -d) || exit 2

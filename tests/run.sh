@@ -1,11 +1,12 @@
 #!/bin/sh
 # Tests that no contract can hold: refused memory and threads, a differential fuzz, devices, signals, stored runs,
-# the examples. docs/TESTING.md says what each adds. They take some eight minutes; the last line is
-# 'N passed, M failed', and the status is 0 where nothing failed.
+# the examples. docs/TESTING.md says what each adds. They take some twelve minutes; the last line is
+# 'N passed, M failed, K skipped', and the status is 0 where nothing failed. K counts what was not tried here; a line for each,
+# above the last one, says what it lacks. tests/needs.sh installs what can be installed.
 #
 # usage: tests/run.sh [--seed N] [--long] [PART ..]
 #
-# PART is stored, examples, explained, papers, shipped, linked, edits, joining, vcd, objects, devices, signals, refusals, growths, workers, fuzz, second, flows or cluster; all of them where none is named. Second is a
+# PART is first, stored, examples, explained, papers, shipped, linked, edits, joining, vcd, objects, devices, signals, refusals, growths, workers, fuzz, second, flows or cluster; all of them where none is named. Second is a
 # part of these on the program as the kit's other compiler builds it, where rt ci has left that. --long goes on with
 # refusals and fuzz, by other seeds, until it is stopped or something fails. BDDCHECK names another program than the proved one.
 cd "$(dirname "$0")/.." || exit 2
@@ -14,16 +15,17 @@ while :; do
     case ${1-} in
     --seed) seed=${2:?a number} && shift 2 ;;
     --long) long=yes && shift ;;
-    -*) sed -n '2,10s/^# \{0,1\}//p' tests/run.sh >&2 && exit 2 ;;
+    -*) sed -n '2,13s/^# \{0,1\}//p' tests/run.sh >&2 && exit 2 ;;
     *) break ;;
     esac
 done
-[ $# -gt 0 ] || set -- stored examples explained papers shipped linked edits joining vcd objects devices signals refusals growths workers fuzz second flows cluster
+[ $# -gt 0 ] || set -- stored examples explained papers shipped linked edits joining vcd objects devices signals refusals growths workers fuzz second flows cluster first
 
-# What the parts print goes on, and their last lines are added up.
-passed=0 failed=0
+# What the parts print goes on, and their last lines are added up. What they skipped is named again at the end.
+passed=0 failed=0 skipped=0 missed=
 finish() {
-    echo "$passed passed, $failed failed"
+    printf %s "$missed"
+    echo "$passed passed, $failed failed, $skipped skipped"
     [ "$failed" -eq 0 ]
     exit
 }
@@ -31,29 +33,40 @@ fail() {
     echo "FAILED tests: $*"
     failed=$((failed + 1))
 }
+skip() {
+    echo "SKIPPED $*"
+    skipped=$((skipped + 1))
+    missed="${missed}SKIPPED $*
+"
+}
 program=${BDDCHECK:-}
 if [ -z "$program" ]; then
     program=$PWD/crates/bddcheck/out/bddcheck
     # Builds it where it is missing or older than a source, so that no test runs an old program.
-    tools/bddcheck.sh --help >/dev/null </dev/null || { fail "the program could not be built" && finish; }
+    tools/build.py </dev/null || { fail "the program could not be built" && finish; }
 fi
 command -v python3 >/dev/null || { fail "python3 is missing" && finish; }
 
 log=$(mktemp) || exit 2
 trap 'rm -f "$log"' EXIT
+add() {
+    passed=$((passed + $1)) failed=$((failed + $2)) wrong=$2
+    skipped=$((skipped + ${3:-0}))
+}
 part() {
     name=$1 && shift
     "$@" >"$log"
     status=$?
     cat "$log"
-    counts=$(tail -n 1 "$log" | sed -n "s/^$name: \([0-9]*\) passed, \([0-9]*\) failed\$/\1 \2/p")
+    counts=$(tail -n 1 "$log" | sed -n "s/^$name: \([0-9]*\) passed, \([0-9]*\) failed\(, \([0-9]*\) skipped\)\{0,1\}\$/\1 \2 \4/p")
     if [ -z "$counts" ]; then
         fail "$name ended with status $status and no counts"
         return
     fi
-    passed=$((passed + ${counts% *}))
-    failed=$((failed + ${counts#* }))
-    [ "$status" -eq 0 ] || [ "${counts#* }" -gt 0 ] || fail "$name ended with status $status"
+    add $counts
+    others=$(grep '^SKIPPED ' "$log") && missed="$missed$others
+"
+    [ "$status" -eq 0 ] || [ "$wrong" -gt 0 ] || fail "$name ended with status $status"
 }
 # The program of the other compiler, if it is there and no source is newer.
 second() {
@@ -64,7 +77,7 @@ second() {
         done
         part fuzz python3 tests/fuzz.py "$other" --seconds 30 ${seed:+--seed "$seed"}
     else
-        echo "second: there is no program of the other compiler, so nothing was tried with it"
+        skip "second: there is no program of the other compiler, which rt ci leaves, so nothing was tried with it"
     fi
 }
 parts() {
@@ -72,6 +85,7 @@ parts() {
         case $name in
         stored | examples | papers | shipped | objects | devices | signals | workers) part "$name" python3 "tests/$name.py" "$program" ;;
         edits | linked | joining) part "$name" python3 "tests/$name.py" ;;
+        first) part first python3 tests/first.py "$program" ;;
         refusals | fuzz | explained | vcd) part "$name" python3 "tests/$name.py" "$program" ${seed:+--seed "$seed"} ;;
         growths) part growths python3 tests/growths.py crates ;;
         second) second ;;
@@ -81,13 +95,13 @@ parts() {
     done
 }
 # What was tried until a stop is told.
-trap 'echo "stopped: $passed passed, $failed failed"; exit 130' INT TERM
+trap 'echo "stopped: $passed passed, $failed failed, $skipped skipped"; exit 130' INT TERM
 parts "$@"
 round=0
 while [ -n "$long" ] && [ "$failed" -eq 0 ]; do
     round=$((round + 1))
     seed=${seed:+${seed%%.*}.$round}
     parts refusals fuzz
-    echo "round $round: $passed passed, $failed failed" >&2
+    echo "round $round: $passed passed, $failed failed, $skipped skipped" >&2
 done
 finish
