@@ -16,7 +16,7 @@ import sys
 
 import decisions
 import pages
-from kit import TOP, Tally, run, say
+from kit import TOP, Tally, run
 
 # A picture, and the words that print it on standard output. Each picture of docs/ has a row.
 DRAWN = {
@@ -91,7 +91,7 @@ def check_kit(tally, readme):
     named = re.search(r"^Proved with kits? .* of the logic (\w+)\.$", readme, re.M)
     tally.check("the README names the logic by which the program is proved", named)
     if not shutil.which("rt"):
-        say("papers: there is no `rt`, so the logic that the README names was not compared")
+        tally.skip("there is no `rt`, so the logic that the README names was not compared")
         return
     kit = run(["rt", "version"])
     here = re.search(rb" logic (\w+)", kit.out)
