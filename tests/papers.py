@@ -18,6 +18,11 @@ import decisions
 import pages
 from kit import TOP, Tally, run
 
+# The logic of the kits in the README's line, as `Proved with kits 1a and 1b of the logic 0123abcd.`, and in the line of `rt version`, as
+# `rattle-kit-1a logic 0123abcd`. Kits of one logic accept the same proofs, so their own names are not compared.
+LOGIC_NAMED = re.compile(r"^`?Proved with kits? \w+(?:, \w+)*(?: and \w+)? of the logic `?(\w+)`?\.`?$", re.M)
+LOGIC_HERE = re.compile(r"^\S+ logic (\w+)$", re.M)
+
 # A picture, and the words that print it on standard output. Each picture of docs/ has a row.
 DRAWN = {
     "docs/crates.svg": ["tools/picture.py"],
@@ -87,15 +92,13 @@ def check_orders(tally):
 
 
 def check_kit(tally, readme):
-    """Kits of one logic prove the same, so the kit's own name does not matter."""
-    named = re.search(r"^Proved with kits? .* of the logic (\w+)\.$", readme, re.M)
-    tally.check("the README names the logic by which the program is proved", named)
-    if not shutil.which("rt"):
+    named = LOGIC_NAMED.findall(readme)
+    tally.check("the README has one line that names kits and their logic", len(named) == 1, named)
+    if shutil.which("rt"):
+        kit = run(["rt", "version"])
+        tally.check("the README names the logic that `rt version` prints", LOGIC_HERE.findall(kit.out.decode()) == named, kit)
+    else:
         tally.skip("there is no `rt`, so the logic that the README names was not compared")
-        return
-    kit = run(["rt", "version"])
-    here = re.search(rb" logic (\w+)", kit.out)
-    tally.check("the README names the logic of the kit that is here", named and here and named[1] == here[1].decode(), kit)
 
 
 def check_pictures(tally):
