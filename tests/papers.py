@@ -32,7 +32,7 @@ DRAWN = {
 # Words that this project no longer uses for what they are named after, and what to write instead. Only those that hardly mean anything
 # else are here; they are looked for in prose, not in code.
 GIVEN_UP = {
-    r"(?:is|are|was|were|be|been) told|tells? (?!\w+ apart|apart)": "reports, prints, says, knows",
+    r"(?:is|are|was|were|be|been) told(?! (?:apart|from)\b)|tells? (?!\w+ apart|apart)": "reports, prints, says, knows",
     r"wrong bod(?:y|ies)": "planted bug",
     r"behind": "after, below",
     r"to and fro": "in serpentine order",
