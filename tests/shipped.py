@@ -99,9 +99,14 @@ def check_commands(tally, prefix):
             out = pathlib.Path(place) / "adder.bench"
             seen = run([prefix / "bin" / "rtl2bench", examples / "verilog" / "adder.v", "-o", out])
             tally.check("rtl2bench", seen.status == 0 and out.exists(), seen)
+        else:
+            tally.skip("yosys is not installed (Debian: yosys), so rtl2bench was not run")
         if shutil.which("man"):
-            page = subprocess.run(["man", "-l", prefix / "share/man/man1/bddcheck.1"], capture_output=True, env={"MANPAGER": "cat", "PATH": "/usr/bin:/bin"})
+            words = ["man", "-l", prefix / "share" / "man" / "man1" / "bddcheck.1"]
+            page = subprocess.run(words, capture_output=True, env={"MANPAGER": "cat", "PATH": "/usr/bin:/bin"})
             tally.check("man", page.returncode == 0 and b"EXIT STATUS" in page.stdout, page.stderr)
+        else:
+            tally.skip("man is not installed (Debian: man-db), so the manual page was not shown")
 
 
 def main():
