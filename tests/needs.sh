@@ -14,7 +14,8 @@ gcc refusals,growths cc
 libc6-dev refusals,growths cc
 git edits git
 bsdutils devices script
-yosys flows yosys
+man-db shipped man
+yosys flows,shipped yosys
 berkeley-abc flows berkeley-abc|yosys-abc|abc
 parallel cluster parallel
 munge cluster munged
