@@ -1,28 +1,33 @@
-//! A caller of the store and of waves, to start from: one function built in two ways, and the proof that both are one
-//! diagram.
+//! A whole caller of the store and its waves, to start from: "a and b and c", grouped in two ways in one store, and the proof that
+//! both are one diagram.
 //!
-//! **Promises.** `two_ways` answers equal references (`same`). **Only tests show** that ample memory suffices
-//! (`wave_tests`).
+//! **Promises.** `two_ways` answers the diagram of "a and b and c" (`meaning`), both times (`same`). **Only a test shows** that ample
+//! memory suffices, and how many nodes the store has.
 //!
 //! **Begin** here, with docs/CALLING.md beside it: copy it, and change what is built.
 #![tactic(auto)]
 
-ghost use Rattle.std.specs.Prelude.{◌≡◌, Bool, List, IfOk};
+ghost use Rattle.std.specs.Prelude.{◌≡◌, ◌&&◌, Bool, List, IfOk};
+ghost use Rattle.dd_store.specs.Graph.{bit};
 ghost use Rattle.dd_store.specs.declared.reference.Ref.{Ref as RefValue};
 ghost use Rattle.dd_store.specs.Nodes.{IsSound, den, IsDiagram};
 ghost use Rattle.dd_store.specs.View.{Has};
 ghost use Rattle.req_table.specs.ComputedTables.{IsRight};
 ghost use Rattle.reduce_up.specs.Waves.{IsEntry, entry_value};
 
+#[cfg(test)]
+use counter_walk::{least_difference, same};
 use dd_store::{Ref, Store};
 use expand_work::{Crew, Free, WaveFault, Workers};
 use req_table::Op;
 use std::alloc::Global;
 use std::sync::Wait;
+#[cfg(test)]
+use std::test::Fail;
 use std::thread::Threads;
 use wave_engine::Engine;
 
-/// The diagrams of two operations, by one wave. What references denote stays.
+/// The diagrams of two operations, by one wave. All references that the store had keep their functions.
 #[tactic(auto, using(dd_store::proofs::View::kept_den))]
 fn both<R: Threads + Wait + Sync>(
     engine: &mut Engine<'_, R, Free>,
@@ -45,18 +50,18 @@ fn both<R: Threads + Wait + Sync>(
     Ok((answers[0], answers[1]))
 }
 
-/// "f or g", and "not both not f and not g" (de Morgan): one diagram.
+/// Builds "(a and b) and c" and "a and (b and c)" in a store of their own, and answers this store and both diagrams.
 pub fn two_ways<R: Threads + Wait + Sync>(
     rt: &R,
     alloc: Global,
-    store: &mut Store,
-    f: Ref,
-    g: Ref,
-) -> Result<(Ref, Ref), WaveFault>
-    requires f { Has store.old f }
-    requires g { Has store.old g }
-    ensures same { IfOk result (λ r. r.0 ≡ r.1) }
+) -> Result<(Store, Ref, Ref), WaveFault>
+    ensures meaning { IfOk result (λ r. IsDiagram r.0 r.1 (λ x. bit x 0 && (bit x 1 && bit x 2))) }
+    ensures same { IfOk result (λ r. r.1 ≡ r.2) }
 {
+    let mut store = Store::new(alloc, 3, 1_000)?;
+    let a = store.variable(0)?;
+    let b = store.variable(1)?;
+    let c = store.variable(2)?;
     let crew = Crew {
         rt,
         alloc,
@@ -64,8 +69,18 @@ pub fn two_ways<R: Threads + Wait + Sync>(
         monitor: &Free,
     };
     let mut engine = Engine::new(&crew)?;
-    let (not_f, not_g) = both(&mut engine, store, (Op::Nand, f, f), (Op::Nand, g, g))?;
-    let ways = both(&mut engine, store, (Op::Or, f, g), (Op::Nand, not_f, not_g))?;
+    let (ab, bc) = both(&mut engine, &mut store, (Op::And, a, b), (Op::And, b, c))?;
+    let ways = both(&mut engine, &mut store, (Op::And, ab, c), (Op::And, a, bc))?;
     let _ = store.levels();
-    Ok(ways)
+    Ok((store, ways.0, ways.1))
+}
+
+// Both are equal, and 1 where a, b and c are 1. The nodes are those of a, b, c, "a and b", "b and c" and "a and b and c".
+#[test]
+fn both_ways_are_equal(rt: HostRuntime) -> Result<(), Fail> {
+    let (store, first, second) = two_ways(&rt, rt.alloc())?;
+    assert!(rt; same(first, second) && store.count() == 6);
+    let found = least_difference(rt.alloc(), &store, first, Ref::FALSE)?;
+    assert!(rt; found.is_some_and(|bits| bits.as_slice() == [true, true, true].as_slice()));
+    Ok(())
 }

@@ -2,9 +2,9 @@
 //!
 //! They show what no contract can: that calls with ample memory succeed (`refused`: what a refused wave leaves), that
 //! threads meet in a level and in its shards (`meeting`, `stores`, `wide`), when workers are called in (`earlier`),
-//! that each request is told once, and a wave refused exactly if it has more than its bound (`bounds`), and that each
-//! number of workers answers the same (`workers`, `widths`).
-//! **Begin** with `waves` and `ways`.
+//! that each request is reported once, and a wave refused exactly if it has more than its bound (`bounds`), and that each
+//! number of workers answers the same (`workers`, `widths`); `by_hand` traces a wave that docs/ARCHITECTURE.md works by hand.
+//! **Begin** with `waves`.
 #![tactic(auto)]
 
 #[cfg(test)]
@@ -51,8 +51,6 @@ mod tables;
 mod walks;
 #[cfg(test)]
 mod waves;
-#[cfg(test)]
-mod ways;
 #[cfg(test)]
 mod wide;
 #[cfg(test)]
