@@ -49,12 +49,6 @@ const NAMES: [(usize, &str); 7] = [
     (8, "11"),
 ];
 
-/// A wave as the program does a small one: on the caller's thread.
-const BY_CALLER: How = How {
-    workers: 1,
-    way: Way::Threads,
-};
-
 /// The rows of the way down: level, request, child for 0, child for 1.
 static DOWN: &str = "| 1 | AND(2, 11) | False | 11 |
 | 2 | AND(11, 7) | 7 | AND(¬6, 7) |
@@ -232,9 +226,9 @@ fn see_up(
 ) -> Result<(), AllocError>
     requires { store.now.levels ≡ length records.now }
 {
-    let mut level = store.levels();
-    while level > 0 {
-        level -= 1;
+    let levels = store.levels();
+    for below in 0..levels {
+        let level = levels - 1 - below;
         for row in records.level(level) {
             trace.write_up(rt, store, level, *row)?;
         }
@@ -249,14 +243,12 @@ fn see_up(
 fn rank_two_of_c17(rt: HostRuntime) -> Result<(), Fail> {
     let mut store = Store::new(rt.alloc(), 5, 100)?;
     let mut known = start(&rt, rt.alloc(), &mut store);
-    run(
-        &rt,
-        rt.alloc(),
-        &mut store,
-        &mut known,
-        &RANK_ONE,
-        BY_CALLER,
-    )?;
+    // A wave as the program does a small one: on the caller's thread.
+    let how = How {
+        workers: 1,
+        way: Way::Threads,
+    };
+    run(&rt, rt.alloc(), &mut store, &mut known, &RANK_ONE, how)?;
     assert!(rt; store.count() == 7);
     let roots = roots_of(&rt, &store, known.as_slice());
     let [first, second, third, fourth] = roots;
@@ -274,15 +266,9 @@ fn rank_two_of_c17(rt: HostRuntime) -> Result<(), Fail> {
         store.levels(),
         records,
     )?;
-    run(
-        &rt,
-        rt.alloc(),
-        &mut store,
-        &mut known,
-        &RANK_TWO,
-        BY_CALLER,
-    )?;
+    run(&rt, rt.alloc(), &mut store, &mut known, &RANK_TWO, how)?;
     assert!(rt; store.count() == 11);
+    assert!(rt; store.levels() == 5);
     let mut trace = Trace::new(rt.alloc(), known.as_slice())?;
     trace.name_inner(
         &rt,
