@@ -53,7 +53,7 @@ fn is_target(target: &PairName, role: PairKind, name: &[u8]) -> bool
 }
 
 /// Whether the netlist has this output, or this register.
-fn is_known(net: &Netlist, target: &PairName) -> bool
+pub fn is_known(net: &Netlist, target: &PairName) -> bool
     ensures { IsTrue result ↔ IsTargetIn (circuit net.now) target.now }
 {
     let name = target.name.as_slice();

@@ -58,10 +58,12 @@ mod trials;
 mod turns;
 
 pub use choice::{Attempt, Candidate, Choice};
+pub use explaining::is_known;
 pub use fault::CheckFault;
 pub use judging::{check, judge};
 pub use listing::print_order;
 pub use picked::Picked;
+pub use picking::is_named;
 pub use report_text::{
     Assignment, Bits, Cause, Heading, Name, Outcome, PairKind, PairName, Share, Side, Verdict,
     Verdicts, json_of, report_of, write_whole,

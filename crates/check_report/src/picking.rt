@@ -62,7 +62,7 @@ pub(crate) fn registers_of(net: &Netlist) -> &[Signal]
 }
 
 /// Whether the netlist has an output or a register of this name.
-fn is_named(net: &Netlist, name: &[u8]) -> bool
+pub fn is_named(net: &Netlist, name: &[u8]) -> bool
     ensures { IsTrue result ↔ IsNamedIn (circuit net.now) name.now }
 {
     has_name(net, net.outputs(), name) || has_name(net, registers_of(net), name)

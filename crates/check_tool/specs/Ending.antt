@@ -72,8 +72,7 @@ until w b = record { held = w.held; holds = b.holds; has_failed = b.has_failed; 
 abbrev pub from : Written → Between → Written
 from w b = record { held = b.holds; holds = w.holds; has_failed = w.has_failed; has_stopped = w.has_stopped }
 
--- whether more is told: progress while diagrams are built, and what helps behind a fault. It is asked for, or the device for it is seen
--- on a terminal.
+-- whether progress is told while diagrams are built: it is asked for, or the device for it is seen on a terminal
 abbrev pub tells : Options → (seen : Bool) → Bool
 tells o seen = o.verbose || seen
 
@@ -86,20 +85,14 @@ HasProgress true w = ⊤
 abbrev pub IsBehindProgress : (tells : Bool) → Written → (Written → Type 0) → Type 0
 IsBehindProgress t w P = (b : Between) × HasProgress t (until w b) × P (from w b)
 
--- what is said of a fault of a run: its line, and behind it, where more is told, what helps
-abbrev pub IsSaidOf : (more : Bool) → (told : List ℕ → Option (List ℕ)) → Options → Written → ToolFault → (status : ℕ) → Type 0
-IsSaidOf false told o w fault status = IsSaid w fault status
-IsSaidOf true told o w fault status = (b : Between) × IsSaid (until w b) fault status × (line : List ℕ) × IsHelp told o fault line
+-- what is said of a fault of a run, always: its line, and after it the line of what helps
+abbrev pub IsSaidOf : (told : List ℕ → Option (List ℕ)) → Options → Written → ToolFault → (status : ℕ) → Type 0
+IsSaidOf told o w fault status = (b : Between) × IsSaid (until w b) fault status × (line : List ℕ) × IsHelp told o fault line
     × MaySay (from w b) line
 
--- the file that may be opened once more, for what was refused in it: none, unless more is told
-abbrev pub asked_again : (more : Bool) → Options → ToolFault → List (List ℕ)
-asked_again false o fault = []
-asked_again true o fault = refused_paths o fault
-
--- the line that names an attempt
+-- the line that names the attempt that has decided
 abbrev pub attempt_line : Attempt → List ℕ
-attempt_line t = codes "bddcheck: order " ++ candidate_text t.order ++ codes ", budget " ++ decimal t.budget ++ codes "\n"
+attempt_line t = codes "bddcheck: order " ++ candidate_text t.order ++ codes " decided within " ++ decimal t.budget ++ codes " nodes\n"
 
 -- what is said of the attempt that a run ended with, where orders were tried
 abbrev pub IsAttemptSaid : Option Attempt → Written → Type 0
@@ -108,7 +101,7 @@ IsAttemptSaid (Some t) w = Says w (attempt_line t)
 
 -- the line of a run whose pairs were judged by their cones
 abbrev pub cones_line : List ℕ
-cones_line = codes "bddcheck: each pair by its cones\n"
+cones_line = codes "bddcheck: each pair was judged by its cones\n"
 
 -- what is said of what has decided a run, where an order was to be found: an attempt, or cones
 abbrev pub IsWaySaid : OrderChoice → Option Attempt → Written → Type 0
@@ -131,7 +124,8 @@ larger_word o = if nat_lt o.limit (o.memory / node_bytes) then codes "--limit" e
 -- the line that says how many pairs are undecided, within how many nodes each was given up, and which option helps
 abbrev pub undecided_words : (undecided nodes : ℕ) → (larger : List ℕ) → List ℕ
 undecided_words n nodes larger =
-    codes "bddcheck: " ++ (decimal n ++ (codes " undecided, each of more than 4096 variables, or given up in each of five orders within "
+    codes "bddcheck: the number of undecided pairs is " ++ (decimal n
+    ++ (codes "; each has more than 4096 variables, or was given up in each of five orders within "
     ++ (decimal nodes ++ (codes " nodes or eight requests for each of them; a larger "
     ++ (larger ++ codes " may help\n")))))
 
@@ -217,7 +211,7 @@ pub record IsUnsaved (s : Scene) (o : Options) (done : Done) (fault : ToolFault)
   pub passed : ArePassed s.told s.input o done
   pub cause : IsSaveFault o done fault
   pub saved : Extends s.saved s.saves (saves_of o done false)
-  pub line : IsBehindProgress (tells o s.seen) s.errors (λ w. IsSaidOf (tells o s.seen) s.told o w fault status)
+  pub line : IsBehindProgress (tells o s.seen) s.errors (λ w. IsSaidOf s.told o w fault status)
 
 -- Behind a report its VCD was saved, where there is one, and no file opened; without `--verbose` nothing was said.
 pub record Finishes (o : Options) (done : Done) (tried tries : Option (List Try)) (saved saves : Option (List Save)) (w : Written)
@@ -228,20 +222,21 @@ pub record Finishes (o : Options) (done : Done) (tried tries : Option (List Try)
   pub code : IsDoneStatus done status
 
 -- Behind a report its VCD could not be saved, and that was said.
-pub record BreaksOff (more : Bool) (told : List ℕ → Option (List ℕ)) (o : Options) (done : Done) (tried tries : Option (List Try))
+pub record BreaksOff (told : List ℕ → Option (List ℕ)) (o : Options) (done : Done) (tried tries : Option (List Try))
     (saved saves : Option (List Save)) (w : Written) (fault : ToolFault) (status : ℕ) : Type 0 where
   pub unopened : Extends tried tries []
   pub saved_part : Extends saved saves (saves_of o done false)
   pub cause : IsSaveFault o done fault
-  pub line : IsSaidOf more told o w fault status
+  pub line : IsSaidOf told o w fault status
 
--- There is a fault: its line was said, and nothing was written but for a front part of the report where the writing failed. The file of a
--- refused text may have been opened once more, where more is told. Nothing was saved.
+-- There is a fault: its line was said, and the line of what helps; nothing was written but for a front part of the report if the writing
+-- failed. The file of a refused text, or of the first netlist for a name that it does not have, may have been opened once more. Nothing was
+-- saved.
 pub record Refuses (broken : List ℕ → Type 0) (s : Scene) (o : Options) (fault : ToolFault) (status : ℕ) : Type 0 where
   pub tries : List Try
   pub again : List Try
   pub tried : Extends s.tried s.tries (tries ++ again)
-  pub once_more : AreTried (asked_again (tells o s.seen) o fault) again
+  pub once_more : AreTried (refused_paths o fault) again
   pub cause : IsToolFault s.told broken (IsTrue s.input_failed) s.input o tries fault
   pub unread : fault ≡ InputUnread → IsTrue s.input_failed
   pub full : fault ≡ Check (Wave Full) → IsBeyond s.told s.input o
@@ -250,7 +245,7 @@ pub record Refuses (broken : List ℕ → Type 0) (s : Scene) (o : Options) (fau
   pub hired : fault ≡ Check (Wave NoWorker) → (o.print_order ≡ false) × NamesOrder o.order
   pub only : fault ≡ Check Only → AreUnknown s.told s.input o
   pub unbounded : fault ≢ Check (Wave TooManyRequests)
-  pub line : IsBehindProgress (tells o s.seen) s.errors (λ w. IsSaidOf (tells o s.seen) s.told o w fault status)
+  pub line : IsBehindProgress (tells o s.seen) s.errors (λ w. IsSaidOf s.told o w fault status)
   pub front : fault ≡ Check Write → HasReportedFront s.told s.input o s.output.held s.output.holds s.output.has_failed s.output.has_stopped
   pub nothing : fault ≢ Check Write → Keeps s.output.held s.output.holds
   pub unsaved : Extends s.saved s.saves []

@@ -1,7 +1,8 @@
--- What is said behind a fault's line where more is asked for: where the fault stands, and what helps.
+-- What is said after a fault's line: where the fault is, and what helps.
 use Rattle.std.specs.Prelude.{◌≡◌, ◌⊎◌, ◌||◌, ◌==◌, ℕ, Bool, true, false, if◌then◌else◌, List, [], ◌∷◌, ◌++◌, Option, Some, None, codes}
-use Rattle.std.specs.Prelude.{decimal}
+use Rattle.std.specs.Prelude.{decimal, flat_map, Contains}
 use Rattle.std.specs.Borrow.{Bor}
+use Rattle.net_bench.specs.Circuit.{Circuit}
 use Rattle.net_bench.specs.declared.fault.BenchFault.{BenchFault}
 use Rattle.net_bench.specs.declared.fault.BenchFault.TheVariants.{TooLong as LongText, BadByte, BadStatement, UnknownGate, WrongOperands}
 use Rattle.net_bench.specs.declared.fault.BenchFault.TheVariants.{Redefined, TooMany, Undefined, Cycle, Read as ReadFailed}
@@ -15,6 +16,12 @@ use Rattle.expand_work.specs.declared.fault.WaveFault.TheVariants.{OutOfMemory a
 use Rattle.check_report.specs.declared.fault.CheckFault.{CheckFault}
 use Rattle.check_report.specs.declared.fault.CheckFault.TheVariants.{First, Second, Given, GivenOutputs, Order, Only, Explain, Wave}
 use Rattle.check_report.specs.declared.fault.CheckFault.TheVariants.{GivenUp, Write, OutOfMemory as NoCheckMemory}
+use Rattle.report_text.specs.declared.cause.PairName.{PairName}
+use Rattle.check_report.specs.Check.{Gives}
+use Rattle.check_report.specs.Explaining.{IsTargetIn}
+use Rattle.check_report.specs.Picking.{IsNamedIn}
+use Rattle.command_line.specs.declared.options.Picks.{Picks}
+use Rattle.command_line.specs.declared.options.Picks.TheVariants.{All as AllPicks, Only as OnlyPicks, Share as SharePicks}
 use Rattle.command_line.specs.declared.options.Options.{Options}
 use Rattle.command_line.specs.declared.options.OrderChoice.{OrderChoice}
 use Rattle.command_line.specs.declared.options.OrderChoice.TheVariants.{Declared, Depth, Interleave, Index, Force, Best, Auto, Cones, File}
@@ -34,7 +41,7 @@ use Rattle.net_bench.specs.Statement.{is_word}
 use Rattle.check_tool.specs.declared.help.Mark.{Mark}
 use Rattle.check_tool.specs.declared.help.Mark.TheVariants.{Line as in_line, Broken, Listed}
 use Rattle.check_tool.specs.Quoting.{remark}
-use Rattle.check_tool.specs.Running.{path_in, first_paths, second_paths, order_paths, IsReadOf}
+use Rattle.check_tool.specs.Running.{path_in, first_paths, second_paths, order_paths, IsCalled, IsReadOf}
 
 -- what the first text is called: the path of its file, or what it is
 abbrev pub first_name : Texts → List ℕ
@@ -132,8 +139,8 @@ fault_spot texts given vcd choice (Check (Second fault)) = text_spot (second_nam
 fault_spot texts given vcd choice (Check (Given fault)) = given_spot given fault
 fault_spot texts given vcd choice (Check GivenOutputs) = given_spot given ReadFailed
 fault_spot texts given vcd choice (Check (Order fault)) = order_spot choice fault
-fault_spot texts given vcd choice (Check Only) = None
-fault_spot texts given vcd choice (Check Explain) = None
+fault_spot texts given vcd choice (Check Only) = in_text (first_name texts)
+fault_spot texts given vcd choice (Check Explain) = in_text (first_name texts)
 fault_spot texts given vcd choice (Check (Wave fault)) = None
 fault_spot texts given vcd choice (Check GivenUp) = None
 fault_spot texts given vcd choice (Check Write) = None
@@ -147,37 +154,37 @@ fault_spot texts given vcd choice OutOfMemory = None
 
 -- what helps against a word that names no gate
 abbrev pub other_word : List ℕ
-other_word = codes "gates are AND, NAND, OR, NOR, XOR, XNOR, NOT, BUFF and DFF; see docs/FLOWS.md"
+other_word = codes "the gates are AND, NAND, OR, NOR, XOR, XNOR, NOT, BUFF and DFF; see docs/FLOWS.md"
 
 -- what helps where a text is refused
 abbrev pub text_help : BenchFault → List ℕ
 text_help LongText = codes "a text has at most 67108864 bytes"
-text_help (BadByte line) = codes "outside comments only printable ASCII stands"
+text_help (BadByte line) = codes "outside comments a netlist has only printable ASCII, blanks and line ends"
 text_help (BadStatement line) = codes "a statement is INPUT(a), OUTPUT(a) or a = GATE(b, c)"
 text_help (UnknownGate line) = other_word
 text_help (WrongOperands line) = codes "NOT, BUFF and DFF take one operand"
-text_help (Redefined line) = codes "a signal has one INPUT, gate or register"
-text_help (TooMany line) = codes "at most 1000000 signals, 4000000 operands, and names of 255 bytes"
+text_help (Redefined line) = codes "a signal may have only one INPUT, gate or register"
+text_help (TooMany line) = codes "a netlist has at most 1000000 signals and 4000000 operands, and a name has at most 255 bytes"
 text_help (Undefined line) = codes "the signal has no INPUT, gate or register"
-text_help (Cycle line) = codes "only through a register may a gate depend on itself"
-text_help ReadFailed = codes "the device failed, or is a folder"
-text_help NoTextMemory = codes "more memory, or a smaller netlist"
+text_help (Cycle line) = codes "a gate may depend on itself only through a register"
+text_help ReadFailed = codes "the device failed, or the path is a folder"
+text_help NoTextMemory = codes "more memory, or a smaller netlist, is needed"
 
 -- the same of an order
 abbrev pub order_help : OrderFault → List ℕ
-order_help CountsDiffer = codes "--match name pairs by names"
-order_help (NotAPermutation place) = codes "--extend takes the list as it is, --print-order writes one that fits"
+order_help CountsDiffer = codes "--match name pairs them by their names"
+order_help (NotAPermutation place) = codes "--extend takes the list as it is, and --print-order writes one that fits"
 order_help TooManyInputs = codes "compare by --order cones, or parts that have fewer inputs"
-order_help NoOrderMemory = codes "more memory, or a smaller netlist"
-order_help (BadName line) = codes "a list has names and blanks alone, as --print-order writes it"
+order_help NoOrderMemory = codes "more memory, or a smaller netlist, is needed"
+order_help (BadName line) = codes "a list has only names and blanks, as --print-order writes it"
 order_help LongOrder = codes "a text has at most 67108864 bytes"
-order_help OrderReadFailed = codes "the device failed, or is a folder"
+order_help OrderReadFailed = codes "the device failed, or the path is a folder"
 
 -- what helps where diagrams grow too large in this order
 abbrev pub fewer_nodes : OrderChoice → List ℕ
-fewer_nodes Best = codes "interleave, force, index, depth and declared are tried; a list by --order-file may need fewer nodes"
-fewer_nodes Auto = codes "interleave, force, index, depth and declared are tried; another --memory, or a list by --order-file, may help"
-fewer_nodes Cones = codes "each pair is judged by its cones; another --memory, or fewer --workers, may help"
+fewer_nodes Best = codes "interleave, force, index, depth and declared were tried; a list by --order-file may need fewer nodes"
+fewer_nodes Auto = codes "interleave, force, index, depth and declared were tried; another --memory, or a list by --order-file, may help"
+fewer_nodes Cones = codes "each pair was judged by its cones; another --memory, or fewer --workers, may help"
 fewer_nodes Declared = codes "another order may need fewer nodes: try --order auto"
 fewer_nodes Depth = codes "another order may need fewer nodes: try --order auto"
 fewer_nodes Interleave = codes "another order may need fewer nodes: try --order auto"
@@ -188,18 +195,18 @@ fewer_nodes (Extended path) = codes "another order may need fewer nodes: try --o
 
 -- what helps where they are not built
 abbrev pub wave_help : OrderChoice → WaveFault → List ℕ
-wave_help choice NoWorker = codes "--workers 1 starts none"
+wave_help choice NoWorker = codes "--workers 1 starts no thread"
 wave_help choice NoWaveMemory = fewer_nodes choice
 wave_help choice Full = fewer_nodes choice
 wave_help choice TooManyRequests = fewer_nodes choice
 
 -- why a file was not opened, or not written
 abbrev pub opening_help : Obstacle → List ℕ
-opening_help Missing = codes "no such file or folder"
-opening_help Forbidden = codes "permission denied"
-opening_help NoFolder = codes "a part of the path is no folder"
-opening_help Links = codes "a loop of links"
-opening_help Unwritten = codes "its device is full, or failed"
+opening_help Missing = codes "there is no such file or folder"
+opening_help Forbidden = codes "permission is denied"
+opening_help NoFolder = codes "a part of the path is not a folder"
+opening_help Links = codes "its links form a loop"
+opening_help Unwritten = codes "its device is full, or has failed"
 opening_help Other = codes "the system refused it"
 
 -- what helps where a check has no report
@@ -207,10 +214,10 @@ abbrev pub check_help : OrderChoice → CheckFault → List ℕ
 check_help choice (First fault) = text_help fault
 check_help choice (Second fault) = text_help fault
 check_help choice (Given fault) = text_help fault
-check_help choice GivenOutputs = codes "a condition is a netlist of one output"
+check_help choice GivenOutputs = codes "a condition is a netlist with one output"
 check_help choice (Order fault) = order_help fault
-check_help choice Only = codes "an output or register of the first netlist"
-check_help choice Explain = codes "an output of the first netlist, or NEXT and the name of its register"
+check_help choice Only = codes "the first netlist has no output and no register of one of these names:"
+check_help choice Explain = codes "the first netlist has no output, or after NEXT no register, of one of these names:"
 check_help choice (Wave fault) = wave_help choice fault
 check_help choice GivenUp = fewer_nodes choice
 check_help choice Write = codes "standard output is full, or closed"
@@ -218,16 +225,16 @@ check_help choice NoCheckMemory = fewer_nodes choice
 
 -- what helps against a fault
 abbrev pub fault_help : OrderChoice → ToolFault → List ℕ
-fault_help choice OneFile = codes "- as the other file is standard input"
+fault_help choice OneFile = codes "give - as the other file to read it from standard input"
 fault_help choice DashTwice = codes "name a file as one of the two"
 fault_help choice (CannotOpen place obstacle) = opening_help obstacle
 fault_help choice (CannotSave obstacle) = opening_help obstacle
-fault_help choice InputUnread = codes "the device failed, or is a folder"
+fault_help choice InputUnread = codes "standard input failed, or is a folder"
 fault_help choice InputTooLong = codes "a text has at most 67108864 bytes"
-fault_help choice InputUndivided = codes "a line %% stands between two texts; one text beside a file is -"
+fault_help choice InputUndivided = codes "a line %% divides two netlists; if standard input has only one, give the other as a file and - for this one"
 fault_help choice (BadOrder fault) = order_help fault
 fault_help choice (Check fault) = check_help choice fault
-fault_help choice OutOfMemory = codes "more memory"
+fault_help choice OutOfMemory = codes "more memory is needed"
 
 -- ---- a word that names no gate
 
@@ -253,11 +260,11 @@ gate_word shown = front_word (unindented (behind_equals shown))
 -- what helps against it, in either case
 abbrev pub word_help : List ℕ → List ℕ
 word_help w =
-    if is_word w (codes "INV") then codes "the word of an inverter is NOT" else (
+    if is_word w (codes "INV") then codes "the word for an inverter is NOT" else (
     if is_word w (codes "MUX") then codes "a multiplexer is made of NOT, AND and OR gates; see docs/FLOWS.md" else (
     if is_word w (codes "VDD") then codes "the constant 1 is XNOR(a, a) of any signal a; see docs/FLOWS.md" else (
     if is_word w (codes "GND") then codes "the constant 0 is XOR(a, a) of any signal a; see docs/FLOWS.md" else (
-    if is_word w (codes "LATCH") then codes "a register is DFF, and no latch has a word; see docs/FLOWS.md" else (
+    if is_word w (codes "LATCH") then codes "a register is DFF, and there is no keyword for a latch; see docs/FLOWS.md" else (
     if is_word w (codes "LUT") then codes "abc writes no LUT lines by write_bench -l; see docs/FLOWS.md" else other_word)))))
 
 -- a text is refused for such a word
@@ -297,9 +304,36 @@ names_gate InputTooLong = false
 names_gate InputUndivided = false
 names_gate OutOfMemory = false
 
--- what helps against a fault whose line is shown so: against a word that names no gate its own remedy
+-- the same of a check, if the name that it refuses is shown
+abbrev pub check_help_by_name : OrderChoice → CheckFault → List ℕ
+check_help_by_name choice Only = codes "the first netlist has no output and no register of this name"
+check_help_by_name choice Explain = codes "the first netlist has no output, or after NEXT no register, of this name"
+check_help_by_name choice (First fault) = check_help choice (First fault)
+check_help_by_name choice (Second fault) = check_help choice (Second fault)
+check_help_by_name choice (Given fault) = check_help choice (Given fault)
+check_help_by_name choice GivenOutputs = check_help choice GivenOutputs
+check_help_by_name choice (Order fault) = check_help choice (Order fault)
+check_help_by_name choice (Wave fault) = check_help choice (Wave fault)
+check_help_by_name choice GivenUp = check_help choice GivenUp
+check_help_by_name choice Write = check_help choice Write
+check_help_by_name choice NoCheckMemory = check_help choice NoCheckMemory
+
+-- what helps against a fault, if the name that it refuses is shown
+abbrev pub help_by_name : OrderChoice → ToolFault → List ℕ
+help_by_name choice (Check fault) = check_help_by_name choice fault
+help_by_name choice (BadOrder fault) = fault_help choice (BadOrder fault)
+help_by_name choice (CannotOpen place obstacle) = fault_help choice (CannotOpen place obstacle)
+help_by_name choice (CannotSave obstacle) = fault_help choice (CannotSave obstacle)
+help_by_name choice OneFile = fault_help choice OneFile
+help_by_name choice DashTwice = fault_help choice DashTwice
+help_by_name choice InputUnread = fault_help choice InputUnread
+help_by_name choice InputTooLong = fault_help choice InputTooLong
+help_by_name choice InputUndivided = fault_help choice InputUndivided
+help_by_name choice OutOfMemory = fault_help choice OutOfMemory
+
+-- what helps against a fault whose line or name is shown so: against a word that names no gate its own remedy
 abbrev pub shown_help : OrderChoice → ToolFault → List ℕ → List ℕ
-shown_help choice fault shown = if names_gate fault then word_help (gate_word shown) else fault_help choice fault
+shown_help choice fault shown = if names_gate fault then word_help (gate_word shown) else help_by_name choice fault
 
 -- the line of a place and of what helps there
 abbrev pub help_line : Where → List ℕ → List ℕ
@@ -308,16 +342,50 @@ help_line (Some (name, None)) help = codes "bddcheck: " ++ (name ++ (codes ": " 
 help_line (Some (name, Some line)) help = codes "bddcheck: " ++ (name
     ++ (codes ":" ++ (decimal line ++ (codes ": " ++ (help ++ codes "\n")))))
 
--- the line that is said behind a fault's own
-abbrev pub help_text : Options → ToolFault → List ℕ
-help_text o fault = help_line (fault_spot o.texts o.given o.vcd o.order fault) (fault_help o.order fault)
+-- the names that pick pairs
+abbrev pub picked_names : Picks → List (Bor (List ℕ))
+picked_names AllPicks = []
+picked_names (OnlyPicks names) = names.items
+picked_names (SharePicks share) = []
 
--- the same with what is shown of the file
+-- the names of which a fault refuses one: those that pick pairs, or those that are to be explained
+abbrev pub refused_names : Options → ToolFault → List (Bor (List ℕ))
+refused_names o (Check Only) = picked_names o.picks
+refused_names o (Check Explain) = o.explain.items
+refused_names o (Check (First fault)) = []
+refused_names o (Check (Second fault)) = []
+refused_names o (Check (Given fault)) = []
+refused_names o (Check GivenOutputs) = []
+refused_names o (Check (Order fault)) = []
+refused_names o (Check (Wave fault)) = []
+refused_names o (Check GivenUp) = []
+refused_names o (Check Write) = []
+refused_names o (Check NoCheckMemory) = []
+refused_names o (BadOrder fault) = []
+refused_names o (CannotOpen place obstacle) = []
+refused_names o (CannotSave obstacle) = []
+refused_names o OneFile = []
+refused_names o DashTwice = []
+refused_names o InputUnread = []
+refused_names o InputTooLong = []
+refused_names o InputUndivided = []
+refused_names o OutOfMemory = []
+
+-- these names, each after a blank
+abbrev pub names_text : List (Bor (List ℕ)) → List ℕ
+names_text names = flat_map (λ (n : Bor (List ℕ)). codes " " ++ n.now) names
+
+-- the line that is said after a fault's own, with all names of which one is refused
+abbrev pub help_text : Options → ToolFault → List ℕ
+help_text o fault = help_line (fault_spot o.texts o.given o.vcd o.order fault)
+    (fault_help o.order fault ++ names_text (refused_names o fault))
+
+-- the same with what is shown of the file, or with the name that is refused
 abbrev pub help_quoting : Options → ToolFault → List ℕ → List ℕ
 help_quoting o fault quoted = help_line (fault_spot o.texts o.given o.vcd o.order fault)
     (shown_help o.order fault quoted ++ (codes ": " ++ quoted))
 
--- the file of a text that was refused, where it came from one
+-- the file of a text that was refused, or in which a name is missing, if it came from one
 abbrev pub refused_paths : Options → ToolFault → List (List ℕ)
 refused_paths o (BadOrder fault) = order_paths o.order
 refused_paths o (Check (First fault)) = first_paths o.texts
@@ -325,8 +393,8 @@ refused_paths o (Check (Second fault)) = second_paths o.texts
 refused_paths o (Check (Given fault)) = path_in o.given
 refused_paths o (Check GivenOutputs) = []
 refused_paths o (Check (Order fault)) = order_paths o.order
-refused_paths o (Check Only) = []
-refused_paths o (Check Explain) = []
+refused_paths o (Check Only) = first_paths o.texts
+refused_paths o (Check Explain) = first_paths o.texts
 refused_paths o (Check (Wave fault)) = []
 refused_paths o (Check GivenUp) = []
 refused_paths o (Check Write) = []
@@ -388,7 +456,7 @@ fault_mark InputUndivided = None
 fault_mark OutOfMemory = None
 
 -- this is what is shown of what a fault points at, as the file has it
-pub record IsQuoted (told : List ℕ → Option (List ℕ)) (o : Options) (fault : ToolFault) (quoted : List ℕ) : Type 0 where
+pub record IsShown (told : List ℕ → Option (List ℕ)) (o : Options) (fault : ToolFault) (quoted : List ℕ) : Type 0 where
   pub path : List ℕ
   pub mark : Mark
   pub text : List ℕ
@@ -397,7 +465,33 @@ pub record IsQuoted (told : List ℕ → Option (List ℕ)) (o : Options) (fault
   pub read : IsReadOf (told path) (Some text)
   pub is : quoted ≡ remark mark text
 
--- the line that may be said behind a fault's own: with what is shown of the file, or without
+-- the file of the first netlist, as it is, has this circuit
+abbrev pub IsFirstCircuit : (told : List ℕ → Option (List ℕ)) → Options → Circuit → Type 0
+IsFirstCircuit told o a = (path : List ℕ) × (first_paths o.texts ≡ path ∷ []) × Gives (told path) a
+
+-- this name picks pairs, and is that of no output and no register of the first netlist
+abbrev pub IsUnknownPick : (told : List ℕ → Option (List ℕ)) → Options → (name : Bor (List ℕ)) → Type 0
+IsUnknownPick told o name = Contains (picked_names o.picks) name × (a : Circuit) × IsFirstCircuit told o a × (IsNamedIn a name.now → ⊥)
+
+-- what this word calls is no output, or no register, of the circuit
+abbrev pub IsUnknownTarget : Circuit → (word : List ℕ) → Type 0
+IsUnknownTarget a word = (t : PairName) × IsCalled word t.role t.name × (IsTargetIn a t → ⊥)
+
+-- what this word calls is to be explained, and the first netlist does not have it
+abbrev pub IsUnexplainedWord : (told : List ℕ → Option (List ℕ)) → Options → (word : Bor (List ℕ)) → Type 0
+IsUnexplainedWord told o word = Contains o.explain.items word × (a : Circuit) × IsFirstCircuit told o a × IsUnknownTarget a word.now
+
+-- this is the name that a fault refuses: it is the only one, or the file of the first netlist does not have it
+abbrev pub IsRefusedName : (told : List ℕ → Option (List ℕ)) → Options → ToolFault → (name : Bor (List ℕ)) → Type 0
+IsRefusedName told o fault name = (refused_names o fault ≡ name ∷ [])
+    ⊎ (((fault ≡ Check Only) × IsUnknownPick told o name) ⊎ ((fault ≡ Check Explain) × IsUnexplainedWord told o name))
+
+-- this is what is shown of a fault: a line of a file, or a name
+abbrev pub IsQuoted : (told : List ℕ → Option (List ℕ)) → Options → ToolFault → (quoted : List ℕ) → Type 0
+IsQuoted told o fault quoted = IsShown told o fault quoted
+    ⊎ ((name : Bor (List ℕ)) × IsRefusedName told o fault name × (quoted ≡ name.now))
+
+-- the line that may be said after a fault's own: with what is shown of the file, or with the name that is refused, or without
 abbrev pub IsHelp : (told : List ℕ → Option (List ℕ)) → Options → ToolFault → List ℕ → Type 0
 IsHelp told o fault line = (line ≡ help_text o fault) ⊎ ((quoted : List ℕ) × IsQuoted told o fault quoted
     × (line ≡ help_quoting o fault quoted))

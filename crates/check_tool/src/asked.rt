@@ -61,7 +61,7 @@ fn called(word: &str) -> (PairKind, &str)
 }
 
 /// What a word asks to be explained.
-fn target_of(alloc: Global, word: &str) -> Result<PairName, AllocError>
+pub(crate) fn target_of(alloc: Global, word: &str) -> Result<PairName, AllocError>
     ensures { IfOk result (λ target. IsCalled word.now target.role target.name) }
 {
     let (role, name) = called(word);

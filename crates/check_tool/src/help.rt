@@ -1,4 +1,4 @@
-//! Where a fault stands, and what it points at there: the line behind a fault's own.
+//! Where a fault is, and what it points at there: the line after a fault's own.
 ghost use Rattle.std.specs.Prelude.{◌≡◌, ◌∷◌, [], Some, IfOk, IfSome, string_bytes};
 ghost use Rattle.check_tool.specs.Helping.{first_name, second_name, in_text, on_line, where_of, text_spot, order_spot, given_spot};
 ghost use Rattle.check_tool.specs.Helping.{file_spot, fault_spot, help_line, help_text, help_quoting, refused_paths, text_mark};
@@ -6,6 +6,7 @@ ghost use Rattle.check_tool.specs.Helping.{order_mark, fault_mark};
 ghost use Rattle.check_tool.specs.Running.{first_paths, second_paths, order_paths, path_in};
 
 use crate::fault::{Place, ToolFault};
+use crate::names::{refused_names, with_names};
 use crate::remedy::{help_against, help_shown};
 use check_report::CheckFault;
 use command_line::{Options, OrderChoice, Texts};
@@ -13,7 +14,7 @@ use net_bench::fault::BenchFault;
 use net_order::order::OrderFault;
 use std::alloc::{AllocError, Global};
 
-/// Where a fault stands.
+/// Where a fault is.
 #[derive(Clone, Copy, Drop)]
 pub enum Spot<'a> {
     Nowhere,
@@ -96,7 +97,7 @@ fn spot_in_file<'a>(path: Option<&'a str>) -> Spot<'a>
     }
 }
 
-/// Where a fault stands.
+/// Where a fault is.
 fn spot_of<'a>(options: &Options<'a>, fault: ToolFault) -> Spot<'a>
     ensures { where_of result ≡ fault_spot options.now.texts options.now.given options.now.vcd options.now.order fault }
 {
@@ -118,12 +119,15 @@ fn spot_of<'a>(options: &Options<'a>, fault: ToolFault) -> Spot<'a>
             spot_in_given(options.given, BenchFault::Read)
         }
         ToolFault::Check(CheckFault::Order(fault)) => spot_in_order(options.order, fault),
+        ToolFault::Check(CheckFault::Only | CheckFault::Explain) => {
+            Spot::Text(name_of_first(options.texts))
+        }
         _ => Spot::Nowhere,
     }
 }
 
 /// The file of the first text.
-fn file_of_first<'a>(texts: Texts<'a>) -> Option<&'a str>
+pub(crate) fn file_of_first<'a>(texts: Texts<'a>) -> Option<&'a str>
     ensures { path_in result ≡ first_paths texts.entry }
 {
     match texts {
@@ -152,7 +156,7 @@ fn file_of_order<'a>(choice: OrderChoice<'a>) -> Option<&'a str>
     }
 }
 
-/// The file of a text that was refused.
+/// The file of a text that was refused, or in which a name is missing.
 fn refused_file<'a>(options: &Options<'a>, fault: ToolFault) -> Option<&'a str>
     ensures { path_in result ≡ refused_paths options.now fault }
 {
@@ -160,7 +164,9 @@ fn refused_file<'a>(options: &Options<'a>, fault: ToolFault) -> Option<&'a str>
         ToolFault::BadOrder(_) | ToolFault::Check(CheckFault::Order(_)) => {
             file_of_order(options.order)
         }
-        ToolFault::Check(CheckFault::First(_)) => file_of_first(options.texts),
+        ToolFault::Check(CheckFault::First(_) | CheckFault::Only | CheckFault::Explain) => {
+            file_of_first(options.texts)
+        }
         ToolFault::Check(CheckFault::Second(_)) => file_of_second(options.texts),
         ToolFault::Check(CheckFault::Given(_)) => options.given,
         _ => None,
@@ -249,16 +255,17 @@ fn line_at(alloc: Global, spot: Spot<'_>, help: &str) -> Result<String, AllocErr
     }
 }
 
-/// The line that says where a fault stands, and what helps.
+/// The line that says where a fault is, and what helps, with all names of which one is refused.
 pub fn help_of(alloc: Global, options: &Options<'_>, fault: ToolFault) -> Result<String, AllocError>
     ensures { IfOk result (λ line. string_bytes line ≡ help_text options.now fault) }
 {
     let spot = spot_of(options, fault);
     let help = help_against(options.order, fault);
-    line_at(alloc, spot, help)
+    let both = with_names(alloc, help, refused_names(options, fault))?;
+    line_at(alloc, spot, both.as_str())
 }
 
-/// The same line with what is shown of a file.
+/// The same line with what is shown of a file, or with the name that is refused.
 pub fn help_with(
     alloc: Global,
     options: &Options<'_>,

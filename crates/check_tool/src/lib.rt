@@ -1,9 +1,9 @@
 //! A run of the program: its words, its files and its devices to a status.
 //!
 //! **Promises.** `tool::run_tool` and `process::status_of` end a run with the report that the words ask for, or with a
-//! fault of its cause, its line and its status, or with refused words (`ending`); at status 2 nothing was written
-//! (`untouched`), at 0 and 1 nothing said, unless more is asked for or seen on a terminal (`silent`). Where a pair
-//! differs, the file for the VCD has it (`ending`).
+//! fault of its cause, its line, the line of what helps and its status, or with refused words (`ending`); at status 2
+//! nothing was written (`untouched`), at 0 and 1 nothing said, unless more is asked for or seen on a terminal
+//! (`silent`). If a pair differs, the file for the VCD has it (`ending`).
 //! `run::run_options` says so of options: the report (`report`, `unwritten`), the files that were opened, in their
 //! order (`opened`), the input that is read only where a text stands on it (`unasked`), faults and their causes
 //! (`fault`, `full`, `given_up`, `only`, `hired`, `unbounded`). `split::split_input` divides at the first line `%%`;
@@ -24,6 +24,7 @@ pub mod fault;
 mod files;
 pub mod folder;
 pub mod help;
+mod names;
 pub mod process;
 pub mod progress;
 pub mod quote;

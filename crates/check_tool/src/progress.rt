@@ -77,11 +77,11 @@ impl fmt::Display for Stand {
     fn fmt<W: fmt::Write>(&self, f: &mut fmt::Formatter<W>) -> fmt::Result {
         write!(
             f,
-            "rank {} of {}, {} nodes, {} requests",
+            "building rank {} of {}: {} nodes and {} requests so far",
             self.rank, self.ranks, self.nodes, self.requests
         )?;
         match self.memory {
-            Some(memory) => write!(f, ", {memory} MB"),
+            Some(memory) => write!(f, " in {memory} MB"),
             None => Ok(()),
         }
     }
@@ -98,17 +98,20 @@ impl fmt::Display for Ended {
     fn fmt<W: fmt::Write>(&self, f: &mut fmt::Formatter<W>) -> fmt::Result {
         let budget = self.budget;
         match self.end {
-            AttemptEnd::Decided { order } => write!(f, "order {order}, budget {budget}: decided"),
+            AttemptEnd::Decided { order } => {
+                write!(f, "order {order} decided within {budget} nodes")
+            }
             AttemptEnd::MoreNodes { order } => {
-                write!(f, "order {order}, budget {budget}: more nodes")
+                write!(f, "order {order} needs more than {budget} nodes")
             }
             AttemptEnd::TooManyRequests { order } => write!(
                 f,
-                "order {order}, budget {budget}: too many requests in one wave"
+                "order {order} needs too many requests in one wave for a budget of {budget} nodes"
             ),
-            AttemptEnd::Left { left, pairs } => {
-                write!(f, "cones, budget {budget}: {left} of {pairs} pairs left")
-            }
+            AttemptEnd::Left { left, pairs } => write!(
+                f,
+                "{left} of {pairs} pairs are undecided by cones within {budget} nodes"
+            ),
         }
     }
 }
@@ -166,7 +169,7 @@ impl<E: Sink> Board<'_, E> {
             Form::InPlace => {
                 let attempt = self.attempts;
                 self.shown = true;
-                format!(in alloc; "\rbddcheck: attempt {attempt}, {stand}\u{1b}[K")?
+                format!(in alloc; "\rbddcheck: attempt {attempt} is {stand}\u{1b}[K")?
             }
         };
         self.write(line.as_bytes());

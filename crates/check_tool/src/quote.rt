@@ -1,8 +1,8 @@
-//! What is shown of a file that was refused: a line of it, or a name.
+//! What is shown of a fault: a line of a file that was refused, or a name.
 ghost use Rattle.std.specs.Prelude.{◌≡◌, ◌+◌, ◌-◌, ◌^◌, ◌<◌, ◌≤◌, ◌∷◌, [], ℕ, List, Some, IfOk, IfSome, length, codes, decimal, map, take};
 ghost use Rattle.std.specs.Prelude.{string_bytes, ◌++◌};
 ghost use Rattle.net_bench.specs.Pieces.{tokens_at};
-ghost use Rattle.check_tool.specs.Helping.{refused_paths, IsQuoted};
+ghost use Rattle.check_tool.specs.Helping.{refused_paths, IsQuoted, IsShown};
 ghost use Rattle.check_tool.specs.Opening.{Extends, Try, AreTried};
 ghost use Rattle.check_tool.specs.Quoting.{before_line, behind, broken_remark, excerpt, first_line, line_in, name_remark, open_in};
 ghost use Rattle.check_tool.specs.Quoting.{quotation, read_byte, remark, shown, unread};
@@ -11,6 +11,8 @@ ghost use Rattle.check_tool.specs.Running.{IsReadOf};
 use crate::fault::ToolFault;
 use crate::folder::Folder;
 use crate::help::{Mark, refused_mark};
+use crate::names::name_of_refused;
+use check_report::CheckFault;
 use command_line::Options;
 use net_bench::device::read_text;
 use net_bench::reader::MAX_TEXT;
@@ -256,8 +258,26 @@ fn quote_file<F: Folder>(alloc: Global, folder: &mut F, path: &str, mark: Mark) 
     }
 }
 
-/// What is shown of the file of a text that was refused, where it can be read once more.
+/// What is shown of the file of a text that was refused, if it can be read once more.
 #[tactic(auto, using(crate::proofs::Composing::extends_none))]
+fn quote_refused<F: Folder>(
+    alloc: Global,
+    folder: &mut F,
+    options: &Options<'_>,
+    fault: ToolFault,
+) -> Option<String>
+    ensures quoted { IfSome result (λ s. IsShown (F.told folder.old) options.now fault (string_bytes s)) }
+    ensures tried { (again : List Try) × Extends (F.tries folder.old) (F.tries folder.new) again
+        × AreTried (refused_paths options.now fault) again }
+    ensures unsaved { F.saves folder.new ≡ F.saves folder.old }
+{
+    match refused_mark(options, fault) {
+        Some((path, mark)) => quote_file(alloc, folder, path, mark),
+        None => None,
+    }
+}
+
+/// What is shown of a fault: a line of the file that was refused, or a name, or the name that the first netlist does not have.
 pub fn quote<F: Folder>(
     alloc: Global,
     folder: &mut F,
@@ -269,8 +289,10 @@ pub fn quote<F: Folder>(
         × AreTried (refused_paths options.now fault) again }
     ensures unsaved { F.saves folder.new ≡ F.saves folder.old }
 {
-    match refused_mark(options, fault) {
-        Some((path, mark)) => quote_file(alloc, folder, path, mark),
-        None => None,
+    match fault {
+        ToolFault::Check(CheckFault::Only | CheckFault::Explain) => {
+            name_of_refused(alloc, folder, options, fault)
+        }
+        _ => quote_refused(alloc, folder, options, fault),
     }
 }

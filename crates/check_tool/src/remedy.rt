@@ -2,6 +2,7 @@
 ghost use Rattle.std.specs.Prelude.{◌≡◌};
 ghost use Rattle.check_tool.specs.Helping.{text_help, order_help, wave_help, opening_help, fewer_nodes, check_help, fault_help};
 ghost use Rattle.check_tool.specs.Helping.{behind_equals, unindented, front_word, gate_word, word_help, names_gate, shown_help};
+ghost use Rattle.check_tool.specs.Helping.{check_help_by_name, help_by_name};
 
 use crate::fault::ToolFault;
 use crate::folder::Obstacle;
@@ -17,20 +18,20 @@ fn help_in_text(fault: BenchFault) -> &'static str
 {
     match fault {
         BenchFault::TooLong => "a text has at most 67108864 bytes",
-        BenchFault::BadByte { .. } => "outside comments only printable ASCII stands",
+        BenchFault::BadByte { .. } => "outside comments a netlist has only printable ASCII, blanks and line ends",
         BenchFault::BadStatement { .. } => "a statement is INPUT(a), OUTPUT(a) or a = GATE(b, c)",
         BenchFault::UnknownGate { .. } => {
-            "gates are AND, NAND, OR, NOR, XOR, XNOR, NOT, BUFF and DFF; see docs/FLOWS.md"
+            "the gates are AND, NAND, OR, NOR, XOR, XNOR, NOT, BUFF and DFF; see docs/FLOWS.md"
         }
         BenchFault::WrongOperands { .. } => "NOT, BUFF and DFF take one operand",
-        BenchFault::Redefined { .. } => "a signal has one INPUT, gate or register",
+        BenchFault::Redefined { .. } => "a signal may have only one INPUT, gate or register",
         BenchFault::TooMany { .. } => {
-            "at most 1000000 signals, 4000000 operands, and names of 255 bytes"
+            "a netlist has at most 1000000 signals and 4000000 operands, and a name has at most 255 bytes"
         }
         BenchFault::Undefined { .. } => "the signal has no INPUT, gate or register",
-        BenchFault::Cycle { .. } => "only through a register may a gate depend on itself",
-        BenchFault::Read => "the device failed, or is a folder",
-        BenchFault::OutOfMemory => "more memory, or a smaller netlist",
+        BenchFault::Cycle { .. } => "a gate may depend on itself only through a register",
+        BenchFault::Read => "the device failed, or the path is a folder",
+        BenchFault::OutOfMemory => "more memory, or a smaller netlist, is needed",
     }
 }
 
@@ -39,16 +40,16 @@ fn help_in_order(fault: OrderFault) -> &'static str
     ensures { result.now ≡ order_help fault }
 {
     match fault {
-        OrderFault::CountsDiffer => "--match name pairs by names",
+        OrderFault::CountsDiffer => "--match name pairs them by their names",
         OrderFault::NotAPermutation { .. } => {
-            "--extend takes the list as it is, --print-order writes one that fits"
+            "--extend takes the list as it is, and --print-order writes one that fits"
         }
         OrderFault::TooManyInputs => "compare by --order cones, or parts that have fewer inputs",
-        OrderFault::OutOfMemory => "more memory, or a smaller netlist",
+        OrderFault::OutOfMemory => "more memory, or a smaller netlist, is needed",
         OrderFault::BadName { .. } =>
-            "a list has names and blanks alone, as --print-order writes it",
+            "a list has only names and blanks, as --print-order writes it",
         OrderFault::TooLong => "a text has at most 67108864 bytes",
-        OrderFault::Read => "the device failed, or is a folder",
+        OrderFault::Read => "the device failed, or the path is a folder",
     }
 }
 
@@ -58,11 +59,11 @@ fn help_by_order(choice: OrderChoice<'_>) -> &'static str
 {
     match choice {
         OrderChoice::Best =>
-            "interleave, force, index, depth and declared are tried; a list by --order-file may need fewer nodes",
+            "interleave, force, index, depth and declared were tried; a list by --order-file may need fewer nodes",
         OrderChoice::Auto =>
-            "interleave, force, index, depth and declared are tried; another --memory, or a list by --order-file, may help",
+            "interleave, force, index, depth and declared were tried; another --memory, or a list by --order-file, may help",
         OrderChoice::Cones =>
-            "each pair is judged by its cones; another --memory, or fewer --workers, may help",
+            "each pair was judged by its cones; another --memory, or fewer --workers, may help",
         _ => "another order may need fewer nodes: try --order auto",
     }
 }
@@ -72,7 +73,7 @@ fn help_in_building(choice: OrderChoice<'_>, fault: WaveFault) -> &'static str
     ensures { result.now ≡ wave_help choice.entry fault }
 {
     match fault {
-        WaveFault::NoWorker => "--workers 1 starts none",
+        WaveFault::NoWorker => "--workers 1 starts no thread",
         _ => help_by_order(choice),
     }
 }
@@ -82,11 +83,11 @@ fn help_in_opening(obstacle: Obstacle) -> &'static str
     ensures { result.now ≡ opening_help obstacle }
 {
     match obstacle {
-        Obstacle::Missing => "no such file or folder",
-        Obstacle::Forbidden => "permission denied",
-        Obstacle::NoFolder => "a part of the path is no folder",
-        Obstacle::Links => "a loop of links",
-        Obstacle::Unwritten => "its device is full, or failed",
+        Obstacle::Missing => "there is no such file or folder",
+        Obstacle::Forbidden => "permission is denied",
+        Obstacle::NoFolder => "a part of the path is not a folder",
+        Obstacle::Links => "its links form a loop",
+        Obstacle::Unwritten => "its device is full, or has failed",
         Obstacle::Other => "the system refused it",
     }
 }
@@ -99,11 +100,13 @@ fn help_in_check(choice: OrderChoice<'_>, fault: CheckFault) -> &'static str
         CheckFault::First(fault) | CheckFault::Second(fault) | CheckFault::Given(fault) => {
             help_in_text(fault)
         }
-        CheckFault::GivenOutputs => "a condition is a netlist of one output",
+        CheckFault::GivenOutputs => "a condition is a netlist with one output",
         CheckFault::Order(fault) => help_in_order(fault),
-        CheckFault::Only => "an output or register of the first netlist",
+        CheckFault::Only => {
+            "the first netlist has no output and no register of one of these names:"
+        }
         CheckFault::Explain => {
-            "an output of the first netlist, or NEXT and the name of its register"
+            "the first netlist has no output, or after NEXT no register, of one of these names:"
         }
         CheckFault::Wave(fault) => help_in_building(choice, fault),
         CheckFault::Write => "standard output is full, or closed",
@@ -116,19 +119,19 @@ pub(crate) fn help_against(choice: OrderChoice<'_>, fault: ToolFault) -> &'stati
     ensures { result.now ≡ fault_help choice.entry fault }
 {
     match fault {
-        ToolFault::OneFile => "- as the other file is standard input",
+        ToolFault::OneFile => "give - as the other file to read it from standard input",
         ToolFault::InputTwice => "name a file as one of the two",
         ToolFault::CannotOpen(_, obstacle) | ToolFault::CannotSave(obstacle) => {
             help_in_opening(obstacle)
         }
-        ToolFault::InputUnread => "the device failed, or is a folder",
+        ToolFault::InputUnread => "standard input failed, or is a folder",
         ToolFault::InputTooLong => "a text has at most 67108864 bytes",
         ToolFault::InputUndivided => {
-            "a line %% stands between two texts; one text beside a file is -"
+            "a line %% divides two netlists; if standard input has only one, give the other as a file and - for this one"
         }
         ToolFault::BadOrder(fault) => help_in_order(fault),
         ToolFault::Check(fault) => help_in_check(choice, fault),
-        ToolFault::OutOfMemory => "more memory",
+        ToolFault::OutOfMemory => "more memory is needed",
     }
 }
 
@@ -180,7 +183,7 @@ fn help_by_word(word: &[u8]) -> &'static str
     ensures { result.now ≡ word_help word.now }
 {
     if word.eq_ignore_ascii_case(b"INV") {
-        return "the word of an inverter is NOT";
+        return "the word for an inverter is NOT";
     }
     if word.eq_ignore_ascii_case(b"MUX") {
         return "a multiplexer is made of NOT, AND and OR gates; see docs/FLOWS.md";
@@ -192,12 +195,12 @@ fn help_by_word(word: &[u8]) -> &'static str
         return "the constant 0 is XOR(a, a) of any signal a; see docs/FLOWS.md";
     }
     if word.eq_ignore_ascii_case(b"LATCH") {
-        return "a register is DFF, and no latch has a word; see docs/FLOWS.md";
+        return "a register is DFF, and there is no keyword for a latch; see docs/FLOWS.md";
     }
     if word.eq_ignore_ascii_case(b"LUT") {
         return "abc writes no LUT lines by write_bench -l; see docs/FLOWS.md";
     }
-    "gates are AND, NAND, OR, NOR, XOR, XNOR, NOT, BUFF and DFF; see docs/FLOWS.md"
+    "the gates are AND, NAND, OR, NOR, XOR, XNOR, NOT, BUFF and DFF; see docs/FLOWS.md"
 }
 
 /// Whether a fault is of a word that names no gate.
@@ -212,13 +215,36 @@ fn names_gate(fault: ToolFault) -> bool
     }
 }
 
-/// What helps against a fault whose line is shown so.
+/// What helps if a check has no report, and the name that it refuses is shown.
+fn help_in_check_by_name(choice: OrderChoice<'_>, fault: CheckFault) -> &'static str
+    ensures { result.now ≡ check_help_by_name choice.entry fault }
+{
+    match fault {
+        CheckFault::Only => "the first netlist has no output and no register of this name",
+        CheckFault::Explain => {
+            "the first netlist has no output, or after NEXT no register, of this name"
+        }
+        _ => help_in_check(choice, fault),
+    }
+}
+
+/// What helps against a fault, if the name that it refuses is shown.
+fn help_by_name(choice: OrderChoice<'_>, fault: ToolFault) -> &'static str
+    ensures { result.now ≡ help_by_name choice.entry fault }
+{
+    match fault {
+        ToolFault::Check(fault) => help_in_check_by_name(choice, fault),
+        _ => help_against(choice, fault),
+    }
+}
+
+/// What helps against a fault whose line or name is shown so.
 pub(crate) fn help_shown(choice: OrderChoice<'_>, fault: ToolFault, shown: &str) -> &'static str
     ensures { result.now ≡ shown_help choice.entry fault shown.now }
 {
     if names_gate(fault) {
         help_by_word(gate_word(shown.as_bytes()))
     } else {
-        help_against(choice, fault)
+        help_by_name(choice, fault)
     }
 }

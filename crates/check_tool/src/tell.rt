@@ -23,9 +23,9 @@ fn tell_attempt<E: Sink>(alloc: Global, tried: Option<Attempt>, errors: &mut E)
     let parts = [
         "bddcheck: order ",
         attempt.order.name(),
-        ", budget ",
+        " decided within ",
         buffer.format(attempt.budget),
-        "\n",
+        " nodes\n",
     ];
     say_parts(alloc, errors, &parts);
 }
@@ -36,7 +36,7 @@ fn tell_way<E: Sink>(alloc: Global, choice: OrderChoice<'_>, tried: Option<Attem
 {
     match (choice, tried) {
         (OrderChoice::Auto, None) | (OrderChoice::Cones, None) => {
-            say(errors, b"bddcheck: each pair by its cones\n");
+            say(errors, b"bddcheck: each pair was judged by its cones\n");
         }
         _ => tell_attempt(alloc, tried, errors),
     }
@@ -63,9 +63,9 @@ fn tell_undecided<E: Sink>(alloc: Global, options: &Options<'_>, undecided: u64,
     let mut pairs = Buffer::new();
     let mut nodes = Buffer::new();
     let parts = [
-        "bddcheck: ",
+        "bddcheck: the number of undecided pairs is ",
         pairs.format(undecided),
-        " undecided, each of more than 4096 variables, or given up in each of five orders within ",
+        "; each has more than 4096 variables, or was given up in each of five orders within ",
         nodes.format(cone_limit(limit_of(options))),
         " nodes or eight requests for each of them; a larger ",
         larger_word(options),

@@ -1,7 +1,7 @@
 //! A run of the program: its words, its folder and its devices to a status.
 ghost use Rattle.std.specs.Prelude.{◌≡◌, ◌≢◌, ◌≤◌, ◌⊎◌, ℕ, List, true, false, IfOk, map, string_bytes};
 ghost use Rattle.check_tool.specs.Faults.{number_text};
-ghost use Rattle.check_tool.specs.Ending.{written, scene_of, IsSaid, MaySay, IsSaidOf, AskForMore, asked_again, tells, IsReportStatus};
+ghost use Rattle.check_tool.specs.Ending.{written, scene_of, IsSaid, MaySay, IsSaidOf, AskForMore, tells, IsReportStatus};
 ghost use Rattle.check_tool.specs.Ending.{IsDoneStatus, Finishes, BreaksOff, IsEnding, IsRun, IsWordEnd};
 ghost use Rattle.check_tool.specs.declared.fault.ToolFault.{ToolFault as FaultValue};
 ghost use Rattle.check_tool.specs.Running.{StandOnInput};
@@ -58,7 +58,7 @@ pub fn refuse<E: Sink>(alloc: Global, fault: ToolFault, errors: &mut E) -> u8
     status_of_fault(fault)
 }
 
-/// The line that says what helps against a fault, with the refused line of a file where it can be shown.
+/// The line that says what helps against a fault, with the refused line or name if it can be shown.
 fn help_line<F: Folder>(
     alloc: Global,
     folder: &mut F,
@@ -76,7 +76,7 @@ fn help_line<F: Folder>(
     }
 }
 
-/// Says what helps against a fault, where there is memory for it.
+/// Says what helps against a fault, if there is memory for it.
 fn help<F: Folder, E: Sink>(
     alloc: Global,
     folder: &mut F,
@@ -95,34 +95,24 @@ fn help<F: Folder, E: Sink>(
     }
 }
 
-/// Whether more is told than the line of a fault.
-fn tells<E: Screen>(options: &Options<'_>, errors: &E) -> bool
-    ensures { result ≡ tells options.now (E.seen errors.now) }
-{
-    options.verbose || errors.is_seen()
-}
-
-/// Prints the line of a fault of a run, and what helps where more is told, and answers the status.
+/// Prints the line of a fault of a run and the line of what helps, and answers the status.
 fn refuse_run<F: Folder, E: Sink>(
     alloc: Global,
     folder: &mut F,
     options: &Options<'_>,
-    more: bool,
     fault: ToolFault,
     errors: &mut E,
 ) -> u8
-    ensures said { IsSaidOf more (F.told folder.old) options.now
+    ensures said { IsSaidOf (F.told folder.old) options.now
         (written E.contents E.has_failed E.has_stopped errors.old errors.new) fault result }
     ensures tried { (again : List Try) × Extends (F.tries folder.old) (F.tries folder.new) again
-        × AreTried (asked_again more options.now fault) again }
+        × AreTried (refused_paths options.now fault) again }
     ensures unsaved { F.saves folder.new ≡ F.saves folder.old }
     ensures bound { result ≤ 3 }
     ensures refused { 2 ≤ result }
 {
     let status = refuse(alloc, fault, errors);
-    if more {
-        help(alloc, folder, options, fault, errors);
-    }
+    help(alloc, folder, options, fault, errors);
     status
 }
 
@@ -178,18 +168,17 @@ fn status_of_done(done: &Done) -> u8
     }
 }
 
-/// Saves the VCD of what a run has done, tells what that is where more is asked for, and answers the status.
+/// Saves the VCD of what a run has done, says what that is if more is asked for, and answers the status.
 fn finish<F: Folder, E: Sink>(
     alloc: Global,
     folder: &mut F,
     options: &Options<'_>,
-    more: bool,
     done: &Done,
     errors: &mut E,
 ) -> u8
     ensures ending { let w = written E.contents E.has_failed E.has_stopped errors.old errors.new in
         Finishes options.now done.now (F.tries folder.old) (F.tries folder.new) (F.saves folder.old) (F.saves folder.new) w result
-        ⊎ ((fault : FaultValue) × BreaksOff more (F.told folder.old) options.now done.now (F.tries folder.old) (F.tries folder.new)
+        ⊎ ((fault : FaultValue) × BreaksOff (F.told folder.old) options.now done.now (F.tries folder.old) (F.tries folder.new)
         (F.saves folder.old) (F.saves folder.new) w fault result) }
     ensures bound { result ≤ 3 }
     ensures reported { result ≢ 2 }
@@ -200,7 +189,7 @@ fn finish<F: Folder, E: Sink>(
             tell(alloc, options, done, errors);
             status_of_done(done)
         }
-        Err(fault) => refuse_run(alloc, folder, options, more, fault, errors),
+        Err(fault) => refuse_run(alloc, folder, options, fault, errors),
     }
 }
 
@@ -223,10 +212,9 @@ fn run_asked<
     ensures silent { tells options.now (E.seen errors.old) ≡ false → result ≤ 1 → errors.new ≡ errors.old }
 {
     let alloc = rt.alloc();
-    let more = tells(options, errors);
     match run_options(rt, options, folder, input, out, errors) {
-        Ok(done) => finish(alloc, folder, options, more, &done, errors),
-        Err(fault) => refuse_run(alloc, folder, options, more, fault, errors),
+        Ok(done) => finish(alloc, folder, options, &done, errors),
+        Err(fault) => refuse_run(alloc, folder, options, fault, errors),
     }
 }
 
@@ -239,9 +227,10 @@ pub fn run_tool<
     E: Screen + Send,
 >(rt: &H, words: &[String], folder: &mut F, input: &mut R, out: &mut W, errors: &mut E) -> u8
     // The words ask for options, and then the run ends with their report, or their order, and its status, or with the line and the status
-    // of a fault that has its cause, behind which stands what helps where more is asked for or seen on a terminal, and the input is read
-    // only where a text stands on it; the VCD of the first pair that differs is saved in the file that they name behind the report, and
-    // nothing else is; or they are refused for a cause, no file is opened, nothing is read, and help, a mistake or want of memory is told.
+    // of a fault that has its cause, and after it the line of what helps, which is left out only if there is no memory for it; the input is
+    // read only if a text is on it; the VCD of the first pair that differs is saved in the file that they name after the report, and
+    // nothing else is. Or they are refused for a cause, no file is opened, nothing is read, and help, a mistake or want of memory is
+    // printed.
     ensures ending { let scene = scene_of (E.seen errors.old) F.told F.tries F.saves folder.old folder.new R.remaining R.has_failed
         input.old input.new
         (written W.contents W.has_failed W.has_stopped out.old out.new)

@@ -7,7 +7,6 @@ use crate::arguments::{
     assignment, causes, explain, extend, first, format, given, limit, matching, memory, only,
     order, order_file, print_order, second, share, sizes, vcd, verbose, workers,
 };
-use crate::help::{ABOUT, MORE};
 use clap::Command;
 use std::alloc::{AllocError, Global};
 
@@ -18,8 +17,6 @@ fn bare<'a>(alloc: Global) -> Command<'a>
     Command::new(alloc, "bddcheck")
         .no_binary_name(true)
         .version("1.0.0")
-        .about(ABOUT)
-        .after_help(MORE)
 }
 
 /// The command of this program.

@@ -5,8 +5,8 @@
 //! share that is none, or want of memory (`refused`). An empty command line asks for the defaults alone (law
 //! `no_words`), `--version` for the version's line (`version_word`).
 //!
-//! **Only tests show** the texts of help and of mistakes (`tests/stored.txt`), and that the manual page and completions
-//! have the same options (`tests/papers.py`).
+//! **Only tests show** the texts of help and of mistakes (`tests/stored.txt`), and that help, the manual page and the
+//! completions have the same options (`tests/papers.py`).
 //!
 //! **Begin** with `specs/Words` and `Defaults`; then `command`, its `arguments`, `matched`, what their matches say by
 //! their `values`, and `odds`, what excludes what.

@@ -6,6 +6,7 @@ ghost use Rattle.command_line.specs.Words.{IsTool, AreFound, AreAtOdds, AreOptio
 ghost use Rattle.command_line.specs.Words.{IsRefusal};
 
 use crate::command::command;
+use crate::help::HELP;
 use crate::matched::{BadPicks, explained_in, memory_in, options_of, picks_in};
 use crate::odds::{Odds, odds_in};
 use crate::options::Options;
@@ -16,10 +17,10 @@ use std::alloc::Global;
 
 static VERSION_LINE: &str = "bddcheck 1.0.0\n";
 
-/// Why the words give no options. The texts are ended by a line feed, and but for the version's they are the parser's own.
+/// Why the words give no options. The texts are ended by a line feed, and those of mistakes are the parser's own.
 #[derive(Drop)]
 pub enum Refused {
-    /// `--help` or `--version` was asked for, and this is what is told.
+    /// `--help` or `--version` was asked for, and this is what is printed.
     Help(String),
     /// A mistake in the words.
     Mistake(String),
@@ -27,12 +28,22 @@ pub enum Refused {
     OutOfMemory,
 }
 
-/// What `--version` tells.
+/// What `--version` prints.
 fn version(alloc: Global) -> Refused
     ensures { TellsVersion result }
 {
     match String::from_str(alloc, VERSION_LINE) {
         Ok(line) => Refused::Help(line),
+        Err(_) => Refused::OutOfMemory,
+    }
+}
+
+/// What `--help` prints.
+fn help(alloc: Global) -> Refused
+    ensures { IsToldAs ErrorKind.DisplayHelp result }
+{
+    match String::from_str(alloc, HELP) {
+        Ok(text) => Refused::Help(text),
         Err(_) => Refused::OutOfMemory,
     }
 }
@@ -47,13 +58,12 @@ fn refusal(alloc: Global, error: &Error) -> Refused
     if error.kind() == ErrorKind::DisplayVersion {
         return version(alloc);
     }
-    let Ok(text) = error.to_string(alloc) else {
-        return Refused::OutOfMemory;
-    };
-    if error.use_stderr() {
-        Refused::Mistake(text)
-    } else {
-        Refused::Help(text)
+    if error.kind() == ErrorKind::DisplayHelp {
+        return help(alloc);
+    }
+    match error.to_string(alloc) {
+        Ok(text) => Refused::Mistake(text),
+        Err(_) => Refused::OutOfMemory,
     }
 }
 

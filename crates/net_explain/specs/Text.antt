@@ -28,10 +28,10 @@ inners_text names (i ∷ is) = inner_text names i ++ inners_text names is
 abbrev pub part_text : GateCount → List ℕ
 part_text p = decimal p.behind ++ (codes " of " ++ decimal p.all)
 
--- the last line: the gates between a signal and what is explained, in each netlist
+-- the last line: how many gates below what is explained are not below a signal, in each netlist
 abbrev pub behind_text : List ℕ → (first second : GateCount) → List ℕ
-behind_text name first second = codes "  gates behind " ++ (name
-    ++ (codes ": first " ++ (part_text first ++ (codes ", second " ++ (part_text second ++ 10 ∷ [])))))
+behind_text name first second = codes "  " ++ (part_text first ++ (codes " gates in the first netlist and " ++ (part_text second
+    ++ (codes " in the second are outside the cone of " ++ (name ++ 10 ∷ [])))))
 
 -- the same of the first of the inner signals, where there is one
 abbrev pub parts_text : List (List ℕ) → List Inner → Option (GateCount × GateCount) → List ℕ

@@ -85,7 +85,7 @@ fn add_part(alloc: Global, text: &mut Vec<u8>, part: GateCount) -> Result<(), Al
     Ok(())
 }
 
-/// Adds the last line.
+/// Adds the last line: how many gates are outside the cone of a signal.
 fn add_behind(
     alloc: Global,
     text: &mut Vec<u8>,
@@ -95,12 +95,12 @@ fn add_behind(
 ) -> Result<(), AllocError>
     ensures { OnOk result (text.new.items ≡ text.old.items ++ behind_text name.now first second) }
 {
-    text.extend_from_slice(b"  gates behind ")?;
-    text.extend_from_slice(name)?;
-    text.extend_from_slice(b": first ")?;
+    text.extend_from_slice(b"  ")?;
     add_part(alloc, text, first)?;
-    text.extend_from_slice(b", second ")?;
+    text.extend_from_slice(b" gates in the first netlist and ")?;
     add_part(alloc, text, second)?;
+    text.extend_from_slice(b" in the second are outside the cone of ")?;
+    text.extend_from_slice(name)?;
     text.extend_from_slice(b"\n")?;
     Ok(())
 }
