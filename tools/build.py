@@ -42,8 +42,10 @@ BUILT = TOP / "crates" / PROGRAM / "out" / PROGRAM
 NOT_BUILT = 4
 MEMORY_OF_A_JOB = 3 << 30
 BEGUN = time.monotonic()
-# What a check costs before its first function, in lines of code that could be proved meanwhile.
-LINES_OF_A_START = 500
+# What a check costs before its first function, by itself and for each library below it, in lines that could be proved meanwhile.
+LINES_OF_A_START, LINES_OF_A_LIBRARY = 1000, 300
+# A program reads the code of all that it links; so many of its lines cost as much as one that is proved.
+LINES_READ_FOR_ONE = 7
 # A crate that ended sooner was proved before, so it says nothing of what lines cost.
 SECONDS_OF_NOTHING = 10
 # While nothing begins or ends, a line says so often, in seconds, how far it is.
@@ -56,6 +58,11 @@ END_WITH_PARENT = 1
 def say(text):
     seconds = int(time.monotonic() - BEGUN)
     print(f"build.py: {seconds // 60:2}:{seconds % 60:02} {text}", file=sys.stderr, flush=True)
+
+
+def in_minutes(seconds):
+    minutes = max(1, round(seconds / 60))
+    return "a minute" if minutes == 1 else f"{minutes} minutes"
 
 
 def listed():
@@ -84,14 +91,38 @@ def sources_of(crate):
     return sorted(file for part in ("src", "specs", "proofs") for file in (folder / part).rglob("*") if file.is_file())
 
 
+def all_below(needed, crate):
+    """Every crate that a crate needs."""
+    found, waiting = [], list(needed[crate])
+    while waiting:
+        other = waiting.pop()
+        if other not in found:
+            found.append(other)
+            waiting += needed[other]
+    return found
+
+
 def costs_of(needed):
-    """What the proof of each crate costs, in lines. A program reads the code of all that it links."""
-    costs = {}
-    for crate in needed:
-        lines = sum(file.read_bytes().count(b"\n") for file in sources_of(crate) if file.suffix == ".rt")
-        costs[crate] = LINES_OF_A_START + lines
-    costs[PROGRAM] += sum(costs.values()) // 10
+    """About what the proof of each crate costs, in lines of code and of proofs."""
+    lines = {crate: sum(file.read_bytes().count(b"\n") for file in sources_of(crate)) for crate in needed}
+    costs = {crate: LINES_OF_A_START + LINES_OF_A_LIBRARY * len(all_below(needed, crate)) + lines[crate] for crate in needed}
+    code = sum(file.read_bytes().count(b"\n") for crate in needed for file in sources_of(crate) if file.suffix == ".rt")
+    costs[PROGRAM] += code // LINES_READ_FOR_ONE
     return costs
+
+
+def chains_of(needed, costs):
+    """Of each crate that has a cost: the cost of the dearest chain of crates from it to the program."""
+    chains = {}
+
+    def chain(crate):
+        if crate not in chains:
+            chains[crate] = costs[crate] + max((chain(other) for other in costs if crate in needed[other]), default=0)
+        return chains[crate]
+
+    for crate in costs:
+        chain(crate)
+    return chains
 
 
 def free_memory():
@@ -119,30 +150,13 @@ class Build:
     def __init__(self):
         self.needed = below()
         self.costs = costs_of(self.needed)
-        self.behind = {}
-        for crate in self.needed:
-            self.chain_from(crate)
+        self.chains = chains_of(self.needed, self.costs)
         self.begun, self.done, self.running, self.failed = set(), set(), {}, False
         # The lines and the seconds of the crates that were proved in this call.
         self.seen = [0, 0.0]
+        self.lanes, self.told = 1, BEGUN
         self.changed = threading.Condition()
         self.children = set()
-
-    def chain_from(self, crate):
-        """The cost of the longest chain of crates from this one to the program."""
-        if crate not in self.behind:
-            above = [other for other in self.needed if crate in self.needed[other]]
-            self.behind[crate] = self.costs[crate] + max(map(self.chain_from, above), default=0)
-        return self.behind[crate]
-
-    def all_below(self, crate):
-        found, waiting = [], list(self.needed[crate])
-        while waiting:
-            other = waiting.pop()
-            if other not in found:
-                found.append(other)
-                waiting += self.needed[other]
-        return found
 
     @functools.lru_cache(maxsize=None)
     def sum_of(self, crate):
@@ -156,8 +170,8 @@ class Build:
         return total.hexdigest()
 
     def seconds_left(self):
-        """About how many seconds are left, by what the lines so far have taken: the longest chain of crates that is left, or, if they
-        are more, the seconds of all lines that are left, shared by those that are proved side by side. None before the first crate is proved."""
+        """About how many seconds are left, by what the lines so far have taken: those of the dearest chain of crates that is left, or, if
+        they are more, those of all lines that are left, shared by the lanes. None before the first crate is proved."""
         lines, seconds = self.seen
         if not lines:
             return None
@@ -167,21 +181,14 @@ class Build:
             if crate not in self.done:
                 spent = now - self.running[crate] if crate in self.running else 0
                 left[crate] = max(0.0, self.costs[crate] * each - spent)
-        chains = {}
-
-        def chain(crate):
-            if crate not in chains:
-                above = [other for other in left if crate in self.needed[other]]
-                chains[crate] = left[crate] + max(map(chain, above), default=0)
-            return chains[crate]
-
-        return max([sum(left.values()) / max(1, self.lanes), *map(chain, left)])
+        return max(sum(left.values()) / self.lanes, *chains_of(self.needed, left).values())
 
     def tell(self):
         """Reports how far the build is. The caller holds the lock."""
         seconds = self.seconds_left()
-        more = f"; about {max(1, round(seconds / 60))} minutes more" if seconds is not None else ""
+        more = f"; about {in_minutes(seconds)} more" if seconds is not None else ""
         now = " and ".join(self.running)
+        self.told = time.monotonic()
         say(f"{len(self.done)} of {len(self.needed)} crates proved; now {now}{more}")
 
     def next(self):
@@ -190,27 +197,27 @@ class Build:
             while not self.failed and len(self.begun) < len(self.needed):
                 ready = [crate for crate in self.needed if crate not in self.begun and self.done.issuperset(self.needed[crate])]
                 if ready:
-                    crate = max(ready, key=self.behind.get)
+                    crate = max(ready, key=self.chains.get)
                     self.begun.add(crate)
                     self.running[crate] = time.monotonic()
                     self.tell()
                     return crate
-                if not self.changed.wait(SECONDS_OF_SILENCE) and self.running and self.speaks():
-                    self.tell()
+                self.changed.wait()
             return None
 
-    def speaks(self):
-        """Whether the last line is so old that another is due. The caller holds the lock."""
-        last, self.last = getattr(self, "last", 0.0), time.monotonic()
-        if self.last - last < SECONDS_OF_SILENCE - 1:
-            self.last = last
-            return False
-        return True
+    def watch(self, lanes):
+        """Waits for the lanes. While nothing begins or ends for long, a line says that the build goes on."""
+        for one in lanes:
+            while one.is_alive():
+                one.join(SECONDS_OF_SILENCE)
+                with self.changed:
+                    if self.running and not self.failed and time.monotonic() - self.told >= SECONDS_OF_SILENCE:
+                        self.tell()
 
     def is_longest(self, crate):
         """Whether the longest chain of all crates that are not proved begins with this one."""
         with self.changed:
-            return all(self.behind[other] <= self.behind[crate] for other in self.needed if other not in self.done)
+            return all(self.chains[other] <= self.chains[crate] for other in self.needed if other not in self.done)
 
     def stop(self):
         """Begins no further crate, and ends what is running."""
@@ -311,7 +318,7 @@ class Place:
         self.folder.mkdir(parents=True, exist_ok=True)
         if (TOP / "HANDLES").exists():
             shutil.copy(TOP / "HANDLES", self.folder)
-        crates = [self.crate, *self.build.all_below(self.crate)]
+        crates = [self.crate, *all_below(self.build.needed, self.crate)]
         (self.folder / "crates.txt").write_text("".join(f"{line}\n" for name, line in listed() if name in crates))
         for crate in crates:
             to = self.folder / "crates" / crate
@@ -370,7 +377,7 @@ def lane(build, room, jobs):
             else:
                 build.ended(crate, *Place(build, room, crate).prove(share, priority))
         except OSError as error:
-            build.ended(crate, False, f"{error.filename or room}: {error.strerror}")
+            build.ended(crate, False, f"{error.filename or room}: {error.strerror or error}")
 
 
 def is_ours(folder):
@@ -399,16 +406,15 @@ def build_all(jobs, lanes):
     build = Build()
     room = room_for_lanes() if lanes > 1 else None
     build.lanes = lanes if room else 1
-    others = [threading.Thread(target=lane, args=(build, room, jobs)) for _ in range(build.lanes)]
-    for other in others:
-        other.start()
+    threads = [threading.Thread(target=lane, args=(build, room, jobs)) for _ in range(build.lanes)]
+    for one in threads:
+        one.start()
     try:
-        for other in others:
-            other.join()
+        build.watch(threads)
     finally:
         build.stop()
-        for other in others:
-            other.join()
+        for one in threads:
+            one.join()
         if room:
             remove(room)
     if not build.failed:
@@ -416,16 +422,24 @@ def build_all(jobs, lanes):
     return not build.failed
 
 
-def alone(lock):
-    """Waits until no other call builds, and says whether one has built the program meanwhile. The lock goes with the process."""
-    begun = time.time()
+def wait_for(lock):
+    """Waits until no other call builds. The lock goes with the process."""
     try:
         fcntl.flock(lock, fcntl.LOCK_EX | fcntl.LOCK_NB)
-        return False
     except BlockingIOError:
         say("another call is building the program; this one waits for it")
         fcntl.flock(lock, fcntl.LOCK_EX)
-        return BUILT.exists() and BUILT.stat().st_mtime > begun
+
+
+def is_fresh():
+    """Whether the program is built and no source is newer, by the times of the files, as tools/bddcheck.sh has it."""
+    if not os.access(BUILT, os.X_OK):
+        return False
+    files = [TOP / "crates.txt"]
+    for at, folders, names in os.walk(TOP / "crates"):
+        folders[:] = [name for name in folders if name != "out"]
+        files += [os.path.join(at, name) for name in names]
+    return max(os.stat(file).st_mtime_ns for file in files) <= BUILT.stat().st_mtime_ns
 
 
 def stopped(number, _):
@@ -443,15 +457,18 @@ def main():
         say("the command `rt` is not found. It comes with the kit that proves the program; README.md names those that do")
         return NOT_BUILT
     with open(TOP / "crates.txt") as lock:
-        if alone(lock):
+        wait_for(lock)
+        if is_fresh():
+            say("the program is built, and no source is newer")
             return 0
+        begun = time.time()
         jobs = settings.jobs or jobs_here()
         lanes = settings.lanes or lanes_for(jobs)
         say(f"proving and building the program by {jobs} jobs: half an hour from nothing on four processors, later only what changed")
         if not build_all(jobs, lanes):
             return NOT_BUILT
-        # So it is newer than each source, also where nothing had to be built.
-        os.utime(BUILT)
+        # So it is newer than each source that was read, also if nothing had to be built, and older than one that was changed meanwhile.
+        os.utime(BUILT, (begun, begun))
     return 0
 
 

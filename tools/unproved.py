@@ -207,15 +207,15 @@ def answer(words, place):
     asked = Asked(words, place)
     if asked.writes:
         raise NoAnswer(f"--vcd writes a file, which the unproved sources cannot; {way_to_build()}")
+    given = os.devnull
+    if asked.wants_input():
+        given = f"{place}/input"
+        take_input(given)
     say(
         "the program is not built, so this answer comes from its sources before their proof, by a build with run-time checks, which takes"
         " a minute for each call and is many times slower"
     )
     say(way_to_build())
-    given = os.devnull
-    if asked.wants_input():
-        given = f"{place}/input"
-        take_input(given)
     status, out, said = answered(asked, *tried(asked.words, given, place))
     write(2, said)
     if not write(1, out):

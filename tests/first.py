@@ -1,0 +1,163 @@
+#!/usr/bin/env python3
+"""That a tree in which nothing is built answers as the built program does, and says that it is not proved.
+
+usage: tests/first.py PROGRAM
+
+tools/bddcheck.sh is called in a copy of the tree without out/, while the locks of a build are held: on two files, on standard input by a
+slow writer, on a pipe and a refused file outside of the tree, and on a wrong word. Status, output and errors must be those of PROGRAM,
+with two lines on standard error before them. Each of these calls compiles the program, so two run side by side. Then come calls that
+give no answer, and must end with status 4 and one line that says why. The part is skipped where there is no `rt`.
+"""
+import contextlib
+import fcntl
+import os
+import pathlib
+import re
+import resource
+import shutil
+import sys
+from concurrent.futures import ThreadPoolExecutor
+
+import kit
+from kit import C17, C17B, TOP, Run, Tally, run, written
+
+sys.path.append(str(TOP / "tools"))
+import unproved  # noqa: E402
+
+# A call compiles the program, beside other work perhaps.
+SECONDS = 1200
+
+
+def copied(place):
+    """A copy of what the script needs, without what was built."""
+    copy = place / "a tree"
+    left = shutil.ignore_patterns("out", "__pycache__")
+    for name in ("crates", "tools", "examples"):
+        shutil.copytree(TOP / name, copy / name, ignore=left)
+    for name in ("crates.txt", "HANDLES"):
+        shutil.copy(TOP / name, copy)
+    return copy
+
+
+@contextlib.contextmanager
+def locked(copy):
+    """Holds the locks that tools/build.py and `rt` hold during a build."""
+    held = [os.open(path, os.O_RDONLY) for path in [copy / "crates.txt", *(copy / "crates").iterdir()]]
+    for number in held:
+        fcntl.flock(number, fcntl.LOCK_EX)
+    yield
+    for number in held:
+        os.close(number)
+
+
+@contextlib.contextmanager
+def piped(text):
+    """The number of a pipe from which a text can be read, as a shell gives it for <(..)."""
+    out, into = os.pipe()
+    os.write(into, text)
+    os.close(into)
+    yield out
+    os.close(out)
+
+
+def by_files(program, copy):
+    return run([program, "examples/c17.bench", "examples/c17b.bench"], seconds=SECONDS, cwd=copy)
+
+
+def by_input(program, copy):
+    """Both texts on standard input, the second of them some seconds later."""
+    shell = 'cat examples/c17.bench; sleep 4; echo %%; cat "examples/c17_of_four.bench"'
+    return run(["sh", "-c", f'({shell}) | "$0" --match name', program], seconds=SECONDS, cwd=copy)
+
+
+def refused(program, copy):
+    with piped(C17) as number:
+        words = ["--verbose", f"--given=/dev/fd/{number}", "examples/c17.bench", "../outside of it/refused.bench"]
+        return run([program, *words], seconds=SECONDS, cwd=copy, pass_fds=[number])
+
+
+def wrong_word(program, copy):
+    return run([program, "--ordr", "best", "examples/c17.bench", "examples/c17b.bench"], seconds=SECONDS, cwd=copy)
+
+
+CASES = {
+    "two files": (by_files, 1),
+    "standard input": (by_input, 1),
+    "a pipe, and a refused file outside of the tree": (refused, 2),
+    "a wrong word": (wrong_word, 2),
+}
+ANNOUNCED = re.compile(rb"bddcheck\.sh: .* before their proof, .*\nbddcheck\.sh: tools/build\.py proves and builds the program, .*\n")
+
+
+def answers(tally, program, script, copy):
+    """Compares what both say."""
+    with ThreadPoolExecutor(2) as pool, locked(copy):
+        asked = {name: pool.submit(case, script, copy) for name, (case, _) in CASES.items()}
+        for name, (case, status) in CASES.items():
+            wanted, seen = case(program, copy), asked[name].result()
+            tally.check(f"{name}: the program's status", wanted.status == status, wanted)
+            announced = ANNOUNCED.match(seen.err)
+            said = seen.err[announced.end() :] if announced else seen.err
+            tally.check(f"{name}: two lines say that it is not proved", announced, seen)
+            tally.same(name, Run(seen.status, seen.out, said), wanted.status, wanted.out, wanted.err)
+
+
+def no_answer(tally, name, seen, has, lines=1):
+    """That there is no answer, and so many lines say why, the last of which has this."""
+    told = seen.err.decode(errors="replace").splitlines()
+    right = seen.status == 4 and not seen.out and (lines is None or len(told) == lines)
+    tally.check(name, right and told and told[-1].startswith("bddcheck.sh: ") and has in seen.err.decode(errors="replace"), seen)
+
+
+def without_answers(tally, script, copy, place):
+    c17, c17b = copy / "examples" / "c17.bench", copy / "examples" / "c17b.bench"
+    vcd = place / "made.vcd"
+    no_answer(tally, "a file to write", run([script, "--vcd", vcd, c17, c17b]), "tools/build.py")
+    tally.check("no file is made", not vcd.exists())
+
+    few = place / "few"
+    few.mkdir()
+    for name in ("sh", "dirname", "readlink", "find", "head", "python3"):
+        (few / name).symlink_to(shutil.which(name))
+    no_answer(tally, "no rt", run([script, c17, c17b], environment={"PATH": str(few)}), "release archive")
+    no_answer(tally, "a word that is no UTF-8", run([script, b"\xff".decode(errors="surrogateescape"), c17]), "UTF-8")
+
+    small = {"preexec_fn": lambda: resource.setrlimit(resource.RLIMIT_FSIZE, (100, 100))}
+    no_answer(tally, "files that cannot be written", run([script], C17 + b"%%\n" + C17B, **small), "temporary files")
+
+    source = copy / "crates" / "bddcheck" / "src" / "main.rt"
+    source.write_text(source.read_text() + "fn no_end( {\n")
+    seen = run([script, c17, c17b], seconds=SECONDS)
+    no_answer(tally, "a tree that does not compile", seen, "src/main.rt", lines=None)
+
+
+def options(tally, program):
+    """That the script knows the options that take a value, those of files among them."""
+    helped = run([program, "--help"]).out.decode()
+    valued = set(re.findall(r"(--[a-z-]+) <", helped))
+    tally.check("the options that take a value", valued == set(unproved.VALUED), valued ^ set(unproved.VALUED))
+    files = set(re.findall(r"(--[a-z-]+) <(?:F|FILE)>", helped)) - {"--vcd"}
+    tally.check("the options that name a file to read", files == set(unproved.READ), files)
+
+
+def main():
+    tally = Tally("first")
+    program = os.path.abspath(sys.argv[1])
+    options(tally, program)
+    if shutil.which("rt"):
+        with kit.folder() as place:
+            place = pathlib.Path(place)
+            copy = copied(place)
+            script = copy / "tools" / "bddcheck.sh"
+            (place / "outside of it").mkdir()
+            written(place / "outside of it", "refused.bench", C17 + b"x = INV(1)\n")
+            answers(tally, program, script, copy)
+            without_answers(tally, script, copy, place)
+    else:
+        tally.skip("there is no `rt`, so no answer of the unproved sources was tried")
+    tally.end()
+    sys.exit(tally.failed > 0)
+
+
+if __name__ == "__main__":
+    kit.ended(main)
