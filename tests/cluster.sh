@@ -51,7 +51,8 @@ skip() {
 
 # ---- GNU parallel
 
-if command -v parallel >/dev/null; then
+# Debian's moreutils has another command of this name.
+if parallel --version 2>/dev/null </dev/null | grep -q '^GNU parallel'; then
     PARALLEL_HOME=$place/.parallel && export PARALLEL_HOME
     begin 'by parallel'
     sh ../blocks/1 >parallel.log 2>&1 </dev/null
@@ -69,7 +70,7 @@ END
     sh ../blocks/2 >parallel.log 2>&1 </dev/null
     check 'recipe 2, parallel over ssh'
 else
-    skip 'parallel is not installed (Debian: parallel), so recipes 1 and 2 were not tried'
+    skip 'GNU parallel is not installed (Debian: parallel), so recipes 1 and 2 were not tried'
 fi
 
 # ---- Bazel

@@ -24,7 +24,11 @@ slurm-wlm cluster slurmd
 slurm-wlm cluster sbatch'
 
 has() {
-    for name in $(echo "$1" | tr '|' ' '); do command -v "$name" >/dev/null && return; done
+    case $1 in
+    # Debian's moreutils has another command of this name.
+    parallel) parallel --version 2>/dev/null </dev/null | grep -q '^GNU parallel' && return ;;
+    *) for name in $(echo "$1" | tr '|' ' '); do command -v "$name" >/dev/null && return; done ;;
+    esac
     return 1
 }
 # The packages that are missing, each once, and a line for each command.
