@@ -1,12 +1,12 @@
 #!/usr/bin/env python3
-"""Tells which functions asked for the memory that bddcheck has at its peak, by node and by request.
+"""Measures which functions asked for the memory that bddcheck has at its peak, by node and by request; writes results/bytes.json.
 
-usage: bench/bytes.py PROGRAM [FOLDER ..] [--waves N,N ..] [--threshold PERCENT]
+usage: bench/bytes.py PROGRAM [FOLDER ..] [--waves N,N ..] [--threshold PERCENT] [--anew]
 
-Each FOLDER has a pair, a.bench and b.bench, and their order. For each N (14,18 where no folder is named) the netlist of
-turns.py --waves N, whose run is nearly one wave of 2^(N + 1) requests, is compared with itself. Both are run by one worker.
-The number of nodes is the least limit that is not refused. The table in Markdown has each function that asked for PERCENT (1)
-of the heap or more: its bytes, also by node and, of a wave, by request, and behind a function of the library who calls it.
+Each FOLDER has a pair, a.bench and b.bench, and their order. For each N (18) the netlist of workers.py whose run is nearly one wave of
+2^(N + 1) requests is compared with itself. Both are run by one worker. The number of nodes is the least limit that is not refused. The
+table in Markdown has each function that asked for PERCENT (1) of the heap or more: its bytes, also by node and, of a wave, by request,
+and after a function of the library the functions that call it.
 
 It needs valgrind and objdump (Debian: valgrind, binutils); the product needs neither.
 """
@@ -17,13 +17,12 @@ import re
 import subprocess
 import tempfile
 
-from measure import shown, table
-from turns import write_wave
-from workers import needed_nodes
+from measure import Launcher, needed_nodes, shown, table
+from results import Results, first_line, options
+from workers import write_wave
 
 ALLOCATORS = ("rattle_alloc", "rattle_realloc")
 LIBRARY = ("std_", "std::", "core::", "indexmap::")
-SECONDS = 60
 
 
 def callers_in(program):
@@ -79,28 +78,48 @@ def pair(folder):
     return ["--order-file", *(str(folder / name) for name in ("order", "a.bench", "b.bench"))], None
 
 
-def rows_of(program, room, words, requests, callers, threshold):
-    nodes = needed_nodes(program, words, SECONDS)
-    run = f"{nodes} nodes" + (f", {requests} requests" if requests else "")
-    for name, held in holders([program, "--workers", "1", *words], room / "note", threshold).most_common():
+def measured(launcher, program, room, words, requests, callers, settings):
+    nodes = needed_nodes(launcher, program, words, settings.seconds, part=0.001)
+    held = holders([program, "--workers", "1", *words], room / "note", settings.threshold)
+    parts = []
+    for name, size in held.most_common():
         users = ", ".join(sorted({plain(user) for user in users_of(name, callers)} - {plain(name)}))
-        yield [run, plain(name), users, str(held), shown(held / nodes, 1), shown(held / requests, 1) if requests else "-"]
+        parts.append([plain(name), users, size])
+    return {"nodes": nodes, "requests": requests, "bytes": parts}
+
+
+def print_table(rows):
+    cells = []
+    for row in rows:
+        for name, users, size in row["bytes"]:
+            by_request = shown(size / row["requests"], 1) if row["requests"] else "-"
+            cells.append([row["key"], name, users, str(size), shown(size / row["nodes"], 1), by_request])
+    print(table(["run", "function", "called by", "bytes", "by node", "by request"], cells))
 
 
 def main():
     parser = argparse.ArgumentParser(description=__doc__, formatter_class=argparse.RawDescriptionHelpFormatter)
     parser.add_argument("program")
     parser.add_argument("folders", nargs="*", type=pathlib.Path)
-    parser.add_argument("--waves", type=lambda words: list(map(int, words.split(","))))
+    parser.add_argument("--waves", type=lambda text: list(map(int, text.split(","))), default=[18])
     parser.add_argument("--threshold", type=float, default=1.0)
+    options(parser, seconds=60, repeats=1)
     settings = parser.parse_args()
-    callers = callers_in(settings.program)
+    callers, launcher = callers_in(settings.program), Launcher()
+    what = "Bytes on the heap at its peak by the function that asked for them, with its callers; one worker"
+    peers = {"valgrind": first_line(["valgrind", "--version"])}
+    results = Results("bytes", what, settings.program, {"threshold": settings.threshold}, peers, settings.anew, settings.into)
     with tempfile.TemporaryDirectory() as name:
-        room = pathlib.Path(name)
-        waves = settings.waves or ([] if settings.folders else [14, 18])
-        runs = [*map(pair, settings.folders), *(wave(room, size) for size in waves)]
-        rows = [row for words, requests in runs for row in rows_of(settings.program, room, words, requests, callers, settings.threshold)]
-    print(table(["run", "function", "called by", "bytes", "by node", "by request"], rows))
+        room, keys = pathlib.Path(name), []
+        runs = [(folder.name, *pair(folder)) for folder in settings.folders]
+        runs += [(f"wave{size}", *wave(room, size)) for size in settings.waves]
+        for key, words, requests in runs:
+            keys.append(key)
+            if key not in results:
+                results.begin()
+                results.add(key, measured(launcher, settings.program, room, words, requests, callers, settings))
+        results.keep_only(keys)
+    print_table(results.rows.values())
 
 
 if __name__ == "__main__":

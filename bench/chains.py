@@ -3,8 +3,8 @@
 
 usage: bench/chains.py FOLDER [LARGEST]
 
-For each size a file FOLDER/forward_N.bench has each gate behind its operand, and FOLDER/backward_N.bench
-each gate before it. Their last signal is an output. LARGEST is the most gates, 999999 where it is left out:
+For each size a file FOLDER/forward_N.bench has each gate after its operand, and FOLDER/backward_N.bench
+each gate before it. Their last signal is an output. LARGEST is the most gates, 999999 if it is left out:
 a netlist has at most 1,000,000 signals. A reader that is linear in the text, or nearly so, takes about twice
 the time for each next size, in both orders.
 """

@@ -81,7 +81,7 @@ def ripple(net, a, b, carry=None):
 
 
 def carry_terms(net, generate, propagate, carry, place):
-    """The carry behind `place` of a block, as one OR of ANDs over the block's own carry-in."""
+    """The carry after `place` of a block, as one OR of ANDs over the block's own carry-in."""
     terms = []
     for start in range(place, -1, -1):
         passed = propagate[start + 1 : place + 1]
@@ -303,6 +303,15 @@ def write_pair(folder, family, size):
         paths.append(folder / f"{family}_{size}_{letter}.bench")
         paths[-1].write_text(net.text())
     return paths
+
+
+def write_folder(folder, family, size, order):
+    """A folder with the two netlists, as a.bench and b.bench, and the names of the order, a line for each."""
+    folder.mkdir(parents=True)
+    for path, kept in zip(write_pair(folder, family, size), ("a.bench", "b.bench")):
+        path.rename(folder / kept)
+    (folder / "order").write_text("\n".join(order) + "\n")
+    return folder
 
 
 def main():

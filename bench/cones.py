@@ -1,9 +1,9 @@
 #!/usr/bin/env python3
-"""Measures four workers on pairs that are judged by their cones, and what the machine itself allows.
+"""Times four workers on pairs that are judged by their cones beside what the machine itself allows, and writes results/cones.json.
 
-usage: bench/cones.py PROGRAM FOLDER .. [--workers N] [--repeats K]
+usage: bench/cones.py PROGRAM FOLDER .. [--workers N] [--seconds N] [--repeats K] [--anew]
 
-Each FOLDER has a.bench and b.bench. They are compared by `--order cones`, K times (3) by turns: by one worker, by N (4), and by one
+Each FOLDER has a.bench and b.bench. They are compared with `--order cones`, K times (3) by turns: by one worker, by N (4), and by one
 worker in N runs at once, of which an N-th is what N processors would take that share no work and wait for nobody. The table in
 Markdown has, of the least of each: one worker's seconds on the clock, the N workers' as a ratio to it with that of the medians, their
 processor time as a ratio to one worker's, the share of N processors that they left idle, and an N-th of the runs at once as a ratio.
@@ -17,31 +17,51 @@ import subprocess
 import sys
 import time
 
+from measure import geometric_mean, say
+from results import Results, options
 
-def seconds(words, copies=1):
+HEAD = "| netlist | pairs | one worker s | least | medians | work | idle | runs at once |\n|---|---:|---:|---:|---:|---:|---:|---:|"
+
+
+def seconds(words, bound, copies=1):
     """The clock's seconds until all copies have ended, and their processor time."""
     begun, before = time.monotonic(), os.times()
-    for child in [subprocess.Popen(words, stdout=subprocess.DEVNULL) for _ in range(copies)]:
-        if child.wait() not in (0, 1, 3):
-            sys.exit(f"status {child.returncode}: {' '.join(words)}")
+    running = [subprocess.Popen(words, stdout=subprocess.DEVNULL) for _ in range(copies)]
+    for child in running:
+        try:
+            status = child.wait(max(0.1, begun + bound - time.monotonic()))
+        except subprocess.TimeoutExpired:
+            for each in running:
+                each.kill()
+                each.wait()
+            sys.exit(f"over {bound} s: {' '.join(words)}")
+        if status not in (0, 1, 3):
+            sys.exit(f"status {status}: {' '.join(words)}")
     after = os.times()
     return time.monotonic() - begun, sum(after[2:4]) - sum(before[2:4])
 
 
-def print_row(folder, settings):
+def measured(folder, settings):
     files = [str(folder / "a.bench"), str(folder / "b.bench")]
     words = {n: [settings.program, "--order", "cones", "--workers", str(n), *files] for n in (1, settings.workers)}
+    report = subprocess.run(words[1], stdout=subprocess.PIPE, text=True).stdout
     runs = [[], [], []]
     for _ in range(settings.repeats):
-        runs[0].append(seconds(words[1]))
-        runs[1].append(seconds(words[settings.workers]))
-        runs[2].append(seconds(words[1], settings.workers))
+        runs[0].append(seconds(words[1], settings.seconds))
+        runs[1].append(seconds(words[settings.workers], settings.seconds))
+        runs[2].append(seconds(words[1], settings.seconds, settings.workers))
     one, many, apart = map(min, runs)
     medians = [statistics.median(clock for clock, _ in column) for column in runs]
-    idle = 1 - many[1] / (many[0] * settings.workers)
-    cells = (many[0] / one[0], medians[1] / medians[0], many[1] / one[1], idle, apart[0] / one[0] / settings.workers)
-    print(f"| {folder.name} | {one[0]:.2f} | " + " | ".join(f"{cell:.2f}" for cell in cells) + " |", flush=True)
-    return cells[0], cells[-1]
+    row = {
+        "pairs": len(report.splitlines()) - 1,
+        "one": one[0],
+        "least": many[0] / one[0],
+        "medians": medians[1] / medians[0],
+        "work": many[1] / one[1],
+        "idle": 1 - many[1] / (many[0] * settings.workers),
+        "at once": apart[0] / one[0] / settings.workers,
+    }
+    return {name: round(value, 4) for name, value in row.items()}
 
 
 def main():
@@ -49,11 +69,24 @@ def main():
     parser.add_argument("program")
     parser.add_argument("folders", nargs="+", type=pathlib.Path)
     parser.add_argument("--workers", type=int, default=4)
-    parser.add_argument("--repeats", type=int, default=3)
+    options(parser, seconds=60, repeats=3)
     settings = parser.parse_args()
-    print("| netlist | one worker s | least | medians | work | idle | runs at once |\n|---|---:|---:|---:|---:|---:|---:|")
-    means = [statistics.geometric_mean(ratios) for ratios in zip(*(print_row(folder, settings) for folder in settings.folders))]
+    said = {"workers": settings.workers, "repeats": settings.repeats}
+    what = "Pairs by their cones: one worker's seconds on the clock, and several workers' as ratios to these"
+    results = Results("cones", what, settings.program, said, None, settings.anew, settings.into)
+    for folder in settings.folders:
+        if folder.name not in results:
+            results.begin()
+            results.add(folder.name, measured(folder, settings))
+            say(folder.name)
+    results.keep_only([folder.name for folder in settings.folders])
+    print(HEAD)
+    for row in results.rows.values():
+        cells = [f"{row[name]:.2f}" for name in ("one", "least", "medians", "work", "idle", "at once")]
+        print(f"| {row['key']} | {row['pairs']} | {' | '.join(cells)} |")
+    means = [geometric_mean([row[name] for row in results.rows.values()]) for name in ("least", "at once")]
     print("\nin the geometric mean {:.2f} of the least, the runs at once {:.2f}".format(*means))
 
 
-main()
+if __name__ == "__main__":
+    main()

@@ -1,12 +1,14 @@
-// Compares two bench netlists by a depth-first BDD package, BuDDy: the yardstick of compare.py and peers.py.
+// Compares two bench netlists by a depth-first BDD package, BuDDy: the yardstick of peers.py.
 //
 // usage: depth_first FIRST SECOND [ORDER]
+//        depth_first --version
 //
-// Inputs and outputs are paired by name. Variables stand in the order of the names in the file ORDER; without it in the
+// Inputs and outputs are paired by name. Variables are in the order of the names in the file ORDER; without it in the
 // order in which the inputs are met below the first netlist's outputs, operands from left to right. All gates of both
 // netlists are built, operand by operand, each operand first. It
 // prints a line for each output, and the number of nodes at the end on standard error. The netlists are taken to be
-// right: nothing is checked.
+// right: nothing is checked. BuDDy begins with 65,536 nodes and a computed table of 16,384 entries, keeps four nodes for each of
+// these entries as it grows (bdd_setcacheratio(4)), grows by at most 2^24 nodes at a time, and collects garbage when it is full.
 #include <bdd.h>
 
 #include <fstream>
@@ -61,7 +63,7 @@ static Netlist read(const char* path) {
     return net;
 }
 
-// The signals below `roots`, each behind its operands, and before those that are met later.
+// The signals below `roots`, each after its operands, and before those that are met later.
 static std::vector<std::string> met(const Netlist& net, const std::vector<std::string>& roots) {
     std::vector<std::string> order;
     std::unordered_set<std::string> entered;
@@ -127,6 +129,10 @@ static std::unordered_map<std::string, int> listed(const char* path) {
 }
 
 int main(int count, char** words) {
+    if (count == 2 && std::string(words[1]) == "--version") {
+        std::cout << bdd_versionstr() << "\n";
+        return 0;
+    }
     if (count != 3 && count != 4) {
         return 2;
     }

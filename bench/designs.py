@@ -1,139 +1,187 @@
 #!/usr/bin/env python3
-"""Counts the verdicts of a program on folders of designs, each within a bound of time and memory.
+"""Counts the verdicts of a program on folders of designs beside those of abc's cec, and writes results/designs.json.
 
-usage: bench/designs.py PROGRAM FOLDER .. [--seconds N] [--memory MB] [--words "WORD .." | --hindsight]
+usage: bench/designs.py PROGRAM FOLDER .. [--seconds N] [--memory MB] [--options "OPTION .." | --hindsight] [--only PART] [--anew]
 
-A FOLDER has folders NAME/ with a.bench, a rewritten b.bench and, in some, a wrong c.bench. Each of b and c is compared with a by
-default, or with these WORDs before the files, within N (120) seconds on the clock and MB (4,000) megabytes, one after the other. The
-table in Markdown has, for each comparison, how many pairs were equal, differing, without a partner and undecided, the seconds, the
-status, and the peak memory; the last line counts the pairs with a verdict of all that there are. Where a run ends without a report,
-its pairs count as undecided: as many as a.bench has outputs and registers.
+A FOLDER has folders NAME/ with a.bench, a rewritten b.bench and, in some, a faulty c.bench. Each of b and c is compared with a by
+bddcheck with one worker (by the bare command, or with these OPTIONs), and by `cec` of abc without a bound of conflicts, in turn, each
+within N (10) seconds of processor time, bddcheck also within MB (4,000) megabytes. Short runs are repeated, up to three times, and the
+least counts. The table in Markdown has, for each comparison, how many pairs of outputs and next states were equal, differing, without
+a partner and undecided, the seconds of both, bddcheck's peak of memory, and what cec says; the last lines count the pairs with a
+verdict, and the comparisons that each has decided. Of a run that ends without a report all pairs count as undecided. The two programs
+may not contradict each other. cec refuses netlists whose inputs or registers differ.
 
-With --hindsight the table tells what the default order costs instead: of each comparison that a single order ends within N seconds of
-processor time, by one worker, the order that took least and its processor time, that of the bare command, how many times as much that
-is, and the budget that decided. The last lines have the geometric mean of these, the greatest where 2^18 nodes were too few, and how
-many seconds more the bare command took at most where an order takes 0.05 s or less.
+With --hindsight it measures what the default order costs instead, and writes results/hindsight.json: of each comparison with b that a
+single order ends within N seconds of processor time, with one worker, the order that took least and its processor time, that of the
+bare command, how many times as much that is, and the budget that decided.
 """
 import argparse
-import math
 import pathlib
 import re
-import resource
-import subprocess
 import sys
-import time
 
-from measure import run
+from measure import Column, Launcher, by_turns, figures, geometric_mean, say, shown, table
+from results import Results, first_line, options, package
 
+ABC = "berkeley-abc"
 KINDS = ("EQUAL", "DIFFER", "ONLY", "UNDECIDED")
 ORDERS = ("interleave", "force", "index", "depth", "declared")
 EASY = 0.05
 LARGE = 1 << 18
-
-
-def compared(words, settings):
-    """The report, the status, the seconds and the megabytes of a run within its bounds; the status is None where the time was over."""
-    before = time.monotonic()
-    child = subprocess.Popen(
-        ["/usr/bin/time", "-q", "-f", "%M", *words],
-        stdout=subprocess.PIPE,
-        stderr=subprocess.PIPE,
-        text=True,
-        preexec_fn=lambda: resource.setrlimit(resource.RLIMIT_AS, (settings.memory << 20,) * 2),
-        start_new_session=True,
-    )
-    try:
-        report, said = child.communicate(timeout=settings.seconds)
-        status = child.returncode
-    except subprocess.TimeoutExpired:
-        subprocess.run(["pkill", "-KILL", "-s", str(child.pid)])
-        report, said = child.communicate()
-        status = None
-    peak = re.findall(r"^\d+$", said, re.M)
-    return report, status, time.monotonic() - before, int(peak[-1]) >> 10 if peak else 0
+UNBOUNDED = 2_000_000_000
 
 
 def counted(report):
+    """How many lines of each kind a report has."""
     return [sum(line.startswith(kind + " ") for line in report.splitlines()) for kind in KINDS]
 
 
-def comparisons(folders):
-    """Each design's name with its two files, and that of the second."""
+def has_report(run):
+    return run.status in (0, 1, 3) and any(counted(run.output))
+
+
+def said_by_cec(run):
+    for words, meaning in (("are equivalent", "equal"), ("NOT EQUIVALENT", "different"), ("Miter computation has failed", "refused")):
+        if words in run.output:
+            return meaning
+    return "undecided"
+
+
+def has_answer(run):
+    return said_by_cec(run) in ("equal", "different")
+
+
+def abc_version():
+    """What abc says of itself when it is started without a command, and its package."""
+    return f"{first_line([ABC], r'(?<=ABC )[0-9.]+')} (package {ABC} {package(ABC)})"
+
+
+def pairs_in(path):
+    """As many pairs as a netlist has outputs and registers."""
+    return len(re.findall(r"(?mi)^\s*OUTPUT\s*\(|=\s*DFF\s*\(", path.read_text()))
+
+
+def comparisons(folders, letters="bc", only=""):
+    """Each design's name with the letter of its second file, and the two files."""
     for design in sorted(path.parent for folder in folders for path in folder.glob("*/a.bench")):
-        for other in (path for path in (design / "b.bench", design / "c.bench") if path.exists()):
-            yield f"{design.name} {other.stem}", [str(design / "a.bench"), str(other)]
+        for other in (design / f"{letter}.bench" for letter in letters):
+            if other.exists() and only in design.name:
+                yield f"{design.name} {other.stem}", [design / "a.bench", other]
+
+
+def compared(launcher, files, settings):
+    bounds = {"seconds": settings.seconds}
+    cec = f"cec -T {settings.seconds} -C {UNBOUNDED} {files[0]} {files[1]}"
+    ours = [settings.program, "--workers", "1", *settings.options.split(), *files]
+    columns = [
+        Column(ours, {**bounds, "megabytes": settings.memory}, has_report),
+        Column([ABC, "-c", cec], bounds, has_answer),
+    ]
+    runs = by_turns(launcher, columns, settings.repeats, fewest=1, enough=1.0)
+    counts = counted(runs[0][-1].output) if has_report(runs[0][-1]) else [0, 0, 0, pairs_in(files[0])]
+    row = dict(zip(("equal", "differ", "only", "undecided"), counts))
+    row["bddcheck"], row["cec"] = (figures(column, done) for column, done in zip(columns, runs))
+    row["cec says"] = said_by_cec(runs[1][-1])
+    known = {(True, False): "equal", (False, True): "different"}.get((counts[0] == sum(counts), counts[1] > 0))
+    if {known, row["cec says"]} == {"equal", "different"}:
+        sys.exit(f"{' '.join(map(str, files))}: bddcheck and cec contradict each other")
+    return row
+
+
+def is_decided(row):
+    return bool(row["bddcheck"]) and not row["undecided"]
 
 
 def count_verdicts(settings):
-    words = settings.words.split()
-    total = decided = 0
-    print("| pair | equal | differ | lone | undecided | seconds | status | MB |\n|---|---:|---:|---:|---:|---:|---:|---:|")
-    for name, files in comparisons(settings.folders):
-        report, status, seconds, peak = compared([settings.program, *words, *files], settings)
-        counts = counted(report)
-        if status not in (0, 1, 3) or not any(counts):
-            text = pathlib.Path(files[0]).read_text()
-            counts = [0, 0, 0, len(re.findall(r"(?mi)^\s*OUTPUT\s*\(|=\s*DFF\s*\(", text))]
-        total += sum(counts)
-        decided += sum(counts[:3])
-        print(f"| {name} | {' | '.join(map(str, counts))} | {seconds:.1f} | {status} | {peak} |", flush=True)
-    print(f"\n{decided} of {total} pairs have their verdict")
+    said = {"seconds": settings.seconds, "memory": settings.memory, "options": settings.options, "repeats": settings.repeats}
+    peers = {"abc": abc_version()}
+    what = "Each comparison by the bare command with one worker, and by abc's cec: verdicts, seconds, peak memory"
+    results = Results("designs", what, settings.program, said, peers, settings.anew, settings.into)
+    launcher, keys = Launcher(), []
+    for key, files in comparisons(settings.folders, only=settings.only):
+        keys.append(key)
+        if key not in results:
+            results.begin()
+            row = results.add(key, compared(launcher, files, settings))
+            say(key, *(shown(row[name] and row[name]["processor"], 3) for name in ("bddcheck", "cec")), row["cec says"])
+    if not settings.only:
+        results.keep_only(keys)
+    rows = [results.rows[key] for key in keys]
+    cells = []
+    for row in rows:
+        counts = [str(row[name]) for name in ("equal", "differ", "only", "undecided")]
+        seconds = [shown(row[name] and row[name]["processor"], 3) for name in ("bddcheck", "cec")]
+        cells.append([row["key"], *counts, *seconds, shown(row["bddcheck"] and row["bddcheck"]["megabytes"], 0), row["cec says"]])
+    print(table(["comparison", "equal", "differ", "only", "undecided", "bddcheck s", "cec s", "bddcheck MB", "cec says"], cells))
+    decided = sum(row["equal"] + row["differ"] + row["only"] for row in rows)
+    print(f"\n{decided} of {decided + sum(row['undecided'] for row in rows)} pairs have a verdict")
+    by_cec = [row["cec says"] for row in rows]
+    print(f"of {len(rows)} comparisons bddcheck decides {sum(map(is_decided, rows))}, cec {by_cec.count('equal') + by_cec.count('different')}")
+    print(f"cec refuses {by_cec.count('refused')}")
 
 
-def best_order(files, settings):
-    """The least processor time of the single orders that report all pairs in time, with the order; None where none does."""
+def best_order(launcher, files, settings):
+    """The least processor time of the single orders that report all pairs in time, with the order; none if no order does."""
     times = []
     for order in ORDERS:
-        one = run([settings.program, "--order", order, "--workers", "1", *files], settings.seconds)
+        one = launcher.run([settings.program, "--order", order, "--workers", "1", *files], settings.seconds)
         if one.status in (0, 1):
-            times.append((one.seconds, order))
+            times.append((one.processor, order))
     return min(times, default=None)
 
 
-def told_budget(said):
-    """The budget of the attempt that decided, or None where cones did."""
-    told = re.findall(r"^bddcheck: order \w+, budget (\d+)$", said, re.M)
-    return int(told[-1]) if told else None
+def last_budget(said):
+    """The budget of the attempt that decided; none if cones did."""
+    found = re.findall(r"\bbudget (\d+)", said)
+    return int(found[-1]) if found and "cones" not in said else None
+
+
+def looked_back(launcher, files, settings):
+    best = best_order(launcher, files, settings)
+    if best is None:
+        return {"order": None}
+    bare = launcher.run([settings.program, "--workers", "1", "--verbose", *files], 20 * settings.seconds)
+    if bare.status not in (0, 1):
+        sys.exit(f"status {bare.status} of the bare command on {files[0]}, which {best[1]} decides in {best[0]:.3f} s")
+    return {"order": best[1], "seconds": round(best[0], 4), "bare": round(bare.processor, 4), "budget": last_budget(bare.errors)}
 
 
 def look_back(settings):
-    ratios, large, more = [], [], []
-    print("| pair | best order | seconds | bare command | times | budget |\n|---|---|---:|---:|---:|---:|")
-    for name, files in comparisons(settings.folders):
-        best = best_order(files, settings)
-        if best is None:
-            continue
-        least, order = best
-        bare = run([settings.program, "--workers", "1", "--verbose", *files], 10 * settings.seconds)
-        if bare.status not in (0, 1):
-            sys.exit(f"{name}: status {bare.status} of the bare command, where {order} takes {least:.3f} s")
-        budget = told_budget(bare.output)
-        times = bare.seconds / max(least, 0.001)
-        ratios.append(times)
-        if budget is None or budget > LARGE:
-            large.append(times)
-        if least <= EASY:
-            more.append(bare.seconds - least)
-        print(f"| {name} | {order} | {least:.3f} | {bare.seconds:.3f} | {times:.2f} | {budget or 'cones'} |", flush=True)
-    if ratios:
-        mean = math.exp(sum(map(math.log, ratios)) / len(ratios))
-        print(f"\n{len(ratios)} pairs: {mean:.2f} times in the geometric mean")
-    if large:
-        print(f"{len(large)} of them beyond {LARGE} nodes: at most {max(large):.2f} times")
-    if more:
-        print(f"{len(more)} of them within {EASY} s by an order: up to {max(more):.3f} s more")
+    said = {"seconds": settings.seconds}
+    what = "Seconds of processor time of the best single order in hindsight and of the bare command, one worker"
+    results = Results("hindsight", what, settings.program, said, None, settings.anew, settings.into)
+    launcher, keys = Launcher(), []
+    for key, files in comparisons(settings.folders, "b", settings.only):
+        keys.append(key)
+        if key not in results:
+            results.begin()
+            results.add(key, looked_back(launcher, files, settings))
+    if not settings.only:
+        results.keep_only(keys)
+    rows = [results.rows[key] for key in keys if results.rows[key]["order"]]
+    times = {row["key"]: row["bare"] / max(row["seconds"], 0.001) for row in rows}
+    cells = [[row["key"], row["order"], shown(row["seconds"], 3), shown(row["bare"], 3), shown(times[row["key"]]), str(row["budget"] or "cones")] for row in rows]
+    print(table(["comparison", "best order", "s", "bare command s", "times", "budget"], cells))
+    if rows:
+        large = [times[row["key"]] for row in rows if row["budget"] is None or row["budget"] > LARGE]
+        more = [row["bare"] - row["seconds"] for row in rows if row["seconds"] <= EASY]
+        print(f"\n{len(rows)} of {len(keys)} comparisons: {geometric_mean(times.values()):.2f} times in the geometric mean")
+        print(f"{len(large)} of them beyond {LARGE} nodes: at most {shown(max(large, default=None))} times")
+        print(f"{len(more)} of them within {EASY} s by an order: up to {shown(max(more, default=None), 3)} s more")
 
 
 def main():
     parser = argparse.ArgumentParser(description=__doc__, formatter_class=argparse.RawDescriptionHelpFormatter)
     parser.add_argument("program")
     parser.add_argument("folders", nargs="+", type=pathlib.Path)
-    parser.add_argument("--seconds", type=int, default=120)
     parser.add_argument("--memory", type=int, default=4000)
-    parser.add_argument("--words", default="")
+    parser.add_argument("--options", default="")
+    parser.add_argument("--only", default="")
     parser.add_argument("--hindsight", action="store_true")
+    options(parser, seconds=10, repeats=3)
     settings = parser.parse_args()
     look_back(settings) if settings.hindsight else count_verdicts(settings)
 
 
-sys.exit(main())
+if __name__ == "__main__":
+    sys.exit(main())

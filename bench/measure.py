@@ -1,95 +1,108 @@
-"""Runs a program within a time limit, and tells its times and its peak memory."""
-import argparse
-import os
+"""Runs programs within bounds of time and memory, and reports what they took."""
+import math
 import pathlib
-import resource
-import signal
+import statistics
 import subprocess
+import sys
 import tempfile
 import time
+from collections.abc import Callable
 from dataclasses import dataclass
+
+HERE = pathlib.Path(__file__).resolve().parent
 
 
 @dataclass
 class Run:
-    """One run: None seconds of processor time where the time limit was reached; the clock's seconds are told anyway."""
+    """What one run took: seconds on the clock, seconds of processor time of all threads, and megabytes at the peak of memory.
 
-    seconds: float | None
+    The status is negative if a signal ended the run: -9, or -24, if it was stopped at its bound of time.
+    """
+
     clock: float
+    processor: float
     megabytes: float
     status: int
     output: str
+    errors: str
 
 
-def bounded(limit):
-    """Bounds the processor time of a child, before it begins."""
-    return lambda: resource.setrlimit(resource.RLIMIT_CPU, (limit, limit + 1))
+class Launcher:
+    """Runs programs by once.c, one after the other."""
+
+    def __init__(self):
+        self.folder = tempfile.TemporaryDirectory()
+        self.once, self.note = (pathlib.Path(self.folder.name) / name for name in ("once", "note"))
+        subprocess.run(["cc", "-O2", "-o", self.once, HERE / "once.c"], check=True)
+
+    def run(self, words, seconds, clock=None, megabytes=0):
+        """One run within so many seconds of processor time, and on the clock (four times as many if that is not given)."""
+        bounds = [self.note, math.ceil(seconds), math.ceil(clock or 4 * seconds), megabytes]
+        child = subprocess.run([str(word) for word in [self.once, *bounds, *words]], capture_output=True, check=True)
+        clock, processor, kib, status = map(int, self.note.read_text().split())
+        texts = (text.decode(errors="replace") for text in (child.stdout, child.stderr))
+        return Run(clock / 1e6, processor / 1e6, kib / 1024, status, *texts)
 
 
-def megabytes_of(note):
-    """The peak memory that GNU time wrote as its last line."""
-    lines = note.read_text().split()
-    return int(lines[-1]) / 1024 if lines else 0.0
+@dataclass
+class Column:
+    """What is run by turns with others: a command, its bounds as `Launcher.run` takes them, and whether a run has a right answer."""
+
+    words: list
+    bounds: dict
+    is_right: Callable[[Run], bool]
 
 
-def run(words, limit):
-    """Runs the words with `limit` seconds of processor time, and four times as much on the clock.
+def by_turns(launcher, columns, repeats, fewest=3, enough=1.0, rest=0.0):
+    """Runs the columns in turn, one after the other, and again, up to `repeats` times; gives the runs of each.
 
-    GNU time stands between, since the peak memory of a child of this process would count this process too.
+    A column whose run has no right answer is not run again. After `fewest` turns it is enough if the runs of some column have taken
+    `enough` seconds on the clock together.
     """
-    with tempfile.TemporaryDirectory() as folder:
-        note = pathlib.Path(folder) / "memory"
-        begun = time.monotonic()
-        child = subprocess.Popen(
-            ["/usr/bin/time", "-q", "-f", "%M", "-o", str(note), *words],
-            stdout=subprocess.PIPE,
-            stderr=subprocess.STDOUT,
-            preexec_fn=bounded(limit),
-            start_new_session=True,
-        )
-        signal.signal(signal.SIGALRM, lambda *_: os.killpg(child.pid, signal.SIGKILL))
-        signal.alarm(4 * limit)
-        output = child.stdout.read().decode(errors="replace")
-        _, status, used = os.wait4(child.pid, 0)
-        clock = time.monotonic() - begun
-        signal.alarm(0)
-        child.returncode = os.waitstatus_to_exitcode(status)
-        stopped = child.returncode < 0 or child.returncode > 127
-        return Run(
-            seconds=None if stopped else used.ru_utime + used.ru_stime,
-            clock=clock,
-            megabytes=megabytes_of(note),
-            status=child.returncode,
-            output=output,
-        )
+    runs = [[] for _ in columns]
+    for turn in range(repeats):
+        if turn >= fewest and max(sum(run.clock for run in one) for one in runs) > enough:
+            break
+        for column, done in zip(columns, runs):
+            if done and not column.is_right(done[-1]):
+                continue
+            time.sleep(rest)
+            done.append(launcher.run(column.words, **column.bounds))
+    return runs
 
 
-def repeated(words, limit, repeats, measure):
-    """The run whose `measure` is least, of so many; the first where that one is stopped."""
-    runs = [run(words, limit)]
-    while runs[-1].seconds is not None and len(runs) < repeats:
-        runs.append(run(words, limit))
-    ended = [r for r in runs if r.seconds is not None]
-    return min(ended, key=measure) if ended else runs[0]
+def figures(column, runs):
+    """The least and the median of each measure over the runs of a column; none if its last run has no right answer."""
+    if not runs or not column.is_right(runs[-1]):
+        return None
+    found = {"runs": len(runs)}
+    for measure, digits in (("clock", 4), ("processor", 4), ("megabytes", 1)):
+        numbers = [getattr(run, measure) for run in runs]
+        found[measure] = round(min(numbers), digits)
+        found[f"median_{measure}"] = round(statistics.median(numbers), digits)
+    return found
 
 
-def least(words, limit, repeats):
-    """The run with the least processor time."""
-    return repeated(words, limit, repeats, lambda r: r.seconds)
+def needed_nodes(launcher, program, words, seconds, most=(1 << 32) - 1, part=0):
+    """The least node limit with which a run ends with its report, or one that is at most a `part` of it too large.
+
+    None if that is more than `most`, or if a run within it takes more than its seconds.
+    """
+    few, many = 0, min(1 << 10, most)
+    is_within = lambda nodes: launcher.run([program, "--limit", nodes, *words], seconds).status in (0, 1)
+    while not is_within(many):
+        if many == most:
+            return None
+        few, many = many, min(4 * many, most)
+    while many - few > max(1, part * many):
+        middle = (few + many) // 2
+        few, many = (few, middle) if is_within(middle) else (middle, many)
+    return many
 
 
-def quickest(words, limit, repeats):
-    """The run with the least time on the clock."""
-    return repeated(words, limit, repeats, lambda r: r.clock)
-
-
-def words_parser():
-    """A parser of the words that each script takes: the program, how long a run may take, and how often it is repeated."""
-    parser = argparse.ArgumentParser()
-    parser.add_argument("program")
-    parser.add_argument("--limit", type=int, default=60)
-    parser.add_argument("--repeats", type=int, default=3)
-    return parser
+def geometric_mean(numbers):
+    known = [number for number in numbers if number]
+    return math.exp(sum(map(math.log, known)) / len(known)) if known else None
 
 
 def shown(number, digits=2):
@@ -97,11 +110,15 @@ def shown(number, digits=2):
 
 
 def ratio(this, that):
-    """this by that, where both are known and that is large enough to be measured."""
-    return None if this is None or not that or that < 0.005 else this / that
+    """The first number by the second, if both are known."""
+    return None if this is None or not that else this / that
 
 
 def table(head, rows):
     """The rows as a table in Markdown."""
     lines = [head, ["---"] + ["---:"] * (len(head) - 1), *rows]
     return "\n".join("| " + " | ".join(line) + " |" for line in lines)
+
+
+def say(*words):
+    print(*words, file=sys.stderr, flush=True)

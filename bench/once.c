@@ -1,10 +1,10 @@
-/* Runs a program once and tells what it took: the launcher of peers.py, so small that it adds nothing to a peak.
+/* Runs a program once and writes what it took: the launcher of measure.py, so small that it adds nothing to a peak of memory.
  *
- * usage: once NOTE SECONDS PROGRAM [WORD ..]
+ * usage: once NOTE PROCESSOR CLOCK MEGABYTES PROGRAM [ARGUMENT ..]
  *
- * The program may take so many seconds of processor time, and four times as many on the clock. Its output stays its
- * own. The file NOTE gets one line: microseconds on the clock, microseconds of processor time, KiB at the peak, and
- * the status, or minus the number of the signal that ended it.
+ * The program may take PROCESSOR seconds of processor time, CLOCK seconds on the clock, and MEGABYTES of address space, or any number
+ * if that is 0. Its output stays its own. The file NOTE gets one line: microseconds on the clock, microseconds of processor time of
+ * all threads, KiB at the peak, and the status, or minus the number of the signal that ended it.
  */
 #include <signal.h>
 #include <stdio.h>
@@ -32,20 +32,23 @@ static long long of(struct timeval time) {
 }
 
 int main(int count, char **words) {
-    if (count < 4) {
+    if (count < 6) {
         return 2;
     }
-    unsigned seconds = (unsigned)atoi(words[2]);
-    struct rlimit limit = {seconds, seconds + 1};
+    rlim_t seconds = (rlim_t)atoi(words[2]), bytes = (rlim_t)atoi(words[4]) << 20;
+    struct rlimit time_limit = {seconds, seconds + 1}, memory_limit = {bytes, bytes};
+    signal(SIGALRM, stop);
     long long begun = microseconds();
     child = fork();
     if (child == 0) {
-        setrlimit(RLIMIT_CPU, &limit);
-        execvp(words[3], words + 3);
+        setrlimit(RLIMIT_CPU, &time_limit);
+        if (bytes) {
+            setrlimit(RLIMIT_AS, &memory_limit);
+        }
+        execvp(words[5], words + 5);
         _exit(127);
     }
-    signal(SIGALRM, stop);
-    alarm(4 * seconds);
+    alarm((unsigned)atoi(words[3]));
     int status;
     struct rusage used;
     while (wait4(child, &status, 0, &used) != child) {

@@ -1,98 +1,56 @@
 #!/usr/bin/env python3
-"""Time and memory of pairs of netlists by each order of the variables, and what `best` costs over the best of the others.
+"""Measures how many nodes pairs of netlists need in each order of the variables, and writes results/nodes.json.
 
-usage: bench/orders.py PROGRAM FOLDER .. [--limit N] [--workers N] [--seconds S] [--repeats R] [--nodes]
+usage: bench/orders.py PROGRAM FOLDER .. [--limit N] [--part P] [--seconds N] [--only PART] [--anew]
 
-Each FOLDER has two files *.bench, or pairs of them in folders of its own. A run that is over its limit of nodes or its seconds is
-`-`. The last line is the sum over all pairs that some order ends: of `best`, and of the best of the others in hindsight.
-
-With --nodes the table has the needed nodes of each order but `best` instead: the least limit by which a run ends with its report, or
-`more` where that is over the limit.
+Each FOLDER has folders NAME/ with a.bench and b.bench. The nodes that an order needs are the least node limit by which a run ends with
+its report, found by halving until it is at most a part P (0.01) too large; with --part 0 it is exact. An order that needs more than
+N (8,000,000) nodes, or more than so many seconds (60) of processor time, is `more`. The numbers are the same on every machine and with
+every number of workers. It prints a table in Markdown.
 """
 import argparse
-import os
 import pathlib
-import resource
-import subprocess
-import sys
-import time
 
-from workers import needed_nodes
+from measure import Launcher, needed_nodes, say, table
+from results import Results, options
 
-ORDERS = ["interleave", "force", "index", "depth", "declared", "best"]
+ORDERS = ["declared", "depth", "interleave", "index", "force"]
 
 
-def pairs_in(folders):
-    """The folders that hold exactly two netlists, by name."""
-    for folder in folders:
-        for place in sorted([pathlib.Path(folder), *pathlib.Path(folder).rglob("*")]):
-            if place.is_dir():
-                files = sorted(place.glob("*.bench"))
-                if len(files) == 2:
-                    yield place.name, files
-
-
-def run_once(words, seconds):
-    """Seconds and megabytes of a run; None where it has no report."""
-    begun = time.monotonic()
-    child = subprocess.Popen(
-        words,
-        stdout=subprocess.DEVNULL,
-        stderr=subprocess.DEVNULL,
-        preexec_fn=lambda: resource.setrlimit(resource.RLIMIT_CPU, (seconds, seconds)),
-    )
-    _, status, used = os.wait4(child.pid, 0)
-    child.returncode = os.waitstatus_to_exitcode(status)
-    if child.returncode not in (0, 1):
-        return None
-    return time.monotonic() - begun, used.ru_maxrss / 1000
-
-
-def least(runs):
-    """The least time, with its memory."""
-    return min((run for run in runs if run), default=None)
-
-
-def print_nodes(settings):
-    print("| pair | " + " | ".join(ORDERS[:-1]) + " |\n| --- |" + " ---: |" * len(ORDERS[:-1]))
-    for name, files in pairs_in(settings.folders):
-        cells = []
-        for order in ORDERS[:-1]:
-            words = ["--order", order, "--workers", settings.workers, *map(str, files)]
-            nodes = needed_nodes(settings.program, words, settings.seconds, int(settings.limit))
-            cells.append("more" if nodes is None else f"{nodes:,}")
-        print(f"| {name} | " + " | ".join(cells) + " |", flush=True)
+def measured(launcher, place, settings):
+    found = {}
+    for order in ORDERS:
+        words = ["--order", order, "--workers", "1", place / "a.bench", place / "b.bench"]
+        found[order] = needed_nodes(launcher, settings.program, words, settings.seconds, settings.limit, settings.part)
+    return found
 
 
 def main():
-    parser = argparse.ArgumentParser(usage=__doc__.split("usage: ")[1].split("\n")[0])
+    parser = argparse.ArgumentParser(description=__doc__, formatter_class=argparse.RawDescriptionHelpFormatter)
     parser.add_argument("program")
-    parser.add_argument("folders", nargs="+")
-    parser.add_argument("--limit", default="8000000")
-    parser.add_argument("--workers", default="1")
-    parser.add_argument("--seconds", type=int, default=120)
-    parser.add_argument("--repeats", type=int, default=2)
-    parser.add_argument("--nodes", action="store_true")
+    parser.add_argument("folders", nargs="+", type=pathlib.Path)
+    parser.add_argument("--limit", type=int, default=8_000_000)
+    parser.add_argument("--part", type=float, default=0.01)
+    parser.add_argument("--only", default="")
+    options(parser, seconds=60, repeats=1)
     settings = parser.parse_args()
-    if settings.nodes:
-        return print_nodes(settings)
-    print("| pair | " + " | ".join(f"{order} s | MB" for order in ORDERS) + " |")
-    print("| --- |" + " ---: |" * (2 * len(ORDERS)))
-    best, hindsight = 0.0, 0.0
-    for name, files in pairs_in(settings.folders):
-        row = {}
-        for order in ORDERS:
-            words = [settings.program, "--order", order, "--workers", settings.workers, "--limit", settings.limit, *files]
-            row[order] = least([run_once(list(map(str, words)), settings.seconds) for _ in range(settings.repeats)])
-        cells = [f"{run[0]:.3f} | {run[1]:.1f}" if run else "- | -" for run in row.values()]
-        print(f"| {name} | " + " | ".join(cells) + " |", flush=True)
-        ended = [row[order][0] for order in ORDERS[:-1] if row[order]]
-        if ended and row["best"]:
-            best += row["best"][0]
-            hindsight += min(ended)
-    if hindsight:
-        print(f"\nbest {best:.2f} s, the best of the others in hindsight {hindsight:.2f} s: {best / hindsight:.2f} times")
+    said = {"limit": settings.limit, "part": settings.part, "seconds": settings.seconds}
+    what = "Nodes that a comparison needs in each order; null: more than the limit"
+    results = Results("nodes", what, settings.program, said, None, settings.anew, settings.into)
+    launcher, keys = Launcher(), []
+    for place in sorted(path.parent for folder in settings.folders for path in folder.glob("*/a.bench")):
+        if settings.only not in place.name:
+            continue
+        keys.append(place.name)
+        if place.name not in results:
+            results.begin()
+            say(place.name, results.add(place.name, measured(launcher, place, settings)))
+    if not settings.only:
+        results.keep_only(keys)
+    shown = lambda nodes: "more" if nodes is None else f"{nodes:,}"
+    rows = [[key, *(shown(results.rows[key][order]) for order in ORDERS)] for key in keys]
+    print(table(["pair", *ORDERS], rows))
 
 
 if __name__ == "__main__":
-    sys.exit(main())
+    main()

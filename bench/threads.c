@@ -2,7 +2,7 @@
  *
  * A line a thread: the milliseconds from its start to its first step, from there to its end, and on a processor, and its page faults.
  * A line for each time that threads are started and joined: the milliseconds on the clock from the first start to the last join, and
- * those that the starting thread was on a processor from there to its first join. Threads that others than the first start are not told.
+ * those that the starting thread was on a processor from there to its first join. Threads that others than the first start are not reported.
  */
 #define _GNU_SOURCE
 #include <dlfcn.h>

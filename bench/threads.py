@@ -1,12 +1,13 @@
 #!/usr/bin/env python3
-"""Tells what the threads of bddcheck do while several run: how many processors they keep busy, and what they wait for.
+"""Measures what the threads of several workers do and wait for; writes results/threads.json.
 
-usage: bench/threads.py PROGRAM FOLDER .. [--workers N] [--repeats K]
+usage: bench/threads.py PROGRAM FOLDER .. [--bare] [--workers N] [--repeats K] [--anew]
 
-Each FOLDER has a pair, a.bench and b.bench, and their order. It is run K times (5) by N workers (4), and the fastest run is told, in a
-table in Markdown: milliseconds on the clock, those in which threads run beside the caller's (how often they are started in
-parentheses), how many processors are busy in these, of how many milliseconds of processor time, how many milliseconds the threads are
-off a processor, for locks and other processes, how many microseconds one waits for its first step, and the pages that they touch first.
+Each FOLDER has a pair, a.bench and b.bench, and their order. It is run K times (5) by N workers (4), in its order or, with --bare, by
+the bare command, and the figures are those of the fastest run, in a table in Markdown: milliseconds on the clock, those in which
+threads run beside the caller's (how often they are started in parentheses), how many processors are busy in these, of how many
+milliseconds of processor time, how many milliseconds the threads are off a processor, for locks and other processes, how many
+microseconds one waits for its first step, and the pages that they touch first.
 
 It compiles threads.c, which is preloaded, with cc.
 """
@@ -17,33 +18,41 @@ import subprocess
 import tempfile
 import time
 
-from measure import shown, table
-from turns import words_of
+from measure import HERE, shown, table
+from results import Results, options
+from workers import words_of
 
-HERE = pathlib.Path(__file__).resolve().parent
 
-
-def noted(program, workers, folder, room):
+def noted(program, workers, way, folder, room):
     """The milliseconds of a run, and the lines that threads.c wrote of it."""
     note = room / "note"
     note.write_text("")
-    told = {"LD_PRELOAD": str(room / "threads.so"), "BDD_THREADS": str(note)}
+    added = {"LD_PRELOAD": str(room / "threads.so"), "BDD_THREADS": str(note)}
     start = time.monotonic()
-    subprocess.run(words_of(program, workers, folder), env=os.environ | told, stdout=subprocess.DEVNULL, check=True)
+    words = [str(word) for word in words_of(program, workers, way, folder)]
+    subprocess.run(words, env=os.environ | added, stdout=subprocess.DEVNULL, check=True)
     clock = (time.monotonic() - start) * 1000
     return clock, [line.split() for line in note.read_text().splitlines()]
 
 
-def row_of(folder, clock, lines):
+def figures_of(clock, lines):
     threads = [list(map(float, words)) for kind, *words in lines if kind == "thread"]
     rounds = [list(map(float, words)) for kind, *words in lines if kind == "together"]
-    shared = sum(passed for passed, _ in rounds)
-    busy = sum(own for _, own in rounds) + sum(on for _, _, on, _ in threads)
-    off = sum(ran - on for _, ran, on, _ in threads)
-    start = 1000 * sum(waited for waited, *_ in threads) / max(1, len(threads))
-    pages = sum(int(faults) for *_, faults in threads)
-    parts = f"{shown(shared, 0)} ({len(rounds)})"
-    return [folder.name, shown(clock, 0), parts, shown(busy / max(shared, 1e-9), 2), shown(busy, 0), shown(off, 0), shown(start, 0), str(pages)]
+    row = {
+        "clock": clock,
+        "with threads": sum(passed for passed, _ in rounds),
+        "busy": sum(own for _, own in rounds) + sum(on for _, _, on, _ in threads),
+        "off": sum(ran - on for _, ran, on, _ in threads),
+        "start": 1000 * sum(waited for waited, *_ in threads) / max(1, len(threads)),
+    }
+    counts = {"rounds": len(rounds), "threads": len(threads), "pages": sum(int(faults) for *_, faults in threads)}
+    return {**{name: round(value, 1) for name, value in row.items()}, **counts}
+
+
+def cells_of(row):
+    parts = f"{shown(row['with threads'], 0)} ({row['rounds']})"
+    busy = shown(row["busy"] / max(row["with threads"], 1e-9), 2)
+    return [row["key"], shown(row["clock"], 0), parts, busy, *(shown(row[name], 0) for name in ("busy", "off", "start")), str(row["pages"])]
 
 
 def main():
@@ -51,15 +60,23 @@ def main():
     parser.add_argument("program")
     parser.add_argument("folders", nargs="+", type=pathlib.Path)
     parser.add_argument("--workers", type=int, default=4)
-    parser.add_argument("--repeats", type=int, default=5)
-    given = parser.parse_args()
+    parser.add_argument("--bare", action="store_true")
+    options(parser, seconds=60, repeats=5)
+    settings = parser.parse_args()
+    what = "Threads beside the caller's, of the fastest run: milliseconds, microseconds of a start, starts and pages"
+    said = {"workers": settings.workers, "repeats": settings.repeats}
+    results = Results("threads", what, settings.program, said, None, settings.anew, settings.into)
+    way = "bare command" if settings.bare else "order file"
+    keys = [f"{folder.name}, {way}" for folder in settings.folders]
     with tempfile.TemporaryDirectory() as name:
         room = pathlib.Path(name)
         subprocess.run(["cc", "-O2", "-shared", "-fPIC", "-o", room / "threads.so", HERE / "threads.c", "-ldl"], check=True)
-        rows = []
-        for folder in given.folders:
-            runs = [noted(given.program, given.workers, folder, room) for _ in range(given.repeats)]
-            rows.append(row_of(folder, *min(runs, key=lambda run: run[0])))
+        for key, folder in zip(keys, settings.folders):
+            if key not in results:
+                results.begin()
+                runs = [noted(settings.program, settings.workers, way, folder, room) for _ in range(settings.repeats)]
+                results.add(key, figures_of(*min(runs, key=lambda run: run[0])))
+    rows = [cells_of(results.rows[key]) for key in keys]
     print(table(["pair", "ms", "with threads", "busy", "processor ms", "off", "start us", "new pages"], rows))
 
 

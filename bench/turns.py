@@ -1,137 +1,90 @@
 #!/usr/bin/env python3
-"""Measures bddcheck by several numbers of workers against one, on pairs of netlists and on single waves.
+"""Times designs by the bare command with four workers against one worker, or against an earlier program, and writes results/turns.json.
 
-usage: bench/turns.py PROGRAM [FOLDER ..] [--before PROGRAM] [--workers N,N ..] [--repeats K] [--rest SECONDS] [--waves N,N ..] [--busy N] [--only WORD]
-                              [--words "WORD .."]
+usage: bench/turns.py PROGRAM FOLDER .. [--before PROGRAM] [--workers N] [--seconds N] [--repeats K] [--only PART] [--anew]
 
-A FOLDER has folders NAME/ with a.bench, b.bench and order, as for peers.py. --waves adds netlists whose run is nearly one
-wave: the disjunction of two sums of N/2 products over variables of their own, all first factors before all second ones,
-which comes to nearly 2^(N + 1) requests. --before measures an older program beside the first one. --busy has N other processes run
-all the while, which never wait. --words has these words in place of the order file, as `--words=` for the bare command: then the
-folders need no order file, and a run may also end with differences or undecided pairs, in each column alike. With --verbose among
-these words the table has how many attempts of a run were given up for a wave's requests, and how many for nodes.
-
-Each pair is run K times (5), and within each time by each number of workers (1,2,4), one after the other and SECONDS (1)
-apart, since a host may take processors away after some seconds of full load. It prints a table in Markdown:
-one worker's time on the clock, the least and the median, and for each other column both as ratios to these, the same for
-processor time, the peak memory, and how much of the processors the host took meanwhile.
+A FOLDER has folders NAME/ with a.bench, b.bench and, in some, c.bench. Each of b and c is compared with a by the bare command with N
+workers (4), and, in turn, by the other column: the same program with one worker, or the PROGRAM before with as many workers. Each run
+has N (10) seconds on the clock. Runs are repeated up to K times (9), until those of a column have taken a second together, and the
+least of each counts, since small times waver. It prints a table in Markdown, the slowest first: both times on the clock, their ratio, that of the
+medians, processor time as a ratio, and both peaks of memory; and then the geometric mean, what is above 1.05 although it took 0.05 s
+or more, and which comparisons neither or only one of the columns ended.
 """
 import argparse
-import contextlib
 import pathlib
-import statistics
-import subprocess
 import sys
-import tempfile
-import time
 
-from measure import run
+from designs import comparisons, has_report
+from measure import Column, Launcher, by_turns, figures, geometric_mean, say, shown, table
+from results import Results, options, program_of
 
-
-def words_of(program, workers, folder, words):
-    order = ["--order-file", str(folder / "order")] if words is None else words
-    return [program, "--workers", str(workers), *order, *(str(folder / name) for name in ("a.bench", "b.bench"))]
+SLOWER = 1.05
+MEASURABLE = 0.05
 
 
-def write_wave(folder, size):
-    """A pair of equal netlists whose last gate is one wave over all variables."""
-    folder.mkdir()
-    names = [f"{letter}{i}" for letter in "xy" for i in range(size)]
-    terms = [f"a{i}" for i in range(size)]
-    lines = [f"INPUT({name})" for name in names] + ["OUTPUT(o)"]
-    lines += [f"a{i} = AND(x{i}, y{i})" for i in range(size)]
-    lines += [f"s = OR({', '.join(terms[:size // 2])})", f"t = OR({', '.join(terms[size // 2:])})", "o = OR(s, t)"]
-    for netlist in ("a.bench", "b.bench"):
-        (folder / netlist).write_text("\n".join(lines) + "\n")
-    (folder / "order").write_text("\n".join(names) + "\n")
-    return folder
+def measured(launcher, files, settings):
+    columns = []
+    for _, program, workers in settings.columns:
+        bounds = {"seconds": workers * settings.seconds, "clock": settings.seconds}
+        columns.append(Column([program, "--workers", workers, *files], bounds, has_report))
+    runs = by_turns(launcher, columns, settings.repeats, fewest=1)
+    reports = [run.output for done in runs for run in done if has_report(run)]
+    if any(report != reports[0] for report in reports):
+        sys.exit(f"{' '.join(map(str, files))}: the reports differ")
+    return {name: figures(column, done) for (name, _, _), column, done in zip(settings.columns, columns, runs)}
 
 
-def taken():
-    """The processor time that the host took, and all of it."""
-    numbers = list(map(int, pathlib.Path("/proc/stat").read_text().split("\n")[0].split()[1:]))
-    return numbers[7], sum(numbers)
+def compared(row, names):
+    """The ratios of the first column to the second one: least and median on the clock, and least processor time."""
+    these, those = (row[name] for name in names)
+    return [these[measure] / those[measure] for measure in ("clock", "median_clock", "processor")] if these and those else None
 
 
-@contextlib.contextmanager
-def others(count):
-    """So many processes that never wait."""
-    running = [subprocess.Popen([sys.executable, "-c", "while True: pass"]) for _ in range(count)]
-    try:
-        yield
-    finally:
-        for one in running:
-            one.kill()
-            one.wait()
-
-
-def measured(folder, settings):
-    """The runs of each column, by turns."""
-    runs = [[] for _ in settings.columns]
-    for _ in range(settings.repeats):
-        for (_, program, workers), column in zip(settings.columns, runs):
-            time.sleep(settings.rest)
-            one = run(words_of(program, workers, folder, settings.words), 600)
-            wanted = [0] if settings.words is None else [0, 1, 3] if not runs[0] else [runs[0][0].status]
-            if one.status not in wanted:
-                sys.exit(f"status {one.status} of {folder.name}:\n{one.output}")
-            column.append(one)
-    return runs
-
-
-def least_and_median(numbers):
-    return min(numbers), statistics.median(numbers)
-
-
-def row_of(folder, settings):
-    before = taken()
-    runs = measured(folder, settings)
-    after = taken()
-    clocks = [least_and_median([one.clock for one in column]) for column in runs]
-    works = [least_and_median([one.seconds for one in column]) for column in runs]
-    cells = [folder.name, "{:.3f}, {:.3f}".format(*clocks[0])]
-    for kind in (clocks, works):
-        cells += ["{:.2f}, {:.2f}".format(*(a / b for a, b in zip(one, kind[0]))) for one in kind[1:]]
-    cells += ["{:.0f}".format(max(one.megabytes for one in column)) for column in runs]
-    if settings.words and "--verbose" in settings.words:
-        cells.append(", ".join(str(runs[0][0].output.count(why)) for why in ("too many requests in one wave", "more nodes\n")))
-    return cells + ["{:.1f} %".format(100 * (after[0] - before[0]) / (after[1] - before[1]))]
-
-
-def settings_of():
-    numbers = lambda words: list(map(int, words.split(",")))
-    parser = argparse.ArgumentParser(usage=__doc__.split("usage: ")[1].split("\n")[0])
-    parser.add_argument("program")
-    parser.add_argument("folders", nargs="*", type=pathlib.Path)
-    parser.add_argument("--before")
-    parser.add_argument("--workers", type=numbers, default=[1, 2, 4])
-    parser.add_argument("--repeats", type=int, default=5)
-    parser.add_argument("--rest", type=float, default=1.0)
-    parser.add_argument("--waves", type=numbers, default=[])
-    parser.add_argument("--busy", type=int, default=0)
-    parser.add_argument("--only", default="")
-    parser.add_argument("--words", type=str.split)
-    settings = parser.parse_args()
-    programs = [("", settings.program)] + ([("before, ", settings.before)] if settings.before else [])
-    settings.columns = [(when, program, workers) for when, program in programs for workers in settings.workers]
-    return settings
+def print_table(rows, names):
+    ended = [row for row in rows if compared(row, names)]
+    ended.sort(key=lambda row: -compared(row, names)[0])
+    cells = []
+    for row in ended:
+        these, those = (row[name] for name in names)
+        clocks = [shown(one["clock"], 3) for one in (these, those)]
+        cells.append([row["key"], *clocks, *map(shown, compared(row, names)), *(shown(one["megabytes"], 0) for one in (these, those))])
+    print(table(["comparison", *(f"{name} s" for name in names), "least", "medians", "work", *(f"{name} MB" for name in names)], cells))
+    print(f"\n{len(ended)} of {len(rows)} comparisons end by both: {shown(geometric_mean([compared(row, names)[0] for row in ended]))} in the geometric mean")
+    longer = [row for row in ended if row[names[1]]["clock"] >= MEASURABLE]
+    print(f"{len(longer)} of them take {MEASURABLE} s or more: {shown(geometric_mean([compared(row, names)[0] for row in longer]))} in the geometric mean")
+    slower = [row["key"] for row in longer if compared(row, names)[0] > SLOWER]
+    print(f"above {SLOWER} of these: {', '.join(slower) or 'none'}")
+    for here, there in (names, names[::-1]):
+        only = [row["key"] for row in rows if row[here] and not row[there]]
+        print(f"ended only by {here}: {', '.join(only) or 'none'}")
 
 
 def main():
-    settings = settings_of()
-    names = [f"{when}{workers}" for when, _, workers in settings.columns]
-    head = ["pair", f"{names[0]} s"] + [f"{name} / {names[0]}" for name in names[1:]] + [f"work of {name}" for name in names[1:]]
-    head += [f"MB of {name}" for name in names]
-    head += ["given up: requests, nodes"] if settings.words and "--verbose" in settings.words else []
-    head += ["host took"]
-    print("| " + " | ".join(head) + " |\n|" + " --- |" * len(head))
-    with tempfile.TemporaryDirectory() as room, others(settings.busy):
-        wanted = "order" if settings.words is None else "b.bench"
-        pairs = [pair for folder in settings.folders for pair in sorted(folder.iterdir()) if (pair / wanted).exists()]
-        pairs += [write_wave(pathlib.Path(room) / f"wave{size}", size) for size in settings.waves]
-        for pair in pairs:
-            if settings.only in pair.name:
-                print("| " + " | ".join(row_of(pair, settings)) + " |", flush=True)
+    parser = argparse.ArgumentParser(description=__doc__, formatter_class=argparse.RawDescriptionHelpFormatter)
+    parser.add_argument("program")
+    parser.add_argument("folders", nargs="+", type=pathlib.Path)
+    parser.add_argument("--before")
+    parser.add_argument("--workers", type=int, default=4)
+    parser.add_argument("--only", default="")
+    options(parser, seconds=10, repeats=9)
+    settings = parser.parse_args()
+    second = ("before", settings.before, settings.workers) if settings.before else ("1", settings.program, 1)
+    settings.columns = [(str(settings.workers), settings.program, settings.workers), second]
+    names = [name for name, _, _ in settings.columns]
+    said = {"columns": names, "seconds": settings.seconds, "repeats": settings.repeats}
+    before = {"before": program_of(settings.before)["program's checksum"]} if settings.before else {}
+    what = "Each comparison by the bare command: seconds and peak memory by both columns"
+    results = Results("turns-before" if settings.before else "turns", what, settings.program, {**said, **before}, None, settings.anew, settings.into)
+    launcher, keys = Launcher(), []
+    for key, files in comparisons(settings.folders, only=settings.only):
+        keys.append(key)
+        if key not in results:
+            results.begin()
+            row = results.add(key, measured(launcher, files, settings))
+            say(key, *(shown(row[name] and row[name]["clock"], 3) for name in names))
+    if not settings.only:
+        results.keep_only(keys)
+    print_table([results.rows[key] for key in keys], names)
 
 
 if __name__ == "__main__":

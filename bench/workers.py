@@ -1,140 +1,176 @@
 #!/usr/bin/env python3
-"""Times bddcheck by its number of workers, a wave with next to no requests, and the memory of a node.
+"""Times bddcheck by its number of workers, by turns, on large diagrams, and writes results/workers.json.
 
-usage: bench/workers.py PROGRAM [--limit SECONDS] [--repeats N] [FAMILY ..]
+usage: bench/workers.py PROGRAM [FOLDER] [--before PROGRAM] [--workers N,N ..] [--seconds N] [--repeats K] [--rest SECONDS] [--busy N] [--only PART] [--anew]
 
-It prints three tables in Markdown:
+Of the pairs NAME/ in FOLDER, as for peers.py, it takes mul9, mul10, pairs18 and pairs20, or makes such pairs by circuits.py if they
+are not there (an array of rows against a Wallace tree, and sums of products); and it makes two more:
 
-1. each pair of bench/circuits.py with 1, 2 and 4 workers: time on the clock and processor time, each also as a
-   ratio to 1 worker
-2. what a wave of at most two requests costs, by the number of workers and of levels: a chain of XOR gates over the last
-   two of so many variables, against a chain of half as many gates
-3. time on the clock and peak memory by node of functions whose diagrams are wide: the number of nodes is the least limit
-   that is not refused
+mul12   an array of rows against a Wallace tree, 12 bits
+wave22  equal netlists whose run is nearly one wave: the disjunction of two sums of 11 products over variables of their own, all first
+        factors before all second ones, which comes to nearly 2^23 requests
+
+Each is run by its order file, or in declared order, and some by the bare command, which tries orders within budgets. Each is run K
+times (5), or until one column has taken 20 seconds, and each time by each number of workers (1, 2, 4), one after the other and SECONDS
+(0.5) apart, since a host may take processors away after some seconds of full load. A run has N (120) seconds on the clock. It prints a table in Markdown: one worker's seconds on the clock, the least and the
+median, then for each other column both as ratios to these, the same for processor time, and the peak of memory. The last lines are the
+means. --before measures another program beside the first one, with the same numbers of workers. With --busy N other processes run all
+the while, which never wait; then nothing is written.
 """
+import argparse
+import contextlib
 import pathlib
-import shutil
+import subprocess
 import sys
 import tempfile
 
 import circuits
-from measure import quickest, ratio, run, shown, table, words_parser
+from measure import Column, Launcher, by_turns, figures, geometric_mean, say, shown, table
+from peers import one_after_the_other
+from results import Results, options, program_of
 
-WORKERS = [1, 2, 4]
-WAVE_WORKERS = [1, 2, 4, 16]
-LEVELS = [64, 256, 1024, 4096]
-PAIRS = [14, 16, 18]
-
-
-def words_of(settings, workers, *more):
-    return [settings.program, "--order", "depth", "--workers", str(workers), *map(str, more)]
-
-
-def answered(words, settings):
-    """The run that ended first, whose answer is EQUAL if it ended."""
-    best = quickest(words, settings.limit, settings.repeats)
-    if best.seconds is not None and best.status != 0:
-        sys.exit(f"wrong answer of {' '.join(words)}:\n{best.output}")
-    return best
-
-
-def circuit_rows(folder, settings):
-    for family in settings.families:
-        for size in circuits.FAMILIES[family]:
-            pair = circuits.write_pair(folder, family, size)
-            runs = [answered(words_of(settings, workers, *pair), settings) for workers in WORKERS]
-            cells = [f"{family} {size}"]
-            for one in runs:
-                cells += [shown(one.clock), shown(one.seconds)]
-            for one in runs[1:]:
-                cells += [shown(ratio(one.clock, runs[0].clock)), shown(ratio(one.seconds, runs[0].seconds))]
-            print(" ".join(cells), file=sys.stderr, flush=True)
-            yield cells
+MADE = {"mul9": ("multiplier", 9), "mul10": ("multiplier", 10), "mul12": ("multiplier", 12), "pairs18": ("products", 18), "pairs20": ("products", 20)}
+# Each pair with the way in which it is run.
+RUNS = [
+    ("mul9", "order file"),
+    ("mul10", "order file"),
+    ("pairs18", "order file"),
+    ("pairs20", "order file"),
+    ("wave22", "order file"),
+    ("mul12", "declared"),
+    ("mul10", "bare command"),
+    ("pairs20", "bare command"),
+    ("mul12", "bare command"),
+]
 
 
-def chain(levels, gates):
-    """A chain of XOR gates with the last of so many variables, over the one before it. No gate has a terminal case."""
-    lines = [f"INPUT(x{i})" for i in range(levels)] + ["OUTPUT(o)"]
-    lines += [f"g{i} = XOR({f'g{i - 1}' if i else f'x{levels - 2}'}, x{levels - 1})" for i in range(gates)]
-    return "\n".join([*lines, f"o = BUFF(g{gates - 1})"]) + "\n"
+def write_wave(folder, size):
+    """A pair of equal netlists whose last gate is one wave over all variables."""
+    folder.mkdir()
+    names = one_after_the_other("xy", size)
+    terms = [f"a{i}" for i in range(size)]
+    lines = [f"INPUT({name})" for name in names] + ["OUTPUT(o)"]
+    lines += [f"a{i} = AND(x{i}, y{i})" for i in range(size)]
+    lines += [f"s = OR({', '.join(terms[:size // 2])})", f"t = OR({', '.join(terms[size // 2:])})", "o = OR(s, t)"]
+    for netlist in ("a.bench", "b.bench"):
+        (folder / netlist).write_text("\n".join(lines) + "\n")
+    (folder / "order").write_text("\n".join(names) + "\n")
+    return folder
 
 
-def wave_rows(folder, settings):
-    """The time of a wave in microseconds: a chain against one of half its gates."""
-    for levels in LEVELS:
-        gates = max(65536 // levels, 64)
-        paths = [folder / f"chain_{gates}.bench", folder / f"chain_{gates // 2}.bench"]
-        for path, count in zip(paths, (gates, gates // 2)):
-            path.write_text(chain(levels, count))
-        cells = [str(levels)]
-        for workers in WAVE_WORKERS:
-            long, short = (
-                answered([settings.program, "--order", "declared", "--workers", str(workers), str(path), str(path)], settings) for path in paths
-            )
-            known = long.seconds is not None and short.seconds is not None
-            waves = gates - gates // 2
-            cells += [shown((long.clock - short.clock) / waves * 1e6, 0) if known else "-"]
-            cells += [shown((long.seconds - short.seconds) / waves * 1e6, 0) if known else "-"]
-        print(" ".join(cells), file=sys.stderr, flush=True)
-        yield cells
+def folder_of(name, room, given):
+    """The pair's folder: the one that was given, or one that is made."""
+    if given and (given / name / "order").exists():
+        return given / name
+    if (room / name).exists():
+        return room / name
+    if name.startswith("wave"):
+        return write_wave(room / name, int(name[4:]))
+    family, size = MADE[name]
+    letters = "xy" if family == "products" else "ab"
+    return circuits.write_folder(room / name, family, size, one_after_the_other(letters, size))
 
 
-def pairs(count):
-    """The disjunction of x and y, pair by pair, with all x before all y: its diagram doubles with each pair."""
-    lines = [f"INPUT({letter}{i})" for letter in "xy" for i in range(count)] + ["OUTPUT(o)"]
-    lines += [f"a{i} = AND(x{i}, y{i})" for i in range(count)]
-    return "\n".join([*lines, f"o = OR({', '.join(f'a{i}' for i in range(count))})"]) + "\n"
+def words_of(program, workers, way, folder):
+    ways = {"order file": ["--order-file", folder / "order"], "declared": ["--order", "declared"], "bare command": []}
+    return [program, "--workers", workers, *ways[way], folder / "a.bench", folder / "b.bench"]
 
 
-def needed_nodes(program, words, limit, most=(1 << 32) - 1):
-    """The least node limit by which a run of the words ends with its report, or None where that is more than `most`."""
-    few, many = 1, 1
-    is_within = lambda nodes: run([program, "--limit", str(nodes), *words], limit).status in (0, 1)
-    while not is_within(many):
-        if many == most:
-            return None
-        few, many = many, min(2 * many, most)
-    while few + 1 < many:
-        middle = (few + many) // 2
-        few, many = (few, middle) if is_within(middle) else (middle, many)
-    return many
+def has_report(run):
+    """That there is a report, in which pairs may be undecided."""
+    return run.status in (0, 3) and "EQUAL" in run.output
 
 
-def memory_rows(folder, settings):
-    for count in PAIRS:
-        path = folder / f"pairs_{count}.bench"
-        path.write_text(pairs(count))
-        nodes = needed_nodes(settings.program, [str(path), str(path)], settings.limit)
-        cells = [f"{count} pairs", str(nodes)]
-        for workers in WORKERS:
-            one = answered([settings.program, "--order", "declared", "--workers", str(workers), str(path), str(path)], settings)
-            cells += [shown(one.clock), shown(one.megabytes, 0), shown(one.megabytes * 2**20 / nodes, 0)]
-        print(" ".join(cells), file=sys.stderr, flush=True)
-        yield cells
+@contextlib.contextmanager
+def others(count):
+    """So many processes that never wait."""
+    running = [subprocess.Popen([sys.executable, "-c", "while True: pass"]) for _ in range(count)]
+    try:
+        yield
+    finally:
+        for one in running:
+            one.kill()
+            one.wait()
 
 
-def read_words():
-    parser = words_parser()
-    parser.add_argument("families", nargs="*", default=list(circuits.FAMILIES), metavar="FAMILY")
-    return parser.parse_args()
+def measured(launcher, folder, way, settings):
+    bounds = lambda workers: {"seconds": workers * settings.seconds, "clock": settings.seconds}
+    columns = [Column(words_of(program, workers, way, folder), bounds(workers), has_report) for _, program, workers in settings.columns]
+    runs = by_turns(launcher, columns, settings.repeats, fewest=1, enough=20.0, rest=settings.rest)
+    reports = [run.output for done in runs for run in done if has_report(run)]
+    if any(report != reports[0] for report in reports):
+        sys.exit(f"{folder.name}, {way}: the reports differ")
+    row = {name: figures(column, done) for (name, _, _), column, done in zip(settings.columns, columns, runs)}
+    return {**row, "undecided": sum(line.startswith("UNDECIDED") for line in reports[0].splitlines()) if reports else None}
+
+
+def ratios(row, names, measure):
+    """Each column's least and median by those of the first column."""
+    first = row[names[0]]
+    for name in names[1:]:
+        one = row[name]
+        yield (one[measure] / first[measure], one[f"median_{measure}"] / first[f"median_{measure}"]) if one and first else None
+
+
+def cells_of(row, names):
+    pair = lambda numbers, digits=2: "-" if numbers is None else ", ".join(shown(number, digits) for number in numbers)
+    first = row[names[0]]
+    cells = [row["key"], pair(first and (first["clock"], first["median_clock"]), 3)]
+    for measure in ("clock", "processor"):
+        cells += map(pair, ratios(row, names, measure))
+    return cells + [shown(row[name] and row[name]["megabytes"], 0) for name in names] + [str(row["others"])]
+
+
+def print_table(rows, names):
+    head = ["pair", f"{names[0]} s"] + [f"{name} / {names[0]}" for name in names[1:]] + [f"work of {name}" for name in names[1:]]
+    print(table(head + [f"MB of {name}" for name in names] + ["others busy"], [cells_of(row, names) for row in rows]))
+    for way in sorted({row["way"] for row in rows}):
+        found = [[each and each[0] for each in ratios(row, names, "clock")] for row in rows if row["way"] == way]
+        means = [f"{name} {shown(geometric_mean(column))}" for name, column in zip(names[1:], zip(*found))]
+        print(f"\n{way}: least on the clock over {names[0]}, geometric mean: {'; '.join(means)}")
+
+
+def read_options():
+    numbers = lambda text: list(map(int, text.split(",")))
+    parser = argparse.ArgumentParser(usage=__doc__.split("usage: ")[1].split("\n")[0])
+    parser.add_argument("program")
+    parser.add_argument("folder", nargs="?", type=pathlib.Path)
+    parser.add_argument("--before")
+    parser.add_argument("--workers", type=numbers, default=[1, 2, 4])
+    parser.add_argument("--rest", type=float, default=0.5)
+    parser.add_argument("--busy", type=int, default=0)
+    parser.add_argument("--only", default="")
+    options(parser, seconds=120, repeats=5)
+    settings = parser.parse_args()
+    programs = [("", settings.program)] + ([("before, ", settings.before)] if settings.before else [])
+    settings.columns = [(f"{when}{workers}", program, workers) for when, program in programs for workers in settings.workers]
+    return settings
 
 
 def main():
-    settings = read_words()
-    folder = pathlib.Path(tempfile.mkdtemp())
-    times = [f"{what} by {workers}" for workers in WORKERS for what in ("clock", "processor")]
-    ratios = [f"{what} {workers} / 1" for workers in WORKERS[1:] for what in ("clock", "processor")]
-    waves = [f"{what} by {workers}" for workers in WAVE_WORKERS for what in ("clock", "processor")]
-    memory = [f"{what} by {workers}" for workers in WORKERS for what in ("clock", "MB", "bytes / node")]
-    try:
-        print("Seconds, of the run that ended first:\n")
-        print(table(["circuits", *times, *ratios], list(circuit_rows(folder, settings))))
-        print("\nMicroseconds of a wave of at most two requests:\n")
-        print(table(["levels", *waves], list(wave_rows(folder, settings))))
-        print("\nWide diagrams, seconds on the clock and peak memory by node:\n")
-        print(table(["function", "nodes", *memory], list(memory_rows(folder, settings))))
-    finally:
-        shutil.rmtree(folder)
+    settings = read_options()
+    names = [name for name, _, _ in settings.columns]
+    said = {"workers": settings.workers, "seconds": settings.seconds, "repeats": settings.repeats, "rest": settings.rest}
+    before = {"before": program_of(settings.before)["program's checksum"]} if settings.before else {}
+    with tempfile.TemporaryDirectory() as place, others(settings.busy):
+        room = pathlib.Path(place)
+        what = "Large diagrams by the number of workers, in a named order and by the bare command: seconds and peak memory"
+        into = room if settings.busy else settings.into
+        results = Results("workers", what, settings.program, {**said, **before}, None, settings.anew, into)
+        launcher, keys = Launcher(), []
+        for name, way in RUNS:
+            key = f"{name}, {way}"
+            if settings.only not in key:
+                continue
+            keys.append(key)
+            if key not in results:
+                folder = folder_of(name, room, settings.folder)
+                results.begin()
+                row = results.add(key, {"pair": name, "way": way, **measured(launcher, folder, way, settings)})
+                say(*cells_of(row, names))
+        if not settings.only:
+            results.keep_only(keys)
+        print_table([results.rows[key] for key in keys], names)
 
 
 if __name__ == "__main__":

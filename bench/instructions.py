@@ -1,0 +1,88 @@
+#!/usr/bin/env python3
+"""Counts where a run's instructions go, crate by crate, and writes results/instructions.json.
+
+usage: bench/instructions.py PROGRAM FOLDER .. [--all] [--anew]
+
+Each FOLDER has a pair, a.bench and b.bench, and their order. It is run by one worker under valgrind's callgrind, which counts
+instructions and does not see that some of them wait for memory. The table in Markdown has the share of each part of the program, of
+100; with --all also each function of more than one in a hundred. Functions that the compiler has put into their callers count there.
+
+It needs valgrind; the product does not.
+"""
+import argparse
+import collections
+import pathlib
+import re
+import subprocess
+import tempfile
+
+from measure import say, shown, table
+from results import Results, first_line, options
+
+# By the first part of a function's name: what it is counted as.
+PARTS = {
+    "net_bench": "reading texts",
+    "net_order": "pairing, orders",
+    "net_cone": "pairing, orders",
+    "gate_plan": "gates into waves",
+    "check_report": "gates into waves",
+    "wave_engine": "down: splitting requests",
+    "expand_work": "down: splitting requests",
+    "req_table": "down: tables of requests",
+    "indexmap": "down: tables of requests",
+    "lru": "computed table",
+    "reduce_up": "up: from requests to nodes",
+    "dd_store": "up: finding and making nodes",
+    "slot_table": "up: finding and making nodes",
+    "counter_walk": "comparing, report",
+    "report_text": "comparing, report",
+}
+OTHER = "memory, library, system"
+
+
+def self_costs(words, room):
+    """Instructions by function, without those of the functions that it calls."""
+    note = room / "note"
+    valgrind = ["valgrind", "-q", "--tool=callgrind", f"--callgrind-out-file={note}"]
+    subprocess.run([*valgrind, *map(str, words)], stdout=subprocess.DEVNULL, check=True)
+    said = subprocess.run(["callgrind_annotate", "--threshold=100", "--auto=no", note], stdout=subprocess.PIPE, text=True, check=True).stdout
+    found = collections.Counter()
+    for line in said.splitlines():
+        if cost := re.match(r"\s*([\d,]+) \(\s*[\d.]+%\)\s+[^:]*:(.*?)(?:\s+\[.*\])?$", line):
+            found[cost.group(2)] += int(cost.group(1).replace(",", ""))
+    return found
+
+
+def measured(program, folder, room):
+    words = [program, "--workers", "1", "--order-file", *(folder / name for name in ("order", "a.bench", "b.bench"))]
+    costs = self_costs(words, room)
+    total, parts = sum(costs.values()), collections.Counter()
+    for name, cost in costs.items():
+        parts[PARTS.get(re.split(r"::|[<. ]", name)[0], OTHER)] += cost
+    share = lambda counter: [[name, round(100 * cost / total, 1)] for name, cost in counter.most_common() if cost >= total / 1000]
+    return {"instructions": total, "shares": share(parts), "functions": [one for one in share(costs) if one[1] >= 1]}
+
+
+def main():
+    parser = argparse.ArgumentParser(description=__doc__, formatter_class=argparse.RawDescriptionHelpFormatter)
+    parser.add_argument("program")
+    parser.add_argument("folders", nargs="+", type=pathlib.Path)
+    parser.add_argument("--all", action="store_true")
+    options(parser, seconds=60, repeats=1)
+    settings = parser.parse_args()
+    what = "Shares of instructions, of 100, by part of the program and by function; one worker, under callgrind"
+    peers = {"valgrind": first_line(["valgrind", "--version"])}
+    results = Results("instructions", what, settings.program, {}, peers, settings.anew, settings.into)
+    with tempfile.TemporaryDirectory() as name:
+        for folder in settings.folders:
+            if folder.name not in results:
+                results.begin()
+                results.add(folder.name, measured(settings.program, folder, pathlib.Path(name)))
+                say(folder.name)
+    results.keep_only([folder.name for folder in settings.folders])
+    rows = [[row["key"], *map(str, one)] for row in results.rows.values() for one in row["shares"] + (row["functions"] if settings.all else [])]
+    print(table(["pair", "part", "of 100"], rows))
+
+
+if __name__ == "__main__":
+    main()
