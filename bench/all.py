@@ -1,7 +1,7 @@
 #!/usr/bin/env python3
 """Measures everything that docs/PERFORMANCE.md has, and draws its plots.
 
-usage: bench/all.py PROGRAM CIRCUITS DESIGNS [FOLDER ..] [--only PART,PART ..] [--anew]
+usage: bench/all.py PROGRAM CIRCUITS DESIGNS [FOLDER ..] [--only PART,PART ..] [--idle] [--anew]
 
 CIRCUITS is a folder of pairs NAME/ with a.bench, b.bench and their order, as for peers.py, and DESIGNS and each FOLDER one of designs
 NAME/ with a.bench, b.bench and, in some, c.bench, as for designs.py. On four processors that do nothing else it takes some 25 minutes;
@@ -18,8 +18,9 @@ and then, side by side, those that count, or take processor time of one worker o
 
 hindsight nodes reader bytes instructions
 
-A part goes on after the results that it has, if program, machine and settings are the same; --anew measures all again. The tables go
-to standard output, and how long each part took to standard error. The status is 1 if a part failed.
+A part goes on after the results that it has, if program, machine and settings are the same. With --idle the parts of the first group
+measure again what was measured beside other work; --anew measures all again. The tables go to standard output, and how long each part
+took to standard error. The status is 1 if a part failed.
 """
 import argparse
 import concurrent.futures
@@ -57,10 +58,11 @@ def parts_of(settings):
     return timed, counted
 
 
-def measured(name, script, arguments, settings):
+def measured(name, script, arguments, is_timed, settings):
     """Whether a part was measured. Its tables are printed together when it is over."""
     begun = time.monotonic()
-    words = [str(word) for word in [HERE / script, settings.program, *arguments, *["--anew"] * settings.anew]]
+    added = ["--anew"] * settings.anew + ["--idle"] * (settings.idle and is_timed)
+    words = [str(word) for word in [HERE / script, settings.program, *arguments, *added]]
     done = subprocess.run(words, stdout=subprocess.PIPE, stderr=subprocess.PIPE, text=True)
     print(f"\n## {name}\n\n{done.stdout}", flush=True)
     minutes = (time.monotonic() - begun) / 60
@@ -77,15 +79,16 @@ def main():
     parser.add_argument("designs", type=pathlib.Path)
     parser.add_argument("folders", nargs="*", type=pathlib.Path)
     parser.add_argument("--only", type=lambda text: text.split(","))
+    parser.add_argument("--idle", action="store_true")
     parser.add_argument("--anew", action="store_true")
     settings = parser.parse_args()
     timed, counted = parts_of(settings)
     if unknown := set(settings.only or []) - {*timed, *counted}:
         sys.exit(f"no such part: {', '.join(sorted(unknown))}")
     wanted = lambda group: [(name, *words) for name, words in group.items() if not settings.only or name in settings.only]
-    fine = [measured(name, script, words, settings) for name, script, *words in wanted(timed)]
+    fine = [measured(name, script, words, True, settings) for name, script, *words in wanted(timed)]
     with concurrent.futures.ThreadPoolExecutor(SIDE_BY_SIDE) as pool:
-        running = [pool.submit(measured, name, script, words, settings) for name, script, *words in wanted(counted)]
+        running = [pool.submit(measured, name, script, words, False, settings) for name, script, *words in wanted(counted)]
         fine += [one.result() for one in running]
     fine.append(subprocess.run([HERE / "plots.py"]).returncode == 0)
     sys.exit(0 if all(fine) else 1)

@@ -108,7 +108,7 @@ def main():
     callers, launcher = callers_in(settings.program), Launcher()
     what = "Bytes on the heap at its peak by the function that asked for them, with its callers; one worker"
     peers = {"valgrind": first_line(["valgrind", "--version"])}
-    results = Results("bytes", what, settings.program, {"threshold": settings.threshold}, peers, settings.anew, settings.into)
+    results = Results("bytes", what, settings, {"threshold": settings.threshold}, peers)
     with tempfile.TemporaryDirectory() as name:
         room, keys = pathlib.Path(name), []
         runs = [(folder.name, *pair(folder)) for folder in settings.folders]

@@ -73,7 +73,7 @@ def main():
     settings = parser.parse_args()
     said = {"workers": settings.workers, "repeats": settings.repeats}
     what = "Pairs by their cones: one worker's seconds on the clock, and several workers' as ratios to these"
-    results = Results("cones", what, settings.program, said, None, settings.anew, settings.into)
+    results = Results("cones", what, settings, said)
     for folder in settings.folders:
         if folder.name not in results:
             results.begin()

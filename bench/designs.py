@@ -96,7 +96,7 @@ def count_verdicts(settings):
     said = {"seconds": settings.seconds, "memory": settings.memory, "options": settings.options, "repeats": settings.repeats}
     peers = {"abc": abc_version()}
     what = "Each comparison by the bare command with one worker, and by abc's cec: verdicts, seconds, peak memory"
-    results = Results("designs", what, settings.program, said, peers, settings.anew, settings.into)
+    results = Results("designs", what, settings, said, peers)
     launcher, keys = Launcher(), []
     for key, files in comparisons(settings.folders, only=settings.only):
         keys.append(key)
@@ -149,7 +149,7 @@ def looked_back(launcher, files, settings):
 def look_back(settings):
     said = {"seconds": settings.seconds}
     what = "Seconds of processor time of the best single order in hindsight and of the bare command, one worker"
-    results = Results("hindsight", what, settings.program, said, None, settings.anew, settings.into)
+    results = Results("hindsight", what, settings, said)
     launcher, keys = Launcher(), []
     for key, files in comparisons(settings.folders, "b", settings.only):
         keys.append(key)

@@ -72,7 +72,7 @@ def main():
     settings = parser.parse_args()
     what = "Shares of instructions, of 100, by part of the program and by function; one worker, under callgrind"
     peers = {"valgrind": first_line(["valgrind", "--version"])}
-    results = Results("instructions", what, settings.program, {}, peers, settings.anew, settings.into)
+    results = Results("instructions", what, settings, {}, peers)
     with tempfile.TemporaryDirectory() as name:
         for folder in settings.folders:
             if folder.name not in results:

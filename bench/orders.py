@@ -36,7 +36,7 @@ def main():
     settings = parser.parse_args()
     said = {"limit": settings.limit, "part": settings.part, "seconds": settings.seconds}
     what = "Nodes that a comparison needs in each order; null: more than the limit"
-    results = Results("nodes", what, settings.program, said, None, settings.anew, settings.into)
+    results = Results("nodes", what, settings, said)
     launcher, keys = Launcher(), []
     for place in sorted(path.parent for folder in settings.folders for path in folder.glob("*/a.bench")):
         if settings.only not in place.name:

@@ -159,7 +159,7 @@ def main():
         peers = {BUDDY: f"{first_line([driver, '--version'], r'[0-9.]+')} (package libbdd-dev {package('libbdd-dev')})"}
         said = {"workers": settings.workers, "seconds": settings.seconds, "repeats": settings.repeats, "rest": settings.rest}
         what = "One order file for both programs: seconds and peak memory by the number of workers, and of BuDDy"
-        results = Results("peers", what, settings.program, said, peers, settings.anew, settings.into)
+        results = Results("peers", what, settings, said, peers)
         keys = []
         for place in pairs(folder, settings):
             keys.append(place.name)

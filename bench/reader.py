@@ -79,8 +79,8 @@ def main():
         bad = folder / "bad.bench"
         bad.write_text("INPUT\n")
         what = "Seconds and peak memory of reading one text, and of abc's read_bench"
-        into = folder if settings.texts else settings.into
-        results = Results("reader", what, settings.program, {"repeats": settings.repeats}, peers, settings.anew, into)
+        settings.into = folder if settings.texts else settings.into
+        results = Results("reader", what, settings, {"repeats": settings.repeats}, peers)
         launcher, rows = Launcher(), []
         for key, write in texts(folder, settings):
             if key not in results:

@@ -5,6 +5,7 @@ stopped goes on after the rows it has, if program, machine and settings are the 
 """
 import hashlib
 import json
+import math
 import os
 import pathlib
 import re
@@ -14,6 +15,8 @@ import time
 
 HERE = pathlib.Path(__file__).resolve().parent
 FOLDER = HERE / "results"
+# A machine is idle if other processes keep no more processors busy than this.
+IDLE = 0.5
 
 
 def first_line(words, pattern=".*"):
@@ -88,18 +91,20 @@ class Others:
 class Results:
     """The file of a script's measurements."""
 
-    def __init__(self, name, what, program, settings, peers=None, anew=False, folder=None):
-        self.path = pathlib.Path(folder or FOLDER) / f"{name}.json"
-        self.head = {"what": what, **program_of(program), **(peers or {}), "settings": settings, "machine": machine()}
+    def __init__(self, name, what, given, settings, peers=None):
+        """`given` has the program and the options that each script has, and `settings` what a figure depends on."""
+        self.path = pathlib.Path(given.into or FOLDER) / f"{name}.json"
+        self.head = {"what": what, **program_of(given.program), **(peers or {}), "settings": settings, "machine": machine()}
         self.date, self.rows = time.strftime("%Y-%m-%d"), {}
-        if not anew and self.path.exists():
+        self.most_busy = IDLE if given.idle else math.inf
+        if not given.anew and self.path.exists():
             kept = json.loads(self.path.read_text())
             if all(kept["head"].get(part) == value for part, value in self.head.items()):
                 self.date, self.rows = kept["date"], {row["key"]: row for row in kept["rows"]}
         self.others = Others()
 
     def __contains__(self, key):
-        return key in self.rows
+        return key in self.rows and self.rows[key]["others"] <= self.most_busy
 
     def begin(self):
         """From here on a row is measured."""
@@ -132,4 +137,5 @@ def options(parser, seconds, repeats):
     parser.add_argument("--seconds", type=int, default=seconds, help="the most seconds of processor time of a run")
     parser.add_argument("--repeats", type=int, default=repeats, help="how often each is run")
     parser.add_argument("--anew", action="store_true", help="measure again what the file of results has")
+    parser.add_argument("--idle", action="store_true", help="measure again what was measured beside other work")
     parser.add_argument("--into", help="the folder of the file of results, if it is not bench/results")

@@ -65,7 +65,7 @@ def main():
     settings = parser.parse_args()
     what = "Threads beside the caller's, of the fastest run: milliseconds, microseconds of a start, starts and pages"
     said = {"workers": settings.workers, "repeats": settings.repeats}
-    results = Results("threads", what, settings.program, said, None, settings.anew, settings.into)
+    results = Results("threads", what, settings, said)
     way = "bare command" if settings.bare else "order file"
     keys = [f"{folder.name}, {way}" for folder in settings.folders]
     with tempfile.TemporaryDirectory() as name:

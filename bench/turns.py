@@ -74,7 +74,7 @@ def main():
     said = {"columns": names, "seconds": settings.seconds, "repeats": settings.repeats}
     before = {"before": program_of(settings.before)["program's checksum"]} if settings.before else {}
     what = "Each comparison by the bare command: seconds and peak memory by both columns"
-    results = Results("turns-before" if settings.before else "turns", what, settings.program, {**said, **before}, None, settings.anew, settings.into)
+    results = Results("turns-before" if settings.before else "turns", what, settings, {**said, **before})
     launcher, keys = Launcher(), []
     for key, files in comparisons(settings.folders, only=settings.only):
         keys.append(key)

@@ -155,8 +155,8 @@ def main():
     with tempfile.TemporaryDirectory() as place, others(settings.busy):
         room = pathlib.Path(place)
         what = "Large diagrams by the number of workers, in a named order and by the bare command: seconds and peak memory"
-        into = room if settings.busy else settings.into
-        results = Results("workers", what, settings.program, {**said, **before}, None, settings.anew, into)
+        settings.into = room if settings.busy else settings.into
+        results = Results("workers", what, settings, {**said, **before})
         launcher, keys = Launcher(), []
         for name, way in RUNS:
             key = f"{name}, {way}"
