@@ -9,6 +9,7 @@ names the logic of the kit that is here. No document has a word that the project
 
 usage: tests/papers.py PROGRAM
 """
+import pathlib
 import re
 import shlex
 import shutil
@@ -16,18 +17,21 @@ import sys
 
 import decisions
 import pages
-from kit import TOP, Tally, run
+from kit import TOP, Tally, folder, run
 
 # The logic of the kits in the README's line, as `Proved with kits 1a and 1b of the logic 0123abcd.`, and in the line of `rt version`, as
 # `rattle-kit-1a logic 0123abcd`. Kits of one logic accept the same proofs, so their own names are not compared.
 LOGIC_NAMED = re.compile(r"^`?Proved with kits? \w+(?:, \w+)*(?: and \w+)? of the logic `?(\w+)`?\.`?$", re.M)
 LOGIC_HERE = re.compile(r"^\S+ logic (\w+)$", re.M)
 
-# A picture, and the words that print it on standard output. Each picture of docs/ has a row.
+# A picture, and the words that print it on standard output.
 DRAWN = {
     "docs/crates.svg": ["tools/picture.py"],
+    "docs/lanes.svg": ["tools/lanes.py"],
     "docs/wave.svg": ["tools/wave.py"],
 }
+# Scripts that write all their pictures, which belong in docs/, into the folder that they are given.
+DRAW_TOGETHER = ["bench/plots.py"]
 
 # Words that this project no longer uses for what they are named after, and what to write instead. Only those that hardly mean anything
 # else are here; they are looked for in prose, not in code.
@@ -101,15 +105,29 @@ def check_kit(tally, readme):
         tally.skip("there is no `rt`, so the logic that the README names was not compared")
 
 
+def drawn_pictures(tally):
+    """What the scripts draw, by the path that it has in the repository."""
+    drawn = {}
+    for name, (script, *words) in DRAWN.items():
+        seen = run([sys.executable, TOP / script, *words])
+        tally.check(f"{script} draws", seen.status == 0, seen)
+        drawn[name] = seen.out
+    for script in DRAW_TOGETHER:
+        with folder() as place:
+            seen = run([sys.executable, TOP / script, place])
+            pictures = sorted(pathlib.Path(place).iterdir())
+            tally.check(f"{script} draws", seen.status == 0 and pictures, seen)
+            drawn |= {f"docs/{path.name}": path.read_bytes() for path in pictures}
+    return drawn
+
+
 def check_pictures(tally):
-    for picture in sorted((TOP / "docs").rglob("*.svg")):
-        name = str(picture.relative_to(TOP))
-        if tally.check(f"{name} has a row of what draws it", name in DRAWN):
-            drawn = run([sys.executable, TOP / DRAWN[name][0], *DRAWN[name][1:]])
-            is_drawn = drawn.status == 0 and drawn.out == picture.read_bytes()
-            tally.check(f"{name} is what {' '.join(DRAWN[name])} draws", is_drawn, drawn)
-    for name in DRAWN:
-        tally.check(f"{name} is there", (TOP / name).exists())
+    """Each picture is what its script draws, and none is missing."""
+    drawn = drawn_pictures(tally)
+    there = {str(path.relative_to(TOP)) for path in (TOP / "docs").rglob("*.svg")}
+    for name in sorted(drawn.keys() | there):
+        is_drawn = name in drawn and name in there and (TOP / name).read_bytes() == drawn[name]
+        tally.check(f"{name} is there, and is what a script draws", is_drawn)
 
 
 def broken_link(page, target):
