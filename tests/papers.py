@@ -1,7 +1,7 @@
 #!/usr/bin/env python3
 """That the documents fit together and fit the code.
 
-The program's own help, its manual page, its completions and the README name the same options, and the same orders. docs/DEFINITIONS.md has
+The program's own help, its manual page, its completions and the README name the options and orders of the parser. docs/DEFINITIONS.md has
 the definitions that public contracts cite. Each link of each document leads to a file and a heading that are there, and each path in a code
 span is there. Each picture is what its script draws. Each crate is in docs/ARCHITECTURE.md, and a page about the code names nothing that
 the code does not have. Each term in italics is in docs/GLOSSARY.md. Each run that the README shows prints the lines below it. The README
@@ -23,6 +23,9 @@ from kit import TOP, Tally, folder, run
 # `rattle-kit-1a logic 0123abcd`. Kits of one logic accept the same proofs, so their own names are not compared.
 LOGIC_NAMED = re.compile(r"^`?Proved with kits? \w+(?:, \w+)*(?: and \w+)? of the logic `?(\w+)`?\.`?$", re.M)
 LOGIC_HERE = re.compile(r"^\S+ logic (\w+)$", re.M)
+
+# Where the parser has its options and orders.
+ARGUMENTS = TOP / "crates" / "command_line" / "src" / "arguments.rt"
 
 # A picture, and the words that print it on standard output.
 DRAWN = {
@@ -52,6 +55,8 @@ IN_A_CRATE = re.compile(r"(\w+)/(?:src|specs|proofs|wrong-bodies|must-fail)\b[\w
 PASSED_OVER = re.compile(r"/out/|/out$|(?:^|/)[A-Z]+(?:/|$|\.(?!md))")
 
 ABOUT_THE_CODE = ("docs/ARCHITECTURE.md", "docs/PROVED.md", "docs/DEFINITIONS.md", "docs/CALLING.md", "docs/GLOSSARY.md")
+# Programs of others that such a page may name.
+OF_OTHERS = {"perf"}
 TERMS_ARE_IN = ("README.md", "docs/ARCHITECTURE.md", "docs/DEFINITIONS.md")
 
 
@@ -68,6 +73,10 @@ def check_options(tally, program, readme):
     helped = run([program, "--help"])
     wanted = options_in(helped.out.decode())
     tally.check("help names options", len(wanted) > 5, helped)
+    wide = [line for line in helped.out.decode().splitlines() if len(line) > 80]
+    tally.check("help fits 80 columns", not wide, wide)
+    known = {"--" + name for name in re.findall(r'\.long\("([a-z-]+)"\)', ARGUMENTS.read_text())} | {"--help", "--version"}
+    tally.check("help has the options of the parser", wanted == known, wanted ^ known)
     manual = (TOP / "docs" / "bddcheck.1").read_text().replace("\\-", "-")
     completions = TOP / "tools" / "completions"
     fish = (completions / "bddcheck.fish").read_text()
@@ -83,12 +92,14 @@ def check_options(tally, program, readme):
     tally.check("the README has the options of --help", not missing, missing)
 
 
-def check_orders(tally):
-    """The values of --order are those of the parser."""
-    source = (TOP / "crates" / "command_line" / "src" / "arguments.rt").read_text()
-    found = re.search(r'ORDERS: \[&str; \d+\] = \[(.*?)\]', source, re.S)
+def check_orders(tally, program):
+    """The values of --order are those of the parser, and the help has a line for each."""
+    found = re.search(r'ORDERS: \[&str; \d+\] = \[(.*?)\]', ARGUMENTS.read_text(), re.S)
     orders = set(re.findall(r'"(\w+)"', found[1])) if found else set()
     tally.check("the parser has orders", len(orders) > 1)
+    helped = run([program, "--help"]).out.decode()
+    lined = {order for order in orders if re.search(rf"^    {order} {{2,}}\S", helped, re.M)}
+    tally.check("help has a line for each order", lined == orders, orders - lined)
     files = ["README.md", "docs/ORDERS.md", "docs/bddcheck.1", "docs/report.schema.json"]
     for name in files + [f"tools/completions/{shell}" for shell in ("bddcheck.bash", "_bddcheck", "bddcheck.fish")]:
         missing = orders - set(re.findall(r"\w+", (TOP / name).read_text()))
@@ -191,7 +202,7 @@ def check_names(tally, texts):
         name = str(page.relative_to(TOP))
         if name.startswith("docs/decisions/") or name in ABOUT_THE_CODE:
             spans = [span for span in pages.spans(text) if re.fullmatch(r"[A-Za-z_]\w*(?:::\w+)*", span)]
-            unknown = {word for span in spans for word in span.split("::")} - known
+            unknown = {word for span in spans for word in span.split("::")} - known - OF_OTHERS
             tally.check(f"{name}: each name of the code is in the code", not unknown, unknown)
 
 
@@ -228,7 +239,7 @@ def main():
     readme = (TOP / "README.md").read_text()
     texts = {page: page.read_text() for page in pages.all_pages()}
     check_options(tally, sys.argv[1], readme)
-    check_orders(tally)
+    check_orders(tally, sys.argv[1])
     compared = run([sys.executable, str(TOP / "tools" / "definitions.py")])
     tally.check("docs/DEFINITIONS.md has what public contracts cite", compared.status == 0, compared)
     cited = run([sys.executable, str(TOP / "tools" / "proved.py")])
