@@ -132,8 +132,8 @@ def best_order(launcher, files, settings):
 
 def last_budget(said):
     """The budget of the attempt that decided; none if cones did."""
-    found = re.findall(r"\bbudget (\d+)", said)
-    return int(found[-1]) if found and "cones" not in said else None
+    found = re.findall(r"^bddcheck: order \w+ decided within (\d+) nodes$", said, re.M)
+    return int(found[-1]) if found else None
 
 
 def looked_back(launcher, files, settings):

@@ -9,7 +9,7 @@ import re
 import shlex
 import sys
 
-from kit import TOP, Run, Tally, lines, run
+from kit import TOP, Run, Tally, lines, run, unhelped
 
 
 def equal(*names, sizes=None):
@@ -18,7 +18,8 @@ def equal(*names, sizes=None):
 
 
 def refused(text, status=2):
-    return Run(status, b"", lines("bddcheck: " + text))
+    """That a run is refused by this line; a second one says what helps."""
+    return lambda seen: unhelped(seen) == Run(status, b"", lines("bddcheck: " + text))
 
 
 

@@ -102,7 +102,7 @@ def explanation(first, second, label, root, partner, at):
         for net, top in ((first, root), (second, partner)):
             cone = [name for name in net.gates if name in net.below(top)]
             counts.append(f"{sum(name not in net.below(low) for name in cone)} of {len(cone)}")
-        told.append(f"  gates behind {low}: first {counts[0]}, second {counts[1]}")
+        told.append(f"  {counts[0]} gates in the first netlist and {counts[1]} in the second are outside the cone of {low}")
     return told
 
 

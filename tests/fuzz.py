@@ -402,6 +402,7 @@ def try_case(program, seed, kind, index, place):
         words = words_of(program, case, place)
         given = b"" if case.divider is None else case.first + case.divider + case.second
         seen = run(words, given)
+        seen = kit.unhelped(seen) if seen.err else seen
         if case.print_order and seen in wanted and seen.status == 0:
             again, seen = taken_again(program, case, seen.out, place)
             wanted = [again]

@@ -50,6 +50,13 @@ def run(words, given=b"", seconds=60, environment=None, **more):
     return Run(child.returncode, out or b"", err or b"")
 
 
+def unhelped(seen):
+    """A refused run without the second line on standard error, which says what helps. A run that has no such line is none that is wanted."""
+    said = seen.err.splitlines(keepends=True)
+    has_help = len(said) == 2 and all(line.startswith(b"bddcheck: ") and line.endswith(b"\n") for line in said)
+    return Run(seen.status, seen.out, said[0] if has_help else b"not two lines: " + seen.err)
+
+
 class Tally:
     """Counts the checks of a part. Each failed one is told at once, and so is what is skipped, with what it lacks."""
 

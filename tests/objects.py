@@ -171,7 +171,8 @@ def main():
             if "--share" not in words:
                 try_causes(program, words, schema, tally)
         refused = run([program, "--format", "json", place, place])
-        tally.check("a fault is a line", refused == kit.Run(2, b"", b"bddcheck: first: cannot be read\n"), refused)
+        helps = f"bddcheck: first: cannot be read\nbddcheck: {place}: the device failed, or the path is a folder\n"
+        tally.check("a fault is two lines", refused == kit.Run(2, b"", helps.encode()), refused)
         text = run([program, "--format", "text", written(place, "c17", C17), written(place, "c17b", C17B)])
         tally.check("text by name", (text.status, text.out) == (1, kit.C17_DIFFERS), text)
     example = json.loads((TOP / "docs" / "report.example.json").read_text())

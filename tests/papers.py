@@ -1,7 +1,8 @@
 #!/usr/bin/env python3
 """That the documents fit together and fit the code.
 
-The program's own help, its manual page, its completions and the README name the options and orders of the parser. docs/DEFINITIONS.md has
+The program's own help fits 80 columns, has a line for each order, and names, like the manual page, the completions and the README, the
+options and orders of the parser. docs/DEFINITIONS.md has
 the definitions that public contracts cite. Each link of each document leads to a file and a heading that are there, and each path in a code
 span is there. Each picture is what its script draws. Each crate is in docs/ARCHITECTURE.md, and a page about the code names nothing that
 the code does not have. Each term in italics is in docs/GLOSSARY.md. Each run that the README shows prints the lines below it. The README
@@ -77,6 +78,9 @@ def check_options(tally, program, readme):
     tally.check("help fits 80 columns", not wide, wide)
     known = {"--" + name for name in re.findall(r'\.long\("([a-z-]+)"\)', ARGUMENTS.read_text())} | {"--help", "--version"}
     tally.check("help has the options of the parser", wanted == known, wanted ^ known)
+    orders = re.findall(r'"([a-z]+)"', ARGUMENTS.read_text().split("static ORDERS", 1)[1].split("];", 1)[0])
+    has_lines = [order for order in orders if re.search(rf"^    {order} {{2,}}\S", helped.out.decode(), re.M)]
+    tally.check("help has a line for each order", orders and has_lines == orders, set(orders) ^ set(has_lines))
     manual = (TOP / "docs" / "bddcheck.1").read_text().replace("\\-", "-")
     completions = TOP / "tools" / "completions"
     fish = (completions / "bddcheck.fish").read_text()

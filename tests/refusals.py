@@ -6,10 +6,10 @@ usage: tests/refusals.py PROGRAM [--seconds S] [--seed N] [--jobs J]
 The library refuse.c is compiled by cc and preloaded. Of each row below the N-th growth or start is refused for N = 1, 2, ..
 until a run meets no refusal, or, where there are too many, some N are drawn, by the seed that is printed, in S seconds (180)
 by J processes (2). Wide rows are run within little address space as well, where the system itself refuses. A run must end
-in time, with status 3, nothing written and one line on want of memory or of a worker; or with the very report that it
-gives without refusals. Of a row whose waves call their workers in, each start of the first of these waves is refused in
-every run, and growths while its workers run, where the others have to be told to stop. If a row names no order, a thread
-that cannot be started costs no report: only the very report is right then.
+in time, with status 3, nothing written and one line on want of memory or of a worker, after which a second line may say
+what helps; or with the very report that it gives without refusals. Of a row whose waves call their workers in, each start of
+the first of these waves is refused in every run, and growths while its workers run, where the others have to be told to stop.
+If a row names no order, a thread that cannot be started costs no report: only the very report is right then.
 """
 import argparse
 import os
@@ -196,6 +196,13 @@ class Figures:
         self.wrong += other.wrong
 
 
+def is_refusal(said, faults):
+    """Whether this is one of these lines of a refusal, and after it nothing, if there was no memory for it, or one line of what helps."""
+    first, *rest = said.splitlines(keepends=True)
+    has_help = len(rest) == 1 and rest[0].startswith(b"bddcheck: ") and rest[0].endswith(b"\n")
+    return first in faults and (not rest or has_help)
+
+
 def fault_of(right, seen, refused, faults):
     """What is wrong with a run that may say one of these faults, or None."""
     if refused is None:
@@ -204,7 +211,7 @@ def fault_of(right, seen, refused, faults):
         return None
     if refused == 0:
         return f"nothing was refused: {seen}"
-    if seen.status != 3 or seen.out or seen.err not in faults:
+    if seen.status != 3 or seen.out or not seen.err or not is_refusal(seen.err, faults):
         return str(seen)
     return None
 

@@ -17,8 +17,8 @@ The file has sections, each begun by a line `== ..`. Lines before the first one,
                                same, that they need more. They need N nodes each. With --order auto it
                                is the answer of declared order without a limit, by the same attempt, or where there is none some pairs
                                are undecided, and all others as in that answer
-    == texts                   lines `TEXT => SAID`: the text, written as in Python, is refused beside itself by the line SAID, or where that
-                               is `netlist` it is equal to itself
+    == texts                   lines `TEXT => SAID`: the text, written as in Python, is refused beside itself by the line SAID, and by a second
+                               line with the name of the file and the number of the line; or if SAID is `netlist` it is equal to itself
 """
 import shlex
 import sys
@@ -105,10 +105,10 @@ def best_of(program, place, tally, name, limit, needs, words):
         single = run([program, "--order", order, "--limit", limit, *words], cwd=place)
         tally.check(f"{name}: {order}", (single.status != 3) == (need <= limit), single)
         if wanted is None and single.status != 3:
-            wanted = single.status, single.out, joined([*told, f"bddcheck: order {order}, budget {limit}"])
+            wanted = single.status, single.out, joined([*told, f"bddcheck: order {order} decided within {limit} nodes"])
         if tried:
-            told.append(f"bddcheck: order {order}, budget {limit}: more nodes")
-    more = "interleave, force, index, depth and declared are tried; a list by --order-file may need fewer nodes"
+            told.append(f"bddcheck: order {order} needs more than {limit} nodes")
+    more = "interleave, force, index, depth and declared were tried; a list by --order-file may need fewer nodes"
     return wanted or (3, b"", joined([*told, "bddcheck: build: more nodes than the limit", f"bddcheck: {more}"]))
 
 
@@ -120,10 +120,12 @@ def is_left(seen, wanted, limit):
     counts = [sum(line.startswith(word) for line in lines[:-1]) for word in ("EQUAL", "DIFFER", "ONLY", "UNDECIDED")]
     last = "{} equal, {} different, {} unmatched".format(*counts) + (f", {counts[3]} undecided" if counts[3] else "")
     status = 1 if counts[1] or counts[2] else 3 if counts[3] else 0
-    told = [line for line in seen.err.decode().splitlines() if not line.endswith(": more nodes")]
+    told = [line for line in seen.err.decode().splitlines() if " needs more than " not in line]
     pairs = counts[0] + counts[1] + counts[3]
-    ways = [f"bddcheck: cones, budget {max(1, limit // 4)}: {counts[3]} of {pairs} pairs left", "bddcheck: each pair by its cones"]
-    tells = told[:2] == ways and [line.split(",")[0] for line in told[2:]] == [f"bddcheck: {counts[3]} undecided"][: counts[3]]
+    left = f"bddcheck: {counts[3]} of {pairs} pairs are undecided by cones within {max(1, limit // 4)} nodes"
+    ways = [left, "bddcheck: each pair was judged by its cones"]
+    last_told = [f"bddcheck: the number of undecided pairs is {counts[3]}"][: counts[3]]
+    tells = told[:2] == ways and [line.split(";")[0] for line in told[2:]] == last_told
     return len(lines) == len(said) + 1 and all(kept) and (lines[-1], seen.status) == (last, status) and tells
 
 
@@ -152,7 +154,9 @@ def try_texts(program, tally, place, _files, _head, body):
         if said == "netlist":
             tally.check(line, seen.status == 0 and not seen.err, seen)
         else:
-            tally.same(line, seen, 2, b"", joined(["bddcheck: first: " + said]))
+            tally.same(line, kit.unhelped(seen), 2, b"", joined(["bddcheck: first: " + said]))
+            place_of = "bddcheck: text:" + said.removeprefix("line ").split(":")[0] + ": "
+            tally.check(f"{line}, its place", seen.err.splitlines()[-1].startswith(place_of.encode()), seen)
 
 
 TRIED = {"run": try_run, "ways": try_ways, "order": try_order, "best": try_best, "texts": try_texts}

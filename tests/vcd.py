@@ -176,17 +176,17 @@ def refused(tally: Tally, program: str) -> None:
     """Files that cannot be written: the report stands, and then comes the fault."""
     with kit.folder() as place:
         files = [kit.written(place, "first", kit.C17), kit.written(place, "second", kit.C17B)]
-        said = b"bddcheck: vcd: cannot be written\n"
         for path, helps in (
-            (f"{place}/none/differs.vcd", "no such file or folder"),
-            (f"{place}/first/differs.vcd", "a part of the path is no folder"),
+            (f"{place}/none/differs.vcd", "there is no such file or folder"),
+            (f"{place}/first/differs.vcd", "a part of the path is not a folder"),
             (place, "the system refused it"),
-            ("/dev/full", "its device is full, or failed"),
+            ("/dev/full", "its device is full, or has failed"),
         ):
+            said = f"bddcheck: vcd: cannot be written\nbddcheck: {path}: {helps}\n".encode()
             seen = kit.run([program, "--vcd", path, *files])
             tally.same(f"--vcd {path}", seen, 3, kit.C17_DIFFERS, said)
             seen = kit.run([program, "--vcd", path, "--verbose", "--order", "declared", *files])
-            tally.same(f"--vcd {path} --verbose", seen, 3, kit.C17_DIFFERS, said + f"bddcheck: {path}: {helps}\n".encode())
+            tally.same(f"--vcd {path} --verbose", seen, 3, kit.C17_DIFFERS, said)
             seen = kit.run([program, "--vcd", path, files[0], files[0]])
             tally.same(f"--vcd {path}, equal", seen, 0, kit.C17_EQUAL, b"")
         seen = kit.run([program, "--vcd", "-", *files], cwd=place)

@@ -74,11 +74,7 @@ fn read_again<F: Folder>(alloc: Global, folder: &mut F, path: &str) -> Option<Ne
 
 /// The first netlist, if it is in a file that can be read once more.
 #[tactic(auto, using(crate::proofs::Composing::extends_none))]
-fn first_netlist<F: Folder>(
-    alloc: Global,
-    folder: &mut F,
-    options: &Options<'_>,
-) -> Option<Netlist>
+fn first_netlist<F: Folder>(alloc: Global, folder: &mut F, options: &Options<'_>) -> Option<Netlist>
     ensures read { IfSome result (λ net. IsFirstCircuit (F.told folder.old) options.now (circuit net)) }
     ensures kept { F.told folder.new ≡ F.told folder.old }
     ensures tried { (again : List Try) × Extends (F.tries folder.old) (F.tries folder.new) again

@@ -18,7 +18,8 @@ fn help_in_text(fault: BenchFault) -> &'static str
 {
     match fault {
         BenchFault::TooLong => "a text has at most 67108864 bytes",
-        BenchFault::BadByte { .. } => "outside comments a netlist has only printable ASCII, blanks and line ends",
+        BenchFault::BadByte { .. } =>
+            "outside comments a netlist has only printable ASCII, blanks and line ends",
         BenchFault::BadStatement { .. } => "a statement is INPUT(a), OUTPUT(a) or a = GATE(b, c)",
         BenchFault::UnknownGate { .. } => {
             "the gates are AND, NAND, OR, NOR, XOR, XNOR, NOT, BUFF and DFF; see docs/FLOWS.md"

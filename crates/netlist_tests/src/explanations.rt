@@ -75,12 +75,12 @@ fn adders_explained(rt: HostRuntime) -> Result<(), Fail> {
     let sum = explained(rt.alloc(), &adders, "s", &[true, true, false])?;
     assert!(rt;
         sum.as_slice()
-            == b"EXPLAIN s inner signals that differ: 1\n  x first=0 second=1 line 5 line 7\n  gates behind x: first 1 of 2, second 1 of 2\n".as_slice()
+            == b"EXPLAIN s inner signals that differ: 1\n  x first=0 second=1 line 5 line 7\n  1 of 2 gates in the first netlist and 1 of 2 in the second are outside the cone of x\n".as_slice()
     );
     let carry = explained(rt.alloc(), &adders, "k", &[true, true, true])?;
     assert!(rt;
         carry.as_slice()
-            == b"EXPLAIN k inner signals that differ: 1\n  x first=0 second=1 line 5 line 7\n  gates behind x: first 3 of 4, second 3 of 4\n".as_slice()
+            == b"EXPLAIN k inner signals that differ: 1\n  x first=0 second=1 line 5 line 7\n  3 of 4 gates in the first netlist and 3 of 4 in the second are outside the cone of x\n".as_slice()
     );
     let same = explained(rt.alloc(), &adders, "s", &[true, false, false])?;
     assert!(rt; same.as_slice() == b"EXPLAIN s inner signals that differ: 0\n".as_slice());

@@ -112,10 +112,13 @@ fn told_of_third<R: AllocGlobal + Wait + Sync>(rt: &R, megabytes: Option<u64>) -
 #[test]
 fn line_of_progress(rt: HostRuntime) -> Result<(), Fail> {
     for (megabytes, wanted) in [
-        (None, "bddcheck: rank 3 of 7, 90 nodes, 12 requests\n"),
+        (
+            None,
+            "bddcheck: building rank 3 of 7: 90 nodes and 12 requests so far\n",
+        ),
         (
             Some(41),
-            "bddcheck: rank 3 of 7, 90 nodes, 12 requests, 41 MB\n",
+            "bddcheck: building rank 3 of 7: 90 nodes and 12 requests so far in 41 MB\n",
         ),
     ] {
         let told = told_of_third(&rt, megabytes);
@@ -145,7 +148,7 @@ fn told_in_place<R: AllocGlobal + Wait + Sync>(rt: &R, ends: bool) -> Vec<u8> {
 #[test]
 fn line_in_place(rt: HostRuntime) -> Result<(), Fail> {
     let wanted =
-        "\rbddcheck: attempt 2, rank 2 of 7, 90 nodes, 12 requests, 41 MB\u{1b}[K\r\u{1b}[K";
+        "\rbddcheck: attempt 2 is building rank 2 of 7: 90 nodes and 12 requests so far in 41 MB\u{1b}[K\r\u{1b}[K";
     for ends in [true, false] {
         let told = told_in_place(&rt, ends);
         assert!(rt; told.as_slice() == wanted.as_bytes());
@@ -181,8 +184,16 @@ fn silence(rt: HostRuntime) -> Result<(), Fail> {
         ("first second", false, ""),
         ("--order declared first second", false, ""),
         ("--order cones first second", false, ""),
-        ("first second", true, "\rbddcheck: attempt 1, rank 1 of "),
-        ("--verbose first second", false, "bddcheck: rank 1 of "),
+        (
+            "first second",
+            true,
+            "\rbddcheck: attempt 1 is building rank 1 of ",
+        ),
+        (
+            "--verbose first second",
+            false,
+            "bddcheck: building rank 1 of ",
+        ),
     ] {
         let (status, said) = said_on(&rt, line, seen)?;
         assert!(rt; status == 1, "{line}");

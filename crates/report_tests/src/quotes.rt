@@ -1,4 +1,4 @@
-//! The line of a file that was refused, behind what helps.
+//! What is said after a fault: where it is, what helps, and the refused line or name.
 use crate::devices::{End, drip, new_page};
 use crate::failing::{AMPLE, C17};
 use crate::runs::ran;
@@ -25,9 +25,15 @@ static BROKEN: &str =
     "bddcheck: second: line 8: broken statement\nbddcheck: second:8: a statement is INPUT(a), OUTPUT(a) or a = GATE(b, c)";
 
 static BAD_NAME: &str =
-    "bddcheck: order: line 2: not a signal name\nbddcheck: list:2: a list has names and blanks alone, as --print-order writes it";
+    "bddcheck: order: line 2: not a signal name\nbddcheck: list:2: a list has only names and blanks, as --print-order writes it";
 
-/// Words, the second text, what becomes of the folder, what is said, what is shown behind it, and the paths that are asked for.
+static UNKNOWN: &str =
+    "bddcheck: only: no such output or register\nbddcheck: first: the first netlist has no output and no register of ";
+
+static UNEXPLAINED: &str =
+    "bddcheck: explain: no such output or register\nbddcheck: first: the first netlist has no output, or after NEXT no register, of ";
+
+/// Words, the second text, what becomes of the folder, what is said, what is shown after it, and the paths that are asked for.
 type Row = (
     &'static str,
     &'static str,
@@ -37,15 +43,51 @@ type Row = (
     &'static str,
 );
 
-/// The list has a name and then none.
-fn rows() -> [Row; 6] {
+/// The list has a name and then none. With --verbose and without it the same is said.
+fn rows() -> [Row; 15] {
     let files = "--verbose first second";
+    let plain = "first second";
+    let one = "--only 5 first second";
+    let two = "--only 22 --only 5 --only 6 first second";
+    let explained = "--explain 22 --explain 5 first second";
+    let again = "first second first ";
+    let both = "first second ";
     let listed = "--verbose --order-file list first second";
     let thrice = "first second second ";
     let twice = "first second list list ";
     let (stays, gone, no_file) = (Later::Stays, Later::Gone, Later::NoFile);
     [
         (files, C17_CUT, stays, BROKEN, ": 10 = NAND(1,", thrice),
+        (plain, C17_CUT, stays, BROKEN, ": 10 = NAND(1,", thrice),
+        (plain, C17_CUT, gone, BROKEN, "", thrice),
+        (one, C17, stays, UNKNOWN, "this name: 5", both),
+        (two, C17, stays, UNKNOWN, "this name: 5", again),
+        (two, C17, gone, UNKNOWN, "one of these names: 22 5 6", again),
+        (
+            two,
+            C17,
+            no_file,
+            UNKNOWN,
+            "one of these names: 22 5 6",
+            both,
+        ),
+        (explained, C17, stays, UNEXPLAINED, "this name: 5", again),
+        (
+            explained,
+            C17,
+            gone,
+            UNEXPLAINED,
+            "one of these names: 22 5",
+            again,
+        ),
+        (
+            explained,
+            C17,
+            no_file,
+            UNEXPLAINED,
+            "one of these names: 22 5",
+            both,
+        ),
         (files, C17_CUT, gone, BROKEN, "", thrice),
         (files, C17_CUT, no_file, BROKEN, "", "first second "),
         (listed, C17, stays, BAD_NAME, ": x2 (", twice),

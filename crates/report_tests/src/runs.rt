@@ -40,44 +40,86 @@ pub(crate) fn ran<R: AllocGlobal + Clock + Meter + Threads + Wait + Sync>(
     Ok(run_tool(rt, words.as_slice(), folder, input, out, errors))
 }
 
-/// Words, the file that fails, the input, which fails too, the status, and the line behind the program's name.
-type Row = (&'static str, &'static str, &'static str, u8, &'static str);
+/// Words, the file that fails, the input, which fails too, the status, the line after the program's name, and what helps.
+type Row = (
+    &'static str,
+    &'static str,
+    &'static str,
+    u8,
+    &'static str,
+    &'static str,
+);
+
+static MORE: &str = "more memory is needed";
+
+static FAILED: &str = "the device failed, or the path is a folder";
 
 fn rows() -> [Row; 8] {
     [
-        ("forbidden second", "", "", 3, "out of memory"),
-        ("first forbidden", "", "", 3, "out of memory"),
+        ("forbidden second", "", "", 3, "out of memory", MORE),
+        ("first forbidden", "", "", 3, "out of memory", MORE),
         (
             "--order-file forbidden first second",
             "",
             "",
             3,
             "out of memory",
+            MORE,
         ),
-        ("first second", "first", "", 2, "first: cannot be read"),
-        ("first second", "second", "", 2, "second: cannot be read"),
+        (
+            "first second",
+            "first",
+            "",
+            2,
+            "first: cannot be read",
+            "first: ",
+        ),
+        (
+            "first second",
+            "second",
+            "",
+            2,
+            "second: cannot be read",
+            "second: ",
+        ),
         (
             "--order-file list first second",
             "list",
             "",
             2,
             "order: cannot be read",
+            "list: ",
         ),
-        ("", "", "%%\n", 2, "standard input: cannot be read"),
-        ("first -", "", C17, 2, "second: cannot be read"),
+        (
+            "",
+            "",
+            "%%\n",
+            2,
+            "standard input: cannot be read",
+            "standard input failed, or is a folder",
+        ),
+        (
+            "first -",
+            "",
+            C17,
+            2,
+            "second: cannot be read",
+            "standard input: ",
+        ),
     ]
 }
 
 #[test]
 fn files_that_fail(rt: HostRuntime) -> Result<(), Fail> {
-    for (line, failing, input, status, fault) in rows() {
+    for (line, failing, input, status, fault, helps) in rows() {
         let mut folder = Shelf::new(rt.alloc());
         folder.failing = failing;
         let mut input = drip(input, input.len());
         let mut out = new_page(rt.alloc(), AMPLE, End::Fails, true);
         let mut errors = new_page(rt.alloc(), AMPLE, End::Fails, true);
         let ended = ran(&rt, line, &mut folder, &mut input, &mut out, &mut errors)?;
-        let want = format!(in rt.alloc(); "bddcheck: {fault}\n")?;
+        let why = if helps.ends_with(": ") { FAILED } else { "" };
+        let want = format!(in rt.alloc(); "bddcheck: {fault}\nbddcheck: {helps}{why}\n")?;
         assert!(rt; errors.held.as_slice() == want.as_bytes(), "{line}");
         assert!(rt; ended == status && out.held.is_empty(), "{line}");
     }
@@ -106,7 +148,8 @@ fn ended_on<R: AllocGlobal + Clock + Meter + Threads + Wait + Sync>(
 
 #[test]
 fn outputs_that_fail(rt: HostRuntime) -> Result<(), Fail> {
-    let unwritten = b"bddcheck: report: cannot be written\n".as_slice();
+    let unwritten =
+        b"bddcheck: report: cannot be written\nbddcheck: standard output is full, or closed\n".as_slice();
     for (room, end, flushes) in [
         (0, End::Fails, true),
         (5, End::Fails, true),
@@ -269,14 +312,17 @@ fn differences_as_vcd(rt: HostRuntime) -> Result<(), Fail> {
 #[test]
 fn files_that_are_not_saved(rt: HostRuntime) -> Result<(), Fail> {
     for (words, helps) in [
-        ("--vcd full first second", ""),
+        (
+            "--vcd full first second",
+            "bddcheck: full: its device is full, or has failed\n",
+        ),
         (
             "--verbose --order declared --vcd full first second",
-            "bddcheck: full: its device is full, or failed\n",
+            "bddcheck: full: its device is full, or has failed\n",
         ),
         (
             "--verbose --order declared --vcd nowhere/wave first second",
-            "bddcheck: nowhere/wave: no such file or folder\n",
+            "bddcheck: nowhere/wave: there is no such file or folder\n",
         ),
     ] {
         let (report, _, said, status) = saved_by(&rt, words)?;
