@@ -4,9 +4,9 @@
 usage: tests/first.py PROGRAM
 
 tools/bddcheck.sh is called in a copy of the tree without out/, while the locks of a build are held: on two files, on standard input by a
-slow writer, on a pipe and a refused file outside of the tree, and on a wrong word. Status, output and errors must be those of PROGRAM,
+slow writer, on a pipe and a refused file outside of the tree, and on an option that there is not. Status, output and errors must be those of PROGRAM,
 with two lines on standard error before them. Each of these calls compiles the program, so two run side by side. Then come calls that
-give no answer, and must end with status 4 and one line that says why. The part is skipped where there is no `rt`.
+give no answer, and must end with status 4 and one line that says why. The part is skipped if there is no `rt`.
 """
 import contextlib
 import fcntl
@@ -76,7 +76,7 @@ def refused(program, copy):
         return run([program, *words], seconds=SECONDS, cwd=copy, pass_fds=[number])
 
 
-def wrong_word(program, copy):
+def no_option(program, copy):
     return run([program, "--ordr", "best", "examples/c17.bench", "examples/c17b.bench"], seconds=SECONDS, cwd=copy)
 
 
@@ -84,7 +84,7 @@ CASES = {
     "two files": (by_files, 1),
     "standard input": (by_input, 1),
     "a pipe, and a refused file outside of the tree": (refused, 2),
-    "a wrong word": (wrong_word, 2),
+    "an option that there is not": (no_option, 2),
 }
 ANNOUNCED = re.compile(rb"bddcheck\.sh: .* before their proof, .*\nbddcheck\.sh: tools/build\.py proves and builds the program, .*\n")
 
@@ -104,9 +104,9 @@ def answers(tally, program, script, copy):
 
 def no_answer(tally, name, seen, has, lines=1):
     """That there is no answer, and so many lines say why, the last of which has this."""
-    told = seen.err.decode(errors="replace").splitlines()
-    right = seen.status == 4 and not seen.out and (lines is None or len(told) == lines)
-    tally.check(name, right and told and told[-1].startswith("bddcheck.sh: ") and has in seen.err.decode(errors="replace"), seen)
+    said = seen.err.decode(errors="replace").splitlines()
+    right = seen.status == 4 and not seen.out and (lines is None or len(said) == lines)
+    tally.check(name, right and said and said[-1].startswith("bddcheck.sh: ") and has in seen.err.decode(errors="replace"), seen)
 
 
 def without_answers(tally, script, copy, place):
@@ -120,7 +120,7 @@ def without_answers(tally, script, copy, place):
     for name in ("sh", "dirname", "readlink", "find", "head", "python3"):
         (few / name).symlink_to(shutil.which(name))
     no_answer(tally, "no rt", run([script, c17, c17b], environment={"PATH": str(few)}), "release archive")
-    no_answer(tally, "a word that is no UTF-8", run([script, b"\xff".decode(errors="surrogateescape"), c17]), "UTF-8")
+    no_answer(tally, "an argument that is not UTF-8", run([script, b"\xff".decode(errors="surrogateescape"), c17]), "UTF-8")
 
     small = {"preexec_fn": lambda: resource.setrlimit(resource.RLIMIT_FSIZE, (100, 100))}
     no_answer(tally, "files that cannot be written", run([script], C17 + b"%%\n" + C17B, **small), "temporary files")

@@ -1,5 +1,5 @@
 #!/bin/sh
-# Installs the Debian packages that parts of tests/run.sh need and that are missing here. Where that cannot be done (not as root, no
+# Installs the Debian packages that parts of tests/run.sh need and that are missing here. If that cannot be done (not as root, no
 # apt-get, no registry that answers) it prints the one command to type, and which parts will be skipped or fail until then.
 # Nothing of it is needed to compare netlists. .ci/run calls it first.
 #

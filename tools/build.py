@@ -6,11 +6,11 @@ usage: tools/build.py [--jobs N] [--lanes N]
 `rt` proves a crate and keeps the crates below it to itself meanwhile, so crates of one folder are proved one after the other.
 Therefore each crate is proved in a folder of its own, which has the sources of the crates that it needs and, as hard links, their
 built libraries; what is proved there is moved into the repository, where the crates above find it. So up to three crates are proved
-side by side (two where there are fewer than four processors or less memory), each as soon as the libraries that it needs are built.
-The crate with which the longest chain begins has N jobs and the usual priority; the others have half as many jobs and a lower
+side by side (two if there are fewer than four processors or less memory), each as soon as the libraries that it needs are built.
+The crate with which the dearest chain of crates begins has N jobs and the usual priority; the others have half as many jobs and a lower
 priority, so they use the processors that the first leaves idle. N is the number of processors, with 3 GB of free memory for each.
-Last, `rt run` builds the program in the repository. The folders are below .git, or in the temporary folder where there is no .git;
-where neither can hold hard links of the repository's files, crates are proved one after the other in the repository itself.
+Last, `rt run` builds the program in the repository. The folders are below .git, or in the temporary folder if there is no .git;
+if neither can hold hard links of the repository's files, crates are proved one after the other in the repository itself.
 
 Standard error reports how many crates are proved, what is being proved, the time so far, and about how long it will still take, by
 what the crates so far have taken for each of their lines. What an earlier call has proved is kept, also of a call that was stopped
@@ -154,7 +154,7 @@ class Build:
         self.begun, self.done, self.running, self.failed = set(), set(), {}, False
         # The lines and the seconds of the crates that were proved in this call.
         self.seen = [0, 0.0]
-        self.lanes, self.told = 1, BEGUN
+        self.lanes, self.last_report = 1, BEGUN
         self.changed = threading.Condition()
         self.children = set()
 
@@ -183,16 +183,16 @@ class Build:
                 left[crate] = max(0.0, self.costs[crate] * each - spent)
         return max(sum(left.values()) / self.lanes, *chains_of(self.needed, left).values())
 
-    def tell(self):
+    def report(self):
         """Reports how far the build is. The caller holds the lock."""
         seconds = self.seconds_left()
         more = f"; about {in_minutes(seconds)} more" if seconds is not None else ""
         now = " and ".join(self.running)
-        self.told = time.monotonic()
+        self.last_report = time.monotonic()
         say(f"{len(self.done)} of {len(self.needed)} crates proved; now {now}{more}")
 
     def next(self):
-        """A crate whose lower crates are proved, with the longest chain above it; None where nothing is left to begin."""
+        """A crate whose lower crates are proved, with the dearest chain above it; None if nothing is left to begin."""
         with self.changed:
             while not self.failed and len(self.begun) < len(self.needed):
                 ready = [crate for crate in self.needed if crate not in self.begun and self.done.issuperset(self.needed[crate])]
@@ -200,7 +200,7 @@ class Build:
                     crate = max(ready, key=self.chains.get)
                     self.begun.add(crate)
                     self.running[crate] = time.monotonic()
-                    self.tell()
+                    self.report()
                     return crate
                 self.changed.wait()
             return None
@@ -211,11 +211,11 @@ class Build:
             while one.is_alive():
                 one.join(SECONDS_OF_SILENCE)
                 with self.changed:
-                    if self.running and not self.failed and time.monotonic() - self.told >= SECONDS_OF_SILENCE:
-                        self.tell()
+                    if self.running and not self.failed and time.monotonic() - self.last_report >= SECONDS_OF_SILENCE:
+                        self.report()
 
-    def is_longest(self, crate):
-        """Whether the longest chain of all crates that are not proved begins with this one."""
+    def is_dearest(self, crate):
+        """Whether the dearest chain of all crates that are not proved begins with this one."""
         with self.changed:
             return all(self.chains[other] <= self.chains[crate] for other in self.needed if other not in self.done)
 
@@ -227,7 +227,7 @@ class Build:
                 child.terminate()
             self.changed.notify_all()
 
-    def ended(self, crate, is_proved, told):
+    def ended(self, crate, is_proved, output):
         with self.changed:
             seconds = time.monotonic() - self.running.pop(crate)
             if is_proved:
@@ -237,7 +237,7 @@ class Build:
                     self.seen[1] += seconds
             elif not self.failed:
                 self.failed = True
-                say(f"{crate} was not proved:\n{told}")
+                say(f"{crate} was not proved:\n{output}")
             self.changed.notify_all()
 
     def run(self, folder, crate, jobs, priority):
@@ -260,10 +260,10 @@ class Build:
                 preexec_fn=begin,
             )
             self.children.add(child)
-        told = child.communicate()[0]
+        output = child.communicate()[0]
         with self.changed:
             self.children.remove(child)
-        return child.returncode == 0, told.decode(errors="replace")
+        return child.returncode == 0, output.decode(errors="replace")
 
 
 @functools.lru_cache(maxsize=None)
@@ -296,8 +296,8 @@ def linked(one, other):
 class Place:
     """The folder in which a crate is proved beside others."""
 
-    def __init__(self, build, room, crate):
-        self.build, self.crate, self.folder = build, crate, room / crate
+    def __init__(self, build, workspace, crate):
+        self.build, self.crate, self.folder = build, crate, workspace / crate
         self.own = TOP / "crates" / crate / "out"
         self.out = self.folder / "crates" / crate / "out"
 
@@ -359,25 +359,25 @@ class Place:
         is_proved = False
         try:
             self.fill()
-            is_proved, told = self.build.run(self.folder, self.crate, jobs, priority)
+            is_proved, output = self.build.run(self.folder, self.crate, jobs, priority)
         finally:
             self.keep(is_proved)
-        return is_proved, told
+        return is_proved, output
 
 
-def lane(build, room, jobs):
-    """Proves crate after crate: by all jobs where the longest chain of crates begins with it, else by half of them and at a lower
-    priority. Without a room, and for the program itself, that is done in the repository."""
+def lane(build, workspace, jobs):
+    """Proves crate after crate: by all jobs if the dearest chain of crates begins with it, else by half of them and at a lower
+    priority. Without a workspace, and for the program itself, that is done in the repository."""
     while crate := build.next():
-        is_longest = build.is_longest(crate)
-        share, priority = (jobs, 0) if is_longest or not room else (max(1, jobs // 2), LOWER_PRIORITY)
+        is_dearest = build.is_dearest(crate)
+        share, priority = (jobs, 0) if is_dearest or not workspace else (max(1, jobs // 2), LOWER_PRIORITY)
         try:
-            if crate == PROGRAM or not room:
+            if crate == PROGRAM or not workspace:
                 build.ended(crate, *build.run(TOP, crate, share, priority))
             else:
-                build.ended(crate, *Place(build, room, crate).prove(share, priority))
+                build.ended(crate, *Place(build, workspace, crate).prove(share, priority))
         except OSError as error:
-            build.ended(crate, False, f"{error.filename or room}: {error.strerror or error}")
+            build.ended(crate, False, f"{error.filename or workspace}: {error.strerror or error}")
 
 
 def is_ours(folder):
@@ -386,27 +386,27 @@ def is_ours(folder):
     return stat.S_ISDIR(found.st_mode) and found.st_uid == os.geteuid() and not found.st_mode & 0o022
 
 
-def room_for_lanes():
-    """A folder that stays after a call that was killed, and takes hard links of the repository's files; None where there is none."""
+def workspace_for_lanes():
+    """A folder that stays after a call that was killed, and takes hard links of the repository's files; None if there is none."""
     name = f"bddcheck-build-{os.geteuid()}-{hashlib.sha256(str(TOP).encode()).hexdigest()[:12]}"
-    for room in (TOP / ".git" / "bddcheck-build", pathlib.Path(tempfile.gettempdir()) / name):
+    for workspace in (TOP / ".git" / "bddcheck-build", pathlib.Path(tempfile.gettempdir()) / name):
         with contextlib.suppress(OSError):
-            if room.parent.is_dir():
-                room.mkdir(mode=0o700, exist_ok=True)
-                if is_ours(room):
-                    (room / "link").unlink(missing_ok=True)
-                    os.link(TOP / "crates.txt", room / "link")
-                    (room / "link").unlink()
-                    return room
+            if workspace.parent.is_dir():
+                workspace.mkdir(mode=0o700, exist_ok=True)
+                if is_ours(workspace):
+                    (workspace / "link").unlink(missing_ok=True)
+                    os.link(TOP / "crates.txt", workspace / "link")
+                    (workspace / "link").unlink()
+                    return workspace
     return None
 
 
 def build_all(jobs, lanes):
     """Whether all crates were proved, each by so many jobs, so many side by side."""
     build = Build()
-    room = room_for_lanes() if lanes > 1 else None
-    build.lanes = lanes if room else 1
-    threads = [threading.Thread(target=lane, args=(build, room, jobs)) for _ in range(build.lanes)]
+    workspace = workspace_for_lanes() if lanes > 1 else None
+    build.lanes = lanes if workspace else 1
+    threads = [threading.Thread(target=lane, args=(build, workspace, jobs)) for _ in range(build.lanes)]
     for one in threads:
         one.start()
     try:
@@ -415,8 +415,8 @@ def build_all(jobs, lanes):
         build.stop()
         for one in threads:
             one.join()
-        if room:
-            remove(room)
+        if workspace:
+            remove(workspace)
     if not build.failed:
         say(f"{len(build.done)} of {len(build.needed)} crates proved; {PROGRAM} is built")
     return not build.failed

@@ -7,8 +7,8 @@ tools/bddcheck.sh calls it when the program is not built, or older than a source
 of the program. Two lines on standard error say first that this is not the proved program, and how to build that.
 
 `rt try` gives the program another working folder, and standard input as a file. So each path becomes the path of a link in a folder
-of this call, and the faults name the caller's path again. A path that leads to an open file of this process, as those of a shell's
-<(..), leads there by its number. `rt` takes no lock for this, so several calls, and a build, can run at once.
+of this call, and the faults name the caller's path again. A path that leads to an open file of this process, such as those of a
+shell's <(..), leads there by the number of the process. `rt` takes no lock for this, so several calls and a build can run at once.
 
 Status 4: no answer, and one line on standard error that says why: `rt` is missing, a file was to be written, the report is over
 1 MiB, the run needs more time than it has here, a run-time check failed, or there is no room for temporary files. If the sources
@@ -62,31 +62,31 @@ class NoAnswer(Exception):
 
 
 class Asked:
-    """The words of a call, with a link in place of each path, and what they ask of standard input."""
+    """The arguments of a call, with a link in place of each path, and whether they ask for standard input."""
 
-    def __init__(self, words, place):
-        if not all(map(is_text, words)):
-            raise NoAnswer(f"a word of the command line is no UTF-8, and the unproved sources take no such word; {way_to_build()}")
+    def __init__(self, arguments, place):
+        if not all(map(is_text, arguments)):
+            raise NoAnswer(f"an argument is not valid UTF-8, and the unproved sources take no such argument; {way_to_build()}")
         self.place, self.paths = place, {}
-        self.words, self.texts, self.asks, self.writes = [], [], False, False
+        self.arguments, self.texts, self.asks, self.writes = [], [], False, False
         option, is_ended = None, False
-        for word in words:
+        for argument in arguments:
             if option:
-                self.words.append(self.link(word) if option in READ else word)
+                self.arguments.append(self.link(argument) if option in READ else argument)
                 option = None
-            elif is_ended or word == "-" or not word.startswith("-"):
-                self.texts.append(word)
-                self.words.append(word if word == "-" else self.link(word))
+            elif is_ended or argument == "-" or not argument.startswith("-"):
+                self.texts.append(argument)
+                self.arguments.append(argument if argument == "-" else self.link(argument))
             else:
-                name, equals, value = word.partition("=")
-                is_ended = word == "--"
+                name, equals, value = argument.partition("=")
+                is_ended = argument == "--"
                 option = name if name in VALUED and not equals else None
-                self.asks = self.asks or word in ASKING
+                self.asks = self.asks or argument in ASKING
                 self.writes = self.writes or name == "--vcd"
-                self.words.append(f"{name}={self.link(value)}" if equals and name in READ else word)
+                self.arguments.append(f"{name}={self.link(value)}" if equals and name in READ else argument)
 
     def link(self, path):
-        """The path of a link to what the caller's path names. An empty word, which can name no file, stays as it is."""
+        """The path of a link to what the caller's path names. An empty argument, which can name no file, stays as it is."""
         if not path:
             return path
         link = f"{self.place}/{len(self.paths)}-"
@@ -104,9 +104,9 @@ class Asked:
         return said
 
 
-def is_text(word):
+def is_text(argument):
     try:
-        word.encode()
+        argument.encode()
         return True
     except UnicodeEncodeError:
         return False
@@ -148,13 +148,13 @@ def end_with_parent():
     LIBC.prctl(END_WITH_PARENT, signal.SIGTERM)
 
 
-def tried(words, given, place):
-    """What `rt try` writes to standard output and to standard error on these words."""
+def tried(arguments, given, place):
+    """What `rt try` writes to standard output and to standard error on these arguments."""
     environment = {**os.environ, "TMPDIR": place}
-    words = ["rt", "try", "--seconds", str(SECONDS), "--", *words]
+    command = ["rt", "try", "--seconds", str(SECONDS), "--", *arguments]
     with open(given, "rb") as stdin, open(f"{place}/report", "wb+") as out, open(f"{place}/said", "wb+") as err:
         child = subprocess.Popen(
-            words, cwd=TOP / "crates" / "bddcheck", stdin=stdin, stdout=out, stderr=err, env=environment, preexec_fn=end_with_parent
+            command, cwd=TOP / "crates" / "bddcheck", stdin=stdin, stdout=out, stderr=err, env=environment, preexec_fn=end_with_parent
         )
         try:
             child.wait()
@@ -201,10 +201,10 @@ def room_in(folder):
     return found.f_bavail * found.f_frsize
 
 
-def answer(words, place):
+def answer(arguments, place):
     if room_in(place) < BYTES_OF_A_TRY:
         raise NoAnswer(f"there is no room for temporary files in {os.path.dirname(place)}: {BYTES_OF_A_TRY >> 20} MiB are needed")
-    asked = Asked(words, place)
+    asked = Asked(arguments, place)
     if asked.writes:
         raise NoAnswer(f"--vcd writes a file, which the unproved sources cannot; {way_to_build()}")
     given = os.devnull
@@ -216,7 +216,7 @@ def answer(words, place):
         " a minute for each call and is many times slower"
     )
     say(way_to_build())
-    status, out, said = answered(asked, *tried(asked.words, given, place))
+    status, out, said = answered(asked, *tried(asked.arguments, given, place))
     write(2, said)
     if not write(1, out):
         write(2, b"bddcheck: report: cannot be written\n")
@@ -245,7 +245,7 @@ def main():
         say("the program is not built, and the command `rt`, which builds it, is not found: take a release archive, which needs no `rt`")
         return NO_ANSWER
     try:
-        place = tempfile.mkdtemp(prefix="bddcheck-")
+        place = os.path.abspath(tempfile.mkdtemp(prefix="bddcheck-"))
     except OSError as error:
         say(f"there is no folder for temporary files ({error.strerror or error}); {way_to_build()}")
         return NO_ANSWER
