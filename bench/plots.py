@@ -7,7 +7,7 @@ It writes plot-NAME.svg into FOLDER (docs/) for each NAME below whose results ar
 they are the same bytes on every machine.
 
 buddy         time and memory of one worker over BuDDy's      peers.json
-decided       comparisons decided over time, beside abc's cec  designs.json
+decided       pairs decided over time, beside abc's cec        designs.json
 nodes         nodes that a comparison needs in each order      nodes.json
 workers       time on the clock by 2 and 4 workers             workers.json, cones.json
 designs       time on the clock of designs by 4 workers        turns.json
@@ -145,7 +145,7 @@ def draw_buddy(peers):
     return drawing
 
 
-# Comparisons decided over time.
+# Pairs of netlists decided over time.
 
 
 def steps(times, x, y, first, last):
@@ -158,7 +158,7 @@ def steps(times, x, y, first, last):
 
 
 def draw_decided(designs):
-    drawing = Drawing("Comparisons decided over time, beside abc's cec")
+    drawing = Drawing("Pairs of netlists decided over time, beside abc's cec")
     rows, bound = designs["rows"], designs["head"]["settings"]["seconds"]
     ours = [row["bddcheck"]["processor"] for row in rows if row["bddcheck"] and not row["undecided"]]
     theirs = [row["cec"]["processor"] for row in rows if row["cec"]]
@@ -166,7 +166,7 @@ def draw_decided(designs):
     low = 0.01
     scale = logarithmic(low, bound, left, right)
     height = lambda count: bottom - (bottom - top) * count / len(rows)
-    drawing.text(left, 22, f"Of {len(rows)} comparisons so many are decided, each within so many seconds of processor time")
+    drawing.text(left, 22, f"Of {len(rows)} pairs of netlists so many are decided, each within so many seconds of processor time")
     for tick in [tick for tick in (0.01, 0.03, 0.1, 0.3, 1, 3, 10, 30, 100, 300) if tick <= bound]:
         drawing.line(scale(tick), top, scale(tick), bottom, PALE)
         drawing.text(scale(tick), bottom + 16, f"{tick:g}", "middle", SMALL, GREY)
