@@ -55,9 +55,8 @@ pub neither : (verbose seen : Bool) → verbose ≡ false → seen ≡ false →
 neither verbose seen e f = ap (λ v. v || seen) e ∙ f
 
 -- the status of a fault that is said is that fault's
-pub code_of : (more : Bool) (told : List ℕ → Option (List ℕ)) (o : Options) (w : Written) (fault : ToolFault) (status : ℕ) → IsSaidOf more told o w fault status → status ≡ fault_status fault
-code_of false told o w fault status said = said.code
-code_of true told o w fault status said = said.1.code
+pub code_of : (told : List ℕ → Option (List ℕ)) (o : Options) (w : Written) (fault : ToolFault) (status : ℕ) → IsSaidOf told o w fault status → status ≡ fault_status fault
+code_of told o w fault status said = said.1.code
 
 -- either more is asked for, or it is not
 pub asked_or : {A B : Type 0} (verbose : Bool) → (verbose ≡ true → A) → (verbose ≡ false → B) → A ⊎ B

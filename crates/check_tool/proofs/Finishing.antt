@@ -21,7 +21,7 @@ not_asked false seen e = refl
 
 pub ended : (broken : List ℕ → Type 0) (s : Scene) (o : Options) (done : Done) (tries : Option (List Try)) (saves : Option (List Save)) (b : Between) (status : ℕ) → HasReported s.told s.input o s.output.held s.output.holds done
     → Extends s.tried tries (opened (paths_of o)) → ArePassed s.told s.input o done → saves ≡ s.saved → HasProgress (tells o s.seen) (until s.errors b)
-    → Finishes o done tries s.tries saves s.saves (from s.errors b) status ⊎ ((fault : ToolFault) × BreaksOff (tells o s.seen) s.told o done tries s.tries saves s.saves (from s.errors b) fault status)
+    → Finishes o done tries s.tries saves s.saves (from s.errors b) status ⊎ ((fault : ToolFault) × BreaksOff s.told o done tries s.tries saves s.saves (from s.errors b) fault status)
     → IsEnding broken s o status
 ended broken s o done tries saves b status report before passed same progress (inl f) = inl (
   done,

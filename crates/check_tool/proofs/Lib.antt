@@ -3,6 +3,7 @@ pub mod Composing
 pub mod Failing
 pub mod Preparing
 pub mod Quoting
+pub mod Naming
 pub mod Asking
 pub mod Saying
 pub mod Unsaved

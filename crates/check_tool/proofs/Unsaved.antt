@@ -1,26 +1,22 @@
 -- A VCD that was not saved: no file of a refused text is opened for that.
-use Rattle.std.proofs.Common.{◌≡◌, ◌∙◌, ◌++◌, Bool, true, false, List, [], ◌∷◌, Option, refl, sym, ap, subst, append-nil}
+use Rattle.std.proofs.Common.{◌≡◌, ◌++◌, List, [], ◌∷◌, Option, refl, sym, ap, subst, append-nil}
 use Rattle.command_line.specs.declared.options.Options.{Options}
 use Rattle.check_tool.specs.declared.folder.Obstacle.{Obstacle}
 use Rattle.check_tool.specs.declared.fault.ToolFault.{ToolFault}
 use Rattle.check_tool.specs.declared.fault.ToolFault.TheVariants.{CannotSave}
-use Rattle.check_tool.specs.Ending.{asked_again}
+use Rattle.check_tool.specs.Helping.{refused_paths}
 use Rattle.check_tool.specs.Opening.{AreTried, Extends, Try}
 use Rattle.check_tool.proofs.Composing.{extends_more, extends_none}
-
-none_again : (more : Bool) (o : Options) (obstacle : Obstacle) → asked_again more o (CannotSave obstacle) ≡ []
-none_again false o obstacle = refl
-none_again true o obstacle = refl
 
 no_tries : (again : List Try) → AreTried [] again → again ≡ []
 no_tries [] tried = refl
 no_tries (t ∷ ts) tried = absurd tried
 
 -- the files that were opened before are all
-pub none_opened : (more : Bool) (o : Options) (obstacle : Obstacle) (fault : ToolFault) → fault ≡ CannotSave obstacle → (a b c : Option (List Try)) (before again : List Try) → Extends a b before → Extends b c again
-    → AreTried (asked_again more o fault) again → Extends a c before
-none_opened more o obstacle fault is a b c before again e f tried =
-    let paths : asked_again more o fault ≡ [] = ap (asked_again more o) is ∙ none_again more o obstacle in
+pub none_opened : (o : Options) (obstacle : Obstacle) (fault : ToolFault) → fault ≡ CannotSave obstacle → (a b c : Option (List Try)) (before again : List Try) → Extends a b before → Extends b c again
+    → AreTried (refused_paths o fault) again → Extends a c before
+none_opened o obstacle fault is a b c before again e f tried =
+    let paths : refused_paths o fault ≡ [] = ap (refused_paths o) is in
     let none : again ≡ [] = no_tries again (subst (λ p. AreTried p again) paths tried) in
     subst (λ l. Extends a c l) (ap (λ l. before ++ l) none ∙ append-nil before) (extends_more a b c before again e f)
 

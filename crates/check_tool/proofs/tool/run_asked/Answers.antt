@@ -4,8 +4,8 @@ use Rattle.check_tool.specs.declared.done.Done.{Done}
 use Rattle.check_report.specs.declared.fault.CheckFault.TheVariants.{Write}
 use Rattle.check_tool.specs.declared.fault.ToolFault.{ToolFault}
 use Rattle.check_tool.specs.declared.fault.ToolFault.TheVariants.{Check, OutOfMemory}
-use Rattle.check_tool.specs.Ending.{Between, BreaksOff, Finishes, IsSaidOf, Scene, Written, asked_again, from, scene_of, tells, written}
-use Rattle.check_tool.specs.Opening.{AreTried, HasFailedAt}
+use Rattle.check_tool.specs.Ending.{Between, BreaksOff, Finishes, IsSaidOf, Scene, Written, from, scene_of, written}
+use Rattle.check_tool.specs.Opening.{HasFailedAt}
 use Rattle.check_tool.specs.Faults.{fault_status}
 use Rattle.check_tool.proofs.Composing.{keeps_own, code_of, extends_more}
 use Rattle.check_tool.proofs.Unsaved.{grows_none}
@@ -29,9 +29,7 @@ returns-in-Ok-clause-ending g c =
     (written g.W.Sink.contents g.W.Sink.has_failed g.W.Sink.has_stopped c.args.out.now c.run_options.new.out) (written g.E.Sink.contents g.E.Sink.has_failed g.E.Sink.has_stopped c.args.errors.now c.finish.new.errors) in
     let b : Between = record { holds = g.E.Sink.contents errors; has_failed = g.E.Sink.has_failed errors; has_stopped = g.E.Sink.has_stopped errors } in
     let end = subst (λ t. Finishes o c.in-Ok.done (g.F.Folder.tries between) (g.F.Folder.tries after) (g.F.Folder.saves between) (g.F.Folder.saves after) (from scene.errors b) c.finish.result
-    ⊎ ((fault : ToolFault) × BreaksOff (tells o scene.seen) t o c.in-Ok.done (g.F.Folder.tries between) (g.F.Folder.tries after) (g.F.Folder.saves between) (g.F.Folder.saves after) (from scene.errors b) fault c.finish.result)) c.run_options.ensures.kept
-    (subst (λ m. Finishes o c.in-Ok.done (g.F.Folder.tries between) (g.F.Folder.tries after) (g.F.Folder.saves between) (g.F.Folder.saves after) (from scene.errors b) c.finish.result
-    ⊎ ((fault : ToolFault) × BreaksOff m (g.F.Folder.told between) o c.in-Ok.done (g.F.Folder.tries between) (g.F.Folder.tries after) (g.F.Folder.saves between) (g.F.Folder.saves after) (from scene.errors b) fault c.finish.result)) c.tells-more.ensures c.finish.ensures.ending) in
+    ⊎ ((fault : ToolFault) × BreaksOff t o c.in-Ok.done (g.F.Folder.tries between) (g.F.Folder.tries after) (g.F.Folder.saves between) (g.F.Folder.saves after) (from scene.errors b) fault c.finish.result)) c.run_options.ensures.kept c.finish.ensures.ending in
     ended (HasFailedAt g.F.File.Source.origin g.F.File.Source.has_failed) scene o c.in-Ok.done (g.F.Folder.tries between) (g.F.Folder.saves between) b c.finish.result ran.report ran.opened ran.passed c.run_options.ensures.unsaved c.run_options.ensures.progress end
 
 pub returns-in-Err-clause-ending : goal.returns-in-Err-clause-ending
@@ -47,7 +45,7 @@ returns-in-Err-clause-ending g c =
         tries = cause.0;
         again = again.0;
         tried = extends_more (g.F.Folder.tries c.args.folder.now) (g.F.Folder.tries c.run_options.new.folder) (g.F.Folder.tries c.refuse_run.new.folder) cause.0 again.0 cause.1 again.1;
-        once_more = subst (λ v. AreTried (asked_again v c.args.options.now c.in-Err.fault) again.0) c.tells-more.ensures again.2;
+        once_more = again.2;
         cause = cause.2;
         unread = λ e. c.run_options.ensures.read (c.in-Err.is ∙ ap Err e);
         full = λ e. c.run_options.ensures.full (c.in-Err.is ∙ ap Err e);
@@ -62,9 +60,7 @@ returns-in-Err-clause-ending g c =
         line = (
           record { holds = g.E.Sink.contents c.run_options.new.errors; has_failed = g.E.Sink.has_failed c.run_options.new.errors; has_stopped = g.E.Sink.has_stopped c.run_options.new.errors },
           c.run_options.ensures.progress,
-          rw (← c.run_options.ensures.kept) (
-              subst (λ v. IsSaidOf v (g.F.Folder.told c.run_options.new.folder) c.args.options.now said c.in-Err.fault c.refuse_run.result) c.tells-more.ensures c.refuse_run.ensures.said
-              ),
+          subst (λ t. IsSaidOf t c.args.options.now said c.in-Err.fault c.refuse_run.result) c.run_options.ensures.kept c.refuse_run.ensures.said,
         );
         front = λ e. c.run_options.ensures.unwritten (c.in-Err.is ∙ ap Err e);
         nothing = λ other.
@@ -83,7 +79,7 @@ returns-in-Err-clause-untouched g c two =
       has_failed = g.E.Sink.has_failed after;
       has_stopped = g.E.Sink.has_stopped after;
     } in
-    let code = code_of c.tells-more.result (g.F.Folder.told c.run_options.new.folder) c.args.options.now said c.in-Err.fault c.refuse_run.result c.refuse_run.ensures.said in
+    let code = code_of (g.F.Folder.told c.run_options.new.folder) c.args.options.now said c.in-Err.fault c.refuse_run.result c.refuse_run.ensures.said in
     subst (λ r. OnErr r (r ≢ Err (Check Write) → c.run_options.new.out ≡ c.args.out.now)) c.in-Err.is c.run_options.ensures.untouched (
     λ e. let three = sym two ∙ code ∙ ap (λ r. fault_status (fault_in r)) e in absurd (omega (arith, three))
     )
