@@ -56,7 +56,6 @@ pub(crate) fn with_names(alloc: Global, text: &str, names: &[&str]) -> Result<St
 #[tactic(auto, using(crate::proofs::Composing::extends_none, crate::proofs::Quoting::tried_once, crate::proofs::Naming::gives_again))]
 fn read_again<F: Folder>(alloc: Global, folder: &mut F, path: &str) -> Option<Netlist>
     ensures read { IfSome result (λ net. Gives (F.told folder.old path.now) (circuit net)) }
-    ensures kept { F.told folder.new ≡ F.told folder.old }
     ensures tried { (again : List Try) × Extends (F.tries folder.old) (F.tries folder.new) again × AreTried (path.now ∷ []) again }
     ensures unsaved { F.saves folder.new ≡ F.saves folder.old }
 {
@@ -76,7 +75,6 @@ fn read_again<F: Folder>(alloc: Global, folder: &mut F, path: &str) -> Option<Ne
 #[tactic(auto, using(crate::proofs::Composing::extends_none))]
 fn first_netlist<F: Folder>(alloc: Global, folder: &mut F, options: &Options<'_>) -> Option<Netlist>
     ensures read { IfSome result (λ net. IsFirstCircuit (F.told folder.old) options.now (circuit net)) }
-    ensures kept { F.told folder.new ≡ F.told folder.old }
     ensures tried { (again : List Try) × Extends (F.tries folder.old) (F.tries folder.new) again
         × AreTried (first_paths options.now.texts) again }
     ensures unsaved { F.saves folder.new ≡ F.saves folder.old }
