@@ -453,14 +453,14 @@ def main():
     settings = parser.parse_args()
     for number in (signal.SIGINT, signal.SIGTERM, signal.SIGHUP):
         signal.signal(number, stopped)
-    if not shutil.which("rt"):
-        say("the command `rt` is not found. It comes with the kit that proves the program; README.md names those that do")
-        return NOT_BUILT
     with open(TOP / "crates.txt") as lock:
         wait_for(lock)
         if is_fresh():
             say("the program is built, and no source is newer")
             return 0
+        if not shutil.which("rt"):
+            say("the command `rt` is not found. It comes with the kit that proves the program; README.md names those that do")
+            return NOT_BUILT
         begun = time.time()
         jobs = settings.jobs or jobs_here()
         lanes = settings.lanes or lanes_for(jobs)
