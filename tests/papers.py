@@ -124,12 +124,12 @@ def drawn_pictures(tally):
     """What the scripts draw, by the path that it has in the repository."""
     drawn = {}
     for name, (script, *words) in DRAWN.items():
-        seen = run([sys.executable, TOP / script, *words])
+        seen = run([sys.executable, TOP / script, *words], seconds=600)
         tally.check(f"{script} draws", seen.status == 0, seen)
         drawn[name] = seen.out
     for script in DRAW_TOGETHER:
         with folder() as place:
-            seen = run([sys.executable, TOP / script, place])
+            seen = run([sys.executable, TOP / script, place], seconds=600)
             pictures = sorted(pathlib.Path(place).iterdir())
             tally.check(f"{script} draws", seen.status == 0 and pictures, seen)
             drawn |= {f"docs/{path.name}": path.read_bytes() for path in pictures}
@@ -244,9 +244,9 @@ def main():
     texts = {page: page.read_text() for page in pages.all_pages()}
     check_options(tally, sys.argv[1], readme)
     check_orders(tally, sys.argv[1])
-    compared = run([sys.executable, str(TOP / "tools" / "definitions.py")])
+    compared = run([sys.executable, TOP / "tools" / "definitions.py"], seconds=600)
     tally.check("docs/DEFINITIONS.md has what public contracts cite", compared.status == 0, compared)
-    cited = run([sys.executable, str(TOP / "tools" / "proved.py")])
+    cited = run([sys.executable, TOP / "tools" / "proved.py"], seconds=600)
     tally.check("the contracts have each clause that docs/PROVED.md and docs/TESTING.md name", cited.status == 0, cited)
     check_pictures(tally)
     check_links(tally, texts)
