@@ -175,12 +175,16 @@ class Build:
         lines, seconds = self.seen
         if not lines:
             return None
-        each, now = seconds / lines, time.monotonic()
+        now = time.monotonic()
+        spent = {crate: now - begun for crate, begun in self.running.items()}
+        for crate in spent:
+            # One that takes longer than it should shows that lines cost more than was seen.
+            if spent[crate] * lines > self.costs[crate] * seconds:
+                lines, seconds = lines + self.costs[crate], seconds + spent[crate]
         left = {}
         for crate in self.needed:
             if crate not in self.done:
-                spent = now - self.running[crate] if crate in self.running else 0
-                left[crate] = max(0.0, self.costs[crate] * each - spent)
+                left[crate] = max(0.0, self.costs[crate] * seconds / lines - spent.get(crate, 0))
         return max(sum(left.values()) / self.lanes, *chains_of(self.needed, left).values())
 
     def report(self):
