@@ -171,6 +171,8 @@ def tried(arguments, given, place):
 # The last lines that `rt try` writes after what the program has written, and those before it.
 AFTER = re.compile(rb"(?:^(?:checked|interpreter|races): .*\n)*^run=.*\n\Z", re.M)
 BEFORE = re.compile(rb"\A(?:^rt: .*\n)+", re.M)
+# The last line of `rt`, if the system refuses it a file.
+OF_SYSTEM = re.compile(rb"^OSError: \[Errno \d+\] ([^:\n]+).*\n\Z", re.M)
 ENDED = re.compile(rb"^run=ended status=([0-3]) .*proved=no\n\Z", re.M)
 
 
@@ -186,6 +188,9 @@ def answered(asked, out, err):
 def why_not(asked, err):
     if b"No space left on device" in err or room_in(asked.place) < 1 << 20:
         return f"there is no room for temporary files in {os.path.dirname(asked.place)}"
+    fault = OF_SYSTEM.search(err)
+    if fault:
+        return f"temporary files cannot be written in {os.path.dirname(asked.place)} ({fault[1].decode()})"
     if b"\nchecked: no-answer: the program wrote more than" in err:
         return f"the report is over 1 MiB, the most that the unproved sources can print; {way_to_build()}"
     if b"\nchecked: no-answer: the program did not end" in err:
