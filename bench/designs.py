@@ -9,7 +9,8 @@ within N (10) seconds of processor time, bddcheck also within MB (4,000) megabyt
 least counts. The table in Markdown has, for each comparison, how many pairs of outputs and next states were equal, differing, without
 a partner and undecided, the seconds of both, bddcheck's peak of memory, and what cec says; the last lines count the pairs with a
 verdict, and the comparisons that each has decided. Of a run that ends without a report all pairs count as undecided. The two programs
-may not contradict each other. cec refuses netlists whose inputs or registers differ.
+may not contradict each other. cec refuses netlists whose numbers of inputs or registers differ, so it gets copies to which the inputs
+that only the other one has were added, unused; registers stay as they are.
 
 With --hindsight it measures what the default order costs instead, and writes results/hindsight.json: of each comparison with b that a
 single order ends within N seconds of processor time, with one worker, the order that took least and its processor time, that of the
@@ -69,9 +70,21 @@ def comparisons(folders, letters="bc", only=""):
                 yield f"{design.name} {other.stem}", [design / "a.bench", other]
 
 
-def compared(launcher, files, settings):
+def copies(files, room):
+    """The netlists for cec: each with the inputs that only the other one has, unless such a name is a signal here."""
+    texts = [path.read_text() for path in files]
+    inputs = [re.findall(r"(?mi)^\s*INPUT\s*\(\s*(.*?)\s*\)", text) for text in texts]
+    signals = [{*names, *re.findall(r"(?m)^\s*([^\s#=]+)\s*=", text)} for names, text in zip(inputs, texts)]
+    for letter, text, mine, theirs in zip("ab", texts, signals, inputs[::-1]):
+        added = "".join(f"INPUT({name})\n" for name in theirs if name not in mine)
+        path = room / f"{letter}.bench"
+        path.write_text(added + text)
+        yield path
+
+
+def compared(launcher, files, room, settings):
     bounds = {"seconds": settings.seconds}
-    cec = f"cec -T {settings.seconds} -C {UNBOUNDED} {files[0]} {files[1]}"
+    cec = f"cec -T {settings.seconds} -C {UNBOUNDED} {' '.join(map(str, copies(files, room)))}"
     ours = [settings.program, "--workers", "1", *settings.options.split(), *files]
     columns = [
         Column(ours, {**bounds, "megabytes": settings.memory}, has_report),
@@ -102,7 +115,7 @@ def count_verdicts(settings):
         keys.append(key)
         if key not in results:
             results.begin()
-            row = results.add(key, compared(launcher, files, settings))
+            row = results.add(key, compared(launcher, files, pathlib.Path(launcher.folder.name), settings))
             say(key, *(shown(row[name] and row[name]["processor"], 3) for name in ("bddcheck", "cec")), row["cec says"])
     if not settings.only:
         results.keep_only(keys)
