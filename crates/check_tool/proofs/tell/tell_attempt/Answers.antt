@@ -14,8 +14,8 @@ returns g c =
       has_stopped = g.E.Sink.has_stopped c.say_parts.new.errors;
     } in
     let t = c.in-Some.attempt in
-    let name = ap (λ n. codes "bddcheck: order " ++ (n ++ (codes ", budget " ++ (c.format.result.now ++ (codes "\n" ++ []))))) c.name.ensures in
-    let number = ap (λ n. codes "bddcheck: order " ++ (candidate_text t.order ++ (codes ", budget " ++ (n ++ codes "\n")))) c.format.ensures.text in
-    let front : List ℕ = candidate_text t.order ++ codes ", budget " in
-    let line = ap (λ l. codes "bddcheck: order " ++ l) (sym (append_assoc front (decimal t.budget) (codes "\n") ∙ append_assoc (candidate_text t.order) (codes ", budget ") (decimal t.budget ++ codes "\n"))) in
+    let name = ap (λ n. codes "bddcheck: order " ++ (n ++ (codes " decided within " ++ (c.format.result.now ++ (codes " nodes\n" ++ []))))) c.name.ensures in
+    let number = ap (λ n. codes "bddcheck: order " ++ (candidate_text t.order ++ (codes " decided within " ++ (n ++ codes " nodes\n")))) c.format.ensures.text in
+    let front : List ℕ = candidate_text t.order ++ codes " decided within " in
+    let line = ap (λ l. codes "bddcheck: order " ++ l) (sym (append_assoc front (decimal t.budget) (codes " nodes\n") ∙ append_assoc (candidate_text t.order) (codes " decided within ") (decimal t.budget ++ codes " nodes\n"))) in
     subst (λ a. IsAttemptSaid a w) (sym c.in-Some.is) (subst (Says w) (name ∙ number ∙ line) c.say_parts.ensures)
