@@ -1,5 +1,5 @@
 -- A VCD that was not saved: no file of a refused text is opened for that.
-use Rattle.std.proofs.Common.{◌≡◌, ◌++◌, List, [], ◌∷◌, Option, refl, sym, ap, subst, append-nil}
+use Rattle.std.proofs.Common.{◌≡◌, ◌∙◌, ◌++◌, List, [], ◌∷◌, Option, refl, sym, ap, subst, append-nil}
 use Rattle.command_line.specs.declared.options.Options.{Options}
 use Rattle.check_tool.specs.declared.folder.Obstacle.{Obstacle}
 use Rattle.check_tool.specs.declared.fault.ToolFault.{ToolFault}
