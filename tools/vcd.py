@@ -173,13 +173,17 @@ def dumped(one: Net, two: Net, by_name: bool, it: Difference) -> bytes:
 
 
 def asked() -> argparse.Namespace:
-    parser = argparse.ArgumentParser(usage=(__doc__ or "").split("\n")[2].removeprefix("usage: "))
-    parser.add_argument("--of")
-    parser.add_argument("--match", choices=["name", "position"], default="name")
-    parser.add_argument("-o", dest="out")
-    for name in ("first", "second"):
-        parser.add_argument(name)
-    parser.add_argument("report", nargs="?")
+    what, usage, more = (__doc__ or "").strip().split("\n\n")
+    parser = argparse.ArgumentParser(usage=usage.removeprefix("usage: "), description=what, epilog=more)
+    parser.add_argument("--of", metavar="NAME", help="the pair: an output of FIRST, or 'NEXT name'; the default is the first that differs")
+    parser.add_argument(
+        "--match", choices=["name", "position"], default="name", help="how the report paired signals: by name (the default) or by position"
+    )
+    parser.add_argument("-o", dest="out", metavar="OUT", help="the file to write; the default is standard output")
+    parser.add_argument("first", metavar="FIRST", help="the file of the first netlist")
+    parser.add_argument("second", metavar="SECOND", help="the file of the second netlist")
+    report = "the report of bddcheck on them, as text or JSON; the default is standard input"
+    parser.add_argument("report", metavar="REPORT", nargs="?", help=report)
     return parser.parse_args()
 
 
