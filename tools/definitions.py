@@ -6,8 +6,9 @@ name, or a method of a type that it exports; each function of such a trait; and 
 that a clause of it takes from the `specs/` of a crate of this repository.
 
 The page has a section for each crate, in it a bold line for each file of `specs/`, and below that one item for each name:
-"- `name`: what it is". The page has to have every definition that a public contract cites, or that docs/PROVED.md names in
-parentheses, and no other, except those that a definition on the page is made of.
+"- `name`: what it is". The page has to have every definition that a public contract cites, that docs/PROVED.md names in parentheses, or
+that docs/ARCHITECTURE.md or docs/CALLING.md names in a code span of its own, and no other, except those that a definition on the page is
+made of.
 
 Prints each mistake, and exits 1 if there is one: an item that does not explain exactly one name, a name that is explained twice, a
 definition that is missing, one that its file does not have, and one that nothing asks for. With --uses it prints each cited definition
@@ -190,6 +191,17 @@ def named():
     return set(re.findall(rf"`({WORD})`", " ".join(groups)))
 
 
+def mentioned():
+    """The names of definitions that the two pages about the code have in code spans, alone or before their arguments. A name in small
+    letters without an underscore may as well be that of a clause, so it is not counted; nor is the name of a file of specs/."""
+    found = set()
+    for page in ("ARCHITECTURE.md", "CALLING.md"):
+        text = re.sub(r"^```.*?^```", "", (TOP / "docs" / page).read_text(), flags=re.M | re.S)
+        spans = re.findall(rf"`({WORD})(?:\s[^`]*)?`", text)
+        found |= {name for name in spans if (name[0].isupper() or "_" in name) and is_defined(name)}
+    return found - {path.stem for path in (TOP / "crates").glob("*/specs/*.antt")} - set(CRATES)
+
+
 def is_defined(name):
     """Whether some file of specs/ defines the name, not only a field of it."""
     return any(defines(str(path.relative_to(TOP / "crates")), name) for path in (TOP / "crates").glob("*/specs/*.antt"))
@@ -253,13 +265,16 @@ def main():
         for (name, file), names in sorted(uses.items(), key=lambda use: (use[0][1], use[0][0])):
             print(f"{file} {name}: {' '.join(sorted(names))}")
     asked = {name for name in named() if is_defined(name)}
+    shown = mentioned()
     rests = {part for row in rows for part in parts(*row)}
     wrong += [f"cited by a public contract and not on the page: {name} of {file}" for name, file in sorted(uses.keys() - set(rows))]
-    wrong += [f"named by docs/PROVED.md and not on the page: {name}" for name in sorted(asked - {name for name, _ in rows})]
+    explained = {name for name, _ in rows}
+    wrong += [f"named by docs/PROVED.md and not on the page: {name}" for name in sorted(asked - explained)]
+    wrong += [f"named by docs/ARCHITECTURE.md or docs/CALLING.md and not on the page: {name}" for name in sorted(shown - asked - explained)]
     for name, file in rows:
         if not defines(file, name):
             wrong.append(f"on the page and not defined: {name} of {file}")
-        elif (name, file) not in uses and name not in asked and (name, file) not in rests:
+        elif (name, file) not in uses and name not in asked | shown and (name, file) not in rests:
             wrong.append(f"on the page, but nothing asks for it: {name} of {file}")
     for mistake in wrong:
         print(mistake)
