@@ -10,7 +10,8 @@ The file has sections, each begun by a line `== ..`. Lines before the first one,
     == run WORDS [< NAME]      a run on these words, with the file NAME on standard input; then come its lines:
                                those of standard output behind `  `, or all of these as the bytes of a Python expression behind `= `,
                                those of standard error behind `! `, and last `status N`. `! ..` alone stands for any text, one line or more, and `! .. WORD` for any that has WORD
-    == ways WORDS NAME NAME    four such runs on two files, by 1 and 3 workers, and by 2 and 16 with both on standard input
+    == ways WORDS NAME NAME    four such runs on two files, by 1 and 3 workers, and by 2 and 16 with both on standard input, where the second
+                               line of a fault names that in place of the file and shows no line of it
     == order WORDS             a run with --print-order, whose names follow on one line
     == best N N N N N WORDS    with --order best at each limit from 1 to 49 the answer is that of the first of interleave, force, index, depth
                                and declared that is within the limit, and --verbose says which, and of those before it, each once where some are the
@@ -20,6 +21,7 @@ The file has sections, each begun by a line `== ..`. Lines before the first one,
     == texts                   lines `TEXT => SAID`: the text, written as in Python, is refused beside itself by the line SAID, and by a second
                                line with the name of the file and the number of the line; or if SAID is `netlist` it is equal to itself
 """
+import re
 import shlex
 import sys
 
@@ -75,12 +77,33 @@ def try_run(program, tally, place, files, head, body):
     compared(tally, head, body, run([program, *words], given, cwd=place))
 
 
+def shown_of(line):
+    """What is shown of a refused line: its first hundred bytes, with a question mark for what cannot be printed, and a note if there are more."""
+    return "".join(chr(byte) if 32 <= byte < 127 else "?" for byte in line[:100]) + ("... (cut)" if len(line) > 100 else "")
+
+
+def by_input(body, files, name, which):
+    """The same lines if the text that they name comes from standard input: it goes by another name, and its line is not shown."""
+    lines = []
+    for line in body:
+        place = re.match(rf"! bddcheck: {re.escape(name)}(?::(\d+))?: ", line)
+        if place:
+            line = f"! bddcheck: {which} text of standard input" + line[len(f"! bddcheck: {name}") :]
+            shown = shown_of(files[name].split(b"\n")[int(place[1]) - 1].strip()) if place[1] else ""
+            line = line.removesuffix(f": {shown}") if shown else line
+        lines.append(line)
+    return lines
+
+
 def try_ways(program, tally, place, files, head, body):
     *words, first, second = shlex.split(head)[1:]
     both = files[first] + b"\n%%\r\n" + files[second]
-    for workers, names, given in ((1, [first, second], b""), (2, [], both), (3, [first, second], b""), (16, [], both)):
+    which = "second" if any(line.startswith("! bddcheck: second: ") for line in body) else "first"
+    given_body = by_input(body, files, second if which == "second" else first, which)
+    ways = ((1, [first, second], b"", body), (2, [], both, given_body), (3, [first, second], b"", body), (16, [], both, given_body))
+    for workers, names, given, lines in ways:
         seen = run([program, "--workers", workers, *words, *names], given, cwd=place)
-        compared(tally, f"{head}, by {workers} workers", body, seen)
+        compared(tally, f"{head}, by {workers} workers", lines, seen)
 
 
 def try_order(program, tally, place, _files, head, body):
