@@ -618,22 +618,25 @@ def read_facts(path):
 
 
 def compare(words):
-    """Tells each difference of two registers that are paired. Those without a partner are told by bddcheck."""
+    """Prints each difference of two registers that are paired, and each register without a partner, and gives the status."""
     first, second = read_facts(words.first), read_facts(words.second)
     if words.match == "position":
         if len(first.registers) != len(second.registers):
             raise Refusal("the netlists have different numbers of registers")
-        pairs = list(zip(first.registers, second.registers))
+        pairs, alone = list(zip(first.registers, second.registers)), []
         called = dict([*zip(second.inputs, first.inputs), *zip(second.registers, first.registers)])
     else:
         pairs, called = [(name, name) for name in first.registers if name in second.registers], {}
+        alone = [f"ONLY FIRST {name}" for name in first.registers if name not in second.registers]
+        alone += [f"ONLY SECOND {name}" for name in second.registers if name not in first.registers]
     different, report = 0, []
     for a, b in pairs:
         told = list(differences(first.registers[a], second.registers[b], called, words.leave_out))
         different += bool(told)
         report += [f"DIFFER {a} {what}: first={one} second={other}" for what, one, other in told]
-    print(*report, f"registers: {len(pairs) - different} alike, {different} different", sep="\n", flush=True)
-    return 1 if different else 0
+    counts = f"registers: {len(pairs) - different} alike, {different} different, {len(alone)} without a partner"
+    print(*report, *alone, counts, sep="\n", flush=True)
+    return 1 if different or alone else 0
 
 
 def differences(first, second, called, left_out):

@@ -18,9 +18,9 @@
 #
 # Nothing is optimised; case tables and memories become gates and registers. OUT.bench has a comment of each register with what the format
 # does not hold: latch or flip-flop, clock, edge, asynchronous reset and set, initial value. --compare pairs registers as bddcheck
-# does, and prints what differs; --leave-out kind, clock, edge, clear, set or init does not look at it.
+# does, and prints what differs and what has no partner; --leave-out kind, clock, edge, clear, set or init does not look at it.
 #
-# Status: 0, done or alike; 1, registers differ; 2, wrong words; 3, a step failed, and standard error says why: there is no OUT.bench then.
+# Status: 0, done or alike; 1, registers differ or lack a partner; 2, wrong words; 3, a step failed: OUT.bench is not there then.
 script=$0
 while [ -L "$script" ]; do
     link=$(readlink "$script") || exit 3
