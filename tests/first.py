@@ -5,8 +5,9 @@ usage: tests/first.py PROGRAM
 
 tools/bddcheck.sh is called in a copy of the tree without out/, while the locks of a build are held: on two files, on standard input by a
 slow writer, on a pipe and a refused file outside of the tree, and on an option that there is not. Status, output and errors must be those of PROGRAM,
-with two lines on standard error before them. Each of these calls compiles the program, so two run side by side. Then come calls that
-give no answer, and must end with status 4 and one line that says why. The part is skipped if there is no `rt`.
+with two lines on standard error before them. Each of these calls compiles the program, so two run side by side. --help and --version
+are answered from the texts of the sources, at once and without these lines. Then come calls that give no answer, and must end with
+status 4 and one line that says why. The part is skipped if there is no `rt`.
 """
 import contextlib
 import fcntl
@@ -102,6 +103,18 @@ def answers(tally, program, script, copy):
             tally.same(name, Run(seen.status, seen.out, said), wanted.status, wanted.out, wanted.err)
 
 
+def texts(tally, program, script):
+    """That --help and --version, whose texts are read in the sources, print what the program prints, without a run of the sources."""
+    for word in unproved.ASKING:
+        wanted = run([program, word])
+        tally.check(f"{word}: the program prints it", wanted.status == 0 and wanted.out and not wanted.err, wanted)
+        tally.same(word, run([script, word]), wanted.status, wanted.out, wanted.err)
+        tally.check(f"{word}: its text is in the sources", unproved.text_asked_for([word]) == wanted.out)
+        with open("/dev/full", "wb") as full:
+            wanted = run([program, word], stdout=full)
+            tally.same(f"{word} on a full device", run([script, word], stdout=full), wanted.status, wanted.out, wanted.err)
+
+
 def no_answer(tally, name, seen, has, lines=1):
     """That there is no answer, and so many lines say why, the last of which has this."""
     said = seen.err.decode(errors="replace").splitlines()
@@ -113,6 +126,7 @@ def without_answers(tally, script, copy, place):
     c17, c17b = copy / "examples" / "c17.bench", copy / "examples" / "c17b.bench"
     vcd = place / "made.vcd"
     no_answer(tally, "a file to write", run([script, "--vcd", vcd, c17, c17b]), "tools/build.py")
+    no_answer(tally, "a file to write, and what makes it here", run([script, "--vcd", vcd, c17, c17b]), "tools/vcd.py")
     tally.check("no file is made", not vcd.exists())
 
     few = place / "few"
@@ -134,9 +148,9 @@ def without_answers(tally, script, copy, place):
 def options(tally, program):
     """That the script knows the options that take a value, those of files among them."""
     helped = run([program, "--help"]).out.decode()
-    valued = set(re.findall(r"(--[a-z-]+) <", helped))
+    valued = set(re.findall(r"^  (--[a-z-]+) [A-Z]", helped, re.M))
     tally.check("the options that take a value", valued == set(unproved.VALUED), valued ^ set(unproved.VALUED))
-    files = set(re.findall(r"(--[a-z-]+) <(?:F|FILE)>", helped)) - {"--vcd"}
+    files = set(re.findall(r"^  (--[a-z-]+) (?:F|FILE) ", helped, re.M)) - {"--vcd"}
     tally.check("the options that name a file to read", files == set(unproved.READ), files)
 
 
@@ -152,6 +166,7 @@ def main():
             (place / "outside of it").mkdir()
             written(place / "outside of it", "refused.bench", C17 + b"x = INV(1)\n")
             answers(tally, program, script, copy)
+            texts(tally, program, script)
             without_answers(tally, script, copy, place)
     else:
         tally.skip("there is no `rt`, so no answer of the unproved sources was tried")

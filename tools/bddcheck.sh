@@ -1,8 +1,8 @@
 #!/bin/sh
 # Compares two netlists: tools/bddcheck.sh [OPTIONS] [FIRST SECOND]; --help says more. If the program is not built, or is older
-# than a source, its sources answer before their proof, in about a minute for each call, and two lines on standard error say so
-# (tools/unproved.py). tools/build.py proves and builds the program. Paths are the caller's own, and a symbolic link to this file
-# serves as well. The status is the program's, 0 to 3; 4 if there is no answer, and one line on standard error says why.
+# than a source, its sources answer before their proof, in about a minute for each call on an idle machine, and two lines on standard
+# error say so (tools/unproved.py). tools/build.py proves and builds the program. Paths are the caller's own, and a symbolic link to
+# this file serves as well. The status is the program's, 0 to 3; 4 if there is no answer, and one line on standard error says why.
 script=$0
 while [ -L "$script" ]; do
     link=$(readlink "$script") || exit 4

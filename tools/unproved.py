@@ -4,7 +4,8 @@
 usage: tools/unproved.py [OPTIONS] [FIRST SECOND]
 
 tools/bddcheck.sh calls it when the program is not built, or older than a source. The report, the faults and the status 0 to 3 are those
-of the program. Two lines on standard error say first that this is not the proved program, and how to build that.
+of the program. Two lines on standard error say first that this is not the proved program, and how to build that. `--help` and `--version`
+by themselves are answered at once, from the texts of their sources.
 
 `rt try` gives the program another working folder, and standard input as a file. So each path becomes the path of a link in a folder
 of this call, and the faults name the caller's path again. A path that leads to an open file of this process, such as those of a
@@ -32,6 +33,10 @@ VALUED = "--match --order --order-file --given --only --share --explain --vcd --
 READ = ("--order-file", "--given")
 # Options by which no netlist is read.
 ASKING = ("-h", "--help", "-V", "--version")
+# The sources with the texts of --help and --version, and these texts. Both are plain strings, of which only the version's has an escape.
+SOURCES = TOP / "crates" / "command_line" / "src"
+HELP = re.compile(r'^pub\(crate\) static HELP: &str = "\\\n([^"\\]*)";$', re.M)
+VERSION = re.compile(r'^static VERSION_LINE: &str = "([^"\\]*)\\n";$', re.M)
 # What `rt try` gives a program of its standard input.
 MOST_INPUT = 64 << 20
 # How long the compiled sources may run.
@@ -55,6 +60,17 @@ def time_of_a_build():
 
 def way_to_build():
     return f"tools/build.py proves and builds the program, in {time_of_a_build()}"
+
+
+def text_asked_for(arguments):
+    """The text that --help or --version prints, if it is the only argument and its source has the text in the usual form."""
+    if arguments in (["-h"], ["--help"]):
+        found = HELP.search((SOURCES / "help.rt").read_text(encoding="utf-8"))
+        return found and found[1].encode()
+    if arguments in (["-V"], ["--version"]):
+        found = VERSION.search((SOURCES / "reading.rt").read_text(encoding="utf-8"))
+        return found and found[1].encode() + b"\n"
+    return None
 
 
 class NoAnswer(Exception):
@@ -211,16 +227,20 @@ def answer(arguments, place):
         raise NoAnswer(f"there is no room for temporary files in {os.path.dirname(place)}: {BYTES_OF_A_TRY >> 20} MiB are needed")
     asked = Asked(arguments, place)
     if asked.writes:
-        raise NoAnswer(f"--vcd writes a file, which the unproved sources cannot; {way_to_build()}")
+        raise NoAnswer(
+            "--vcd writes a file, which the unproved sources cannot: tools/vcd.py makes the same VCD from the report of a call without"
+            f" --vcd, as tools/vcd.py --help says; {way_to_build()}"
+        )
     given = os.devnull
     if asked.wants_input():
         given = f"{place}/input"
         take_input(given)
     say(
-        "the program is not built, so this answer comes from its sources before their proof, by a build with run-time checks, which takes"
-        " a minute for each call and is many times slower"
+        "the program is not built, so this answer comes from its sources before their proof, by a build with run-time checks: a call takes"
+        " about a minute on an idle machine, much longer with large netlists, some two processors and up to 4 GB of memory, so make one"
+        " call at a time"
     )
-    say(way_to_build())
+    say(f"{way_to_build()}; do that first for more than a try")
     status, out, said = answered(asked, *tried(asked.arguments, given, place))
     write(2, said)
     if not write(1, out):
@@ -249,6 +269,9 @@ def main():
     if not shutil.which("rt"):
         say("the program is not built, and the command `rt`, which builds it, is not found: take a release archive, which needs no `rt`")
         return NO_ANSWER
+    text = text_asked_for(sys.argv[1:])
+    if text:
+        return 0 if write(1, text) else 3
     try:
         place = os.path.abspath(tempfile.mkdtemp(prefix="bddcheck-"))
     except OSError as error:
