@@ -203,6 +203,12 @@ def is_refusal(said, faults):
     return first in faults and (not rest or has_help)
 
 
+def lacks_help(seen, right):
+    """Whether a run ended as the right one does, with its fault, but without the line of what helps, for which there was no memory."""
+    fault = right.err.splitlines(keepends=True)[:1]
+    return right.status >= 2 and (seen.status, seen.out) == (right.status, right.out) and [seen.err] == fault
+
+
 def fault_of(right, seen, refused, faults):
     """What is wrong with a run that may say one of these faults, or None."""
     if refused is None:
@@ -211,6 +217,8 @@ def fault_of(right, seen, refused, faults):
         return None
     if refused == 0:
         return f"nothing was refused: {seen}"
+    if lacks_help(seen, right):
+        return None
     if seen.status != 3 or seen.out or not seen.err or not is_refusal(seen.err, faults):
         return str(seen)
     return None
