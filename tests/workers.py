@@ -58,7 +58,7 @@ def folder_pairs(folders):
 def seen(program, order, workers, pair, seconds):
     """A run: its status, its report and what it says of its attempts."""
     one = run([program, "--order", order, "--workers", workers, "--verbose", *pair], seconds=seconds)
-    return one.status, one.out, [line for line in one.err.split(b"\n") if b"budget" in line]
+    return one.status, one.out, [line for line in one.err.split(b"\n") if b": order " in line or b"cones" in line]
 
 
 @dataclass
