@@ -107,7 +107,7 @@ def main():
     settings = parser.parse_args()
     callers, launcher = callers_in(settings.program), Launcher()
     what = "Bytes on the heap at its peak by the function that asked for them, with its callers; one worker"
-    peers = {"valgrind": first_line(["valgrind", "--version"])}
+    peers = {"valgrind": first_line(["valgrind", "--version"], r"[0-9.]+")}
     results = Results("bytes", what, settings, {"threshold": settings.threshold}, peers)
     with tempfile.TemporaryDirectory() as name:
         room, keys = pathlib.Path(name), []

@@ -4,13 +4,13 @@
 usage: bench/designs.py PROGRAM FOLDER .. [--seconds N] [--memory MB] [--options "OPTION .." | --hindsight] [--only PART] [--anew]
 
 A FOLDER has folders NAME/ with a.bench, a rewritten b.bench and, in some, a faulty c.bench. Each of b and c is compared with a by
-bddcheck with one worker (by the bare command, or with these OPTIONs), and by `cec` of abc without a bound of conflicts, in turn, each
-within N (10) seconds of processor time, bddcheck also within MB (4,000) megabytes. Short runs are repeated, up to three times, and the
-least counts. The table in Markdown has, for each comparison, how many pairs of outputs and next states were equal, differing, without
-a partner and undecided, the seconds of both, bddcheck's peak of memory, and what cec says; the last lines count the pairs with a
-verdict, and the comparisons that each has decided. Of a run that ends without a report all pairs count as undecided. The two programs
-may not contradict each other. cec refuses netlists whose numbers of inputs or registers differ, so it gets copies to which the inputs
-that only the other one has were added, unused; registers stay as they are.
+bddcheck with one worker (by the bare command, or with these OPTIONs, which may name other workers), and by `cec` of abc without a bound
+of conflicts, in turn, each within N (10) seconds of processor time, bddcheck also within MB (4,000) megabytes. Short runs are repeated,
+up to three times, and the least counts. The table in Markdown has, for each comparison, how many pairs of outputs and next states were
+equal, differing, without a partner and undecided, the seconds of both, bddcheck's peak of memory, and what cec says; the last lines
+count the pairs with a verdict, and the comparisons that each has decided. Of a run that ends without a report all pairs count as
+undecided. The two programs may not contradict each other. cec refuses netlists whose numbers of inputs or registers differ, so it gets
+copies to which the inputs that only the other one has were added, unused; registers stay as they are.
 
 With --hindsight it measures what the default order costs instead, and writes results/hindsight.json: of each comparison with b that a
 single order ends within N seconds of processor time, with one worker, the order that took least and its processor time, that of the
@@ -85,7 +85,7 @@ def copies(files, room):
 def compared(launcher, files, room, settings):
     bounds = {"seconds": settings.seconds}
     cec = f"cec -T {settings.seconds} -C {UNBOUNDED} {' '.join(map(str, copies(files, room)))}"
-    ours = [settings.program, "--workers", "1", *settings.options.split(), *files]
+    ours = [settings.program, *([] if "--workers" in settings.options else ["--workers", "1"]), *settings.options.split(), *files]
     columns = [
         Column(ours, {**bounds, "megabytes": settings.memory}, has_report),
         Column([ABC, "-c", cec], bounds, has_answer),

@@ -26,14 +26,14 @@ PARTS = {
     "net_cone": "pairing, orders",
     "gate_plan": "gates into waves",
     "check_report": "gates into waves",
-    "wave_engine": "down: splitting requests",
-    "expand_work": "down: splitting requests",
-    "req_table": "down: tables of requests",
-    "indexmap": "down: tables of requests",
+    "wave_engine": "down: expanding requests",
+    "expand_work": "down: expanding requests",
+    "req_table": "growth of tables of requests",
+    "indexmap": "growth of tables of requests",
     "lru": "computed table",
-    "reduce_up": "up: from requests to nodes",
-    "dd_store": "up: finding and making nodes",
-    "slot_table": "up: finding and making nodes",
+    "reduce_up": "up: requests to nodes",
+    "dd_store": "growth of unique tables",
+    "slot_table": "growth of unique tables",
     "counter_walk": "comparing, report",
     "report_text": "comparing, report",
 }
@@ -71,7 +71,7 @@ def main():
     options(parser, seconds=60, repeats=1)
     settings = parser.parse_args()
     what = "Shares of instructions, of 100, by part of the program and by function; one worker, under callgrind"
-    peers = {"valgrind": first_line(["valgrind", "--version"])}
+    peers = {"valgrind": first_line(["valgrind", "--version"], r"[0-9.]+")}
     results = Results("instructions", what, settings, {}, peers)
     with tempfile.TemporaryDirectory() as name:
         for folder in settings.folders:

@@ -82,8 +82,8 @@ def number(value):
     return f"{value:.1f}" if value >= 10 else f"{value:.2f}"
 
 
-def footer(drawing, y, *files, is_timed=True):
-    """With which versions, where and when a plot's figures were measured, in two lines."""
+def footer(drawing, y, *files, counted=None):
+    """With which versions, where and when a plot's figures were measured, in two lines; or what is `counted` there, not timed."""
     head = files[0]["head"]
     peers = [f"{name} {head[name]}" for name in ("BuDDy", "abc", "valgrind") if name in head]
     machine = head["machine"]
@@ -91,9 +91,9 @@ def footer(drawing, y, *files, is_timed=True):
     busy = [row["others"] for file in files for row in file["rows"]]
     mean = sum(busy) / len(busy)
     beside = "nothing else ran" if mean < 0.25 else f"other processes kept {mean:.1f} of them busy"
-    drawing.text(10, y, "; ".join([f"{head['program']}, proved and built by {head['kit'].split()[0]}", *peers]), size=SMALL, colour=GREY)
+    drawing.text(10, y, "; ".join([f"{head['program']}, proved and built by {head['kit'].split(' of ')[0]}", *peers]), size=SMALL, colour=GREY)
     place = f"{machine['processor']}{virtual}, {machine['processors']} processors, {machine['memory']}; {files[0]['date']}"
-    words = f"{place}; {beside}" if is_timed else f"{files[0]['date']}; the same on every machine"
+    words = f"{files[0]['date']}; {counted}" if counted else f"{place}; {beside}"
     drawing.text(10, y + 15, words, size=SMALL, colour=GREY)
     drawing.high = y + 27
 
@@ -163,11 +163,11 @@ def draw_decided(designs):
     ours = [row["bddcheck"]["processor"] for row in rows if row["bddcheck"] and not row["undecided"]]
     theirs = [row["cec"]["processor"] for row in rows if row["cec"]]
     left, right, top, bottom = 60, 640, 40, 340
-    low = 0.01
+    low = 0.003
     scale = logarithmic(low, bound, left, right)
     height = lambda count: bottom - (bottom - top) * count / len(rows)
     drawing.text(left, 22, f"Of {len(rows)} pairs of netlists so many are decided, each within so many seconds of processor time")
-    for tick in [tick for tick in (0.01, 0.03, 0.1, 0.3, 1, 3, 10, 30, 100, 300) if tick <= bound]:
+    for tick in [tick for tick in (0.003, 0.01, 0.03, 0.1, 0.3, 1, 3, 10, 30, 100, 300) if tick <= bound]:
         drawing.line(scale(tick), top, scale(tick), bottom, PALE)
         drawing.text(scale(tick), bottom + 16, f"{tick:g}", "middle", SMALL, GREY)
     drawing.text((left + right) / 2, bottom + 32, "seconds", "middle", SMALL, GREY)
@@ -228,7 +228,7 @@ def draw_nodes(nodes):
         for lane, (order, (kind, colour)) in enumerate(SHAPES.items()):
             x = scale(max(row[order], low)) if row[order] else beyond - 24 + 12 * lane
             drawing.shape(kind, x, y + step / 2 + 3.5 * (lane - 2), colour, 3.2)
-    footer(drawing, bottom + 22, nodes, is_timed=False)
+    footer(drawing, bottom + 22, nodes, counted="the same on every machine")
     return drawing
 
 
@@ -312,21 +312,21 @@ def draw_designs(turns):
 # Where instructions go.
 
 
-def draw_instructions(counted):
+def draw_instructions(found):
     drawing = Drawing("Where a run's instructions go")
     left, right, y = 260, 690, 44
     drawing.text(10, 22, "Instructions of one worker, of 100")
-    for row in counted["rows"]:
+    most = max(share for row in found["rows"] for _, share in row["shares"])
+    for row in found["rows"]:
         drawing.text(10, y + 14, row["key"], size=12, more=' font-weight="bold"')
         y += 24
-        most = max(share for _, share in row["shares"])
         for name, share in row["shares"]:
             drawing.text(left - 10, y + 11, name, "end", 12)
             drawing.rect(left, y, (right - left) * share / most, 14, DARK)
-            drawing.text(left + (right - left) * share / most + 5, y + 11, number(share), size=SMALL)
+            drawing.text(left + (right - left) * share / most + 5, y + 11, f"{share:.1f}", size=SMALL)
             y += 19
         y += 8
-    footer(drawing, y + 14, counted, is_timed=False)
+    footer(drawing, y + 14, found, counted="instructions, not times")
     return drawing
 
 

@@ -57,8 +57,8 @@ def machine():
 
 def kit():
     """The kit that the README names: the one by which the program is proved and built."""
-    found = re.search(r"Proved with `(.*)`", (HERE.parent / "README.md").read_text())
-    return found.group(1) if found else first_line(["rt", "version"])
+    found = re.search(r"(?m)^`?Proved with (.*?)\.?`?\.?$", (HERE.parent / "README.md").read_text())
+    return found.group(1) if found else "unknown"
 
 
 def program_of(path):
