@@ -1,7 +1,7 @@
 #!/usr/bin/env python3
 """Counts the verdicts of a program on folders of designs beside those of abc's cec, and writes results/designs.json.
 
-usage: bench/designs.py PROGRAM FOLDER .. [--seconds N] [--memory MB] [--options "OPTION .." | --hindsight] [--only PART] [--anew]
+usage: bench/designs.py PROGRAM FOLDER .. [--seconds N] [--memory MB] [--options "OPTION .."] [--without-cec] [--hindsight] [--only PART] [--anew]
 
 A FOLDER has folders NAME/ with a.bench, a rewritten b.bench and, in some, a faulty c.bench. Each of b and c is compared with a by
 bddcheck with one worker (by the bare command, or with these OPTIONs, which may name other workers), and by `cec` of abc without a bound
@@ -86,15 +86,15 @@ def compared(launcher, files, room, settings):
     bounds = {"seconds": settings.seconds}
     cec = f"cec -T {settings.seconds} -C {UNBOUNDED} {' '.join(map(str, copies(files, room)))}"
     ours = [settings.program, *([] if "--workers" in settings.options else ["--workers", "1"]), *settings.options.split(), *files]
-    columns = [
-        Column(ours, {**bounds, "megabytes": settings.memory}, has_report),
-        Column([ABC, "-c", cec], bounds, has_answer),
-    ]
+    columns = [Column(ours, {**bounds, "megabytes": settings.memory}, has_report)]
+    if not settings.without_cec:
+        columns.append(Column([ABC, "-c", cec], bounds, has_answer))
     runs = by_turns(launcher, columns, settings.repeats, fewest=1, enough=1.0)
     counts = counted(runs[0][-1].output) if has_report(runs[0][-1]) else [0, 0, 0, pairs_in(files[0])]
     row = dict(zip(("equal", "differ", "only", "undecided"), counts))
-    row["bddcheck"], row["cec"] = (figures(column, done) for column, done in zip(columns, runs))
-    row["cec says"] = said_by_cec(runs[1][-1])
+    found = [figures(column, done) for column, done in zip(columns, runs)]
+    row["bddcheck"], row["cec"] = found if len(found) == 2 else (*found, None)
+    row["cec says"] = said_by_cec(runs[1][-1]) if len(found) == 2 else "not run"
     known = {(True, False): "equal", (False, True): "different"}.get((counts[0] == sum(counts), counts[1] > 0))
     if {known, row["cec says"]} == {"equal", "different"}:
         sys.exit(f"{' '.join(map(str, files))}: bddcheck and cec contradict each other")
@@ -190,6 +190,7 @@ def main():
     parser.add_argument("--memory", type=int, default=4000)
     parser.add_argument("--options", default="")
     parser.add_argument("--only", default="")
+    parser.add_argument("--without-cec", action="store_true")
     parser.add_argument("--hindsight", action="store_true")
     options(parser, seconds=10, repeats=3)
     settings = parser.parse_args()
