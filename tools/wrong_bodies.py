@@ -2,11 +2,12 @@
 """Tries the wrong bodies that the gate leaves out for its time, those in crates/*/wrong-bodies: the prover has to refuse each, as
 those in must-fail, which the gate tries.
 
-usage: tools/wrong_bodies.sh [--since REV | --all] [--jobs N] [CRATE ..]
+usage: tools/wrong_bodies.sh [--since REV | --all] [--only WORD] [--jobs N] [CRATE ..]
 
 Without a crate it takes those whose src/, specs/, proofs/ or wrong-bodies/ differ from the commit REV, in the working tree too. REV is
 by default where this branch left its upstream branch; a branch without one is compared with the commit before its last. --all takes
-each crate. --jobs N tries N batches at a time, as many as there are processors and 4 GB of free memory for each if left out.
+each crate. --only WORD takes only the edits that have this word in the names of their files, and the status is 1 if there are none.
+--jobs N tries N batches at a time, as many as there are processors and 4 GB of free memory for each if left out.
 
 The crates are tried on a copy, which takes what was proved here along. A batch is one check that has a wrong body in each of several
 functions: a refusal is told apart by the function that it is said of. What says nothing of an edit, since its function calls one that
@@ -15,7 +16,7 @@ is wrong too, or since the check ended without a verdict, is tried again in othe
   NOT REFUSED  the crate is still proved with this edit alone: strengthen the contract, or remove an edit that means the same
   BAD EDIT     it does not apply (each old text stands exactly once in its file), compile or read, or changes no body: mend it
   NOT TRIED    no check of it came to a verdict: run this again
-The last line is 'N refused, M failed', and the status 0 where M is 0.
+The last line is 'N refused, M failed', and the status 0 if M is 0.
 """
 from __future__ import annotations
 
@@ -281,10 +282,10 @@ class Case:
 
 
 class Crate:
-    """The trial of the wrong bodies of one crate."""
+    """The trial of the wrong bodies of one crate, of those whose names have a word: the empty word is in each."""
 
-    def __init__(self, name, room, named, jobs, runs):
-        self.name, self.room, self.named, self.jobs, self.runs = name, room, named, jobs, runs
+    def __init__(self, name, room, named, jobs, runs, word):
+        self.name, self.room, self.named, self.jobs, self.runs, self.word = name, room, named, jobs, runs, word
         self.folder = TOP / "crates" / name
         self.places, self.calls, self.checks, self.kinds = queue.Queue(), {}, 0, {}
 
@@ -298,7 +299,7 @@ class Crate:
         edits = []
         for path in sorted((self.folder / "wrong-bodies").glob("*")):
             try:
-                if path.suffix == ".md":
+                if path.suffix == ".md" or self.word not in path.name:
                     continue
                 if path.suffix != ".edit":
                     raise BadEdit("an edit stands right in wrong-bodies/, and its name ends in .edit")
@@ -525,11 +526,11 @@ def processor_seconds():
     return used.ru_utime + used.ru_stime
 
 
-def try_crates(crates, jobs, room, runs):
-    """Tries crate after crate, and returns how many edits were refused and how many not."""
+def try_crates(crates, jobs, room, runs, word):
+    """Tries crate after crate, of each the edits whose names have the word, and returns how many were refused and how many not."""
     refused = failed = 0
     for name in crates:
-        begun, used, crate = time.monotonic(), processor_seconds(), Crate(name, room, listed(), jobs, runs)
+        begun, used, crate = time.monotonic(), processor_seconds(), Crate(name, room, listed(), jobs, runs, word)
         crate.run()
         took, used = time.monotonic() - begun, processor_seconds() - used
         each = used / max(1, len(crate.kinds))
@@ -549,6 +550,7 @@ def main():
     which = parser.add_mutually_exclusive_group()
     which.add_argument("--since", metavar="REV", help="the crates that differ from this commit")
     which.add_argument("--all", action="store_true", help="each crate")
+    parser.add_argument("--only", metavar="WORD", default="", help="only edits with this word in their names")
     parser.add_argument("--jobs", metavar="N", type=int, help="how many batches are tried at a time")
     parser.add_argument("crates", metavar="CRATE", nargs="*", help="as crates.txt names it")
     settings = parser.parse_args()
@@ -560,7 +562,9 @@ def main():
     for kind in (signal.SIGINT, signal.SIGTERM):
         signal.signal(kind, runs.end_all)
     with tempfile.TemporaryDirectory(prefix="wrong-bodies-") as room:
-        refused, failed = try_crates(crates, max(1, settings.jobs or jobs_here()), pathlib.Path(room), runs)
+        refused, failed = try_crates(crates, max(1, settings.jobs or jobs_here()), pathlib.Path(room), runs, settings.only)
+    if settings.only and not refused + failed:
+        sys.exit(f"wrong_bodies.py: no edit of these crates has {settings.only} in its name")
     print(f"{refused} refused, {failed} failed")
     return failed > 0
 
