@@ -168,6 +168,21 @@ def check_since(tally):
         tally.check("a crate that is not there", seen.status not in (0, None) and b"two" in seen.err, seen)
 
 
+def check_only(tally):
+    """That --only takes the edits whose names have a word, and passes no word that none has."""
+    with kit.folder() as room:
+        place = written(pathlib.Path(room), SOURCE, EDITS)
+        for word, wanted in (("wrong", 4), ("at-wrong", 1), ("low-is_wrong.edit", 1)):
+            seen = tried(place, ["--only", word, "one"])
+            told = [line.partition(".edit: ")[0] for line in seen.out.decode().split("\n") if ".edit: " in line]
+            names = [f"one/{name}" for name in EDITS if word in f"{name}.edit"]
+            tally.check(f"only: {word}", sorted(told) == sorted(names) and len(names) == wanted, seen)
+            tally.check(f"only: {word}: status", seen.status == (word == "wrong"), seen)
+        for words in (["--only", "no-such-word", "one"], ["--only", "no-such-word", "--all"]):
+            seen = tried(place, words)
+            tally.check(f"only: no edit {words[2]}", seen.status not in (0, None) and b"no-such-word" in seen.err, seen)
+
+
 def check_edits(tally):
     """The wrong bodies of the repository."""
     crates = sorted(it.parent for it in (TOP / "crates").glob("*/src"))
@@ -200,6 +215,7 @@ def main():
     unproved = {"at-wrong": (EDITS["at-wrong"][0], "NOT TRIED: the crate itself is not proved")}
     check_tool(tally, "a crate that is not proved", SOURCE.replace("u8 = 1", "u8 = WRONG"), unproved)
     check_since(tally)
+    check_only(tally)
     tally.end()
     sys.exit(tally.failed > 0)
 
