@@ -204,9 +204,12 @@ def is_refusal(said, faults):
 
 
 def lacks_help(seen, right):
-    """Whether a run ended as the right one does, with its fault, but without the line of what helps, for which there was no memory."""
-    fault = right.err.splitlines(keepends=True)[:1]
-    return right.status >= 2 and (seen.status, seen.out) == (right.status, right.out) and [seen.err] == fault
+    """Whether a run ended as the right one does, with its fault, but without the line of what helps, or without what that line quotes, for
+    want of memory."""
+    if right.status < 2 or (seen.status, seen.out) != (right.status, right.out):
+        return False
+    said, wanted = seen.err.splitlines(), right.err.splitlines()
+    return said == wanted[:1] or (len(said) == len(wanted) == 2 and said[0] == wanted[0] and wanted[1].startswith(said[1] + b": "))
 
 
 def fault_of(right, seen, refused, faults):
