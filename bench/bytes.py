@@ -67,9 +67,9 @@ def holders(words, note, threshold):
     return found
 
 
-def wave(room, size):
+def wave(scratch, size):
     """The netlist of one wave as words of a run, and how many requests it has."""
-    netlist = str(write_wave(room / f"wave{size}", size) / "a.bench")
+    netlist = str(write_wave(scratch / f"wave{size}", size) / "a.bench")
     return ["--order", "declared", netlist, netlist], 2 << size
 
 
@@ -78,9 +78,9 @@ def pair(folder):
     return ["--order-file", *(str(folder / name) for name in ("order", "a.bench", "b.bench"))], None
 
 
-def measured(launcher, program, room, words, requests, callers, settings):
+def measured(launcher, program, scratch, words, requests, callers, settings):
     nodes = needed_nodes(launcher, program, words, settings.seconds, part=0.001)
-    held = holders([program, "--workers", "1", *words], room / "note", settings.threshold)
+    held = holders([program, "--workers", "1", *words], scratch / "note", settings.threshold)
     parts = []
     for name, size in held.most_common():
         users = ", ".join(sorted({plain(user) for user in users_of(name, callers)} - {plain(name)}))
@@ -110,14 +110,14 @@ def main():
     peers = {"valgrind": first_line(["valgrind", "--version"], r"[0-9.]+")}
     results = Results("bytes", what, settings, {"threshold": settings.threshold}, peers)
     with tempfile.TemporaryDirectory() as name:
-        room, keys = pathlib.Path(name), []
+        scratch, keys = pathlib.Path(name), []
         runs = [(folder.name, *pair(folder)) for folder in settings.folders]
-        runs += [(f"wave{size}", *wave(room, size)) for size in settings.waves]
+        runs += [(f"wave{size}", *wave(scratch, size)) for size in settings.waves]
         for key, words, requests in runs:
             keys.append(key)
             if key not in results:
                 results.begin()
-                results.add(key, measured(launcher, settings.program, room, words, requests, callers, settings))
+                results.add(key, measured(launcher, settings.program, scratch, words, requests, callers, settings))
         results.keep_only(keys)
     print_table(results.rows.values())
 

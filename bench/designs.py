@@ -70,21 +70,21 @@ def comparisons(folders, letters="bc", only=""):
                 yield f"{design.name} {other.stem}", [design / "a.bench", other]
 
 
-def copies(files, room):
+def copies(files, scratch):
     """The netlists for cec: each with the inputs that only the other one has, unless such a name is a signal here."""
     texts = [path.read_text() for path in files]
     inputs = [re.findall(r"(?mi)^\s*INPUT\s*\(\s*(.*?)\s*\)", text) for text in texts]
     signals = [{*names, *re.findall(r"(?m)^\s*([^\s#=]+)\s*=", text)} for names, text in zip(inputs, texts)]
     for letter, text, mine, theirs in zip("ab", texts, signals, inputs[::-1]):
         added = "".join(f"INPUT({name})\n" for name in theirs if name not in mine)
-        path = room / f"{letter}.bench"
+        path = scratch / f"{letter}.bench"
         path.write_text(added + text)
         yield path
 
 
-def compared(launcher, files, room, settings):
+def compared(launcher, files, scratch, settings):
     bounds = {"seconds": settings.seconds}
-    cec = f"cec -T {settings.seconds} -C {UNBOUNDED} {' '.join(map(str, copies(files, room)))}"
+    cec = f"cec -T {settings.seconds} -C {UNBOUNDED} {' '.join(map(str, copies(files, scratch)))}"
     ours = [settings.program, *([] if "--workers" in settings.options else ["--workers", "1"]), *settings.options.split(), *files]
     columns = [Column(ours, {**bounds, "megabytes": settings.memory}, has_report)]
     if not settings.without_cec:

@@ -40,9 +40,9 @@ PARTS = {
 OTHER = "memory, library, system"
 
 
-def self_costs(words, room):
+def self_costs(words, scratch):
     """Instructions by function, without those of the functions that it calls."""
-    note = room / "note"
+    note = scratch / "note"
     valgrind = ["valgrind", "-q", "--tool=callgrind", f"--callgrind-out-file={note}"]
     subprocess.run([*valgrind, *map(str, words)], stdout=subprocess.DEVNULL, check=True)
     said = subprocess.run(["callgrind_annotate", "--threshold=100", "--auto=no", note], stdout=subprocess.PIPE, text=True, check=True).stdout
@@ -53,9 +53,9 @@ def self_costs(words, room):
     return found
 
 
-def measured(program, folder, room):
+def measured(program, folder, scratch):
     words = [program, "--workers", "1", "--order-file", *(folder / name for name in ("order", "a.bench", "b.bench"))]
-    costs = self_costs(words, room)
+    costs = self_costs(words, scratch)
     total, parts = sum(costs.values()), collections.Counter()
     for name, cost in costs.items():
         parts[PARTS.get(re.split(r"::|[<. ]", name)[0], OTHER)] += cost

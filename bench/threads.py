@@ -23,11 +23,11 @@ from results import Results, options
 from workers import words_of
 
 
-def noted(program, workers, way, folder, room):
+def noted(program, workers, way, folder, scratch):
     """The milliseconds of a run, and the lines that threads.c wrote of it."""
-    note = room / "note"
+    note = scratch / "note"
     note.write_text("")
-    added = {"LD_PRELOAD": str(room / "threads.so"), "BDD_THREADS": str(note)}
+    added = {"LD_PRELOAD": str(scratch / "threads.so"), "BDD_THREADS": str(note)}
     start = time.monotonic()
     words = [str(word) for word in words_of(program, workers, way, folder)]
     subprocess.run(words, env=os.environ | added, stdout=subprocess.DEVNULL, check=True)
@@ -69,12 +69,12 @@ def main():
     way = "bare command" if settings.bare else "order file"
     keys = [f"{folder.name}, {way}" for folder in settings.folders]
     with tempfile.TemporaryDirectory() as name:
-        room = pathlib.Path(name)
-        subprocess.run(["cc", "-O2", "-shared", "-fPIC", "-o", room / "threads.so", HERE / "threads.c", "-ldl"], check=True)
+        scratch = pathlib.Path(name)
+        subprocess.run(["cc", "-O2", "-shared", "-fPIC", "-o", scratch / "threads.so", HERE / "threads.c", "-ldl"], check=True)
         for key, folder in zip(keys, settings.folders):
             if key not in results:
                 results.begin()
-                runs = [noted(settings.program, settings.workers, way, folder, room) for _ in range(settings.repeats)]
+                runs = [noted(settings.program, settings.workers, way, folder, scratch) for _ in range(settings.repeats)]
                 results.add(key, figures_of(*min(runs, key=lambda run: run[0])))
     rows = [cells_of(results.rows[key]) for key in keys]
     print(table(["pair", "ms", "with threads", "busy", "processor ms", "off", "start us", "new pages"], rows))

@@ -58,17 +58,17 @@ def write_wave(folder, size):
     return folder
 
 
-def folder_of(name, room, given):
+def folder_of(name, scratch, given):
     """The pair's folder: the one that was given, or one that is made."""
     if given and (given / name / "order").exists():
         return given / name
-    if (room / name).exists():
-        return room / name
+    if (scratch / name).exists():
+        return scratch / name
     if name.startswith("wave"):
-        return write_wave(room / name, int(name[4:]))
+        return write_wave(scratch / name, int(name[4:]))
     family, size = MADE[name]
     letters = "xy" if family == "products" else "ab"
-    return circuits.write_folder(room / name, family, size, one_after_the_other(letters, size))
+    return circuits.write_folder(scratch / name, family, size, one_after_the_other(letters, size))
 
 
 def words_of(program, workers, way, folder):
@@ -153,9 +153,9 @@ def main():
     said = {"workers": settings.workers, "seconds": settings.seconds, "repeats": settings.repeats, "rest": settings.rest}
     before = {"before": program_of(settings.before)["program's checksum"]} if settings.before else {}
     with tempfile.TemporaryDirectory() as place, others(settings.busy):
-        room = pathlib.Path(place)
+        scratch = pathlib.Path(place)
         what = "Large diagrams by the number of workers, in a named order and by the bare command: seconds and peak memory"
-        settings.into = room if settings.busy else settings.into
+        settings.into = scratch if settings.busy else settings.into
         results = Results("workers", what, settings, {**said, **before})
         launcher, keys = Launcher(), []
         for name, way in RUNS:
@@ -164,7 +164,7 @@ def main():
                 continue
             keys.append(key)
             if key not in results:
-                folder = folder_of(name, room, settings.folder)
+                folder = folder_of(name, scratch, settings.folder)
                 results.begin()
                 row = results.add(key, {"pair": name, "way": way, **measured(launcher, folder, way, settings)})
                 say(*cells_of(row, names))

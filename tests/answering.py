@@ -8,8 +8,8 @@ import itertools
 import re
 from dataclasses import dataclass
 
-from judging import Lone, Paired, Refusal, judge, levels
-from kit import Run
+from judging import Unpaired, Paired, Refusal, judge, levels
+from harness import Run
 from reading import Fault, Netlist, read, read_names, split
 
 # Each of these is tried within a budget: the cases here are far below the first one, so only the limit counts. Best is the first that
@@ -41,7 +41,7 @@ class Case:
     print_order: bool = False
     # Both texts on standard input, with this line between them.
     divider: bytes | None = None
-    # Which variables of an assignment are told: the word of --assignment, where there is one.
+    # Which variables of an assignment are reported: the word of --assignment, where there is one.
     assignment: str | None = None
     # What is picked: names, or the number of a share and how many there are.
     only: list | None = None
@@ -126,7 +126,7 @@ def cones(paired, pair):
     return Paired(*parts, "name", given)
 
 
-def may_be_told(paired, pair, limit):
+def may_be_reported(paired, pair, limit):
     """Whether the pair may be decided within the limit, and whether it may not be."""
     if limit is None:
         return True, False
@@ -144,57 +144,57 @@ def gates_below(net, root):
 
 
 def shares(paired, pairs, of):
-    """By place, the share of each pair: they are dealt to and fro by falling number of gates, equal ones as they stand."""
+    """By place, the share of each pair: they are dealt in serpentine order by falling number of gates, equal ones as they stand."""
     weights = [gates_below(paired.first, pair.first) + gates_below(paired.second, pair.second) for pair in pairs]
     order = sorted(range(len(pairs)), key=lambda place: -weights[place])
-    to_and_fro = itertools.cycle([*range(1, of + 1), *range(of, 0, -1)])
-    dealt = dict(zip(order, to_and_fro))
+    serpentine = itertools.cycle([*range(1, of + 1), *range(of, 0, -1)])
+    dealt = dict(zip(order, serpentine))
     return [dealt[place] for place in range(len(pairs))]
 
 
 def picked(paired, case, result):
-    """The pairs that are judged, and what is told to have no partner."""
+    """The pairs that are judged, and what is reported to have no partner."""
     if case.only is not None:
         known = {*paired.first.outputs, *paired.first.registers}
         if not known.issuperset(case.only):
             raise Refusal(UNKNOWN)
-        of_first = [lone for lone in result.lone if lone.side == "FIRST"]
+        of_first = [unmatched for unmatched in result.unmatched if unmatched.side == "FIRST"]
         return [[one for one in these if one.name in case.only] for these in (result.pairs, of_first)]
     if case.share is not None:
         number, of = case.share
         dealt = shares(paired, result.pairs, of)
         pairs = [pair for pair, share in zip(result.pairs, dealt) if share == number]
-        return pairs, result.lone if number == 1 else []
-    return result.pairs, result.lone
+        return pairs, result.unmatched if number == 1 else []
+    return result.pairs, result.unmatched
 
 
 def by_cones(paired, case):
     """The reports that may come of a case by cones: those of all choices, where an attempt may be given up for its requests."""
     result = judge(paired, "declared", False)
-    pairs, lone = picked(paired, case, result)
+    pairs, unmatched = picked(paired, case, result)
     choices = []
     for pair in pairs:
-        is_decided, is_left = may_be_told(paired, pair, case.limit)
+        is_decided, is_left = may_be_reported(paired, pair, case.limit)
         choices.append([pair.line] * is_decided + [f"UNDECIDED {pair.label}{pair.name}"] * is_left)
-    return [report(list(lines), lone, case.share) for lines in itertools.product(*choices)]
+    return [report(list(lines), unmatched, case.share) for lines in itertools.product(*choices)]
 
 
 # Reports.
 
 
-def report(told: list, lone: list[Lone], share=None):
+def report(reported: list, unmatched: list[Unpaired], share=None):
     """The run that tells these lines of pairs, and what has no partner."""
-    equal, different, undecided = (sum(line.startswith(word) for line in told) for word in ("EQUAL ", "DIFFER ", "UNDECIDED "))
-    last = f"{equal} equal, {different} different, {len(lone)} unmatched"
+    equal, different, undecided = (sum(line.startswith(word) for line in reported) for word in ("EQUAL ", "DIFFER ", "UNDECIDED "))
+    last = f"{equal} equal, {different} different, {len(unmatched)} unmatched"
     last += f", {undecided} undecided" if undecided else ""
     last += f", share {share[0]} of {share[1]}" if share else ""
-    status = 1 if different or lone else 3 if undecided else 0
-    lines = [*told, *(f"ONLY {one.side} {one.label}{one.name}" for one in lone), last]
+    status = 1 if different or unmatched else 3 if undecided else 0
+    lines = [*reported, *(f"ONLY {one.side} {one.label}{one.name}" for one in unmatched), last]
     return Run(status, "".join(line + "\n" for line in lines).encode(), b"")
 
 
 def report_of(result):
-    return report([pair.line for pair in result.pairs], result.lone)
+    return report([pair.line for pair in result.pairs], result.unmatched)
 
 
 def run_of(refusal):
@@ -247,7 +247,7 @@ def judged(case):
 DIFFER = re.compile(rb"DIFFER ((?:NEXT )?\S+) at((?: [^\s=]+=[01])*)( first=[01] second=[01].*)")
 
 
-def told(case, paired, seen):
+def reported(case, paired, seen):
     """The run with the variables that the case tells of assignments."""
     if case.assignment not in ("ones", "support"):
         return seen
@@ -267,7 +267,7 @@ def answers(case):
     try:
         paired, order = paired_of(case)
         if order in TRIED:
-            return [told(case, paired, seen) for seen in {"best": best, "auto": auto, "cones": by_cones}[order](paired, case)]
-        return [order_of(paired, order) if case.print_order else told(case, paired, report_of(judged(case)))]
+            return [reported(case, paired, seen) for seen in {"best": best, "auto": auto, "cones": by_cones}[order](paired, case)]
+        return [order_of(paired, order) if case.print_order else reported(case, paired, report_of(judged(case)))]
     except Refusal as refusal:
         return [run_of(refusal)]

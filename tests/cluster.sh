@@ -30,7 +30,7 @@ begin() {
     bddcheck --order cones golden.bench revised.bench >whole.txt
 }
 # That a status is 0, or what the files behind it tell.
-told() {
+expect_success() {
     name=$1 status=$2 && shift 2
     if [ "$status" -eq 0 ]; then
         passed=$((passed + 1))
@@ -42,7 +42,7 @@ told() {
 }
 check() {
     cmp report.txt whole.txt
-    told "$1" $? report.txt whole.txt ./*.log
+    expect_success "$1" $? report.txt whole.txt ./*.log
 }
 skip() {
     skipped=$((skipped + 1))
@@ -88,7 +88,7 @@ done
 bddcheck-join golden.bench share.* >report.txt
 check 'recipes 6 and 7, shards as Bazel numbers them'
 awk -v shards="$shards" '{ wrong += ($2 != ($3 > 0)) || ($4 != "touched." $1) } END { exit wrong || NR != shards }' bazel.log
-told 'the status and the touched file of each shard' $? bazel.log
+expect_success 'the status and the touched file of each shard' $? bazel.log
 
 # ---- Slurm
 
@@ -159,7 +159,7 @@ if command -v munged >/dev/null && command -v slurmctld >/dev/null && command -v
         mv share.7 share.seven && : >share.7
         { sh ../blocks/5 && within 120 none_wait; } >again.log 2>&1
         cmp share.7 share.seven
-        told 'recipe 5, a task that is submitted again' $? again.log
+        expect_success 'recipe 5, a task that is submitted again' $? again.log
     else
         skip 'the daemons of Slurm do not start on this machine, so recipes 3 to 5 were not tried'
         tail -n 20 "$place"/slurm/*.out | sed 's/^/cluster: /'

@@ -10,7 +10,7 @@ names each page.
 import re
 import sys
 
-from kit import TOP, Tally
+from harness import TOP, Tally
 
 PAGES = TOP / "docs" / "decisions"
 FOLDERS = ("tests/", "tools/", "docs/", "bench/", ".ci/")

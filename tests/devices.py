@@ -13,8 +13,8 @@ import sys
 import threading
 import time
 
-import kit
-from kit import C17, C17_DIFFERS, C17_EQUAL, C17B, TOP, Run, Tally, lines, netlist, run, written
+import harness
+from harness import C17, C17_DIFFERS, C17_EQUAL, C17B, TOP, Run, Tally, lines, netlist, run, written
 from refusals import products
 
 sys.path.append(str(TOP / "bench"))
@@ -57,10 +57,10 @@ class Devices:
         begun = time.monotonic()
         seen = self.run("--sizes", "--verbose", one, chain, seconds=240)
         seconds = time.monotonic() - begun
-        told = seen.err.decode().splitlines()
-        is_told = all(re.fullmatch(r"bddcheck: building rank \d+ of \d+: \d+ nodes and \d+ requests so far in \d+ MB", line) for line in told)
-        self.check("a long run, and what is told of it", Run(seen.status, seen.out, b""), silent)
-        self.tally.check("lines of progress", is_told and len(told) <= seconds, seen)
+        reported = seen.err.decode().splitlines()
+        is_reported = all(re.fullmatch(r"bddcheck: building rank \d+ of \d+: \d+ nodes and \d+ requests so far in \d+ MB", line) for line in reported)
+        self.check("a long run, and what is reported of it", Run(seen.status, seen.out, b""), silent)
+        self.tally.check("lines of progress", is_reported and len(reported) <= seconds, seen)
 
     def widest(self):
         """A wave of sixteen million requests: the sum of 23 products, all first factors before all second ones."""
@@ -81,10 +81,10 @@ class Devices:
     def terminal(self):
         """On a terminal one line is written in place where a rank begins over a second after the start, and gone at the end."""
         late = self.fifo("slow", C17, len(C17), wait=1.2)
-        status, out, told = self.on_terminal(self.c17, late)
+        status, out, reported = self.on_terminal(self.c17, late)
         place = rb"\rbddcheck: attempt 1 is building rank \d+ of \d+: \d+ nodes and \d+ requests so far in \d+ MB\x1b\[K"
         right = (status, out) == (0, C17_EQUAL)
-        self.tally.check("a line on a terminal", right and re.fullmatch(rb"(?:(?:" + place + rb")+\r\x1b\[K)+", told), (out, told))
+        self.tally.check("a line on a terminal", right and re.fullmatch(rb"(?:(?:" + place + rb")+\r\x1b\[K)+", reported), (out, reported))
         if shutil.which("script"):
             seen = run(["script", "-qec", f"{self.program} --verbose {self.c17} {self.c17}", "/dev/null"])
             self.tally.check("no line of a short run on a terminal", b"\x1b" not in seen.out, seen)
@@ -100,17 +100,17 @@ class Devices:
         self.check("what helps on a terminal", self.on_terminal(bad, self.c17), (2, b"", wanted))
 
     def on_terminal(self, *files):
-        """The status, the report, and what is told on a terminal that is standard error."""
+        """The status, the report, and what is reported on a terminal that is standard error."""
         ours, theirs = os.openpty()
         child = subprocess.Popen([self.program, *files], stdin=subprocess.DEVNULL, stdout=subprocess.PIPE, stderr=theirs)
         os.close(theirs)
-        told = b""
+        reported = b""
         # What is read of a terminal that nobody has open fails.
         while part := self.front_of(ours):
-            told += part
+            reported += part
         os.close(ours)
         out = child.communicate()[0]
-        return child.returncode, out, told
+        return child.returncode, out, reported
 
     @staticmethod
     def front_of(terminal):
@@ -120,12 +120,12 @@ class Devices:
             return b""
 
     def late_progress(self):
-        """The clock of the progress starts before the texts are read: a rank that begins over a second later is told."""
+        """The clock of the progress starts before the texts are read: a rank that begins over a second later is reported."""
         late = self.fifo("late", C17B, len(C17B), wait=1.2)
         seen = self.run("--verbose", self.c17, late)
-        told = seen.err.decode()
+        reported = seen.err.decode()
         self.check("a report behind a late text", Run(seen.status, seen.out, b""), Run(1, C17_DIFFERS, b""))
-        self.tally.check("a rank behind a late text", re.fullmatch(r"bddcheck: building rank 1 of 3: 5 nodes and 0 requests so far in \d+ MB\nbddcheck: order interleave decided within 16384 nodes\n", told), seen)
+        self.tally.check("a rank behind a late text", re.fullmatch(r"bddcheck: building rank 1 of 3: 5 nodes and 0 requests so far in \d+ MB\nbddcheck: order interleave decided within 16384 nodes\n", reported), seen)
 
     def later_attempts(self):
         """Within a later budget that order is tried first which came furthest within the one before, and no other byte tells of it."""
@@ -135,23 +135,23 @@ class Devices:
             circuits.multiplier(net, 9, multiply)
             texts.append(self.file(name, net.text().encode()))
         seen = self.run("--verbose", "--order", "best", *texts, seconds=240)
-        told = [line for line in seen.err.decode().splitlines() if line.startswith("bddcheck: order ")]
-        self.check("the attempt that came furthest goes first", told[10:], ["bddcheck: order declared decided within 4194304 nodes"])
+        reported = [line for line in seen.err.decode().splitlines() if line.startswith("bddcheck: order ")]
+        self.check("the attempt that came furthest goes first", reported[10:], ["bddcheck: order declared decided within 4194304 nodes"])
         orders = ("interleave", "force", "index", "depth", "declared")
         needs = r"bddcheck: order (\w+) needs (?:more than|too many requests in one wave for a budget of) (\d+) nodes"
-        ends = [re.fullmatch(needs, line) for line in told[:10]]
+        ends = [re.fullmatch(needs, line) for line in reported[:10]]
         ends = [end.groups() if end else None for end in ends]
-        self.check("each attempt of the first budget is told", ends[:5], [(order, "16384") for order in orders])
-        self.tally.check("each attempt of the second", set(ends[5:]) == {(order, "262144") for order in orders}, told)
+        self.check("each attempt of the first budget is reported", ends[:5], [(order, "16384") for order in orders])
+        self.tally.check("each attempt of the second", set(ends[5:]) == {(order, "262144") for order in orders}, reported)
         first = self.run("--order", "interleave", "--limit", 4194304, *texts, seconds=240)
         self.check("the first candidate would have ended there too", first, Run(seen.status, seen.out, b""))
         rounds = [self.run("--verbose", "--order", "cones", "--workers", workers, *texts, seconds=240) for workers in (1, 3)]
-        told = [[line for line in one.err.decode().splitlines() if " rank " not in line] for one in rounds]
-        self.check("a line for each round, whatever the workers are", told[1], told[0])
+        reported = [[line for line in one.err.decode().splitlines() if " rank " not in line] for one in rounds]
+        self.check("a line for each round, whatever the workers are", reported[1], reported[0])
         self.tally.check("some pairs are left by each round but the last", re.fullmatch(
             r"(bddcheck: [1-9]\d* of 18 pairs are undecided by cones within (16384|262144) nodes\n){2}"
             r"bddcheck: 0 of 18 pairs are undecided by cones within 2097152 nodes\nbddcheck: each pair was judged by its cones",
-            "\n".join(told[0])), told)
+            "\n".join(reported[0])), reported)
 
     def full_disk(self):
         for words in (["--sizes"], ["--workers", 1], ["--format", "json"]):
@@ -209,8 +209,8 @@ class Devices:
         seen = self.run(self.c17, self.c17b, stdout=theirs.fileno())
         theirs.close()
         with ours:
-            told = ours.recv(65536)
-        self.check("a socket", Run(seen.status, told, seen.err), Run(1, C17_DIFFERS, b""))
+            reported = ours.recv(65536)
+        self.check("a socket", Run(seen.status, reported, seen.err), Run(1, C17_DIFFERS, b""))
 
     # Inputs.
 
@@ -220,18 +220,18 @@ class Devices:
             ("second", [self.c17, "/dev/zero"], "second: longer than 67108864 bytes"),
             ("order", ["--order-file", "/dev/zero", self.c17, self.c17], "order: longer than 67108864 bytes"),
         ):
-            self.check(f"/dev/zero as {name}", kit.unhelped(self.run(*words)), refused(text))
+            self.check(f"/dev/zero as {name}", harness.unhelped(self.run(*words)), refused(text))
         yes = subprocess.Popen(["yes", "# yes"], stdout=subprocess.PIPE)
         child = subprocess.run([self.program], stdin=yes.stdout, capture_output=True)
         yes.stdout.close()
         yes.wait()
         seen = Run(child.returncode, child.stdout, child.stderr)
-        self.check("yes on standard input", kit.unhelped(seen), refused("standard input: too long"))
+        self.check("yes on standard input", harness.unhelped(seen), refused("standard input: too long"))
         for name, words in (("first", ["-", self.c17]), ("second", [self.c17, "-"])):
             with open("/dev/zero", "rb") as zeros:
                 child = subprocess.run([self.program, *map(str, words)], stdin=zeros, capture_output=True)
             seen = Run(child.returncode, child.stdout, child.stderr)
-            self.check(f"/dev/zero on standard input as {name}", kit.unhelped(seen), refused(f"{name}: longer than 67108864 bytes"))
+            self.check(f"/dev/zero on standard input as {name}", harness.unhelped(seen), refused(f"{name}: longer than 67108864 bytes"))
 
     def limits(self):
         """Texts at their limits and one byte over them, of comments alone."""
@@ -239,12 +239,12 @@ class Devices:
         whole, over = self.file("whole", comment(TEXT_LIMIT)), self.file("over", comment(TEXT_LIMIT + 1))
         empty = self.file("empty", b"")
         self.check("a text at its limit", self.run(whole, whole), Run(0, EMPTY, b""))
-        self.check("first over it", kit.unhelped(self.run(over, empty)), refused("first: longer than 67108864 bytes"))
-        self.check("second over it", kit.unhelped(self.run(empty, over)), refused("second: longer than 67108864 bytes"))
+        self.check("first over it", harness.unhelped(self.run(over, empty)), refused("first: longer than 67108864 bytes"))
+        self.check("second over it", harness.unhelped(self.run(empty, over)), refused("second: longer than 67108864 bytes"))
         rest = INPUT_LIMIT - TEXT_LIMIT - 4
         at_most = comment(TEXT_LIMIT) + b"%%\r\n" + comment(rest)
-        self.check("standard input at its limit", kit.unhelped(self.run(given=at_most)), refused("second: longer than 67108864 bytes"))
-        self.check("standard input over it", kit.unhelped(self.run(given=at_most + b"#")), refused("standard input: too long"))
+        self.check("standard input at its limit", harness.unhelped(self.run(given=at_most)), refused("second: longer than 67108864 bytes"))
+        self.check("standard input over it", harness.unhelped(self.run(given=at_most + b"#")), refused("standard input: too long"))
         fits = comment(TEXT_LIMIT) + b"%%\n" + comment(TEXT_LIMIT)
         self.check("two whole texts on standard input", self.run(given=fits), Run(0, EMPTY, b""))
         for name in ("whole", "over"):
@@ -264,7 +264,7 @@ class Devices:
                 fault = f"first: line {6 if closed < 12 else 7}: signal without definition"
             seen = self.run(self.file("front", front), self.c17)
             if fault:
-                self.check(f"{length} bytes of C17", kit.unhelped(seen), refused(fault))
+                self.check(f"{length} bytes of C17", harness.unhelped(seen), refused(fault))
             else:
                 self.tally.check(f"{length} bytes of C17", seen.status in (0, 1) and not seen.err, seen)
 
@@ -288,24 +288,24 @@ class Devices:
             ("a folder as second", [self.c17, place], "second: cannot be read"),
             ("a folder as order", ["--order-file", place, self.c17, self.c17], "order: cannot be read"),
         ):
-            self.check(name, kit.unhelped(self.run(*words)), refused(text))
+            self.check(name, harness.unhelped(self.run(*words)), refused(text))
         loop = self.place / "loop"
         loop.symlink_to(loop)
-        self.check("a link to itself", kit.unhelped(self.run(loop, self.c17)), refused("first: cannot be opened"))
+        self.check("a link to itself", harness.unhelped(self.run(loop, self.c17)), refused("first: cannot be opened"))
         seen = self.run("--verbose", loop, self.c17)
-        told = lines("bddcheck: first: cannot be opened", f"bddcheck: {loop}: its links form a loop")
-        self.check("a link to itself, and what stands in the way", seen, Run(2, b"", told))
+        reported = lines("bddcheck: first: cannot be opened", f"bddcheck: {loop}: its links form a loop")
+        self.check("a link to itself, and what stands in the way", seen, Run(2, b"", reported))
         with open("/dev/null", "rb") as null:
             child = subprocess.run([self.program], stdin=null, capture_output=True)
         seen = Run(child.returncode, child.stdout, child.stderr)
-        self.check("no input", kit.unhelped(seen), refused("standard input: no line %%"))
+        self.check("no input", harness.unhelped(seen), refused("standard input: no line %%"))
         folder = os.open(place, os.O_RDONLY)
         child = subprocess.run([self.program], stdin=folder, capture_output=True)
         os.close(folder)
         seen = Run(child.returncode, child.stdout, child.stderr)
-        self.check("a folder as standard input", kit.unhelped(seen), refused("standard input: cannot be read"))
+        self.check("a folder as standard input", harness.unhelped(seen), refused("standard input: cannot be read"))
         seen = self.through_shell("<&-")
-        self.check("closed standard input", kit.unhelped(seen), refused("standard input: cannot be read"))
+        self.check("closed standard input", harness.unhelped(seen), refused("standard input: cannot be read"))
         # The system gives the number of a closed standard input to the file that is opened, which is then read for both.
         for words in (["-", self.c17], [self.c17, "-"]):
             seen = self.through_shell("<&-", *words)
@@ -321,10 +321,10 @@ class Devices:
             program = shutil.copy(self.program, self.place / "program")
             os.chmod(program, 0o755)
             words[0], more = program, {"user": 65534, "group": 65534, "cwd": "/"}
-        self.check("no permission", kit.unhelped(run(words, **more)), refused("first: cannot be opened"))
+        self.check("no permission", harness.unhelped(run(words, **more)), refused("first: cannot be opened"))
         words.insert(1, "--verbose")
-        told = lines("bddcheck: first: cannot be opened", f"bddcheck: {secret}: permission is denied")
-        self.check("no permission, and what stands in the way", run(words, **more), Run(2, b"", told))
+        reported = lines("bddcheck: first: cannot be opened", f"bddcheck: {secret}: permission is denied")
+        self.check("no permission, and what stands in the way", run(words, **more), Run(2, b"", reported))
 
     def fifo(self, name, text, bytes_at_once, wait=0):
         """The path of a fifo that gives so many bytes at each read, the first of them so many seconds after it is opened."""
@@ -349,8 +349,8 @@ class Devices:
         refused_fifo = self.fifo("refused", b"a = FOO(b)\n", 1)
         seen = self.run("--verbose", refused_fifo, self.c17)
         remedy = "the gates are AND, NAND, OR, NOR, XOR, XNOR, NOT, BUFF and DFF; see docs/FLOWS.md"
-        told = lines("bddcheck: first: line 1: unknown gate", f"bddcheck: {refused_fifo}:1: {remedy}")
-        self.check("a refused fifo is read once", seen, Run(2, b"", told))
+        reported = lines("bddcheck: first: line 1: unknown gate", f"bddcheck: {refused_fifo}:1: {remedy}")
+        self.check("a refused fifo is read once", seen, Run(2, b"", reported))
         child = subprocess.Popen([self.program], stdin=subprocess.PIPE, stdout=subprocess.PIPE, stderr=subprocess.PIPE, bufsize=0)
         for byte in C17 + b"%%\r\n" + C17:
             child.stdin.write(bytes([byte]))
@@ -392,7 +392,7 @@ class Devices:
 
 def main():
     tally = Tally("devices")
-    with kit.folder() as place:
+    with harness.folder() as place:
         devices = Devices(sys.argv[1], place, tally)
         devices.progress()
         devices.widest()

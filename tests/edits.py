@@ -1,5 +1,5 @@
 #!/usr/bin/env python3
-"""That the wrong bodies are what the gate and tools/wrong_bodies.sh take them for, and that this tool passes none that is bad.
+"""That the planted bugs are what the gate and tools/planted_bugs.sh take them for, and that this tool passes none that is bad.
 
 usage: tests/edits.py
 
@@ -10,13 +10,13 @@ import pathlib
 import shutil
 import sys
 
-import kit
-from kit import TOP, Tally, run
+import harness
+from harness import TOP, Tally, run
 
 sys.path.insert(0, str(TOP / "tools"))
-from bodies import BadEdit, read_edit  # noqa: E402
+from edit_files import BadEdit, read_edit  # noqa: E402
 
-KINDS = ("must-fail", "wrong-bodies")
+KINDS = ("must-fail", "planted-bugs")
 MOST_OF_A_CRATE, MOST = 6, 100
 
 # A library whose `high` calls `low`.
@@ -112,47 +112,47 @@ def written(place, source, edits):
     """A repository with one crate, and the tool."""
     crate = place / "crates" / "one"
     (crate / "src").mkdir(parents=True)
-    (crate / "wrong-bodies").mkdir()
+    (crate / "planted-bugs").mkdir()
     (place / "tools").mkdir()
     (place / "bin").mkdir()
-    (place / "room").mkdir()
-    for name in ("bodies.py", "wrong_bodies.py", "wrong_bodies.sh"):
+    (place / "scratch").mkdir()
+    for name in ("edit_files.py", "planted_bugs.py", "planted_bugs.sh"):
         shutil.copy(TOP / "tools" / name, place / "tools")
     (place / "crates.txt").write_text("# Crates.\none:\n")
     (crate / "src" / "lib.rt").write_text(source)
     (place / "bin" / "rt").write_text(RT.replace("PYTHON", sys.executable))
     (place / "bin" / "rt").chmod(0o755)
     for name, (text, _) in edits.items():
-        (crate / "wrong-bodies" / f"{name}.edit").write_text(text)
+        (crate / "planted-bugs" / f"{name}.edit").write_text(text)
     return place
 
 
 def tried(place, words):
     path = f"{place / 'bin'}{os.pathsep}{os.environ['PATH']}"
-    return run([place / "tools" / "wrong_bodies.sh", *words], environment={"PATH": path, "TMPDIR": str(place / "room")})
+    return run([place / "tools" / "planted_bugs.sh", *words], environment={"PATH": path, "TMPDIR": str(place / "scratch")})
 
 
 def check_tool(tally, name, source, edits, words=("one",)):
     """That the tool says of each edit what it has to, counts them, and leaves nothing behind."""
-    with kit.folder() as room:
-        place = written(pathlib.Path(room), source, edits)
+    with harness.folder() as scratch:
+        place = written(pathlib.Path(scratch), source, edits)
         seen = tried(place, ["--jobs", "2", *words])
         lines = seen.out.decode().split("\n")
         for edit, (_, wanted) in edits.items():
-            told = [line for line in lines if line.startswith(f"one/{edit}.edit: ")]
-            tally.check(f"{name}: {edit}", len(told) == 1 and told[0].startswith(f"one/{edit}.edit: {wanted}"), told or seen)
+            reported = [line for line in lines if line.startswith(f"one/{edit}.edit: ")]
+            tally.check(f"{name}: {edit}", len(reported) == 1 and reported[0].startswith(f"one/{edit}.edit: {wanted}"), reported or seen)
         refused = sum(wanted.startswith("REFUSED") for _, wanted in edits.values())
         failed = len(edits) - refused
         tally.check(f"{name}: counts", lines[-2:] == [f"{refused} refused, {failed} failed", ""], lines[-2:])
         tally.check(f"{name}: status", seen.status == (failed > 0), seen)
-        tally.check(f"{name}: nothing is left", not list((place / "room").iterdir()), list((place / "room").iterdir()))
+        tally.check(f"{name}: nothing is left", not list((place / "scratch").iterdir()), list((place / "scratch").iterdir()))
 
 
 def check_since(tally):
     """That the tool takes the crates that changed since a commit, by default the one before the last."""
-    with kit.folder() as room:
-        place = written(pathlib.Path(room), SOURCE, {})
-        edit = place / "crates" / "one" / "wrong-bodies" / "at-wrong.edit"
+    with harness.folder() as scratch:
+        place = written(pathlib.Path(scratch), SOURCE, {})
+        edit = place / "crates" / "one" / "planted-bugs" / "at-wrong.edit"
         git = ["git", "-C", place, "-c", "user.name=a", "-c", "user.email=a"]
         run([*git, "init", "--quiet"])
         for text in (None, EDITS["at-wrong"][0]):
@@ -170,13 +170,13 @@ def check_since(tally):
 
 def check_only(tally):
     """That --only takes the edits whose names have a word, and passes no word that none has."""
-    with kit.folder() as room:
-        place = written(pathlib.Path(room), SOURCE, EDITS)
+    with harness.folder() as scratch:
+        place = written(pathlib.Path(scratch), SOURCE, EDITS)
         for word, wanted in (("wrong", 4), ("at-wrong", 1), ("low-is_wrong.edit", 1)):
             seen = tried(place, ["--only", word, "one"])
-            told = [line.partition(".edit: ")[0] for line in seen.out.decode().split("\n") if ".edit: " in line]
+            reported = [line.partition(".edit: ")[0] for line in seen.out.decode().split("\n") if ".edit: " in line]
             names = [f"one/{name}" for name in EDITS if word in f"{name}.edit"]
-            tally.check(f"only: {word}", sorted(told) == sorted(names) and len(names) == wanted, seen)
+            tally.check(f"only: {word}", sorted(reported) == sorted(names) and len(names) == wanted, seen)
             tally.check(f"only: {word}: status", seen.status == (word == "wrong"), seen)
         for words in (["--only", "no-such-word", "one"], ["--only", "no-such-word", "--all"]):
             seen = tried(place, words)
@@ -184,7 +184,7 @@ def check_only(tally):
 
 
 def check_edits(tally):
-    """The wrong bodies of the repository."""
+    """The planted bugs of the repository."""
     crates = sorted(it.parent for it in (TOP / "crates").glob("*/src"))
     of_gate = {crate.name: len(list((crate / "must-fail").glob("*.edit"))) for crate in crates}
     for crate in crates:
@@ -196,13 +196,13 @@ def check_edits(tally):
                 read_edit(path, crate)
             except BadEdit as why:
                 faults.append(f"{path.relative_to(TOP)}: {why}")
-        tally.check(f"the wrong bodies of {crate.name} apply", not faults, "; ".join(faults))
+        tally.check(f"the planted bugs of {crate.name} apply", not faults, "; ".join(faults))
         both = [{it.name: it.read_text() for it in (crate / kind).glob("*.edit")} for kind in KINDS]
         twice = both[0].keys() & both[1].keys() or set(both[0].values()) & set(both[1].values())
-        tally.check(f"no wrong body of {crate.name} stands in both folders", not twice, twice)
+        tally.check(f"no planted bug of {crate.name} stands in both folders", not twice, twice)
     many = {name: count for name, count in of_gate.items() if count > MOST_OF_A_CRATE}
-    tally.check(f"the gate tries at most {MOST_OF_A_CRATE} wrong bodies of a crate", not many, many)
-    tally.check(f"the gate tries at most {MOST} wrong bodies", 0 < sum(of_gate.values()) <= MOST, sum(of_gate.values()))
+    tally.check(f"the gate tries at most {MOST_OF_A_CRATE} planted bugs of a crate", not many, many)
+    tally.check(f"the gate tries at most {MOST} planted bugs", 0 < sum(of_gate.values()) <= MOST, sum(of_gate.values()))
     tally.check("the gate tries none of the program", of_gate["bddcheck"] == 0, of_gate["bddcheck"])
 
 
@@ -221,4 +221,4 @@ def main():
 
 
 if __name__ == "__main__":
-    kit.ended(main)
+    harness.ended(main)

@@ -9,12 +9,12 @@ import re
 import shlex
 import sys
 
-from kit import TOP, Run, Tally, lines, run, unhelped
+from harness import TOP, Run, Tally, lines, run, unhelped
 
 
 def equal(*names, sizes=None):
-    told = [f"EQUAL {name}" + (f" size {sizes[i]}" if sizes else "") for i, name in enumerate(names)]
-    return Run(0, lines(*told, f"{len(names)} equal, 0 different, 0 unmatched"), b"")
+    reported = [f"EQUAL {name}" + (f" size {sizes[i]}" if sizes else "") for i, name in enumerate(names)]
+    return Run(0, lines(*reported, f"{len(names)} equal, 0 different, 0 unmatched"), b"")
 
 
 def refused(text, status=2):
@@ -34,7 +34,7 @@ def twenty_three(seen):
 
 
 def eight_and_fifty_six(seen):
-    """The first assignment that is told is that of 8 and 56."""
+    """The first assignment that is reported is that of 8 and 56."""
     bits = dict(word.split("=") for word in seen.out.split(b"DIFFER", 1)[1].decode().split("\n")[0].split() if "=" in word)
     number = lambda letter: sum(int(bits[f"{letter}{i}"]) << i for i in range(8))
     return seen.status == 1 and {number("a"), number("b")} == {8, 56}

@@ -9,8 +9,8 @@ import random
 import re
 import sys
 
-import kit
-from kit import Tally, lines, run
+import harness
+from harness import Tally, lines, run
 
 FOLDS = {
     "AND": all,
@@ -94,16 +94,16 @@ def explanation(first, second, label, root, partner, at):
     """The lines that explain the pair of these signals at an assignment."""
     seen, other = first.values(at), second.values(at)
     differing = inner(first, second, root, partner, at)
-    told = [f"EXPLAIN {label} inner signals that differ: {len(differing)}"]
-    told += [f"  {name} first={seen[name]} second={other[name]} line {first.line_of(name)} line {second.line_of(name)}" for name in differing]
+    reported = [f"EXPLAIN {label} inner signals that differ: {len(differing)}"]
+    reported += [f"  {name} first={seen[name]} second={other[name]} line {first.line_of(name)} line {second.line_of(name)}" for name in differing]
     if differing:
         low = differing[0]
         counts = []
         for net, top in ((first, root), (second, partner)):
             cone = [name for name in net.gates if name in net.below(top)]
             counts.append(f"{sum(name not in net.below(low) for name in cone)} of {len(cone)}")
-        told.append(f"  {counts[0]} gates in the first netlist and {counts[1]} in the second are outside the cone of {low}")
-    return told
+        reported.append(f"  {counts[0]} gates in the first netlist and {counts[1]} in the second are outside the cone of {low}")
+    return reported
 
 
 def label_of(line):
@@ -146,11 +146,11 @@ def main():
     given = parser.parse_args()
     rng, tally = random.Random(given.seed), Tally("explained")
     differing = several = shared = 0
-    with kit.folder() as place:
+    with harness.folder() as place:
         for turn in range(500):
             first = random_net(rng)
             second = changed(rng, first)
-            paths = [kit.written(place, name, net.text().encode()) for name, net in (("first", first), ("second", second))]
+            paths = [harness.written(place, name, net.text().encode()) for name, net in (("first", first), ("second", second))]
             labels = [*first.outputs, *(f"NEXT {name}" for name in first.registers)]
             asked = rng.choices(labels, k=rng.randrange(1, 4))
             words = rng.choice([[], ["--order", "best"], ["--order", "depth"], ["--order", "cones"], ["--order", "index"], ["--workers", "1"]])
@@ -164,8 +164,8 @@ def main():
             several, shared = several + (len(found) > 1), shared + any(len(cause["pairs"]) > 1 for cause in found)
             plain = run([given.program, "--format", "json", *words, *paths])
             seen = run([given.program, "--format", "json", "--causes", *words, *paths])
-            told = f',"causes":{json.dumps(found, separators=(",", ":"))}}}\n'.encode()
-            tally.same(f"seed {given.seed}, turn {turn}, {words}, causes", seen, plain.status, plain.out[:-2] + told, b"")
+            reported = f',"causes":{json.dumps(found, separators=(",", ":"))}}}\n'.encode()
+            tally.same(f"seed {given.seed}, turn {turn}, {words}, causes", seen, plain.status, plain.out[:-2] + reported, b"")
     tally.check("inner signals differ in many of them", differing > 100, differing)
     tally.check("some have several causes, and many a cause of several pairs", several > 5 and shared > 20, (several, shared))
     tally.end()
@@ -173,4 +173,4 @@ def main():
 
 
 if __name__ == "__main__":
-    kit.ended(main)
+    harness.ended(main)

@@ -19,8 +19,8 @@ import shutil
 import sys
 from concurrent.futures import ThreadPoolExecutor
 
-import kit
-from kit import C17, C17B, TOP, Run, Tally, run, written
+import harness
+from harness import C17, C17B, TOP, Run, Tally, run, written
 
 sys.path.append(str(TOP / "tools"))
 import unproved  # noqa: E402
@@ -159,7 +159,7 @@ def main():
     program = os.path.abspath(sys.argv[1])
     options(tally, program)
     if shutil.which("rt"):
-        with kit.folder() as place:
+        with harness.folder() as place:
             place = pathlib.Path(place)
             copy = copied(place)
             script = copy / "tools" / "bddcheck.sh"
@@ -175,4 +175,4 @@ def main():
 
 
 if __name__ == "__main__":
-    kit.ended(main)
+    harness.ended(main)

@@ -4,7 +4,7 @@
 usage: tests/fuzz.py PROGRAM [--seconds S] [--seed N] [--case KIND:I] [--jobs J]
 
 It takes S seconds (120) by J processes (2). The seed is printed; with it each case is made again, and --case makes one
-alone. The files of a case that fails are kept, and told.
+alone. The files of a case that fails are kept, and reported.
 """
 import argparse
 import itertools
@@ -14,10 +14,10 @@ import sys
 import time
 from dataclasses import replace
 
-import kit
+import harness
 from answering import BY_CONES, CANDIDATES, TRIED, Case, answers, cones, judged, paired_of
 from judging import ORDERS, Refusal, judge
-from kit import Tally, run, say
+from harness import Tally, run, say
 
 WORDS = ["AND", "NAND", "OR", "NOR", "XOR", "XNOR", "NOT", "BUFF", "BUF"]
 WIDE = WORDS[:6]
@@ -335,7 +335,7 @@ def words_of(program, case, place):
     if case.match != "name":
         words += ["--match", case.match]
     if isinstance(case.order, bytes):
-        words += ["--order-file", kit.written(place, "order", case.order), *(["--extend"] if case.extend else [])]
+        words += ["--order-file", harness.written(place, "order", case.order), *(["--extend"] if case.extend else [])]
     elif case.order != default_of(case):
         words += ["--order", case.order]
     elif case.workers == 1:
@@ -356,9 +356,9 @@ def words_of(program, case, place):
     if case.limit is not None:
         words += ["--limit", str(case.limit)]
     if case.given is not None:
-        words += ["--given", kit.written(place, "given.bench", case.given)]
+        words += ["--given", harness.written(place, "given.bench", case.given)]
     if case.divider is None:
-        words += [kit.written(place, "first.bench", case.first), kit.written(place, "second.bench", case.second)]
+        words += [harness.written(place, "first.bench", case.first), harness.written(place, "second.bench", case.second)]
     return words
 
 
@@ -394,7 +394,7 @@ def taken_again(program, case, order, place):
 
 
 def try_case(program, seed, kind, index, place):
-    """None where the answers agree, and else what is told."""
+    """None where the answers agree, and else what is reported."""
     case = make_case(kind, random.Random(f"{seed}:{kind}:{index}"))
     for limit in limits_of(case) if kind in LIMITED else [case.limit]:
         case.limit = limit
@@ -402,7 +402,7 @@ def try_case(program, seed, kind, index, place):
         words = words_of(program, case, place)
         given = b"" if case.divider is None else case.first + case.divider + case.second
         seen = run(words, given)
-        seen = kit.unhelped(seen) if seen.err else seen
+        seen = harness.unhelped(seen) if seen.err else seen
         if case.print_order and seen in wanted and seen.status == 0:
             again, seen = taken_again(program, case, seen.out, place)
             wanted = [again]
@@ -410,7 +410,7 @@ def try_case(program, seed, kind, index, place):
             files = {"first.bench": case.first, "second.bench": case.second, "input": given}
             if isinstance(case.order, bytes):
                 files["order"] = case.order
-            where = kit.kept("fuzz", files)
+            where = harness.kept("fuzz", files)
             return f"--seed {seed} --case {kind}:{index}: {' '.join(map(str, words[1:]))}; files in {where}: {seen}; wanted {wanted}"
     return None
 
@@ -418,15 +418,15 @@ def try_case(program, seed, kind, index, place):
 def try_many(program, seed, kinds, begin, step, until):
     """Cases of all kinds by turns, until the time is over: how many, and the failed ones by kind."""
     tried, failed = {kind: 0 for kind in kinds}, []
-    with kit.folder() as place:
+    with harness.folder() as place:
         for index in itertools.count(begin, step):
             for kind in kinds:
                 if time.monotonic() >= until:
                     return tried, failed
-                told = try_case(program, seed, kind, index, place)
+                reported = try_case(program, seed, kind, index, place)
                 tried[kind] += 1
-                if told:
-                    failed.append((kind, told))
+                if reported:
+                    failed.append((kind, reported))
                     if len(failed) > 20:
                         return tried, failed
 
@@ -434,15 +434,15 @@ def try_many(program, seed, kinds, begin, step, until):
 def fuzz(program, tally, seed, seconds, jobs):
     tried, failed = {kind: 0 for kind in KINDS}, []
     until = time.monotonic() + seconds
-    with kit.pool(jobs) as pool:
+    with harness.pool(jobs) as pool:
         parts = [pool.submit(try_many, program, seed, KINDS, job, jobs, until) for job in range(jobs)]
         for part in parts:
-            counts, told = part.result()
-            failed += told
+            counts, reported = part.result()
+            failed += reported
             for kind in KINDS:
                 tried[kind] += counts[kind]
     for kind in KINDS:
-        wrong = [told for which, told in failed if which == kind]
+        wrong = [reported for which, reported in failed if which == kind]
         tally.check(f"{kind}: {tried[kind]} cases", tried[kind] and not wrong, "; ".join(wrong[:3]))
     counted = ", ".join(f"{count} {kind}" for kind, count in tried.items())
     tally.figures(f"{sum(tried.values())} cases with seed {seed}: {counted}")
@@ -458,9 +458,9 @@ def main():
     settings = parser.parse_args()
     if settings.case:
         kind, index = settings.case.split(":")
-        with kit.folder() as place:
-            told = try_case(settings.program, settings.seed, kind, int(index), place)
-        sys.exit(told or "agrees")
+        with harness.folder() as place:
+            reported = try_case(settings.program, settings.seed, kind, int(index), place)
+        sys.exit(reported or "agrees")
     tally = Tally("fuzz")
     say(f"fuzz: seed {settings.seed}")
     fuzz(settings.program, tally, settings.seed, settings.seconds, settings.jobs)
@@ -469,4 +469,4 @@ def main():
 
 
 if __name__ == "__main__":
-    kit.ended(main)
+    harness.ended(main)

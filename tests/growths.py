@@ -14,8 +14,8 @@ import pathlib
 import re
 import sys
 
-import kit
-from kit import Tally, run
+import harness
+from harness import Tally, run
 from refusals import compiled
 
 # Crates, and their tests by name.
@@ -89,7 +89,7 @@ def main():
     parser.add_argument("--jobs", type=int, default=2)
     settings = parser.parse_args()
     tally, tasks = Tally("growths"), []
-    with kit.folder() as place, kit.pool(settings.jobs) as pool:
+    with harness.folder() as place, harness.pool(settings.jobs) as pool:
         library = compiled(place)
         for crate, test in TESTS:
             program = settings.crates.resolve() / crate / "out" / f"{crate}_tests"
@@ -106,4 +106,4 @@ def main():
 
 
 if __name__ == "__main__":
-    kit.ended(main)
+    harness.ended(main)

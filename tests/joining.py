@@ -8,8 +8,8 @@ The reports here are written by hand; the program is not run.
 import json
 import sys
 
-import kit
-from kit import TOP, Run, Tally, folder, lines, run, written
+import harness
+from harness import TOP, Run, Tally, folder, lines, run, written
 
 FIRST = b"""\
 # Comments name OUTPUT(no) and no = DFF(x).
@@ -52,7 +52,7 @@ X = lines("EQUAL x", "1 equal, 0 different, 0 unmatched, share 2 of 2")
 W = lines("EQUAL w", "1 equal, 0 different, 0 unmatched, share 1 of 2")
 
 
-def told(number, of, *verdicts, variables=("a",), order="cones", **counts):
+def json_report(number, of, *verdicts, variables=("a",), order="cones", **counts):
     """The report of a share as JSON."""
     found = {"equal": 0, "different": 0, "unmatched": 0, **counts}
     report = {"match": "name", "order": order, "variables": list(variables), "verdicts": list(verdicts), **found, "share": [number, of]}
@@ -93,8 +93,8 @@ def joined(tally):
 
 
 def joined_json(tally):
-    one = told(1, 2, verdict("UNDECIDED", "w"), undecided=1)
-    two = told(2, 2, verdict("EQUAL", "x"), equal=1)
+    one = json_report(1, 2, verdict("UNDECIDED", "w"), undecided=1)
+    two = json_report(2, 2, verdict("EQUAL", "x"), equal=1)
     whole = (
         b'{"match":"name","order":"cones","variables":["a"],"verdicts":[{"verdict":"EQUAL","of":"output","name":"x"},'
         b'{"verdict":"UNDECIDED","of":"output","name":"w"}],"equal":1,"different":0,"unmatched":0,"undecided":1}\n'
@@ -104,12 +104,12 @@ def joined_json(tally):
     seen = join(TWO_OUTPUTS, *given)
     tally.check("JSON with a condition", seen == Run(3, whole.replace(b'"variables"', b'"given":true,"variables"'), b""), seen)
     for name, other in {
-        "other variables": told(2, 2, verdict("EQUAL", "x"), variables=("b",), equal=1),
-        "another order": told(2, 2, verdict("EQUAL", "x"), order="declared", equal=1),
+        "other variables": json_report(2, 2, verdict("EQUAL", "x"), variables=("b",), equal=1),
+        "another order": json_report(2, 2, verdict("EQUAL", "x"), order="declared", equal=1),
         "with a condition": given[1],
-        "counts": told(2, 2, verdict("EQUAL", "x"), different=1),
+        "counts": json_report(2, 2, verdict("EQUAL", "x"), different=1),
         "no share": two.replace(b',"share":[2,2]', b""),
-        "an unknown verdict": told(2, 2, verdict("SAME", "x"), equal=1),
+        "an unknown verdict": json_report(2, 2, verdict("SAME", "x"), equal=1),
         "causes": two.replace(b',"share"', b',"causes":[],"share"'),
         "a member twice": two.replace(b'"equal":1', b'"equal":1,"equal":1'),
         "lines": X,
@@ -165,4 +165,4 @@ def main():
 
 
 if __name__ == "__main__":
-    kit.ended(main)
+    harness.ended(main)

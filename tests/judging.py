@@ -308,7 +308,7 @@ class Pair:
 
 
 @dataclass
-class Lone:
+class Unpaired:
     """An output or a register of one of the netlists, FIRST or SECOND, without a partner."""
 
     side: str
@@ -322,7 +322,7 @@ class Judged:
     functions of a pair that differs depend, by its label."""
 
     pairs: list
-    lone: list
+    unmatched: list
     nodes: int
     asked: list
     count: int
@@ -363,8 +363,8 @@ def judge(paired, order, sizes):
         supports[f"{what}{name}"] = {names[level] for level in support([f, g], count)}
         place = ((f ^ g) & -(f ^ g)).bit_length() - 1
         bits = [f"{v}={place >> (count - 1 - i) & 1}" for i, v in enumerate(names)]
-        told = f"DIFFER {what}{name} at {' '.join([*bits, f'first={f >> place & 1}', f'second={g >> place & 1}'])}"
-        return told + (f" sizes {node_count([f], count)} {node_count([g], count)}" if sizes else "")
+        reported = f"DIFFER {what}{name} at {' '.join([*bits, f'first={f >> place & 1}', f'second={g >> place & 1}'])}"
+        return reported + (f" sizes {node_count([f], count)} {node_count([g], count)}" if sizes else "")
 
     pairs, alone = [], [[], []]
     for what, parts in (("", outputs), ("NEXT ", next_states)):
@@ -372,8 +372,8 @@ def judge(paired, order, sizes):
         for a, b in both:
             f, g = signal(what, paired.first, a), signal(what, paired.second, b)
             pairs.append(Pair(what, a, f, g, line(what, a, first.known[f], second.known[g])))
-        for side, lone, single in zip(("FIRST", "SECOND"), alone, only):
-            lone += [Lone(side, what, name) for name in single]
+        for side, unmatched, single in zip(("FIRST", "SECOND"), alone, only):
+            unmatched += [Unpaired(side, what, name) for name in single]
     if given:
         built += compared
     return Judged(pairs, [*alone[0], *alone[1]], node_count(built, count), asked, count, supports)

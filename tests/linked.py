@@ -7,8 +7,8 @@ usage: tests/linked.py
 import re
 import sys
 
-import kit
-from kit import TOP, Tally
+import harness
+from harness import TOP, Tally
 
 PROGRAM = "bddcheck"
 CRATES = ("crossbeam_queue", "crossbeam_utils", "rayon", "indexmap", "lru", "thiserror", "clap", "itoa", "json")
@@ -52,4 +52,4 @@ def main():
 
 
 if __name__ == "__main__":
-    kit.ended(main)
+    harness.ended(main)

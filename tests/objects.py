@@ -6,8 +6,8 @@ usage: tests/objects.py PROGRAM
 import json
 import sys
 
-import kit
-from kit import C17, C17B, TOP, Tally, run, written
+import harness
+from harness import C17, C17B, TOP, Tally, run, written
 
 
 # Buses of 9 bits, of 1 bit and of 5 in two dimensions; one that lacks a bit, one with a name of no number, one whose bit has another name.
@@ -150,31 +150,31 @@ def try_pair(program, words, schema, tally):
 
 
 def try_causes(program, words, schema, tally):
-    """That causes are told behind all else, of pairs that differ, each once."""
+    """That causes are reported behind all else, of pairs that differ, each once."""
     plain = run([program, "--format", "json", *words])
     seen = run([program, "--format", "json", "--causes", *words])
     report = json.loads(seen.out, object_pairs_hook=members_once)
     has_form = fits(report, schema, schema) and list(report)[-1] == "causes"
-    told = [pair for cause in report.pop("causes") for pair in cause["pairs"]]
+    reported = [pair for cause in report.pop("causes") for pair in cause["pairs"]]
     differing = [{"of": one["of"], "name": one["name"]} for one in report["verdicts"] if one["verdict"] == "DIFFER"]
     is_same = (seen.status, report, seen.err) == (plain.status, json.loads(plain.out), plain.err)
-    are_differing = all(told.count(pair) == 1 and pair in differing for pair in told)
+    are_differing = all(reported.count(pair) == 1 and pair in differing for pair in reported)
     tally.check(f"causes {' '.join(map(str, words))}", has_form and is_same and are_differing, f"{seen}; {plain}")
 
 
 def main():
     program, tally = sys.argv[1], Tally("objects")
     schema = json.loads((TOP / "docs" / "report.schema.json").read_text())
-    with kit.folder() as place:
+    with harness.folder() as place:
         for words in pairs(place):
             try_pair(program, words, schema, tally)
             if "--share" not in words:
                 try_causes(program, words, schema, tally)
         refused = run([program, "--format", "json", place, place])
         helps = f"bddcheck: first: cannot be read\nbddcheck: {place}: the device failed, or the path is a folder\n"
-        tally.check("a fault is two lines", refused == kit.Run(2, b"", helps.encode()), refused)
+        tally.check("a fault is two lines", refused == harness.Run(2, b"", helps.encode()), refused)
         text = run([program, "--format", "text", written(place, "c17", C17), written(place, "c17b", C17B)])
-        tally.check("text by name", (text.status, text.out) == (1, kit.C17_DIFFERS), text)
+        tally.check("text by name", (text.status, text.out) == (1, harness.C17_DIFFERS), text)
     example = json.loads((TOP / "docs" / "report.example.json").read_text())
     files = [TOP / "examples" / name for name in ("c17.bench", "c17b.bench")]
     seen = run([program, "--format", "json", "--sizes", *files])

@@ -6,7 +6,7 @@ import re
 import subprocess
 from dataclasses import dataclass
 
-from kit import TOP
+from harness import TOP
 
 SPAN = re.compile(r"(`+)(.+?)(?<!`)\1(?!`)", re.S)
 BOLD = re.compile(r"\*\*(.+?)\*\*", re.S)

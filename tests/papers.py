@@ -18,7 +18,7 @@ import sys
 
 import decisions
 import pages
-from kit import TOP, Tally, folder, run
+from harness import TOP, Tally, folder, run
 
 # The logic of the kits in the README's line, as `Proved with kits 1a and 1b of the logic 0123abcd.`, and in the line of `rt version`, as
 # `rattle-kit-1a logic 0123abcd`. Kits of one logic accept the same proofs, so their own names are not compared.
@@ -51,7 +51,7 @@ GIVEN_UP = {
 
 # A path in a code span: of a folder of the repository, or of a crate.
 PATH = re.compile(r"(?:\.ci|tools|tests|docs|bench|examples|crates)/[\w./-]+")
-IN_A_CRATE = re.compile(r"(\w+)/(?:src|specs|proofs|wrong-bodies|must-fail)\b[\w./-]*")
+IN_A_CRATE = re.compile(r"(\w+)/(?:src|specs|proofs|planted-bugs|must-fail)\b[\w./-]*")
 # What is there only after a build, and capitals that stand for a name.
 PASSED_OVER = re.compile(r"/out/|/out$|(?:^|/)[A-Z]+(?:/|$|\.(?!md))")
 

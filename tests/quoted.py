@@ -11,7 +11,7 @@ import re
 import sys
 import textwrap
 
-from kit import TOP, Tally
+from harness import TOP, Tally
 
 COMMENT = re.compile(r"^<!-- (all of|from|rows of) (\S+) -->$")
 ROW = re.compile(r"\| \d+ \| .* \|$")

@@ -1,4 +1,4 @@
-"""A reading of the bench format of its own, from the format's description: a netlist, or the fault that must be told.
+"""A reading of the bench format of its own, from the format's description: a netlist, or the fault that must be reported.
 
 No code is shared with the product. It is written for plainness and takes small texts.
 """
@@ -12,7 +12,7 @@ MOST_SIGNALS = 1_000_000
 MOST_OPERANDS = 4_000_000
 MOST_NAME = 255
 BLANKS = b" \t\r\n"
-MARKS = b"(),="
+SIGNS = b"(),="
 GATES = {"AND", "NAND", "OR", "NOR", "XOR", "XNOR", "NOT", "BUFF", "BUF", "DFF"}
 OF_ONE = {"NOT", "BUFF", "BUF", "DFF"}
 
@@ -37,7 +37,7 @@ class Fault(Exception):
 
 @dataclass
 class Token:
-    """A mark of the format, a name, or the end, which is an empty text. A faulty place tells its fault when it is looked at."""
+    """A sign of the format, a name, or the end, which is an empty text. A faulty place tells its fault when it is looked at."""
 
     text: str
     line: int
@@ -65,7 +65,7 @@ def tokens(text):
         elif byte == ord("#"):
             while at < len(text) and text[at] != 0x0A:
                 at += 1
-        elif byte in MARKS:
+        elif byte in SIGNS:
             yield Token(chr(byte), line)
             at += 1
         elif 0x21 <= byte <= 0x7E:
@@ -102,7 +102,7 @@ class Reader:
             raise Fault(BROKEN, token.line)
         return token
 
-    def mark(self, allowed):
+    def sign(self, allowed):
         token = self.next()
         if token.text == "" or token.text not in allowed:
             raise Fault(BROKEN, token.line)
@@ -120,19 +120,19 @@ class Reader:
                 return
             if first.text in "(),=":
                 raise Fault(BROKEN, first.line)
-            mark = self.next()
-            if mark.text == "=":
-                self.count(first.text, mark.line)
+            sign = self.next()
+            if sign.text == "=":
+                self.count(first.text, sign.line)
                 self.gate(first)
-            elif mark.text == "(" and first.text.upper() in ("INPUT", "OUTPUT"):
+            elif sign.text == "(" and first.text.upper() in ("INPUT", "OUTPUT"):
                 self.port(first)
             else:
-                raise Fault(BROKEN, mark.line)
+                raise Fault(BROKEN, sign.line)
 
     def port(self, first):
         name = self.name()
         self.count(name.text, name.line)
-        self.mark(")")
+        self.sign(")")
         if first.text.upper() == "OUTPUT":
             self.uses.append(name)
             if name.text not in self.net.outputs:
@@ -147,7 +147,7 @@ class Reader:
         word = self.name().text.upper()
         if word not in GATES:
             raise Fault(UNKNOWN, first.line)
-        self.mark("(")
+        self.sign("(")
         operands = []
         while True:
             operand = self.name()
@@ -157,7 +157,7 @@ class Reader:
             self.count(operand.text, operand.line)
             self.uses.append(operand)
             operands.append(operand.text)
-            if self.mark(",)").text == ")":
+            if self.sign(",)").text == ")":
                 break
         self.define(first, word, operands)
 

@@ -20,8 +20,8 @@ import sys
 import time
 from dataclasses import dataclass, field
 
-import kit
-from kit import C17, C17B, TOP, Tally, lines, netlist, run, say, written
+import harness
+from harness import C17, C17B, TOP, Tally, lines, netlist, run, say, written
 
 sys.path.append(str(TOP / "bench"))
 import circuits  # noqa: E402
@@ -359,7 +359,7 @@ def main():
     say(f"refusals: seed {settings.seed}")
     tally, rng = Tally("refusals"), random.Random(settings.seed)
     begun = time.monotonic()
-    with kit.folder() as place, kit.pool(settings.jobs) as pool:
+    with harness.folder() as place, harness.pool(settings.jobs) as pool:
         refuser = Refuser(settings.program, compiled(place), place)
         results, most = {}, {}
         gather(results, whole_tasks(refuser, pool))
@@ -387,4 +387,4 @@ def main():
 
 
 if __name__ == "__main__":
-    kit.ended(main)
+    harness.ended(main)

@@ -13,7 +13,7 @@ import subprocess
 import sys
 
 import pages
-from kit import C17, C17B, TOP, Tally, folder, run, written
+from harness import C17, C17B, TOP, Tally, folder, run, written
 
 # A path that a document of the installation names: of the folders that the repository has.
 PATH = re.compile(r"(?:tools|tests|docs|bench|examples|crates)/[\w./-]+")

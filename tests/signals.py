@@ -9,8 +9,8 @@ import subprocess
 import sys
 import time
 
-import kit
-from kit import C17, C17B, C17_DIFFERS, Run, Tally, written
+import harness
+from harness import C17, C17B, C17_DIFFERS, Run, Tally, written
 from refusals import products
 
 
@@ -71,7 +71,7 @@ def continued(program, tally, place):
 
 def main():
     tally = Tally("signals")
-    with kit.folder() as place:
+    with harness.folder() as place:
         for number in (signal.SIGINT, signal.SIGTERM):
             for workers in (1, 4):
                 ended(sys.argv[1], tally, number, workers, place)

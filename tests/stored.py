@@ -25,8 +25,8 @@ import re
 import shlex
 import sys
 
-import kit
-from kit import TOP, Tally, run
+import harness
+from harness import TOP, Tally, run
 
 
 def sections(text):
@@ -123,16 +123,16 @@ def is_tried(program, place, words):
 
 def best_of(program, place, tally, name, limit, needs, words):
     """The run that the best order is to give, of those in a single order, each of which is within the limit from its need on."""
-    wanted, told = None, []
+    wanted, reported = None, []
     for order, need, tried in needs:
         single = run([program, "--order", order, "--limit", limit, *words], cwd=place)
         tally.check(f"{name}: {order}", (single.status != 3) == (need <= limit), single)
         if wanted is None and single.status != 3:
-            wanted = single.status, single.out, joined([*told, f"bddcheck: order {order} decided within {limit} nodes"])
+            wanted = single.status, single.out, joined([*reported, f"bddcheck: order {order} decided within {limit} nodes"])
         if tried:
-            told.append(f"bddcheck: order {order} needs more than {limit} nodes")
+            reported.append(f"bddcheck: order {order} needs more than {limit} nodes")
     more = "interleave, force, index, depth and declared were tried; a list by --order-file may need fewer nodes"
-    return wanted or (3, b"", joined([*told, "bddcheck: build: more nodes than the limit", f"bddcheck: {more}"]))
+    return wanted or (3, b"", joined([*reported, "bddcheck: build: more nodes than the limit", f"bddcheck: {more}"]))
 
 
 def is_left(seen, wanted, limit):
@@ -143,13 +143,13 @@ def is_left(seen, wanted, limit):
     counts = [sum(line.startswith(word) for line in lines[:-1]) for word in ("EQUAL", "DIFFER", "ONLY", "UNDECIDED")]
     last = "{} equal, {} different, {} unmatched".format(*counts) + (f", {counts[3]} undecided" if counts[3] else "")
     status = 1 if counts[1] or counts[2] else 3 if counts[3] else 0
-    told = [line for line in seen.err.decode().splitlines() if " needs more than " not in line]
+    reported = [line for line in seen.err.decode().splitlines() if " needs more than " not in line]
     pairs = counts[0] + counts[1] + counts[3]
     left = f"bddcheck: {counts[3]} of {pairs} pairs are undecided by cones within {max(1, limit // 4)} nodes"
     ways = [left, "bddcheck: each pair was judged by its cones"]
-    last_told = [f"bddcheck: the number of undecided pairs is {counts[3]}"][: counts[3]]
-    tells = told[:2] == ways and [line.split(";")[0] for line in told[2:]] == last_told
-    return len(lines) == len(said) + 1 and all(kept) and (lines[-1], seen.status) == (last, status) and tells
+    last_reported = [f"bddcheck: the number of undecided pairs is {counts[3]}"][: counts[3]]
+    is_reported = reported[:2] == ways and [line.split(";")[0] for line in reported[2:]] == last_reported
+    return len(lines) == len(said) + 1 and all(kept) and (lines[-1], seen.status) == (last, status) and is_reported
 
 
 def try_best(program, tally, place, _files, head, _body):
@@ -172,12 +172,12 @@ def try_best(program, tally, place, _files, head, _body):
 def try_texts(program, tally, place, _files, _head, body):
     for line in body:
         written, _, said = line.rpartition(" => ")
-        kit.written(place, "text", written.encode().decode("unicode_escape").encode("latin-1"))
+        harness.written(place, "text", written.encode().decode("unicode_escape").encode("latin-1"))
         seen = run([program, "text", "text"], cwd=place)
         if said == "netlist":
             tally.check(line, seen.status == 0 and not seen.err, seen)
         else:
-            tally.same(line, kit.unhelped(seen), 2, b"", joined(["bddcheck: first: " + said]))
+            tally.same(line, harness.unhelped(seen), 2, b"", joined(["bddcheck: first: " + said]))
             place_of = "bddcheck: text:" + said.removeprefix("line ").split(":")[0] + ": "
             tally.check(f"{line}, its place", seen.err.splitlines()[-1].startswith(place_of.encode()), seen)
 
@@ -187,7 +187,7 @@ TRIED = {"run": try_run, "ways": try_ways, "order": try_order, "best": try_best,
 
 def main():
     tally, files = Tally("stored"), {}
-    with kit.folder() as place:
+    with harness.folder() as place:
         for head, body in sections((TOP / "tests" / "stored.txt").read_text()):
             kind, _, rest = head.partition(" ")
             if kind in TRIED:
@@ -199,7 +199,7 @@ def main():
                 files[name] = eval(expression, {"text": files[old]})
             else:
                 files[name] = joined(body)
-            kit.written(place, name, files[name])
+            harness.written(place, name, files[name])
     tally.end()
     sys.exit(tally.failed > 0)
 

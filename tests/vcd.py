@@ -17,9 +17,9 @@ import random
 import re
 import sys
 
-import kit
+import harness
 from explained import changed, random_net
-from kit import TOP, Tally
+from harness import TOP, Tally
 
 SOURCE = TOP / "crates/netlist_tests/src/explanations.rt"
 # The variables as they are declared, with the bits of the test.
@@ -116,19 +116,19 @@ REPORTS: list[tuple[str, str, list[str], bytes | None]] = [
 
 def written(tally: Tally, first: str, second: str, text: str) -> None:
     """tools/vcd.py on these reports, and on files that are none."""
-    with kit.folder() as place:
-        files = [kit.written(place, "first", first.encode()), kit.written(place, "second", second.encode())]
+    with harness.folder() as place:
+        files = [harness.written(place, "first", first.encode()), harness.written(place, "second", second.encode())]
         for name, report, words, said in REPORTS:
-            seen = kit.run([TOP / "tools/vcd.py", *words, *files], report.encode())
+            seen = harness.run([TOP / "tools/vcd.py", *words, *files], report.encode())
             tally.same(f"tools/vcd.py, {name}", seen, 0 if said is None else 1, text.encode() if said is None else b"", said or b"")
-        path = kit.written(place, "report", NEXT.encode())
+        path = harness.written(place, "report", NEXT.encode())
         out = f"{place}/out.vcd"
-        seen = kit.run([TOP / "tools/vcd.py", "-o", out, *files, path])
+        seen = harness.run([TOP / "tools/vcd.py", "-o", out, *files, path])
         tally.same("tools/vcd.py, a file", seen, 0, b"", b"")
         with open(out, "rb") as made:
             tally.check("tools/vcd.py, what the file has", made.read() == text.encode(), "other bytes")
-        bad = kit.written(place, "bad", b"INPUT(a\n")
-        seen = kit.run([TOP / "tools/vcd.py", bad, files[1], path])
+        bad = harness.written(place, "bad", b"INPUT(a\n")
+        seen = harness.run([TOP / "tools/vcd.py", bad, files[1], path])
         tally.same("tools/vcd.py, no netlist", seen, 2, b"", f"vcd: {bad}: no netlist\n".encode())
 
 
@@ -142,7 +142,7 @@ WORDS = [
 def by_script(words: list[str], files: list[pathlib.Path], report: bytes) -> bytes | None:
     """What tools/vcd.py makes of a report; nothing where no pair differs."""
     matching = words if "--match" in words else []
-    made = kit.run([TOP / "tools/vcd.py", *matching, *files], report)
+    made = harness.run([TOP / "tools/vcd.py", *matching, *files], report)
     if made.status not in (0, 1) or (made.status == 1 and made.err != b"vcd: no such pair differs\n"):
         raise ValueError(str(made))
     return made.out if made.status == 0 else None
@@ -151,19 +151,19 @@ def by_script(words: list[str], files: list[pathlib.Path], report: bytes) -> byt
 def compared(tally: Tally, program: str, rng: random.Random) -> None:
     """The file of --vcd, against that script."""
     made, untouched = 0, 0
-    with kit.folder() as place:
+    with harness.folder() as place:
         out = pathlib.Path(place) / "differs.vcd"
         for turn in range(150):
             first = random_net(rng)
             second = changed(rng, first) if rng.random() < 0.8 else first
-            files = [kit.written(place, name, net.text().encode()) for name, net in (("first", first), ("second", second))]
+            files = [harness.written(place, name, net.text().encode()) for name, net in (("first", first), ("second", second))]
             words = rng.choice(WORDS)
             before = b"what stood there before\n" * 1000 if rng.random() < 0.5 else None
             out.unlink(missing_ok=True)
             if before is not None:
                 out.write_bytes(before)
-            plain = kit.run([program, *words, *files])
-            seen = kit.run([program, "--vcd", out, *words, *files])
+            plain = harness.run([program, *words, *files])
+            seen = harness.run([program, "--vcd", out, *words, *files])
             tally.same(f"the report beside a file, turn {turn}, {words}", seen, plain.status, plain.out, plain.err)
             wanted = by_script(words, files, plain.out) if plain.status in (0, 1) else None
             made, untouched = made + (wanted is not None), untouched + (wanted is None)
@@ -174,8 +174,8 @@ def compared(tally: Tally, program: str, rng: random.Random) -> None:
 
 def refused(tally: Tally, program: str) -> None:
     """Files that cannot be written: the report stands, and then comes the fault."""
-    with kit.folder() as place:
-        files = [kit.written(place, "first", kit.C17), kit.written(place, "second", kit.C17B)]
+    with harness.folder() as place:
+        files = [harness.written(place, "first", harness.C17), harness.written(place, "second", harness.C17B)]
         for path, helps in (
             (f"{place}/none/differs.vcd", "there is no such file or folder"),
             (f"{place}/first/differs.vcd", "a part of the path is not a folder"),
@@ -183,14 +183,14 @@ def refused(tally: Tally, program: str) -> None:
             ("/dev/full", "its device is full, or has failed"),
         ):
             said = f"bddcheck: vcd: cannot be written\nbddcheck: {path}: {helps}\n".encode()
-            seen = kit.run([program, "--vcd", path, *files])
-            tally.same(f"--vcd {path}", seen, 3, kit.C17_DIFFERS, said)
-            seen = kit.run([program, "--vcd", path, "--verbose", "--order", "declared", *files])
-            tally.same(f"--vcd {path} --verbose", seen, 3, kit.C17_DIFFERS, said)
-            seen = kit.run([program, "--vcd", path, files[0], files[0]])
-            tally.same(f"--vcd {path}, equal", seen, 0, kit.C17_EQUAL, b"")
-        seen = kit.run([program, "--vcd", "-", *files], cwd=place)
-        tally.same("--vcd -", seen, 1, kit.C17_DIFFERS, b"")
+            seen = harness.run([program, "--vcd", path, *files])
+            tally.same(f"--vcd {path}", seen, 3, harness.C17_DIFFERS, said)
+            seen = harness.run([program, "--vcd", path, "--verbose", "--order", "declared", *files])
+            tally.same(f"--vcd {path} --verbose", seen, 3, harness.C17_DIFFERS, said)
+            seen = harness.run([program, "--vcd", path, files[0], files[0]])
+            tally.same(f"--vcd {path}, equal", seen, 0, harness.C17_EQUAL, b"")
+        seen = harness.run([program, "--vcd", "-", *files], cwd=place)
+        tally.same("--vcd -", seen, 1, harness.C17_DIFFERS, b"")
         tally.check("a file of the name -", (pathlib.Path(place) / "-").exists(), "there is none")
 
 
@@ -218,4 +218,4 @@ def main() -> None:
 
 
 if __name__ == "__main__":
-    kit.ended(main)
+    harness.ended(main)

@@ -14,8 +14,8 @@ import pathlib
 import sys
 from dataclasses import dataclass
 
-import kit
-from kit import C17, C17B, TOP, Tally, netlist, run, written
+import harness
+from harness import C17, C17B, TOP, Tally, netlist, run, written
 
 sys.path.append(str(TOP / "bench"))
 import circuits  # noqa: E402
@@ -88,7 +88,7 @@ def main():
     parser.add_argument("--orders", type=lambda text: text.split(","), default=["auto", "best"])
     settings = parser.parse_args()
     tally, too_long = Tally("workers"), []
-    with kit.folder() as place, kit.pool(settings.jobs) as pool:
+    with harness.folder() as place, harness.pool(settings.jobs) as pool:
         pairs = list(folder_pairs(settings.folders) if settings.folders else own_pairs(place))
         tasks = [
             pool.submit(compared, settings.program, name, order, pair, settings.seconds)
@@ -108,4 +108,4 @@ def main():
 
 
 if __name__ == "__main__":
-    kit.ended(main)
+    harness.ended(main)

@@ -96,7 +96,7 @@ def verdict_of(path, line):
 
 
 def variables_in(lines):
-    """The variables of each line that tells an assignment; none, where all that are told are 1, as by --assignment ones."""
+    """The variables of each line that tells an assignment; none, where all that are reported are 1, as by --assignment ones."""
     assignments = [found[4] for found in map(DIFFER.fullmatch, lines) if found]
     if all(bit.endswith("=1") for assignment in assignments for bit in assignment.split()):
         return set()
@@ -118,23 +118,23 @@ def share_by_lines(path, text):
 
 def members(pairs):
     """An object whose members have names of their own."""
-    told = dict(pairs)
-    if len(told) < len(pairs):
+    reported = dict(pairs)
+    if len(reported) < len(pairs):
         raise ValueError("a member stands twice")
-    return told
+    return reported
 
 
 def share_by_json(path, text):
     try:
-        told = json.loads(text, object_pairs_hook=members)
-        number, of = told["share"]
+        reported = json.loads(text, object_pairs_hook=members)
+        number, of = reported["share"]
         verdicts = [
             Verdict(one["verdict"], Subject({"output": False, "next state": True}[one["of"]], one["name"]), one.get("side"), one)
-            for one in told["verdicts"]
+            for one in reported["verdicts"]
         ]
-        counts = {name: int(told.get(name, 0) if name == "undecided" else told[name]) for name in COUNTS}
-        settings = {name: told[name] for name in SETTINGS if name in told}
-        unknown = {one.kind for one in verdicts} - set(KINDS) or set(told) - {*SETTINGS, *COUNTS, "verdicts", "share"}
+        counts = {name: int(reported.get(name, 0) if name == "undecided" else reported[name]) for name in COUNTS}
+        settings = {name: reported[name] for name in SETTINGS if name in reported}
+        unknown = {one.kind for one in verdicts} - set(KINDS) or set(reported) - {*SETTINGS, *COUNTS, "verdicts", "share"}
         if unknown or not {"match", "order", "variables"} <= set(settings):
             raise ValueError("no report")
         return Share(path, int(number), int(of), verdicts, counts, json.dumps(settings), settings)
@@ -190,7 +190,7 @@ def read_shares(paths):
 def ordered(subjects, shares):
     """The verdicts of all shares, in the order of the whole report."""
     places = {subject: place for place, subject in enumerate(subjects)}
-    pairs, lone, seen = [], [], {}
+    pairs, unmatched, seen = [], [], {}
     for share in shares:
         last = -1
         for verdict in share.verdicts:
@@ -200,7 +200,7 @@ def ordered(subjects, shares):
             if key in seen:
                 raise Refusal(f"{share.path}: {subject} stood in {seen[key]} before")
             seen[key] = share.path
-            (lone if verdict.side else pairs).append(verdict)
+            (unmatched if verdict.side else pairs).append(verdict)
             # Pairs in the order of the first netlist, then what has no partner.
             place = len(places) if verdict.side else places[subject]
             if place < last:
@@ -209,16 +209,16 @@ def ordered(subjects, shares):
     for subject in subjects:
         if (False, subject) not in seen:
             raise Refusal(f"{subject} stands in no share")
-    return sorted(pairs, key=lambda verdict: places[verdict.subject]) + lone
+    return sorted(pairs, key=lambda verdict: places[verdict.subject]) + unmatched
 
 
 def whole_text(verdicts, counts, shares, is_json):
     """The report of the whole."""
-    told = {name: count for name, count in counts.items() if count or name != "undecided"}
+    reported = {name: count for name, count in counts.items() if count or name != "undecided"}
     if is_json:
-        whole = {**shares[0].settings, "verdicts": [verdict.text for verdict in verdicts], **told}
+        whole = {**shares[0].settings, "verdicts": [verdict.text for verdict in verdicts], **reported}
         return json.dumps(whole, separators=(",", ":")) + "\n"
-    return "".join(f"{verdict.text}\n" for verdict in verdicts) + ", ".join(f"{count} {name}" for name, count in told.items()) + "\n"
+    return "".join(f"{verdict.text}\n" for verdict in verdicts) + ", ".join(f"{count} {name}" for name, count in reported.items()) + "\n"
 
 
 def main(words):

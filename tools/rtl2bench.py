@@ -514,9 +514,9 @@ class Writer:
         if register.complement is not None:
             after = self.gate("NOT", after)
         self.registers.append(f"{register.name} = DFF({after})")
-        self.facts.append(f"{REGISTER}{register.name} {' '.join(f'{what}={told}' for what, told in self.told(register).items())}")
+        self.facts.append(f"{REGISTER}{register.name} {' '.join(f'{what}={told}' for what, told in self.facts_of(register).items())}")
 
-    def told(self, register):
+    def facts_of(self, register):
         """What the format does not hold of a register. What acts on a latch does so by its level, as its next state has it."""
         clock, edge = self.clock(register)
         clear = reset = "none"

@@ -87,8 +87,8 @@ def of_line(line: bytes) -> Difference:
     is_next = words[1] == b"NEXT" and words[3:4] == [b"at"]
     if words[-3] == b"sizes":
         words = words[:-3]
-    told = [word.rsplit(b"=", 1) for word in words[4 if is_next else 3 :]]
-    bits = [(name, int(bit)) for name, bit in told]
+    reported = [word.rsplit(b"=", 1) for word in words[4 if is_next else 3 :]]
+    bits = [(name, int(bit)) for name, bit in reported]
     role, name = ("next state", words[2]) if is_next else ("output", words[1])
     return Difference(role, name, dict(bits[:-2]), (bits[-2][1], bits[-1][1]))
 

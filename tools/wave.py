@@ -13,7 +13,7 @@ FIRST_WIDE = 3
 WORKERS = 4
 UNIT, HIGH, STEP, TOP = 8, 26, 48, 64
 LEFT, RIGHT = 170, 500
-ALONE = 'fill="#ffffff" stroke="#1f4e79"'
+ONE_WORKER = 'fill="#ffffff" stroke="#1f4e79"'
 SHADES = ["#dbe7f5", "#c3d6ec", "#abc5e3", "#93b4da"]
 
 
@@ -25,7 +25,7 @@ def bar(x, level):
     """One piece where the caller does the level alone, else one for each worker that owns some of it."""
     wide, y = SIZES[level] * UNIT, TOP + level * STEP
     if level < FIRST_WIDE:
-        return [f'<rect x="{x - wide / 2:.0f}" y="{y}" width="{wide}" height="{HIGH}" {ALONE}/>']
+        return [f'<rect x="{x - wide / 2:.0f}" y="{y}" width="{wide}" height="{HIGH}" {ONE_WORKER}/>']
     part = wide / WORKERS
     places = [(x - wide / 2 + number * part, shade) for number, shade in enumerate(SHADES)]
     return [f'<rect x="{at:.0f}" y="{y}" width="{part:.0f}" height="{HIGH}" fill="{shade}" stroke="#1f4e79"/>' for at, shade in places]

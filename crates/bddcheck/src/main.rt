@@ -9,8 +9,8 @@ ghost use Rattle.std.specs.Process.{exit_status};
 
 use check_tool::folder::Disk;
 use check_tool::process::{arguments, status_of};
-use check_tool::screen::Outlet;
-use net_bench::device::Through;
+use check_tool::terminal::TerminalWriter;
+use net_bench::device::StdDevice;
 use std::process::ExitCode;
 
 /// The exit code of a run.
@@ -25,8 +25,8 @@ fn main(rt: HostRuntime) -> ExitCode {
         &rt,
         arguments(&rt),
         &mut Disk::new(&rt),
-        &mut Through::new(rt.stdin()),
-        &mut Through::new(rt.stdout()),
-        &mut Outlet::new(rt.stderr()),
+        &mut StdDevice::new(rt.stdin()),
+        &mut StdDevice::new(rt.stdout()),
+        &mut TerminalWriter::new(rt.stderr()),
     ))
 }

@@ -2,7 +2,7 @@
 use Rattle.std.proofs.Common.{◌≡◌, ◌⊎◌, inl, inr, ◌∙◌, ap, sym, subst, arith, ℕ, suc, ◌*◌, ◌^◌, ◌<◌, ◌≤◌}
 use Rattle.std.proofs.Math.Nat.{pow-suc, pow-le-pow_right}
 use Rattle.std.proofs.lemmas.Bool.{cases_lt}
-use Rattle.check_report.specs.Best.{IsBudget, first_budget}
+use Rattle.check_report.specs.Attempts.{IsBudget, first_budget}
 
 -- the next budget
 pub next_budget : (k b : ℕ) → b ≡ 16384 * 16 ^ k → b * 16 ≡ 16384 * 16 ^ suc k

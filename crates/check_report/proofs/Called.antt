@@ -6,20 +6,20 @@ use Rattle.std.specs.declared.vec.Vec.{Vec}
 use Rattle.std.proofs.lemmas.Bool.{cases_eq, cases_lt}
 use Rattle.std.proofs.lemmas.List.{get_or-set_other, get_or-set_same, length-map, map-append, map-set, map_more}
 use Rattle.std.proofs.lemmas.List.Elements.{All-contains, All-more, All-weaker, Contains-get_or}
-use Rattle.net_bench.specs.Circuit.{AreOnce, Circuit, IsNet, Net, circuit, is_name_in, variables_of}
+use Rattle.net_bench.specs.Circuit.{HaveNoRepeats, Circuit, IsNet, Net, circuit, is_name_in, variables_of}
 use Rattle.net_bench.proofs.Numbers.{in_distinct, number_at}
 use Rattle.net_cone.specs.Cones.{AreNames}
 use Rattle.net_order.specs.declared.order.Match.{Match}
 use Rattle.net_order.specs.declared.order.Match.TheVariants.{Name, Position}
 use Rattle.net_order.specs.declared.order.Order.{Order}
-use Rattle.net_order.specs.Order.{HasLevels, IsNaming, Paired, Sided, all_names, both, given_side, is_member, level_of, name_of, named, names_by, own, partner, registers_of}
+use Rattle.net_order.specs.Order.{HasLevels, IsNaming, NamingModel, NamedNetlistModel, all_names, both, given_side, is_member, level_of, name_of, named, names_by, own, partner, registers_of}
 use Rattle.net_order.specs.Tables.{IsKnown}
 use Rattle.net_order.proofs.AllNames.{known_given, known_sides}
 use Rattle.net_order.proofs.Members.{contains_member, equal_numbers, no_true}
 use Rattle.net_order.proofs.Orders.{ordered_all}
 use Rattle.net_order.proofs.Tabling.{partner_in}
 use Rattle.check_report.specs.Cones.{AreNamed}
-use Rattle.check_report.specs.Coning.{texts}
+use Rattle.check_report.specs.ConeRounds.{texts}
 
 -- ---- names of a netlist's own
 
@@ -39,11 +39,11 @@ own_apart n sound s t cs ct e =
 
 -- ---- names of partners
 
-once_rest : (t : ℕ) (ts : List ℕ) → AreOnce (t ∷ ts) → AreOnce ts
+once_rest : (t : ℕ) (ts : List ℕ) → HaveNoRepeats (t ∷ ts) → HaveNoRepeats ts
 once_rest t ts once i j lt low e = once (suc i) (suc j) (omega (arith, lt)) (omega (arith, low)) e
 
 -- what stands behind the first is another
-others : (t : ℕ) (ts : List ℕ) → AreOnce (t ∷ ts) → All (λ u. t ≢ u) ts
+others : (t : ℕ) (ts : List ℕ) → HaveNoRepeats (t ∷ ts) → All (λ u. t ≢ u) ts
 others t ts once i d low e = once 0 (suc i) (omega arith) (omega (arith, low)) (e ∙ same ts i d 0 low)
   where
     same : (xs : List ℕ) (i d c : ℕ) → i < length xs → get_or xs i d ≡ get_or xs i c
@@ -61,7 +61,7 @@ partner_here x t s xs ts e = ap (λ b. cond b t (partner xs ts s)) e
 partner_later : (x t s : ℕ) (xs ts : List ℕ) → (x == s) ≡ false → partner (x ∷ xs) (t ∷ ts) s ≡ partner xs ts s
 partner_later x t s xs ts e = ap (λ b. cond b t (partner xs ts s)) e
 
-partners_apart : (xs ts : List ℕ) → AreOnce ts → length xs ≡ length ts → (s u : ℕ) → is_member s xs ≡ true → is_member u xs ≡ true → partner xs ts s ≡ partner xs ts u → s ≡ u
+partners_apart : (xs ts : List ℕ) → HaveNoRepeats ts → length xs ≡ length ts → (s u : ℕ) → is_member s xs ≡ true → is_member u xs ≡ true → partner xs ts s ≡ partner xs ts u → s ≡ u
 partners_apart [] ts once long s u ms mu e = absurd (no_true ms)
 partners_apart (x ∷ xs) [] once long s u ms mu e = absurd (omega arith)
 partners_apart (x ∷ xs) (t ∷ ts) once long s u ms mu e =
@@ -83,9 +83,9 @@ partners_apart (x ∷ xs) (t ∷ ts) once long s u ms mu e =
 
 -- ---- a pairing's names
 
-module _ (how : Match) (a b : Circuit) (given : Option Circuit) (order : Order) (p : Paired) (h : IsNaming how a b given order p) where
+module _ (how : Match) (a b : Circuit) (given : Option Circuit) (order : Order) (p : NamingModel) (h : IsNaming how a b given order p) where
   -- the name at a variable's level is the variable's
-  name_at : (side : Sided) (levels : List ℕ) → IsKnown (all_names (both how a b) (given_side given)) side → HasLevels (names_by how a b given order) side levels →
+  name_at : (side : NamedNetlistModel) (levels : List ℕ) → IsKnown (all_names (both how a b) (given_side given)) side → HasLevels (names_by how a b given order) side levels →
       (s : ℕ) → Contains (variables_of side.net) s → get_or p.names (slice_index levels s) [] ≡ named side s
   name_at side levels known has s (i, low, at) =
       let is : slice_index levels s ≡ level_of (names_by how a b given order) (named side s) = rw at at (has i s low) in
@@ -94,7 +94,7 @@ module _ (how : Match) (a b : Circuit) (given : Option Circuit) (order : Order) 
       (in_distinct (all_names (both how a b) (given_side given)) (named side s) ∙ known s (contains_member (variables_of side.net) s (i, low, at))) in
       ap (λ ns. get_or ns (slice_index levels s) []) h.names ∙ ap (λ k. get_or (names_by how a b given order) k []) is ∙ number_at (names_by how a b given order) (named side s) [] there
 
-  apart_in : (side : Sided) (levels : List ℕ) → IsKnown (all_names (both how a b) (given_side given)) side → HasLevels (names_by how a b given order) side levels →
+  apart_in : (side : NamedNetlistModel) (levels : List ℕ) → IsKnown (all_names (both how a b) (given_side given)) side → HasLevels (names_by how a b given order) side levels →
       ((s t : ℕ) → Contains (variables_of side.net) s → Contains (variables_of side.net) t → named side s ≡ named side t → s ≡ t) →
       (names : List (List ℕ)) → AreNamed side.net levels p names →
       (s t : ℕ) → Contains (variables_of side.net) s → Contains (variables_of side.net) t → get_or names s [] ≡ get_or names t [] → s ≡ t
@@ -103,7 +103,7 @@ module _ (how : Match) (a b : Circuit) (given : Option Circuit) (order : Order) 
       All-contains (λ u. get_or names u [] ≡ get_or p.names (slice_index levels u) []) (variables_of side.net) v are.variables cv ∙ name_at side levels known has v cv in
       apart s t cs ct (sym (called s cs) ∙ e ∙ called t ct)
 
-module _ (how : Match) (n m : Net) (given : Option Circuit) (order : Order) (p : Paired) (h : IsNaming how (circuit n) (circuit m) given order p) where
+module _ (how : Match) (n m : Net) (given : Option Circuit) (order : Order) (p : NamingModel) (h : IsNaming how (circuit n) (circuit m) given order p) where
   pub first_names : IsNet n → (names : List (List ℕ)) → AreNamed (circuit n) p.first p names → AreNames n names
   first_names sound names are = record {
     each = are.each;
@@ -121,9 +121,9 @@ module _ (how : Match) (n m : Net) (given : Option Circuit) (order : Order) (p :
       }
 
 -- the names of the second netlist's variables, by the way of matching
-second_apart : (how : Match) (n m : Net) (given : Option Circuit) (order : Order) (p : Paired) → IsNaming how (circuit n) (circuit m) given order p → IsNet n → IsNet m →
+second_apart : (how : Match) (n m : Net) (given : Option Circuit) (order : Order) (p : NamingModel) → IsNaming how (circuit n) (circuit m) given order p → IsNet n → IsNet m →
     (s t : ℕ) → Contains (variables_of (circuit m)) s → Contains (variables_of (circuit m)) t →
-    named (record { how = how; namer = circuit n; net = circuit m }) s ≡ named (record { how = how; namer = circuit n; net = circuit m }) t → s ≡ t
+    named (record { how = how; name_source = circuit n; net = circuit m }) s ≡ named (record { how = how; name_source = circuit n; net = circuit m }) t → s ≡ t
 second_apart Name n m given order p h first second s t cs ct e = own_apart m second s t cs ct e
 second_apart Position n m given order p h first second s t cs ct e =
     let vs = variables_of (circuit m) in
@@ -137,11 +137,11 @@ second_apart Position n m given order p h first second s t cs ct e =
     as_many : (n m : Net) → length n.inputs ≡ length m.inputs → length (registers_of (circuit n)) ≡ length (registers_of (circuit m)) → length (variables_of (circuit m)) ≡ length (variables_of (circuit n))
     as_many n m inputs registers = omega (arith, inputs, registers, length-append m.inputs (registers_of (circuit m)), length-append n.inputs (registers_of (circuit n)))
 
-pub second_names : (how : Match) (n m : Net) (given : Option Circuit) (order : Order) (p : Paired) → IsNaming how (circuit n) (circuit m) given order p → IsNet n → IsNet m →
+pub second_names : (how : Match) (n m : Net) (given : Option Circuit) (order : Order) (p : NamingModel) → IsNaming how (circuit n) (circuit m) given order p → IsNet n → IsNet m →
     (names : List (List ℕ)) → AreNamed (circuit m) p.second p names → AreNames m names
 second_names how n m given order p h first second names are = record {
   each = are.each;
-  apart = apart_in how (circuit n) (circuit m) given order p h (record { how = how; namer = circuit n; net = circuit m }) p.second
+  apart = apart_in how (circuit n) (circuit m) given order p h (record { how = how; name_source = circuit n; net = circuit m }) p.second
       (known_sides (both how (circuit n) (circuit m)) (given_side given)).1.0 h.second (second_apart how n m given order p h first second) names are;
 }
 

@@ -16,7 +16,7 @@ use Rattle.expand_work.specs.declared.fault.WaveFault.{WaveFault}
 use Rattle.expand_work.specs.declared.fault.WaveFault.TheVariants as wave_faults
 use Rattle.net_bench.specs.Circuit.{Circuit, Net, IsNet, circuit}
 use Rattle.net_bench.specs.Labels.{IsFunctionOf}
-use Rattle.net_order.specs.Order.{Paired, first_level, second_level}
+use Rattle.net_order.specs.Order.{NamingModel, first_level, second_level}
 use Rattle.req_table.specs.declared.Op.TheVariants.{And}
 use Rattle.reduce_up.specs.Reducing.{AddsDescribed}
 use Rattle.reduce_up.specs.Waves.{entry_value, IsWanted, IsWithinLimit, LacksWanted, IsWaveFault}
@@ -30,8 +30,8 @@ use Rattle.gate_plan.proofs.Needs.{complete}
 use Rattle.gate_plan.proofs.Together.{of_map}
 use Rattle.check_report.specs.declared.subject.Subject.{Subject}
 use Rattle.check_report.specs.Conditions.{HoldsWhere, everywhere, output_of, restricted}
-use Rattle.check_report.specs.Comparing.{AreBuilt, AreCompared, AreShown, IsInside, DenotesWhere, as_built, references, subject_at}
-use Rattle.check_report.specs.Limits.{IsComparedValue, IsFunctionIn, IsNeededIn, HasNeededAlone, HasAllNeeded, HasAll, IsOver}
+use Rattle.check_report.specs.Comparing.{AreBuilt, AreCompared, DenoteCompared, IsInside, DenotesWhere, as_built, references, subject_at}
+use Rattle.check_report.specs.Limits.{IsComparedValue, IsFunctionIn, IsNeededIn, HasOnlyNeeded, HasAllNeeded, HasAll, IsOver}
 use Rattle.check_report.specs.Report.{subjects}
 use Rattle.check_report.proofs.Determined.{one_function}
 use Rattle.check_report.proofs.Restricting.{swapped}
@@ -84,7 +84,7 @@ complete_both n V W T one two = record { present = λ v g c. by v g c c.is_value
     by v g c (inr is) = two.present v g (record { value = c.value; is_value = is; fixed = c.fixed; depends = c.depends })
 
 -- what the building needs, the comparison needs
-pub needed_in : (a b : Circuit) (given : Option Circuit) (p : Paired) (f : List Bool → Bool) → IsNeededValue a b given p f → IsNeededIn a b given p f
+pub needed_in : (a b : Circuit) (given : Option Circuit) (p : NamingModel) (f : List Bool → Bool) → IsNeededValue a b given p f → IsNeededIn a b given p f
 needed_in a b None p f v = v
 needed_in a b (Some c) p f v = inl v
 
@@ -112,7 +112,7 @@ module _ (refs : References) (of : List Subject) where
       ∙ get_or-append-add (map (λ (s : Subject). reference_of refs.first s.first) of) (map (λ (s : Subject). reference_of refs.second s.second) of) i False
       ∙ map_at (λ (s : Subject). reference_of refs.second s.second) of i _ False lt
 
-module _ (a b : Circuit) (given : Option Circuit) (p : Paired) (S : Nodes) (refs : References) (built : AreBuilt a b given p S refs) (of : List Subject) (all : of ≡ subjects a b p) where
+module _ (a b : Circuit) (given : Option Circuit) (p : NamingModel) (S : Nodes) (refs : References) (built : AreBuilt a b given p S refs) (of : List Subject) (all : of ≡ subjects a b p) where
   pub all_inside : All (IsInside a b) of
   all_inside = subst (All (IsInside a b)) (sym all) built.signals.compared
 
@@ -123,7 +123,7 @@ module _ (a b : Circuit) (given : Option Circuit) (p : Paired) (S : Nodes) (refs
       (All-map (Has S) (λ (s : Subject). reference_of refs.second s.second) of (λ i d lt. built.second.has (get_or of i d).second (all_inside i d lt).2))
 
   -- without a condition the diagrams are those that are built
-  pub shown_plain : AreShown as_built a b None p S of (references refs of)
+  pub shown_plain : DenoteCompared as_built a b None p S of (references refs of)
   shown_plain = record {
     holds = everywhere;
     condition = refl;
@@ -142,17 +142,17 @@ module _ (a b : Circuit) (given : Option Circuit) (p : Paired) (S : Nodes) (refs
 answered : (S T : Nodes) (refs answers : List Ref) (g : Ref) → AreConjoined S refs g T answers → (i : ℕ) → i < length refs → IsDiagram T (reference_of answers i) (λ x. den S (reference_of refs i) x && den S g x)
 answered S T refs answers g h i lt = AllZip-get_or (λ r a. IsDiagram T a (λ x. den S r x && den S g x)) refs answers i False False h lt
 
-module _ (n m k : Net) (p : Paired) (S T : Nodes) (refs : References) (built : AreBuilt (circuit n) (circuit m) (Some (circuit k)) p S refs) (inside : output_of (circuit k) < length k.names) (of : List Subject) (all : of ≡ subjects (circuit n) (circuit m) p) where
+module _ (n m k : Net) (p : NamingModel) (S T : Nodes) (refs : References) (built : AreBuilt (circuit n) (circuit m) (Some (circuit k)) p S refs) (in_range : output_of (circuit k) < length k.names) (of : List Subject) (all : of ≡ subjects (circuit n) (circuit m) p) where
   -- the condition's reference
   abbrev given_ref : Ref
   given_ref = reference_of refs.given (output_of (circuit k))
 
   given_known : Has S given_ref
-  given_known = built.condition.has (output_of (circuit k)) inside
+  given_known = built.condition.has (output_of (circuit k)) in_range
 
   given_function : IsFunctionOf (circuit k) (slice_index p.given) (length p.names) (output_of (circuit k)) (den S given_ref)
   given_function = subst (λ w. IsFunctionOf (circuit k) (slice_index p.given) w (output_of (circuit k)) (den S given_ref)) built.levels
-      (built.condition.functions (output_of (circuit k)) inside)
+      (built.condition.functions (output_of (circuit k)) in_range)
 
   module _ (answers : List Ref) (keeps : Keeps S T) (h : AreConjoined S (references refs of) given_ref T answers) where
     answer_denotes : (c : Circuit) (level : ℕ → ℕ) (s : ℕ) (r : Ref) (i : ℕ) → i < length (references refs of) → reference_of (references refs of) i ≡ r → IsFunctionOf c level S.levels s (den S r) →
@@ -167,7 +167,7 @@ module _ (n m k : Net) (p : Paired) (S T : Nodes) (refs : References) (built : A
           ),
         )
 
-    pub shown_conjoined : AreShown as_built (circuit n) (circuit m) (Some (circuit k)) p T of answers
+    pub shown_conjoined : DenoteCompared as_built (circuit n) (circuit m) (Some (circuit k)) p T of answers
     shown_conjoined = record {
       holds = den S given_ref;
       condition = given_function;
@@ -222,7 +222,7 @@ module _ (n m k : Net) (p : Paired) (S T : Nodes) (refs : References) (built : A
       })
 
   module _ (sound : IsSound S) (sound' : IsSound T) (adds : AddsDescribed S T (IsWanted S (conjunctions (references refs of) given_ref))) (need : HasNeed (circuit n) (circuit m) (Some (circuit k)) p S) where
-    lean_left : HasNeededAlone (circuit n) (circuit m) (Some (circuit k)) p T
+    lean_left : HasOnlyNeeded (circuit n) (circuit m) (Some (circuit k)) p T
     lean_left =
         lean_next (length p.names) (IsNeededIn (circuit n) (circuit m) (Some (circuit k)) p) S T sound
         (lean_more (length p.names) (IsNeededValue (circuit n) (circuit m) (Some (circuit k)) p) (IsNeededIn (circuit n) (circuit m) (Some (circuit k)) p) (λ f v. inl v) S need.lean)
@@ -240,7 +240,7 @@ module _ (n m k : Net) (p : Paired) (S T : Nodes) (refs : References) (built : A
               lacks h.reference h.has (λ x len. h.denotes x (len ∙ adds.keeps.levels ∙ built.levels)),
         )
 
-    module _ (net : IsNet n) (net' : IsNet m) (net'' : IsNet k) (answers : List Ref) (shown : AreShown as_built (circuit n) (circuit m) (Some (circuit k)) p T of answers) where
+    module _ (net : IsNet n) (net' : IsNet m) (net'' : IsNet k) (answers : List Ref) (shown : DenoteCompared as_built (circuit n) (circuit m) (Some (circuit k)) p T of answers) where
       levels : T.levels ≡ length p.names
       levels = adds.keeps.levels ∙ built.levels
 
@@ -253,7 +253,7 @@ module _ (n m k : Net) (p : Paired) (S T : Nodes) (refs : References) (built : A
         λ x len.
             let len' : length x ≡ length p.names = len ∙ levels in
             let h : shown.holds x ≡ holds x =
-            one_function k net'' (slice_index p.given) (slice_index p.given) (λ i z low. refl) (length p.names) (output_of (circuit k)) inside shown.holds holds shown.condition is x len' in
+            one_function k net'' (slice_index p.given) (slice_index p.given) (λ i z low. refl) (length p.names) (output_of (circuit k)) in_range shown.holds holds shown.condition is x len' in
             let w : d.1.0 x ≡ whole x =
             one_function c net_c level level (λ i z low. refl) (length p.names) s lt d.1.0 whole (subst (λ j. IsFunctionOf (circuit c) level j s d.1.0) levels d.1.1) function x len' in
             d.1.2 x len ∙ ap (λ z. z && d.1.0 x) h ∙ ap (λ z. holds x && z) w ∙ sym (restriction x len'),
@@ -305,7 +305,7 @@ pub given_is : (refs : List Ref) (outputs all : List ℕ) (s : ℕ) (r : Ref) �
 given_is refs outputs all s r at same lt found =
     ap (λ (z : List ℕ). reference_of refs (get_or z 0 0)) (sym same) ∙ ap (reference_of refs) (get_or_default outputs 0 0 s lt ∙ sym at) ∙ there refs s r False found
 
-module _ (a b : Circuit) (given : Option Circuit) (p : Paired) (S : Nodes) (refs : References) (built : AreBuilt a b given p S refs) (of : List Subject) (all : of ≡ subjects a b p) (rs : List Ref) (er : rs ≡ references refs of) where
+module _ (a b : Circuit) (given : Option Circuit) (p : NamingModel) (S : Nodes) (refs : References) (built : AreBuilt a b given p S refs) (of : List Subject) (all : of ≡ subjects a b p) (rs : List Ref) (er : rs ≡ references refs of) where
   pub all_known : All (Has S) rs
   all_known = subst (All (Has S)) (sym er) (references_known a b given p S refs built of all)
 
@@ -315,24 +315,24 @@ module _ (a b : Circuit) (given : Option Circuit) (p : Paired) (S : Nodes) (refs
     levels = built.levels;
     signals = built.signals;
     all = all;
-    shown = subst (AreShown as_built a b None p S of) (sym er) (shown_plain a b given p S refs built of all);
+    shown = subst (DenoteCompared as_built a b None p S of) (sym er) (shown_plain a b given p S refs built of all);
   }
 
 -- what is left of a build without a condition is all
-pub all_plain : (a b : Circuit) (p : Paired) (S : Nodes) → HasNeed a b None p S → HasAll a b None p S
+pub all_plain : (a b : Circuit) (p : NamingModel) (S : Nodes) → HasNeed a b None p S → HasAll a b None p S
 all_plain a b p S need = record { lean = need.lean; complete = need.complete; within = need.within }
 
-module _ (n m k : Net) (p : Paired) (S T : Nodes) (refs : References) (built : AreBuilt (circuit n) (circuit m) (Some (circuit k)) p S refs) (inside : output_of (circuit k) < length k.names) (of : List Subject) (all : of ≡ subjects (circuit n) (circuit m) p)
+module _ (n m k : Net) (p : NamingModel) (S T : Nodes) (refs : References) (built : AreBuilt (circuit n) (circuit m) (Some (circuit k)) p S refs) (in_range : output_of (circuit k) < length k.names) (of : List Subject) (all : of ≡ subjects (circuit n) (circuit m) p)
     (rs : List Ref) (g : Ref) (er : rs ≡ references refs of) (eg : reference_of refs.given (output_of (circuit k)) ≡ g) where
   pub condition_known : Has S g
-  condition_known = subst (Has S) eg (given_known n m k p S T refs built inside of all)
+  condition_known = subst (Has S) eg (given_known n m k p S T refs built in_range of all)
 
   -- what is said of the wave's lists is said of those that are meant
   as_meant : (P : List Ref → Ref → Type 0) → P rs g → P (references refs of) (reference_of refs.given (output_of (circuit k)))
   as_meant P h = subst (λ z. P z (reference_of refs.given (output_of (circuit k)))) er (subst (P rs) (sym eg) h)
 
-  shown_by_wave : (answers : List Ref) → Keeps S T → AreConjoined S rs g T answers → AreShown as_built (circuit n) (circuit m) (Some (circuit k)) p T of answers
-  shown_by_wave answers keeps h = shown_conjoined n m k p S T refs built inside of all answers keeps (as_meant (λ z w. AreConjoined S z w T answers) h)
+  shown_by_wave : (answers : List Ref) → Keeps S T → AreConjoined S rs g T answers → DenoteCompared as_built (circuit n) (circuit m) (Some (circuit k)) p T of answers
+  shown_by_wave answers keeps h = shown_conjoined n m k p S T refs built in_range of all answers keeps (as_meant (λ z w. AreConjoined S z w T answers) h)
 
   pub compared_by_wave : (answers : List Ref) → Keeps S T → AreConjoined S rs g T answers → AreCompared as_built (circuit n) (circuit m) (Some (circuit k)) p T of answers
   compared_by_wave answers keeps h = record { levels = keeps.levels ∙ built.levels; signals = built.signals; all = all; shown = shown_by_wave answers keeps h }
@@ -340,10 +340,10 @@ module _ (n m k : Net) (p : Paired) (S T : Nodes) (refs : References) (built : A
   pub all_by_wave : IsSound S → IsSound T → IsNet n → IsNet m → IsNet k → AddsDescribed S T (IsWanted S (conjunctions rs g)) → (answers : List Ref) → AreConjoined S rs g T answers →
       IsWithinLimit S (conjunctions rs g) T → HasNeed (circuit n) (circuit m) (Some (circuit k)) p S → HasAll (circuit n) (circuit m) (Some (circuit k)) p T
   all_by_wave sound sound' net net' net'' adds answers h within need =
-      all_left n m k p S T refs built inside of all sound sound' (as_meant (λ z w. AddsDescribed S T (IsWanted S (conjunctions z w))) adds) need net net' net'' answers (shown_by_wave answers adds.keeps h)
+      all_left n m k p S T refs built in_range of all sound sound' (as_meant (λ z w. AddsDescribed S T (IsWanted S (conjunctions z w))) adds) need net net' net'' answers (shown_by_wave answers adds.keeps h)
       (as_meant (λ z w. IsWithinLimit S (conjunctions z w) T) within)
 
   pub over_by_wave : IsSound S → IsSound T → AddsDescribed S T (IsWanted S (conjunctions rs g)) → (e : WaveFault) → IsWaveFault S (conjunctions rs g) T e → e ≡ wave_faults.Full →
       HasNeed (circuit n) (circuit m) (Some (circuit k)) p S → IsOver (circuit n) (circuit m) (Some (circuit k)) p T
   over_by_wave sound sound' adds e fault is need =
-      over_left n m k p S T refs built inside of all sound sound' (as_meant (λ z w. AddsDescribed S T (IsWanted S (conjunctions z w))) adds) need e (as_meant (λ z w. IsWaveFault S (conjunctions z w) T e) fault) is
+      over_left n m k p S T refs built in_range of all sound sound' (as_meant (λ z w. AddsDescribed S T (IsWanted S (conjunctions z w))) adds) need e (as_meant (λ z w. IsWaveFault S (conjunctions z w) T e) fault) is

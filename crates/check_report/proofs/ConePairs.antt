@@ -14,19 +14,19 @@ use Rattle.net_bench.proofs.Found.{found_at, found_low, found_of}
 use Rattle.net_bench.proofs.Numbers.{AreApart, contained_in, in_distinct, name_itself, number_at, number_low}
 use Rattle.net_bench.proofs.OneLabelling.{at_contained}
 use Rattle.net_cone.specs.Cones.{variable_name}
-use Rattle.net_cone.specs.Spreading.{pick}
+use Rattle.net_cone.specs.Spreading.{bits_at}
 use Rattle.net_cone.proofs.Spreading.{widened_where}
 use Rattle.net_order.specs.declared.order.Match.{Match}
 use Rattle.net_order.specs.declared.order.Match.TheVariants.{Name}
 use Rattle.net_order.specs.declared.order.Order.{Order}
-use Rattle.net_order.specs.Order.{HasLevels, Paired, IsNaming, Sided, all_names, both, given_side, level_of, name_of, named, names_by, pairs_by_name, registers_of, signal_named, unmatched, where_among, with_pair, without_pair}
+use Rattle.net_order.specs.Order.{HasLevels, NamingModel, IsNaming, NamedNetlistModel, all_names, both, given_side, level_of, name_of, named, names_by, pairs_by_name, registers_of, signal_named, unmatched, where_among, with_pair, without_pair}
 use Rattle.net_order.specs.Tables.{IsKnown}
 use Rattle.net_order.proofs.Members.{contains_member, member_head}
 use Rattle.net_order.proofs.Orders.{ordered_all, ordered_different}
 use Rattle.check_report.specs.Cones.{IsConeIn}
 use Rattle.check_report.specs.Conditions.{output_of}
-use Rattle.check_report.specs.Report.{lone_verdicts, next_subject, output_subject, subjects}
-use Rattle.check_report.specs.Spreading.{IsOfNet}
+use Rattle.check_report.specs.Report.{unmatched_verdicts, next_subject, output_subject, subjects}
+use Rattle.check_report.specs.Scatter.{IsOfNet}
 
 -- ---- names
 
@@ -48,7 +48,7 @@ found_there names apart n u low at =
 
 -- ---- namings
 
-module _ (how : Match) (a b : Circuit) (given : Option Circuit) (order : Order) (p : Paired) (h : IsNaming how a b given order p) where
+module _ (how : Match) (a b : Circuit) (given : Option Circuit) (order : Order) (p : NamingModel) (h : IsNaming how a b given order p) where
   -- the names of a naming are apart
   pub names_apart : AreApart p.names
   names_apart u v less low e =
@@ -57,7 +57,7 @@ module _ (how : Match) (a b : Circuit) (given : Option Circuit) (order : Order) 
       true≢false (sym (name_itself (get_or p.names u [])) ∙ ap (bytes_eq (get_or p.names u [])) e ∙ other)
 
   -- each variable of a side has a level, and its name stands there
-  pub name_at : (side : Sided) (levels : List ℕ) → IsKnown (all_names (both how a b) (given_side given)) side → HasLevels (names_by how a b given order) side levels →
+  pub name_at : (side : NamedNetlistModel) (levels : List ℕ) → IsKnown (all_names (both how a b) (given_side given)) side → HasLevels (names_by how a b given order) side levels →
       (t : ℕ) → Contains (variables_of side.net) t → (slice_index levels t < length p.names) × (get_or p.names (slice_index levels t) [] ≡ named side t)
   name_at side levels known has t among =
       let n = named side t in
@@ -72,7 +72,7 @@ module _ (how : Match) (a b : Circuit) (given : Option Circuit) (order : Order) 
 
 -- ---- one cone
 
-module _ (c : Circuit) (levels : List ℕ) (p : Paired) (root : ℕ) (cone : Circuit) (is : IsConeIn c levels p root cone) where
+module _ (c : Circuit) (levels : List ℕ) (p : NamingModel) (root : ℕ) (cone : Circuit) (is : IsConeIn c levels p root cone) where
   abbrev pub out : ℕ
   out = length is.from
 
@@ -129,11 +129,11 @@ module _ (c : Circuit) (levels : List ℕ) (p : Paired) (root : ℕ) (cone : Cir
 
     -- a function over the places is one over all levels
     pub function_widened : IsOfNet c → (n count : ℕ) → count ≡ length places → (f : List Bool → Bool) → IsFunctionOf cone (slice_index own_levels) count out f →
-        IsFunctionOf c (slice_index levels) n root (λ x. f (pick places x))
+        IsFunctionOf c (slice_index levels) n root (λ x. f (bits_at places x))
     function_widened net n count size f h =
         let labelled : (x : List Bool) → (bits : List Bool) × IsLabelling (circuit is.whole) (slice_index levels) x bits =
         λ x. subst (λ (d : Circuit). (bits : List Bool) × IsLabelling d (slice_index levels) x bits) (net.is_circuit ∙ sym is.is_whole) (has_labelling net.net net.sound (slice_index levels) x) in
-        subst (λ (d : Circuit). IsFunctionOf d (slice_index levels) n root (λ x. f (pick places x))) is.is_whole
+        subst (λ (d : Circuit). IsFunctionOf d (slice_index levels) n root (λ x. f (bits_at places x))) is.is_whole
         (widened_where is.whole root is.names is.part is.from is.cone_of (slice_index levels) (slice_index own_levels) places level_at labelled n f
         (subst (λ (d : Circuit). IsFunctionOf d (slice_index own_levels) (length places) out f) (sym is.is_part)
         (subst (λ l. IsFunctionOf cone (slice_index own_levels) l out f) size h)))
@@ -148,10 +148,10 @@ module _ (a b : Circuit) (s t : ℕ) (found : find b.names (name_of a s) ≡ Som
   one_pair : pairs_by_name a b (t ∷ []) (s ∷ []) ≡ (s, t) ∷ []
   one_pair = ap (λ o. with_pair s o []) signal_there
 
-  none_lone : unmatched a b (t ∷ []) (s ∷ []) ≡ []
-  none_lone = ap (λ o. without_pair s o []) signal_there
+  none_unmatched : unmatched a b (t ∷ []) (s ∷ []) ≡ []
+  none_unmatched = ap (λ o. without_pair s o []) signal_there
 
-module _ (k m : Circuit) (w : Option Circuit) (order : Order) (q : Paired) (h : IsNaming Name k m w order q) (s t : ℕ) (first : k.outputs ≡ s ∷ []) (second : m.outputs ≡ t ∷ [])
+module _ (k m : Circuit) (w : Option Circuit) (order : Order) (q : NamingModel) (h : IsNaming Name k m w order q) (s t : ℕ) (first : k.outputs ≡ s ∷ []) (second : m.outputs ≡ t ∷ [])
     (first_none : registers_of k ≡ []) (second_none : registers_of m ≡ []) (there : find m.names (name_of k s) ≡ Some t) (back : find k.names (name_of m t) ≡ Some s) where
   output_pairs : q.outputs.pairs ≡ (s, t) ∷ []
   output_pairs = ap (λ c. c.pairs) h.outputs ∙ ap (λ os. pairs_by_name k m os k.outputs) second ∙ ap (pairs_by_name k m (t ∷ [])) first ∙ one_pair k m s t there
@@ -166,10 +166,10 @@ module _ (k m : Circuit) (w : Option Circuit) (order : Order) (q : Paired) (h : 
       ap (λ rs. output_subject (s, t) ∷ map (next_subject k m) rs) register_pairs
 
   only_first : q.outputs.only_first ≡ []
-  only_first = ap (λ c. c.only_first) h.outputs ∙ ap (λ os. unmatched k m os k.outputs) second ∙ ap (unmatched k m (t ∷ [])) first ∙ none_lone k m s t there
+  only_first = ap (λ c. c.only_first) h.outputs ∙ ap (λ os. unmatched k m os k.outputs) second ∙ ap (unmatched k m (t ∷ [])) first ∙ none_unmatched k m s t there
 
   only_second : q.outputs.only_second ≡ []
-  only_second = ap (λ c. c.only_second) h.outputs ∙ ap (λ os. unmatched m k os m.outputs) first ∙ ap (unmatched m k (s ∷ [])) second ∙ none_lone m k t s back
+  only_second = ap (λ c. c.only_second) h.outputs ∙ ap (λ os. unmatched m k os m.outputs) first ∙ ap (unmatched m k (s ∷ [])) second ∙ none_unmatched m k t s back
 
   only_first_next : q.registers.only_first ≡ []
   only_first_next = ap (λ c. c.only_first) h.registers ∙ ap (unmatched k m (registers_of m)) first_none
@@ -178,8 +178,8 @@ module _ (k m : Circuit) (w : Option Circuit) (order : Order) (q : Paired) (h : 
   only_second_next = ap (λ c. c.only_second) h.registers ∙ ap (unmatched m k (registers_of k)) second_none
 
   -- nothing of them has no partner
-  pub no_lone : lone_verdicts k m q ≡ []
-  no_lone =
+  pub no_unmatched : unmatched_verdicts k m q ≡ []
+  no_unmatched =
       let e = only_first in
       let f = only_second in
       let g = only_first_next in

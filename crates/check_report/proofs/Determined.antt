@@ -10,14 +10,14 @@ use Rattle.net_bench.specs.Labels.{IsLabelling, IsFunctionOf, bit_of}
 use Rattle.net_bench.proofs.Built.{same_labelling}
 use Rattle.net_order.specs.declared.order.Match.{Match}
 use Rattle.net_order.specs.declared.order.Order.{Order}
-use Rattle.net_order.specs.Order.{Paired, IsNaming, IsPairing}
+use Rattle.net_order.specs.Order.{NamingModel, IsNaming, IsPairing}
 use Rattle.report_text.specs.declared.outcome.Outcome.{Outcome}
 use Rattle.report_text.specs.declared.verdict.Verdict.{Verdict}
 use Rattle.report_text.specs.declared.verdict.Verdict.TheVariants.{Equal, Differs}
 use Rattle.report_text.specs.Lines.{Found, counted}
 use Rattle.report_text.specs.declared.verdict.Extras.{Extras}
-use Rattle.check_report.specs.declared.telling.Asked.{Asked}
-use Rattle.check_report.specs.Report.{Compared, IsSizeShown, IsSupportShown, AreExtrasShown, AreSizesShown, IsVerdictOf, AreFunctions, AreVerdicts, lone_verdicts, subjects, IsReport}
+use Rattle.check_report.specs.declared.verdict_order.Details.{Details}
+use Rattle.check_report.specs.Report.{Compared, IsSizeShown, IsSupportShown, AreExtrasShown, AreSizesShown, IsVerdictOf, AreFunctions, AreVerdicts, unmatched_verdicts, subjects, IsReport}
 use Rattle.check_report.specs.Report.IsVerdictOf.{where_equal, where_different}
 use Rattle.check_report.specs.declared.subject.Subject.{Subject}
 use Rattle.check_report.specs.Conditions.{HasOneOutput, HoldsWhere, output_of, restricted, AgreeWhere, IsLeastWhere}
@@ -72,22 +72,22 @@ two_supports true n f g f' g' shown more same other s t = s.2 ∙ (ap (λ l. Som
 abbrev extras : Option (List Bool) → Option (ℕ × ℕ) → Extras
 extras support sizes = record { support = support; sizes = sizes }
 
-two_extras : (asked : Asked) (n : ℕ) (f g f' g' : List Bool → Bool) (shown more : Extras) → Agree n f f' → Agree n g g' → AreExtrasShown asked n f g shown → AreExtrasShown asked n f' g' more → shown ≡ more
+two_extras : (asked : Details) (n : ℕ) (f g f' g' : List Bool → Bool) (shown more : Extras) → Agree n f f' → Agree n g g' → AreExtrasShown asked n f g shown → AreExtrasShown asked n f' g' more → shown ≡ more
 two_extras asked n f g f' g' shown more same other s t =
     ap (λ z. extras z shown.sizes) (two_supports asked.support n f g f' g' shown.support more.support same other s.support t.support)
     ∙ ap (λ z. extras more.support z) (two_sizes asked.sizes n f g f' g' shown.sizes more.sizes same other s.sizes t.sizes)
 
 -- ---- verdicts
 
-CallsBoth : (n : ℕ) (asked : Asked) (holds : List Bool → Bool) → Compared → Verdict → Type 0
+CallsBoth : (n : ℕ) (asked : Details) (holds : List Bool → Bool) → Compared → Verdict → Type 0
 CallsBoth n asked holds c l = (shown : Option ℕ) × AgreeWhere n holds c.first c.second × IsSizeShown asked.sizes n (restricted holds c.first) shown × (l ≡ Equal c.role c.name shown)
 
-TellsApart : (n : ℕ) (asked : Asked) (holds : List Bool → Bool) → Compared → Verdict → Type 0
+TellsApart : (n : ℕ) (asked : Details) (holds : List Bool → Bool) → Compared → Verdict → Type 0
 TellsApart n asked holds c l =
     (x : List Bool) × (shown : Extras) × IsLeastWhere n holds c.first c.second x × AreExtrasShown asked n (restricted holds c.first) (restricted holds c.second) shown
     × (l ≡ Differs c.role c.name x (c.first x) (c.second x) shown)
 
-kind_of : (n : ℕ) (asked : Asked) (holds : List Bool → Bool) (c : Compared) (l : Verdict) → IsVerdictOf n asked holds c l → CallsBoth n asked holds c l ⊎ TellsApart n asked holds c l
+kind_of : (n : ℕ) (asked : Details) (holds : List Bool → Bool) (c : Compared) (l : Verdict) → IsVerdictOf n asked holds c l → CallsBoth n asked holds c l ⊎ TellsApart n asked holds c l
 unfolding CallsBoth TellsApart
 kind_of n asked holds c l (where_equal {shown = shown} agree size) = inl (shown, agree, size, refl)
 kind_of n asked holds c l (where_different {x = x} {shown = shown} least size) = inr (x, shown, least, size, refl)
@@ -96,7 +96,7 @@ kind_of n asked holds c l (where_different {x = x} {shown = shown} least size) =
 agree_restricted : (n : ℕ) (holds holds' f f' : List Bool → Bool) → Agree n holds holds' → Agree n f f' → Agree n (restricted holds f) (restricted holds' f')
 agree_restricted n holds holds' f f' there same x len = ap (λ z. z && f x) (there x len) ∙ ap (λ z. holds' x && z) (same x len)
 
-one_verdict : (n : ℕ) (asked : Asked) (holds holds' : List Bool → Bool) (c d : Compared) → c.role ≡ d.role → c.name ≡ d.name → Agree n holds holds' → Agree n c.first d.first → Agree n c.second d.second →
+one_verdict : (n : ℕ) (asked : Details) (holds holds' : List Bool → Bool) (c d : Compared) → c.role ≡ d.role → c.name ≡ d.name → Agree n holds holds' → Agree n c.first d.first → Agree n c.second d.second →
     (l m : Verdict) → IsVerdictOf n asked holds c l → IsVerdictOf n asked holds' d m → l ≡ m
 unfolding CallsBoth TellsApart
 one_verdict n asked holds holds' c d role name there same other l m h k = by (kind_of n asked holds c l h) (kind_of n asked holds' d m k)
@@ -143,23 +143,23 @@ one_function net sound level more same n s lt f g h k = λ x len.
 
 -- ---- the report
 
-module _ (n : ℕ) (asked : Asked) (one two : Net) (sound : IsNet one) (sound' : IsNet two) (p q : Paired) (size : length p.names ≡ n) (size' : length q.names ≡ n)
+module _ (n : ℕ) (asked : Details) (one two : Net) (sound : IsNet one) (sound' : IsNet two) (p q : NamingModel) (size : length p.names ≡ n) (size' : length q.names ≡ n)
     (first_same : All (λ s. slice_index p.first s ≡ slice_index q.first s) (variables_of (circuit one)))
     (second_same : All (λ s. slice_index p.second s ≡ slice_index q.second s) (variables_of (circuit two))) (holds holds' : List Bool → Bool) (there : Agree n holds holds') where
   one_list : (all : List Subject) (cs ds : List Compared) (ls ms : List Verdict) → All (IsInside (circuit one) (circuit two)) all
       → AllZip (AreFunctions (circuit one) (circuit two) p) all cs → AllZip (AreFunctions (circuit one) (circuit two) q) all ds
       → AllZip (IsVerdictOf n asked holds) cs ls → AllZip (IsVerdictOf n asked holds') ds ms → ls ≡ ms
-  one_list [] [] [] [] [] inside a b h k = refl
-  one_list [] [] [] (l ∷ ls) ms inside a b h k = absurd h
-  one_list [] [] [] [] (m ∷ ms) inside a b h k = absurd k
-  one_list [] (c ∷ cs) ds ls ms inside a b h k = absurd a
-  one_list [] [] (d ∷ ds) ls ms inside a b h k = absurd b
-  one_list (w ∷ ws) [] ds ls ms inside a b h k = absurd a
-  one_list (w ∷ ws) (c ∷ cs) [] ls ms inside a b h k = absurd b
-  one_list (w ∷ ws) (c ∷ cs) (d ∷ ds) [] ms inside a b h k = absurd h
-  one_list (w ∷ ws) (c ∷ cs) (d ∷ ds) (l ∷ ls) [] inside a b h k = absurd k
-  one_list (w ∷ ws) (c ∷ cs) (d ∷ ds) (l ∷ ls) (m ∷ ms) inside a b h k =
-      let low = inside 0 w (omega arith) in
+  one_list [] [] [] [] [] in_range a b h k = refl
+  one_list [] [] [] (l ∷ ls) ms in_range a b h k = absurd h
+  one_list [] [] [] [] (m ∷ ms) in_range a b h k = absurd k
+  one_list [] (c ∷ cs) ds ls ms in_range a b h k = absurd a
+  one_list [] [] (d ∷ ds) ls ms in_range a b h k = absurd b
+  one_list (w ∷ ws) [] ds ls ms in_range a b h k = absurd a
+  one_list (w ∷ ws) (c ∷ cs) [] ls ms in_range a b h k = absurd b
+  one_list (w ∷ ws) (c ∷ cs) (d ∷ ds) [] ms in_range a b h k = absurd h
+  one_list (w ∷ ws) (c ∷ cs) (d ∷ ds) (l ∷ ls) [] in_range a b h k = absurd k
+  one_list (w ∷ ws) (c ∷ cs) (d ∷ ds) (l ∷ ls) (m ∷ ms) in_range a b h k =
+      let low = in_range 0 w (omega arith) in
       let same : Agree n c.first d.first =
       one_function one sound (slice_index p.first) (slice_index q.first) first_same n w.first low.1 c.first d.first
       (subst (λ z. IsFunctionOf (circuit one) (slice_index p.first) z w.first c.first) size a.0.first) (subst (λ z. IsFunctionOf (circuit one) (slice_index q.first) z w.first d.first) size' b.0.first) in
@@ -167,7 +167,7 @@ module _ (n : ℕ) (asked : Asked) (one two : Net) (sound : IsNet one) (sound' :
       one_function two sound' (slice_index p.second) (slice_index q.second) second_same n w.second low.2 c.second d.second
       (subst (λ z. IsFunctionOf (circuit two) (slice_index p.second) z w.second c.second) size a.0.second) (subst (λ z. IsFunctionOf (circuit two) (slice_index q.second) z w.second d.second) size' b.0.second) in
       let e : l ≡ m = one_verdict n asked holds holds' c d (a.0.role ∙ sym b.0.role) (a.0.name ∙ sym b.0.name) there same other l m h.0 k.0 in
-      let r : ls ≡ ms = one_list ws cs ds ls ms (λ i v lt. inside (suc i) v (omega arith)) a.1 b.1 h.1 k.1 in
+      let r : ls ≡ ms = one_list ws cs ds ls ms (λ i v lt. in_range (suc i) v (omega arith)) a.1 b.1 h.1 k.1 in
       cc
 
 -- the condition's output is one of its signals
@@ -175,7 +175,7 @@ pub output_inside : (net : Net) → IsNet net → HasOneOutput (circuit net) →
 output_inside net sound one = sound.outputs 0 0 (omega (arith, one))
 
 -- two namings give the condition's variables the same levels
-conditional_same : (how : Match) (a b : Circuit) (given : Option Net) (order : Order) (p q : Paired) → IsNaming how a b (option_map circuit given) order p → IsNaming how a b (option_map circuit given) order q →
+conditional_same : (how : Match) (a b : Circuit) (given : Option Net) (order : Order) (p q : NamingModel) → IsNaming how a b (option_map circuit given) order p → IsNaming how a b (option_map circuit given) order q →
     (net : Net) → given ≡ Some net → All (λ s. slice_index p.given s ≡ slice_index q.given s) (variables_of (circuit net))
 conditional_same how a b None order p q h k net e = cc
 conditional_same how a b (Some other) order p q h k net e =
@@ -185,7 +185,7 @@ conditional_same how a b (Some other) order p q h k net e =
     some_is x y f = cc
 
 -- a condition holds at the same assignments
-one_condition : (given : Option Net) → IfSome given (λ net. IsNet net × HasOneOutput (circuit net)) → (p q : Paired) → length p.names ≡ length q.names →
+one_condition : (given : Option Net) → IfSome given (λ net. IsNet net × HasOneOutput (circuit net)) → (p q : NamingModel) → length p.names ≡ length q.names →
     ((net : Net) → given ≡ Some net → All (λ s. slice_index p.given s ≡ slice_index q.given s) (variables_of (circuit net))) → (holds holds' : List Bool → Bool) →
     HoldsWhere (option_map circuit given) p holds → HoldsWhere (option_map circuit given) q holds' → Agree (length q.names) holds holds'
 one_condition None sound p q size same holds holds' h k = λ x len. ap (λ f. f x) (h ∙ sym k)
@@ -194,28 +194,28 @@ one_condition (Some net) sound p q size same holds holds' h k =
     (subst (λ z. IsFunctionOf (circuit net) (slice_index p.given) z (output_of (circuit net)) holds) size h) k
 
 -- what two comparisons of two netlists in one order find is the same
-pub one_found : (one two : Net) (given : Option Net) → IsNet one → IsNet two → IfSome given (λ net. IsNet net × HasOneOutput (circuit net)) → (how : Match) (order : Order) (p q : Paired) → IsNaming how (circuit one) (circuit two) (option_map circuit given) order p → IsNaming how (circuit one) (circuit two) (option_map circuit given) order q
-    → (asked : Asked) (found more : Found) → AreVerdicts asked (circuit one) (circuit two) (option_map circuit given) p found → AreVerdicts asked (circuit one) (circuit two) (option_map circuit given) q more → found ≡ more
+pub one_found : (one two : Net) (given : Option Net) → IsNet one → IsNet two → IfSome given (λ net. IsNet net × HasOneOutput (circuit net)) → (how : Match) (order : Order) (p q : NamingModel) → IsNaming how (circuit one) (circuit two) (option_map circuit given) order p → IsNaming how (circuit one) (circuit two) (option_map circuit given) order q
+    → (asked : Details) (found more : Found) → AreVerdicts asked (circuit one) (circuit two) (option_map circuit given) p found → AreVerdicts asked (circuit one) (circuit two) (option_map circuit given) q more → found ≡ more
 one_found one two given sound sound' sound_given how order p q h k asked found more r t =
     let names : p.names ≡ q.names = h.names ∙ sym k.names in
     let outputs : p.outputs ≡ q.outputs = h.outputs ∙ sym k.outputs in
     let registers : p.registers ≡ q.registers = h.registers ∙ sym k.registers in
     let all_same : subjects (circuit one) (circuit two) p ≡ subjects (circuit one) (circuit two) q = cc in
     let size : length p.names ≡ length q.names = ap length names in
-    let inside = subjects_inside how one two (option_map circuit given) order q sound sound' k in
+    let in_range = subjects_inside how one two (option_map circuit given) order q sound sound' k in
     let of_pairs : r.of_pairs ≡ t.of_pairs =
     one_list (length q.names) asked one two sound sound' p q size refl (λ i d lt. h.first i d lt ∙ sym (k.first i d lt)) (λ i d lt. h.second i d lt ∙ sym (k.second i d lt))
     r.holds t.holds (one_condition given sound_given p q size (λ net e i d lt. conditional_same how (circuit one) (circuit two) given order p q h k net e i d lt) r.holds t.holds r.condition t.condition) (subjects (circuit one) (circuit two) q) r.compared t.compared r.of_pairs t.of_pairs
-    inside (subst (λ ws. AllZip (AreFunctions (circuit one) (circuit two) p) ws r.compared) all_same r.functions) t.functions (subst (λ n. AllZip (IsVerdictOf n asked r.holds) r.compared r.of_pairs) size r.are_verdicts) t.are_verdicts in
-    let lone : lone_verdicts (circuit one) (circuit two) p ≡ lone_verdicts (circuit one) (circuit two) q = cc in
+    in_range (subst (λ ws. AllZip (AreFunctions (circuit one) (circuit two) p) ws r.compared) all_same r.functions) t.functions (subst (λ n. AllZip (IsVerdictOf n asked r.holds) r.compared r.of_pairs) size r.are_verdicts) t.are_verdicts in
+    let unmatched_lines : unmatched_verdicts (circuit one) (circuit two) p ≡ unmatched_verdicts (circuit one) (circuit two) q = cc in
     let variables : found.variables ≡ more.variables = r.variables ∙ names ∙ sym t.variables in
     let verdicts : found.verdicts ≡ more.verdicts =
-    r.all ∙ ap (λ vs. vs ++ lone_verdicts (circuit one) (circuit two) p) of_pairs ∙ ap (λ vs. t.of_pairs ++ vs) lone ∙ sym t.all in
+    r.all ∙ ap (λ vs. vs ++ unmatched_verdicts (circuit one) (circuit two) p) of_pairs ∙ ap (λ vs. t.of_pairs ++ vs) unmatched_lines ∙ sym t.all in
     λ i. record { variables = variables i; verdicts = verdicts i }
 
 -- two reports of two netlists in one order have the same counts and the same bytes
-pub one_report : (one two : Net) (given : Option Net) → IsNet one → IsNet two → IfSome given (λ net. IsNet net × HasOneOutput (circuit net)) → (how : Match) (order : Order) (p q : Paired) → IsPairing how (circuit one) (circuit two) (option_map circuit given) order p → IsPairing how (circuit one) (circuit two) (option_map circuit given) order q
-    → (form : Found → List ℕ) (asked : Asked) (o more : Outcome) (bytes text : List ℕ) → IsReport form asked (circuit one) (circuit two) (option_map circuit given) p o bytes → IsReport form asked (circuit one) (circuit two) (option_map circuit given) q more text
+pub one_report : (one two : Net) (given : Option Net) → IsNet one → IsNet two → IfSome given (λ net. IsNet net × HasOneOutput (circuit net)) → (how : Match) (order : Order) (p q : NamingModel) → IsPairing how (circuit one) (circuit two) (option_map circuit given) order p → IsPairing how (circuit one) (circuit two) (option_map circuit given) order q
+    → (form : Found → List ℕ) (asked : Details) (o more : Outcome) (bytes text : List ℕ) → IsReport form asked (circuit one) (circuit two) (option_map circuit given) p o bytes → IsReport form asked (circuit one) (circuit two) (option_map circuit given) q more text
     → (o ≡ more) × (bytes ≡ text)
 one_report one two given sound sound' sound_given how order p q h k form asked o more bytes text r t =
     let found : r.found ≡ t.found = one_found one two given sound sound' sound_given how order p q h.naming k.naming asked r.found t.found r.verdicts t.verdicts in

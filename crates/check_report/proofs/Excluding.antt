@@ -5,18 +5,18 @@ use Rattle.dd_store.specs.declared.reference.Ref.{Ref}
 use Rattle.dd_store.specs.declared.reference.Reference.TheVariants.{Node}
 use Rattle.dd_store.specs.Functions.{Agree, OfEither}
 use Rattle.dd_store.specs.Graph.{walk, IsReduced}
-use Rattle.dd_store.specs.Marks.{is_marked, mark_by, mark_both, turned}
+use Rattle.dd_store.specs.Complements.{is_complement, complement_by, complement_both, complemented}
 use Rattle.dd_store.specs.Nodes.{Nodes, den, IsSound, count_of}
 use Rattle.dd_store.specs.Nodes as nodes
 use Rattle.dd_store.specs.Parts.{Part}
 use Rattle.dd_store.specs.Parts.Part.{node}
 use Rattle.dd_store.specs.View.{part, Has}
-use Rattle.dd_store.proofs.Canonical.{canonical, one_mark}
-use Rattle.dd_store.proofs.Marks.{not-not, turned-twice, plain-mark_by, IsRef-mark_by, den-mark_by}
+use Rattle.dd_store.proofs.Canonical.{canonical, one_complement_bit}
+use Rattle.dd_store.proofs.Complements.{not-not, complemented-twice, regular-complement_by, IsRef-complement_by, den-complement_by}
 use Rattle.dd_store.proofs.Storing.{node-of}
 use Rattle.dd_store.proofs.View.{of_part, part-negate, same_ref}
 use Rattle.net_bench.specs.Circuit.{Circuit}
-use Rattle.net_order.specs.Order.{Paired}
+use Rattle.net_order.specs.Order.{NamingModel}
 use Rattle.gate_plan.specs.Need.{IsCounted, IsLean, IsComplete, HasNode}
 use Rattle.check_report.specs.Limits.{IsNeededIn, HasAllNeeded, FitsWithin, Exceeds}
 use Rattle.check_report.proofs.Pigeons.{Among, without, pigeons}
@@ -39,35 +39,35 @@ one_ref : (n : ℕ) (S : Nodes) → IsSound S → S.levels ≡ n → (x z : Ref)
 one_ref n S sound levels x z hx hz same = canonical S.levels (nodes.node S) sound.reduced x z hx hz (λ y len. same y (len ∙ levels))
 
 -- references of one function have one mark
-mark_as : (n : ℕ) (S T : Nodes) → IsSound S → IsSound T → S.levels ≡ n → T.levels ≡ n → (x y : Ref) → Has S x → Has T y → Agree n (den S x) (den T y) → is_marked x ≡ is_marked y
-mark_as n S T sound sound' e e' x y hx hy same =
-    one_mark n (nodes.node S) (nodes.node T) (subst (λ d. IsReduced d (nodes.node S)) e sound.reduced) (subst (λ d. IsReduced d (nodes.node T)) e' sound'.reduced) x y hx hy
+complement_bit_as : (n : ℕ) (S T : Nodes) → IsSound S → IsSound T → S.levels ≡ n → T.levels ≡ n → (x y : Ref) → Has S x → Has T y → Agree n (den S x) (den T y) → is_complement x ≡ is_complement y
+complement_bit_as n S T sound sound' e e' x y hx hy same =
+    one_complement_bit n (nodes.node S) (nodes.node T) (subst (λ d. IsReduced d (nodes.node S)) e sound.reduced) (subst (λ d. IsReduced d (nodes.node T)) e' sound'.reduced) x y hx hy
     (λ z len. ap (λ d. walk d (nodes.node S) x z) (sym e) ∙ same z len ∙ ap (λ d. walk d (nodes.node T) y z) e')
 
 -- a node's reference without a mark is listed
-listed : (T : Nodes) (y : Ref) (v : ℕ) (lo hi : Ref) → Has T y → part T y ≡ node v lo hi → is_marked y ≡ false → Among y (refs_of T)
-listed T y v lo hi h e plain =
+listed : (T : Nodes) (y : Ref) (v : ℕ) (lo hi : Ref) → Has T y → part T y ≡ node v lo hi → is_complement y ≡ false → Among y (refs_of T)
+listed T y v lo hi h e regular =
     let m = of_part T y v lo hi h e in
-    let none : m.1 ≡ false = sym (ap is_marked m.2) ∙ plain in
-    subst (λ r. Among r (refs_of T)) (ap (Node m.0) (sym none) ∙ sym m.2) (has_each T m.0 (mark_both m.1 (lo, hi)) (node-of T m.0 m.1 (lo, hi) m.4))
+    let none : m.1 ≡ false = sym (ap is_complement m.2) ∙ regular in
+    subst (λ r. Among r (refs_of T)) (ap (Node m.0) (sym none) ∙ sym m.2) (has_each T m.0 (complement_both m.1 (lo, hi)) (node-of T m.0 m.1 (lo, hi) m.4))
 
 -- a node for a function is one for each that agrees with it
 node_as : (n : ℕ) (S : Nodes) (v : ℕ) (f g : List Bool → Bool) → Agree n f g → HasNode n (part S) (Has S) (den S) v f → HasNode n (part S) (Has S) (den S) v g
 node_as n S v f g same h = record { reference = h.reference; low = h.low; high = h.high; has = h.has; is_node = h.is_node; denotes = λ z len. h.denotes z len ∙ same z len }
 
 -- and with its mark turned one for the complement
-part-mark_by : (S : Nodes) (b : Bool) (r : Ref) (v : ℕ) (lo hi : Ref) → Has S r → part S r ≡ node v lo hi → part S (mark_by b r) ≡ node v (mark_by b lo) (mark_by b hi)
-part-mark_by S false r v lo hi h e = e
-part-mark_by S true r v lo hi h e = part-negate S r v lo hi h e
+part-complement_by : (S : Nodes) (b : Bool) (r : Ref) (v : ℕ) (lo hi : Ref) → Has S r → part S r ≡ node v lo hi → part S (complement_by b r) ≡ node v (complement_by b lo) (complement_by b hi)
+part-complement_by S false r v lo hi h e = e
+part-complement_by S true r v lo hi h e = part-negate S r v lo hi h e
 
-marked_node : (n : ℕ) (S : Nodes) (b : Bool) (v : ℕ) (g : List Bool → Bool) → HasNode n (part S) (Has S) (den S) v g → HasNode n (part S) (Has S) (den S) v (λ z. turned b (g z))
-marked_node n S b v g h = record {
-  reference = mark_by b h.reference;
-  low = mark_by b h.low;
-  high = mark_by b h.high;
-  has = IsRef-mark_by (nodes.node S) b h.reference h.has;
-  is_node = part-mark_by S b h.reference v h.low h.high h.has h.is_node;
-  denotes = λ z len. den-mark_by S b h.reference z ∙ ap (turned b) (h.denotes z len);
+complement_node : (n : ℕ) (S : Nodes) (b : Bool) (v : ℕ) (g : List Bool → Bool) → HasNode n (part S) (Has S) (den S) v g → HasNode n (part S) (Has S) (den S) v (λ z. complemented b (g z))
+complement_node n S b v g h = record {
+  reference = complement_by b h.reference;
+  low = complement_by b h.low;
+  high = complement_by b h.high;
+  has = IsRef-complement_by (nodes.node S) b h.reference h.has;
+  is_node = part-complement_by S b h.reference v h.low h.high h.has h.is_node;
+  denotes = λ z len. den-complement_by S b h.reference z ∙ ap (complemented b) (h.denotes z len);
 }
 
 -- so a complete store has one also for the complement of a counted function
@@ -75,7 +75,7 @@ either_node : (n : ℕ) (Values : (List Bool → Bool) → Type 0) (T : Nodes) �
     HasNode n (part T) (Has T) (den T) v g
 either_node n Values T complete v g (inl c) = complete.present v g c
 either_node n Values T complete v g (inr c) =
-    node_as n T v (λ z. turned true (not (g z))) g (λ z len. not-not (g z)) (marked_node n T true v (λ z. not (g z)) (complete.present v (λ z. not (g z)) c))
+    node_as n T v (λ z. complemented true (not (g z))) g (λ z len. not-not (g z)) (complement_node n T true v (λ z. not (g z)) (complete.present v (λ z. not (g z)) c))
 
 one_level : (v w : ℕ) (lo hi lo' hi' : Ref) → ◌≡◌ {A = Part Ref} (node v lo hi) (node w lo' hi') → v ≡ w
 one_level v w lo hi lo' hi' e = cc
@@ -87,9 +87,9 @@ module _ (n : ℕ) (Values : (List Bool → Bool) → Type 0) (S T : Nodes) (sou
   twin x a =
       let k = is_node S x a in
       let h : HasNode n (part T) (Has T) (den T) k.0 (den S x) = either_node n Values T complete k.0 (den S x) (lean.counted x k.0 k.1 k.2 k.3 k.4) in
-      let plain : is_marked h.reference ≡ false = mark_as n T S sound' sound levels' levels h.reference x h.has k.3 h.denotes ∙ k.5 in (
+      let regular : is_complement h.reference ≡ false = complement_bit_as n T S sound' sound levels' levels h.reference x h.has k.3 h.denotes ∙ k.5 in (
         h.reference,
-        listed T h.reference k.0 h.low h.high h.has h.is_node plain,
+        listed T h.reference k.0 h.low h.high h.has h.is_node regular,
         record {
           level = k.0;
           low = k.1;
@@ -131,7 +131,7 @@ module _ (n : ℕ) (Values : (List Bool → Bool) → Type 0) (S T : Nodes) (sou
 
   -- where S has as many nodes as T, it has a node for each counted function
   all_there : length (refs_of T) ≤ length (refs_of S) → IsComplete n Values (part S) (Has S) (den S)
-  unfolding marked_node
+  unfolding complement_node
   all_there le = record { present = λ v g counted. with_mark v g (complete.present v g counted) }
     where
       kept : (y : Ref) (rest : List Ref) (w : Ref) → (w ≢ y) → (w ≡ y) ⊎ Among w rest → Among w rest
@@ -160,17 +160,17 @@ module _ (n : ℕ) (Values : (List Bool → Bool) → Type 0) (S T : Nodes) (sou
           absurd (omega arith)
 
       -- by the node's reference without a mark
-      by_plain : (v : ℕ) (g : List Bool → Bool) (h : HasNode n (part T) (Has T) (den T) v g) → is_marked h.reference ≡ false → HasNode n (part S) (Has S) (den S) v g
-      by_plain v g h plain = found v g h (listed T h.reference v h.low h.high h.has h.is_node plain) (seek h.reference (refs_of S) twin)
+      by_regular : (v : ℕ) (g : List Bool → Bool) (h : HasNode n (part T) (Has T) (den T) v g) → is_complement h.reference ≡ false → HasNode n (part S) (Has S) (den S) v g
+      by_regular v g h regular = found v g h (listed T h.reference v h.low h.high h.has h.is_node regular) (seek h.reference (refs_of S) twin)
 
       with_mark : (v : ℕ) (g : List Bool → Bool) → HasNode n (part T) (Has T) (den T) v g → HasNode n (part S) (Has S) (den S) v g
       with_mark v g h =
-          let b : Bool = is_marked h.reference in
-          node_as n S v (λ z. turned b (turned b (g z))) g (λ z len. turned-twice b (g z))
-          (marked_node n S b v (λ z. turned b (g z)) (by_plain v (λ z. turned b (g z)) (marked_node n T b v g h) (plain-mark_by h.reference)))
+          let b : Bool = is_complement h.reference in
+          node_as n S v (λ z. complemented b (complemented b (g z))) g (λ z len. complemented-twice b (g z))
+          (complement_node n S b v (λ z. complemented b (g z)) (by_regular v (λ z. complemented b (g z)) (complement_node n T b v g h) (regular-complement_by h.reference)))
 
 -- the nodes that two netlists need are within a limit, or not
-pub one_of_both : (limit : ℕ) (a b : Circuit) (given : Option Circuit) (p : Paired) → FitsWithin limit a b given p → Exceeds limit a b given p → ⊥
+pub one_of_both : (limit : ℕ) (a b : Circuit) (given : Option Circuit) (p : NamingModel) → FitsWithin limit a b given p → Exceeds limit a b given p → ⊥
 one_of_both limit a b given p f e = by e.over
   where
     few : count_of e.store ≤ count_of f.store

@@ -9,68 +9,68 @@ use Rattle.std.proofs.Math.Seq.{take-append_seam, take-suc, drop-append_seam}
 use Rattle.std.proofs.lemmas.List.Elements.{All-append, All-cons, All-head, All-nil, All-tail}
 use Rattle.std.proofs.lemmas.Slice.Zip.{AllZip-long}
 use Rattle.rayon.proofs.ListFacts.{AllZip-append}
-use Rattle.check_report.specs.declared.coning.Whole.{Whole}
+use Rattle.check_report.specs.declared.pair_cones.ConeContext.{ConeContext}
 use Rattle.check_report.specs.declared.subject.Subject.{Subject}
-use Rattle.check_report.specs.declared.turns.Turn.{Turn}
-use Rattle.check_report.specs.Coning.{AreEnded, IsEndedIn}
-use Rattle.check_report.specs.Hands.{IsTurned, gathered, last_at, put_at, turns_in, without_last}
+use Rattle.check_report.specs.declared.rounds.PairJob.{PairJob}
+use Rattle.check_report.specs.ConeRounds.{AreJobsDone, IsJobResult}
+use Rattle.check_report.specs.Batches.{IsJobDone, gathered, last_at, put_at, jobs_in, without_last}
 
 -- ---- one thing more
 
-but_one : {X : Type 0} (hand : List X) (x : X) → length (hand ++ x ∷ []) - 1 ≡ length hand
-but_one hand x = let e = length-append hand (x ∷ []) in omega (arith, e)
+but_one : {X : Type 0} (batch : List X) (x : X) → length (batch ++ x ∷ []) - 1 ≡ length batch
+but_one batch x = let e = length-append batch (x ∷ []) in omega (arith, e)
 
-pub others_of_put : {X : Type 0} (n : ℕ) (x : X) (hands : List (List X)) → n < length hands → without_last n (put_at n x hands) ≡ hands
+pub others_of_put : {X : Type 0} (n : ℕ) (x : X) (batches : List (List X)) → n < length batches → without_last n (put_at n x batches) ≡ batches
 others_of_put n x [] low = absurd (omega (arith, low))
-others_of_put zero x (hand ∷ hands) low = ap (λ h. h ∷ hands) (ap (λ k. take k (hand ++ x ∷ [])) (but_one hand x) ∙ take-append_seam hand (x ∷ []))
-others_of_put (suc n) x (hand ∷ hands) low = ap (λ hs. hand ∷ hs) (others_of_put n x hands (omega (arith, low)))
+others_of_put zero x (batch ∷ batches) low = ap (λ h. h ∷ batches) (ap (λ k. take k (batch ++ x ∷ [])) (but_one batch x) ∙ take-append_seam batch (x ∷ []))
+others_of_put (suc n) x (batch ∷ batches) low = ap (λ hs. batch ∷ hs) (others_of_put n x batches (omega (arith, low)))
 
-pub last_of_put : {X : Type 0} (n : ℕ) (x : X) (hands : List (List X)) → n < length hands → last_at n (put_at n x hands) ≡ x ∷ []
+pub last_of_put : {X : Type 0} (n : ℕ) (x : X) (batches : List (List X)) → n < length batches → last_at n (put_at n x batches) ≡ x ∷ []
 last_of_put n x [] low = absurd (omega (arith, low))
-last_of_put zero x (hand ∷ hands) low = ap (λ k. drop k (hand ++ x ∷ [])) (but_one hand x) ∙ drop-append_seam hand (x ∷ [])
-last_of_put (suc n) x (hand ∷ hands) low = last_of_put n x hands (omega (arith, low))
+last_of_put zero x (batch ∷ batches) low = ap (λ k. drop k (batch ++ x ∷ [])) (but_one batch x) ∙ drop-append_seam batch (x ∷ [])
+last_of_put (suc n) x (batch ∷ batches) low = last_of_put n x batches (omega (arith, low))
 
-pub one_more : {X : Type 0} (numbers : List ℕ) (k : ℕ) (x : X) (hands : List (List X)) → slice_index numbers k < length hands →
-    gathered numbers (suc k) (put_at (slice_index numbers k) x hands) ≡ gathered numbers k hands ++ x ∷ []
-one_more numbers k x hands low =
-    ap (λ hs. gathered numbers k hs ++ last_at (slice_index numbers k) (put_at (slice_index numbers k) x hands)) (others_of_put (slice_index numbers k) x hands low)
-    ∙ ap (λ xs. gathered numbers k hands ++ xs) (last_of_put (slice_index numbers k) x hands low)
+pub one_more : {X : Type 0} (numbers : List ℕ) (k : ℕ) (x : X) (batches : List (List X)) → slice_index numbers k < length batches →
+    gathered numbers (suc k) (put_at (slice_index numbers k) x batches) ≡ gathered numbers k batches ++ x ∷ []
+one_more numbers k x batches low =
+    ap (λ hs. gathered numbers k hs ++ last_at (slice_index numbers k) (put_at (slice_index numbers k) x batches)) (others_of_put (slice_index numbers k) x batches low)
+    ∙ ap (λ xs. gathered numbers k batches ++ xs) (last_of_put (slice_index numbers k) x batches low)
 
-pub length_put : {X : Type 0} (n : ℕ) (x : X) (hands : List (List X)) → length (put_at n x hands) ≡ length hands
+pub length_put : {X : Type 0} (n : ℕ) (x : X) (batches : List (List X)) → length (put_at n x batches) ≡ length batches
 length_put n x [] = refl
-length_put zero x (hand ∷ hands) = refl
-length_put (suc n) x (hand ∷ hands) = ap suc (length_put n x hands)
+length_put zero x (batch ∷ batches) = refl
+length_put (suc n) x (batch ∷ batches) = ap suc (length_put n x batches)
 
-pub length_others : {X : Type 0} (n : ℕ) (hands : List (List X)) → length (without_last n hands) ≡ length hands
+pub length_others : {X : Type 0} (n : ℕ) (batches : List (List X)) → length (without_last n batches) ≡ length batches
 length_others n [] = refl
-length_others zero (hand ∷ hands) = refl
-length_others (suc n) (hand ∷ hands) = ap suc (length_others n hands)
+length_others zero (batch ∷ batches) = refl
+length_others (suc n) (batch ∷ batches) = ap suc (length_others n batches)
 
-pub all_put : {X : Type 0} (P : X → Type 0) (n : ℕ) (x : X) (hands : List (List X)) → P x → All (All P) hands → All (All P) (put_at n x hands)
+pub all_put : {X : Type 0} (P : X → Type 0) (n : ℕ) (x : X) (batches : List (List X)) → P x → All (All P) batches → All (All P) (put_at n x batches)
 all_put P n x [] p all = all
-all_put P zero x (hand ∷ hands) p all =
-    All-cons (All P) (hand ++ x ∷ []) hands (All-append P hand (x ∷ []) (All-head (All P) hand hands all) (All-cons P x [] p (All-nil P))) (All-tail (All P) hand hands all)
-all_put P (suc n) x (hand ∷ hands) p all = All-cons (All P) hand (put_at n x hands) (All-head (All P) hand hands all) (all_put P n x hands p (All-tail (All P) hand hands all))
+all_put P zero x (batch ∷ batches) p all =
+    All-cons (All P) (batch ++ x ∷ []) batches (All-append P batch (x ∷ []) (All-head (All P) batch batches all) (All-cons P x [] p (All-nil P))) (All-tail (All P) batch batches all)
+all_put P (suc n) x (batch ∷ batches) p all = All-cons (All P) batch (put_at n x batches) (All-head (All P) batch batches all) (all_put P n x batches p (All-tail (All P) batch batches all))
 
 -- hands without things
-pub all_empty : {X : Type 0} (P : X → Type 0) (hands : List (List X)) → All (λ hand. hand ≡ []) hands → All (All P) hands
+pub all_empty : {X : Type 0} (P : X → Type 0) (batches : List (List X)) → All (λ batch. batch ≡ []) batches → All (All P) batches
 all_empty P [] all = All-nil (All P)
-all_empty P (hand ∷ hands) all =
-    All-cons (All P) hand hands (subst (All P) (sym (All-head (λ h. h ≡ []) hand hands all)) (All-nil P)) (all_empty P hands (All-tail (λ h. h ≡ []) hand hands all))
+all_empty P (batch ∷ batches) all =
+    All-cons (All P) batch batches (subst (All P) (sym (All-head (λ h. h ≡ []) batch batches all)) (All-nil P)) (all_empty P batches (All-tail (λ h. h ≡ []) batch batches all))
 
 -- ---- what is written
 
-pub put_is : (hands : List (Vec Turn Global)) (n : ℕ) (turn : Turn) (old new : Vec Turn Global) → n < length hands → old ≡ get_or hands n old → new.items ≡ old.items ++ turn ∷ [] →
-    turns_in (set hands n new) ≡ put_at n turn (turns_in hands)
-put_is [] n turn old new low is grown = absurd (omega (arith, low))
-put_is (hand ∷ hands) zero turn old new low is grown = ap (λ h. h ∷ turns_in hands) (grown ∙ ap (λ (v : Vec Turn Global). v.items ++ turn ∷ []) is)
-put_is (hand ∷ hands) (suc n) turn old new low is grown = ap (λ hs. hand.items ∷ hs) (put_is hands n turn old new (omega (arith, low)) is grown)
+pub put_is : (batches : List (Vec PairJob Global)) (n : ℕ) (job : PairJob) (old new : Vec PairJob Global) → n < length batches → old ≡ get_or batches n old → new.items ≡ old.items ++ job ∷ [] →
+    jobs_in (set batches n new) ≡ put_at n job (jobs_in batches)
+put_is [] n job old new low is grown = absurd (omega (arith, low))
+put_is (batch ∷ batches) zero job old new low is grown = ap (λ h. h ∷ jobs_in batches) (grown ∙ ap (λ (v : Vec PairJob Global). v.items ++ job ∷ []) is)
+put_is (batch ∷ batches) (suc n) job old new low is grown = ap (λ hs. batch.items ∷ hs) (put_is batches n job old new (omega (arith, low)) is grown)
 
-pub others_is : (hands : List (Vec Turn Global)) (n : ℕ) (old new : Vec Turn Global) → n < length hands → old ≡ get_or hands n old → new.items ≡ take (length old.items - 1) old.items →
-    turns_in (set hands n new) ≡ without_last n (turns_in hands)
+pub others_is : (batches : List (Vec PairJob Global)) (n : ℕ) (old new : Vec PairJob Global) → n < length batches → old ≡ get_or batches n old → new.items ≡ take (length old.items - 1) old.items →
+    jobs_in (set batches n new) ≡ without_last n (jobs_in batches)
 others_is [] n old new low is rest = absurd (omega (arith, low))
-others_is (hand ∷ hands) zero old new low is rest = ap (λ h. h ∷ turns_in hands) (rest ∙ ap (λ (v : Vec Turn Global). take (length v.items - 1) v.items) is)
-others_is (hand ∷ hands) (suc n) old new low is rest = ap (λ hs. hand.items ∷ hs) (others_is hands n old new (omega (arith, low)) is rest)
+others_is (batch ∷ batches) zero old new low is rest = ap (λ h. h ∷ jobs_in batches) (rest ∙ ap (λ (v : Vec PairJob Global). take (length v.items - 1) v.items) is)
+others_is (batch ∷ batches) (suc n) old new low is rest = ap (λ hs. batch.items ∷ hs) (others_is batches n old new (omega (arith, low)) is rest)
 
 pub front_long : {X : Type 0} (xs : List X) → length (take (length xs - 1) xs) ≡ length xs - 1
 front_long xs = length-take-le (length xs - 1) xs (omega arith)
@@ -79,29 +79,29 @@ front_long xs = length-take-le (length xs - 1) xs (omega arith)
 rest_of : {X : Type 0} (k : ℕ) (xs ys zs : List X) → xs ≡ ys ++ zs → length ys ≡ k → zs ≡ drop k xs
 rest_of k xs ys zs e long = sym (ap (drop k) e ∙ ap (λ j. drop j (ys ++ zs)) (sym long) ∙ drop-append_seam ys zs)
 
-pub last_is : (hands : List (Vec Turn Global)) (n : ℕ) (old new : Vec Turn Global) (last : Option Turn) → n < length hands → old ≡ get_or hands n old →
-    old.items ≡ new.items ++ option_to_list last → length new.items ≡ length old.items - 1 → option_to_list last ≡ last_at n (turns_in hands)
+pub last_is : (batches : List (Vec PairJob Global)) (n : ℕ) (old new : Vec PairJob Global) (last : Option PairJob) → n < length batches → old ≡ get_or batches n old →
+    old.items ≡ new.items ++ option_to_list last → length new.items ≡ length old.items - 1 → option_to_list last ≡ last_at n (jobs_in batches)
 last_is [] n old new last low is all long = absurd (omega (arith, low))
-last_is (hand ∷ hands) zero old new last low is all long =
-    rest_of (length old.items - 1) old.items new.items (option_to_list last) all long ∙ ap (λ (v : Vec Turn Global). drop (length v.items - 1) v.items) is
-last_is (hand ∷ hands) (suc n) old new last low is all long = last_is hands n old new last (omega (arith, low)) is all long
+last_is (batch ∷ batches) zero old new last low is all long =
+    rest_of (length old.items - 1) old.items new.items (option_to_list last) all long ∙ ap (λ (v : Vec PairJob Global). drop (length v.items - 1) v.items) is
+last_is (batch ∷ batches) (suc n) old new last low is all long = last_is batches n old new last (omega (arith, low)) is all long
 
 -- there are as many hands as before
-pub long_put : (old new : List (Vec Turn Global)) (n : ℕ) (turn : Turn) → turns_in new ≡ put_at n turn (turns_in old) → length new ≡ length old
-long_put old new n turn is = sym (length-map new (λ (v : Vec Turn Global). v.items)) ∙ ap length is ∙ length_put n turn (turns_in old) ∙ length-map old (λ (v : Vec Turn Global). v.items)
+pub long_put : (old new : List (Vec PairJob Global)) (n : ℕ) (job : PairJob) → jobs_in new ≡ put_at n job (jobs_in old) → length new ≡ length old
+long_put old new n job is = sym (length-map new (λ (v : Vec PairJob Global). v.items)) ∙ ap length is ∙ length_put n job (jobs_in old) ∙ length-map old (λ (v : Vec PairJob Global). v.items)
 
-pub long_others : (old new : List (Vec Turn Global)) (n : ℕ) → turns_in new ≡ without_last n (turns_in old) → length new ≡ length old
-long_others old new n is = sym (length-map new (λ (v : Vec Turn Global). v.items)) ∙ ap length is ∙ length_others n (turns_in old) ∙ length-map old (λ (v : Vec Turn Global). v.items)
+pub long_others : (old new : List (Vec PairJob Global)) (n : ℕ) → jobs_in new ≡ without_last n (jobs_in old) → length new ≡ length old
+long_others old new n is = sym (length-map new (λ (v : Vec PairJob Global). v.items)) ∙ ap length is ∙ length_others n (jobs_in old) ∙ length-map old (λ (v : Vec PairJob Global). v.items)
 
 -- ---- turns of loops
 
 -- one pair more is dealt
-pub dealt_more : (numbers : List ℕ) (k : ℕ) (subjects : List Subject) (turn : Turn) (hands : List (List Turn)) → slice_index numbers k < length hands → k < length subjects →
-    turn.subject ≡ get_or subjects k turn.subject → map (λ (t : Turn). t.subject) (gathered numbers k hands) ≡ take k subjects →
-    map (λ (t : Turn). t.subject) (gathered numbers (suc k) (put_at (slice_index numbers k) turn hands)) ≡ take (suc k) subjects
-dealt_more numbers k subjects turn hands low some is before =
-    ap (map (λ (t : Turn). t.subject)) (one_more numbers k turn hands low) ∙ map-append (λ (t : Turn). t.subject) (gathered numbers k hands) (turn ∷ [])
-    ∙ ap (λ ss. ss ++ turn.subject ∷ []) before ∙ ap (λ s. take k subjects ++ s ∷ []) is ∙ sym (take-suc subjects k turn.subject some)
+pub batched_more : (numbers : List ℕ) (k : ℕ) (subjects : List Subject) (job : PairJob) (batches : List (List PairJob)) → slice_index numbers k < length batches → k < length subjects →
+    job.subject ≡ get_or subjects k job.subject → map (λ (t : PairJob). t.subject) (gathered numbers k batches) ≡ take k subjects →
+    map (λ (t : PairJob). t.subject) (gathered numbers (suc k) (put_at (slice_index numbers k) job batches)) ≡ take (suc k) subjects
+batched_more numbers k subjects job batches low some is before =
+    ap (map (λ (t : PairJob). t.subject)) (one_more numbers k job batches low) ∙ map-append (λ (t : PairJob). t.subject) (gathered numbers k batches) (job ∷ [])
+    ∙ ap (λ ss. ss ++ job.subject ∷ []) before ∙ ap (λ s. take k subjects ++ s ∷ []) is ∙ sym (take-suc subjects k job.subject some)
 
 -- one thing more is gathered
 pub gathered_more : {X : Type 0} (numbers : List ℕ) (k : ℕ) (old new : List (List X)) (last found more whole : List X) → new ≡ without_last (slice_index numbers k) old → last ≡ last_at (slice_index numbers k) old →
@@ -160,39 +160,39 @@ zip_of R (x ∷ old) [] long each = absurd (omega (arith, long))
 zip_of R (x ∷ old) (y ∷ new) long each = (each 0 x (omega arith), zip_of R old new (omega (arith, long)) (λ i z lt. each (suc i) z (omega (arith, lt))))
 
 -- the same of lists that are kept
-pub zip_in : (R : Turn → Turn → Type 0) (old new : List (Vec Turn Global)) → length new ≡ length old →
-    ((i : ℕ) (v : Vec Turn Global) → i < length old → AllZip R (get_or old i v).items (get_or new i v).items) → AllZip (AllZip R) (turns_in old) (turns_in new)
+pub zip_in : (R : PairJob → PairJob → Type 0) (old new : List (Vec PairJob Global)) → length new ≡ length old →
+    ((i : ℕ) (v : Vec PairJob Global) → i < length old → AllZip R (get_or old i v).items (get_or new i v).items) → AllZip (AllZip R) (jobs_in old) (jobs_in new)
 zip_in R [] [] long each = tt
 zip_in R [] (y ∷ new) long each = absurd (omega (arith, long))
 zip_in R (x ∷ old) [] long each = absurd (omega (arith, long))
 zip_in R (x ∷ old) (y ∷ new) long each = (each 0 x (omega arith), zip_in R old new (omega (arith, long)) (λ i z lt. each (suc i) z (omega (arith, lt))))
 
 -- what holds of the turns of all hands, of one's
-pub hand_in : (P : Turn → Type 0) (hands : List (Vec Turn Global)) (i : ℕ) (hand : Vec Turn Global) → i < length hands → hand ≡ get_or hands i hand → All (All P) (turns_in hands) → All P hand.items
-hand_in P hands i hand low is all =
-    let long = length-map hands (λ (v : Vec Turn Global). v.items) in
-    subst (All P) (get_or-map (λ (v : Vec Turn Global). v.items) hands i hand hand.items low ∙ sym (ap (λ (v : Vec Turn Global). v.items) is)) (all i hand.items (omega (arith, low, long)))
+pub batch_in : (P : PairJob → Type 0) (batches : List (Vec PairJob Global)) (i : ℕ) (batch : Vec PairJob Global) → i < length batches → batch ≡ get_or batches i batch → All (All P) (jobs_in batches) → All P batch.items
+batch_in P batches i batch low is all =
+    let long = length-map batches (λ (v : Vec PairJob Global). v.items) in
+    subst (All P) (get_or-map (λ (v : Vec PairJob Global). v.items) batches i batch batch.items low ∙ sym (ap (λ (v : Vec PairJob Global). v.items) is)) (all i batch.items (omega (arith, low, long)))
 
 -- what a call left of a hand
-pub left_there : (R : Turn → Turn → Type 0) (x y a b : Vec Turn Global) → a ≡ x → b ≡ y → AllZip R a.items b.items → AllZip R x.items y.items
-left_there R x y a b ax by h = subst (λ (v : Vec Turn Global). AllZip R x.items v.items) by (subst (λ (v : Vec Turn Global). AllZip R v.items b.items) ax h)
+pub left_there : (R : PairJob → PairJob → Type 0) (x y a b : Vec PairJob Global) → a ≡ x → b ≡ y → AllZip R a.items b.items → AllZip R x.items y.items
+left_there R x y a b ax by h = subst (λ (v : Vec PairJob Global). AllZip R x.items v.items) by (subst (λ (v : Vec PairJob Global). AllZip R v.items b.items) ax h)
 
 -- ---- what turns leave
 
-module _ {H : Type 0} (whole : Whole H) (budget : ℕ) (bound : Option ℕ) where
-  same_subjects : (old new : List Turn) → AllZip (IsTurned whole budget bound) old new → map (λ (t : Turn). t.subject) new ≡ map (λ (t : Turn). t.subject) old
+module _ {H : Type 0} (whole : ConeContext H) (budget : ℕ) (bound : Option ℕ) where
+  same_subjects : (old new : List PairJob) → AllZip (IsJobDone whole budget bound) old new → map (λ (t : PairJob). t.subject) new ≡ map (λ (t : PairJob). t.subject) old
   same_subjects [] [] each = refl
   same_subjects [] (y ∷ new) each = absurd each
   same_subjects (x ∷ old) [] each = absurd each
   same_subjects (x ∷ old) (y ∷ new) each =
-      ap (λ s. s ∷ map (λ (t : Turn). t.subject) new) each.0.0 ∙ ap (λ ss. x.subject ∷ ss) (same_subjects old new each.1)
+      ap (λ s. s ∷ map (λ (t : PairJob). t.subject) new) each.0.0 ∙ ap (λ ss. x.subject ∷ ss) (same_subjects old new each.1)
 
-  ended_at : (old new : List Turn) → AllZip (IsTurned whole budget bound) old new → (i : ℕ) (t : Turn) → i < length new → IsEndedIn whole budget bound (get_or new i t).subject (get_or new i t).ended
+  ended_at : (old new : List PairJob) → AllZip (IsJobDone whole budget bound) old new → (i : ℕ) (t : PairJob) → i < length new → IsJobResult whole budget bound (get_or new i t).subject (get_or new i t).ended
   ended_at [] [] each i t low = absurd (omega (arith, low))
   ended_at [] (y ∷ new) each i t low = absurd each
   ended_at (x ∷ old) [] each i t low = absurd each
-  ended_at (x ∷ old) (y ∷ new) each zero t low = subst (λ s. IsEndedIn whole budget bound s y.ended) (sym each.0.0) each.0.1
+  ended_at (x ∷ old) (y ∷ new) each zero t low = subst (λ s. IsJobResult whole budget bound s y.ended) (sym each.0.0) each.0.1
   ended_at (x ∷ old) (y ∷ new) each (suc i) t low = ended_at old new each.1 i t (omega (arith, low))
 
-  pub all_ended : (subjects : List Subject) (old new : List Turn) → map (λ (t : Turn). t.subject) old ≡ subjects → AllZip (IsTurned whole budget bound) old new → AreEnded whole budget bound subjects new
+  pub all_ended : (subjects : List Subject) (old new : List PairJob) → map (λ (t : PairJob). t.subject) old ≡ subjects → AllZip (IsJobDone whole budget bound) old new → AreJobsDone whole budget bound subjects new
   all_ended subjects old new is each = record { each = same_subjects old new each ∙ is; ended = ended_at old new each }

@@ -15,7 +15,7 @@ pub mod Printing
 pub mod Widening
 pub mod Rounds
 pub mod Budgets
-pub mod Spread
+pub mod Scattering
 pub mod Supporting
 pub mod ConePairs
 pub mod ConeVerdicts
@@ -24,14 +24,14 @@ pub mod Places
 pub mod Filling
 pub mod ByCones
 pub mod Findings
-pub mod Dealing
-pub mod Turning
+pub mod SerpentineOrder
+pub mod JobRounds
 pub mod Gathering
 pub mod Ended
 pub mod ConeTasks
 pub mod Picks
 pub mod Shares
-pub mod Explanations
+pub mod Explaining
 pub mod Differences
 pub mod Namings
-pub mod Leading
+pub mod FirstDifferences

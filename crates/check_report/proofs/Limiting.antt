@@ -1,11 +1,11 @@
 -- What the store of a build says of the limit.
 use Rattle.std.proofs.Common.{Option, Result, Ok, Err, OnOk, ◌≡◌, ℕ, ◌<◌, ◌≤◌, ◌⊎◌, inl, inr, length, sym, subst, arith, ◌^◌}
 use Rattle.dd_store.specs.Nodes.{Nodes, IsSound, count_of, empty_nodes}
-use Rattle.dd_store.proofs.Storing.{IsKept-empty}
+use Rattle.dd_store.proofs.Storing.{IsStore-empty}
 use Rattle.expand_work.specs.declared.fault.WaveFault.{WaveFault}
 use Rattle.expand_work.specs.declared.fault.WaveFault.TheVariants.{Full}
 use Rattle.net_bench.specs.Circuit.{Circuit}
-use Rattle.net_order.specs.Order.{Paired}
+use Rattle.net_order.specs.Order.{NamingModel}
 use Rattle.gate_plan.specs.Needing.{IsNeededValue, IsLeanFor, IsFullFor, IsBuildFault}
 use Rattle.gate_plan.proofs.Counted.{not_complete}
 use Rattle.check_report.specs.Limits.{IsNeededIn, HasAllNeeded, HasAll, IsOver, FitsWithin, Exceeds}
@@ -16,14 +16,14 @@ pub none_before : (n limit : ℕ) (T : Nodes) → IsSound T → T.levels ≡ n �
 none_before n limit T sound levels same =
     let few : n ≤ 4096 = (let k = sound.few_levels in omega arith) in
     let small : limit < 2 ^ 32 = subst (λ m. m < 2 ^ 32) same sound.small_limit in
-    sym (IsKept-empty n limit few small).counted
+    sym (IsStore-empty n limit few small).counted
 
 -- what holds anyhow holds of an answer
 pub on_ok : {T E P : Type 0} (r : Result T E) → P → OnOk r P
 on_ok (Ok value) h = h
 on_ok (Err fault) h = tt
 
-pub fits : (limit : ℕ) (a b : Circuit) (given : Option Circuit) (p : Paired) (T : Nodes) → IsSound T → T.levels ≡ length p.names → T.limit ≡ limit → HasAll a b given p T → FitsWithin limit a b given p
+pub fits : (limit : ℕ) (a b : Circuit) (given : Option Circuit) (p : NamingModel) (T : Nodes) → IsSound T → T.levels ≡ length p.names → T.limit ≡ limit → HasAll a b given p T → FitsWithin limit a b given p
 fits limit a b given p T sound levels same need = record {
   store = T;
   sound = sound;
@@ -33,7 +33,7 @@ fits limit a b given p T sound levels same need = record {
   within = subst (λ m. count_of T ≤ m) same need.within;
 }
 
-pub over : (limit : ℕ) (a b : Circuit) (given : Option Circuit) (p : Paired) (T : Nodes) → IsSound T → T.levels ≡ length p.names → T.limit ≡ limit → IsOver a b given p T → Exceeds limit a b given p
+pub over : (limit : ℕ) (a b : Circuit) (given : Option Circuit) (p : NamingModel) (T : Nodes) → IsSound T → T.levels ≡ length p.names → T.limit ≡ limit → IsOver a b given p T → Exceeds limit a b given p
 over limit a b given p T sound levels same o = record {
   store = T;
   sound = sound;
@@ -43,7 +43,7 @@ over limit a b given p T sound levels same o = record {
 }
 
 -- a build that was refused has needed nodes alone, and so has the comparison
-pub exceeds : (limit : ℕ) (a b : Circuit) (given : Option Circuit) (p : Paired) (T : Nodes) (e : WaveFault) → IsSound T → T.levels ≡ length p.names → T.limit ≡ limit → IsLeanFor a b given p T →
+pub exceeds : (limit : ℕ) (a b : Circuit) (given : Option Circuit) (p : NamingModel) (T : Nodes) (e : WaveFault) → IsSound T → T.levels ≡ length p.names → T.limit ≡ limit → IsLeanFor a b given p T →
     e ≡ Full → IsBuildFault (length p.names) (IsNeededValue a b given p) T e → Exceeds limit a b given p
 exceeds limit a b given p T e sound levels same lean is fault =
     over limit a b given p T sound levels same (record {

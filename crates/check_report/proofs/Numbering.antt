@@ -7,7 +7,7 @@ use Rattle.dd_store.specs.declared.reference.NodeId.{NodeId}
 use Rattle.dd_store.specs.declared.reference.Ref.{Ref}
 use Rattle.dd_store.specs.declared.reference.Reference.TheVariants.{False, True, Node}
 use Rattle.dd_store.specs.Graph.{Pair}
-use Rattle.dd_store.specs.Marks.{is_marked, mark_both}
+use Rattle.dd_store.specs.Complements.{is_complement, complement_both}
 use Rattle.dd_store.specs.Nodes.{Nodes, node as node_at}
 use Rattle.dd_store.specs.Parts.Part.{node}
 use Rattle.dd_store.specs.View.{Has, part, part_of}
@@ -143,7 +143,7 @@ at_lt (p ∷ ps) zero lt = (p, refl)
 at_lt (p ∷ ps) (suc k) lt = at_lt ps k (omega arith)
 
 -- and nothing else
-pub is_node : (S : Nodes) (r : Ref) → Among r (refs_of S) → (v : ℕ) × (lo : Ref) × (hi : Ref) × Has S r × (part S r ≡ node v lo hi) × (is_marked r ≡ false)
+pub is_node : (S : Nodes) (r : Ref) → Among r (refs_of S) → (v : ℕ) × (lo : Ref) × (hi : Ref) × Has S r × (part S r ≡ node v lo hi) × (is_complement r ≡ false)
 unfolding IsNamed
 is_node S r a =
     let w = in_all 0 S.shards r a in
@@ -155,4 +155,4 @@ is_node S r a =
     let small : w.0 % 16 < 16 = omega arith in
     let at : slice_get (get_or S.shards (16 * (w.0 / 16) + w.0 % 16) []) w.1 ≡ Some q.0 = subst (λ n. slice_get (get_or S.shards n []) w.1 ≡ Some q.0) same q.1 in
     let e : node_at S m ≡ Some q.0 = node_from_shard S m q.0 small at in
-    subst (λ (x : Ref). (v : ℕ) × (lo : Ref) × (hi : Ref) × Has S x × (part S x ≡ node v lo hi) × (is_marked x ≡ false)) (sym w.3) (m.level, q.0.0, q.0.1, (q.0, e), ap (λ z. part_of m (option_map (mark_both false) z)) e, refl)
+    subst (λ (x : Ref). (v : ℕ) × (lo : Ref) × (hi : Ref) × Has S x × (part S x ≡ node v lo hi) × (is_complement x ≡ false)) (sym w.3) (m.level, q.0.0, q.0.1, (q.0, e), ap (λ z. part_of m (option_map (complement_both false) z)) e, refl)

@@ -4,7 +4,7 @@ use Rattle.std.proofs.lemmas.Bool.{cases_lt}
 use Rattle.std.proofs.lemmas.List.{get_or_append_left}
 use Rattle.std.proofs.lemmas.List.Elements.{All-append, All-cons, All-nil, All-weaker}
 use Rattle.std.proofs.Math.Seq.{get_or-append_seam}
-use Rattle.check_report.specs.Spreading.{ArePlaces}
+use Rattle.check_report.specs.Scatter.{ArePlaces}
 
 -- no places
 pub no_places : (n : ℕ) → ArePlaces n []

@@ -3,27 +3,27 @@ use Rattle.std.proofs.Common.{◌≡◌, ◌∙◌, ap, sym, subst, ℕ, Bool, L
 use Rattle.net_order.specs.declared.order.Match.{Match}
 use Rattle.net_order.specs.declared.order.Order.{Order}
 use Rattle.net_order.specs.OrderText.{order_text}
-use Rattle.check_report.specs.declared.telling.Asked.{Asked}
-use Rattle.check_report.specs.Devices.{Told}
-use Rattle.check_report.specs.declared.choice.Choice.{Choice}
-use Rattle.check_report.specs.declared.choice.Choice.TheVariants.{One, Best, Auto, Cones}
-use Rattle.check_report.specs.declared.choice.Attempt.{Attempt}
-use Rattle.check_report.specs.declared.choice.Candidate.TheVariants.{Declared}
-use Rattle.check_report.specs.Best.{IsAllowed, IsFound}
+use Rattle.check_report.specs.declared.verdict_order.Details.{Details}
+use Rattle.check_report.specs.Devices.{DeviceTexts}
+use Rattle.check_report.specs.declared.strategy.Strategy.{Strategy}
+use Rattle.check_report.specs.declared.strategy.Strategy.TheVariants.{One, Best, Auto, Cones}
+use Rattle.check_report.specs.declared.strategy.Attempt.{Attempt}
+use Rattle.check_report.specs.declared.strategy.Candidate.TheVariants.{Declared}
+use Rattle.check_report.specs.Attempts.{IsAllowed, IsFound}
 use Rattle.check_report.specs.Check.{IsJudged}
 use Rattle.report_text.specs.Lines.{Found}
 use Rattle.check_report.specs.Listing.{IsOrderPrinted}
 
-pub printed : (told : Told) (how : Match) (order : Order) (asked : Asked) (found : Found) (bytes : List ℕ) → IsJudged told how order asked found → bytes ≡ order_text found.variables → IsOrderPrinted told how order bytes
-printed told how order asked found bytes j e = record { a = j.a; b = j.b; c = j.c; p = j.p; paired = j.paired; text = e ∙ ap order_text j.verdicts.variables }
+pub printed : (input : DeviceTexts) (how : Match) (order : Order) (asked : Details) (found : Found) (bytes : List ℕ) → IsJudged input how order asked found → bytes ≡ order_text found.variables → IsOrderPrinted input how order bytes
+printed input how order asked found bytes j e = record { a = j.a; b = j.b; c = j.c; p = j.p; paired = j.paired; text = e ∙ ap order_text j.verdicts.variables }
 
 -- an order that was found is allowed
-pub found_allowed : (told : Told) (how : Match) (choice : Choice) (limit : ℕ) (tried : Option Attempt) (order : Order) → IsFound told how choice limit tried order → IsAllowed choice order
-found_allowed told how (One o) limit tried order f = f.1
-found_allowed told how Best limit None order f = absurd f
-found_allowed told how Best limit (Some t) order f = (t.order, f.0)
-found_allowed told how Auto limit tried order f = (Declared, f.1)
-found_allowed told how Cones limit tried order f = f.1
+pub found_allowed : (input : DeviceTexts) (how : Match) (choice : Strategy) (limit : ℕ) (tried : Option Attempt) (order : Order) → IsFound input how choice limit tried order → IsAllowed choice order
+found_allowed input how (One o) limit tried order f = f.1
+found_allowed input how Best limit None order f = absurd f
+found_allowed input how Best limit (Some t) order f = (t.order, f.0)
+found_allowed input how Auto limit tried order f = (Declared, f.1)
+found_allowed input how Cones limit tried order f = f.1
 
 -- where no order was tried, whatever is said of an attempt
 pub never_tried : {A B E : Type 0} (P : B → Type 0) (r : Result (A × Option B) E) → IfOk r (λ r. r.1 ≡ None) → IfOk r (λ r. IfSome r.1 P)

@@ -8,8 +8,8 @@ use Rattle.std.proofs.lemmas.List.{ext_get_or, length-map, length-take, get_or-m
 use Rattle.std.proofs.lemmas.List.Elements.{Contains-get_or}
 use Rattle.std.proofs.lemmas.Map.Keys.{apart_from_distinct}
 use Rattle.std.proofs.lemmas.Option.{get_or_from_slice_get}
-use Rattle.counter_walk.specs.Arranged.{IsOrder, arranged, by_declared}
-use Rattle.counter_walk.proofs.Arranging.{length-arranged, get_or-arranged}
+use Rattle.counter_walk.specs.DeclaredOrder.{IsOrder, assignment_by_level, by_declared}
+use Rattle.counter_walk.proofs.Arranging.{length-assignment_by_level, get_or-assignment_by_level}
 use Rattle.dd_store.specs.declared.reference.Ref.{Ref}
 use Rattle.dd_store.specs.Functions.{Agree}
 use Rattle.dd_store.specs.Nodes.{Nodes}
@@ -18,7 +18,7 @@ use Rattle.net_bench.specs.Circuit.{Circuit, is_name_in, variables_of, with_name
 use Rattle.net_bench.specs.Labels.{IsFunctionOf}
 use Rattle.net_bench.proofs.Numbers.{contained_in, in_distinct, name_itself, number_at, number_low, numbers_differ}
 use Rattle.net_order.specs.declared.order.Match.{Match}
-use Rattle.net_order.specs.Order.{HasLevels, Paired, Sided, all_names, both, first_level, given_side, level_of, named, names_by, own, second_level}
+use Rattle.net_order.specs.Order.{HasLevels, NamingModel, NamedNetlistModel, all_names, both, first_level, given_side, level_of, named, names_by, own, second_level}
 use Rattle.net_order.specs.Tables.{IsKnown}
 use Rattle.net_order.proofs.AllNames.{known_given, known_sides}
 use Rattle.net_order.proofs.Different.{AmongNames}
@@ -26,8 +26,8 @@ use Rattle.net_order.proofs.Members.{at_place}
 use Rattle.net_order.proofs.Orders.{ordered_all, ordered_count, ordered_different, ordered_known}
 use Rattle.net_order.proofs.Steps.{taken_more}
 use Rattle.check_report.specs.declared.subject.Subject.{Subject}
-use Rattle.check_report.specs.Arranging.{ArePairings, places_among}
-use Rattle.check_report.specs.Comparing.{AreCompared, AreShown, AreSignals, DenotesWhere, IsInside, as_built, subject_at}
+use Rattle.check_report.specs.Arrangement.{ArePairings, places_among}
+use Rattle.check_report.specs.Comparing.{AreCompared, DenoteCompared, AreSignals, DenotesWhere, IsInside, as_built, subject_at}
 use Rattle.check_report.specs.Conditions.{AgreeWhere, HoldsWhere, output_of}
 use Rattle.check_report.specs.Report.{next_subject, output_subject, subjects}
 
@@ -36,20 +36,20 @@ use Rattle.check_report.specs.Report.{next_subject, output_subject, subjects}
 module _ (n : ℕ) (order : List ℕ) (full : length order ≡ n) where
   -- functions that agree by level agree as arranged
   pub agree_arranged : (f g : List Bool → Bool) → Agree n f g → Agree n (by_declared order f) (by_declared order g)
-  agree_arranged f g same x len = same (arranged order x) (length-arranged order x ∙ full)
+  agree_arranged f g same x len = same (assignment_by_level order x) (length-assignment_by_level order x ∙ full)
 
   -- the function of a signal where its variables have other levels: the same labelling serves
   pub function_arranged : (c : Circuit) (level other : ℕ → ℕ) (s : ℕ) (f : List Bool → Bool) → All (λ v. level v < n) (variables_of c) →
       All (λ v. get_or order (level v) 0 ≡ other v) (variables_of c) → IsFunctionOf c level n s f → IsFunctionOf c other n s (by_declared order f)
   function_arranged c level other s f low at is x len =
-      let by = is (arranged order x) (length-arranged order x ∙ full) in (
+      let by = is (assignment_by_level order x) (length-assignment_by_level order x ∙ full) in (
         by.0,
         record {
           each = by.1.each;
           variables = λ i d lt.
               let v = get_or (variables_of c) i d in
-              let inside : level v < n = low i d lt in
-              by.1.variables i d lt ∙ get_or-arranged order x (level v) (omega (arith, inside, full)) ∙ ap (λ k. get_or x k false) (at i d lt);
+              let in_range : level v < n = low i d lt in
+              by.1.variables i d lt ∙ get_or-assignment_by_level order x (level v) (omega (arith, in_range, full)) ∙ ap (λ k. get_or x k false) (at i d lt);
           gates = by.1.gates;
         },
         by.2,
@@ -65,7 +65,7 @@ module _ (n : ℕ) (order : List ℕ) (full : length order ≡ n) where
       by_declared order d.1.0,
       subst (λ m. IsFunctionOf c other m s (by_declared order d.1.0)) (sym levels)
           (function_arranged c level other s d.1.0 low at (subst (λ m. IsFunctionOf c level m s d.1.0) levels d.1.1)),
-      λ x len. d.1.2 (arranged order x) (length-arranged order x ∙ full ∙ sym levels),
+      λ x len. d.1.2 (assignment_by_level order x) (length-assignment_by_level order x ∙ full ∙ sym levels),
     ),
   )
 
@@ -172,18 +172,18 @@ module _ (others names : List (List ℕ)) (apart : IsDistinct bytes_eq names) (m
 
   -- each assignment is one that is arranged
   arranged_back : (x : List Bool) → length x ≡ length others →
-      arranged (places_among others names) (arranged (places_among names others) x) ≡ x
+      assignment_by_level (places_among others names) (assignment_by_level (places_among names others) x) ≡ x
   arranged_back x len =
       let order = places_among others names in
       let back = places_among names others in
       let long : length order ≡ length names = length-map names (level_of others) in
       let wide : length back ≡ length others = length-map others (level_of names) in
-      let full : length (arranged order (arranged back x)) ≡ length order = length-arranged order (arranged back x) in
-      ext_get_or false (arranged order (arranged back x)) x (full ∙ long ∙ many ∙ sym len)
+      let full : length (assignment_by_level order (assignment_by_level back x)) ≡ length order = length-assignment_by_level order (assignment_by_level back x) in
+      ext_get_or false (assignment_by_level order (assignment_by_level back x)) x (full ∙ long ∙ many ∙ sym len)
       (λ i lt.
       let low : i < length names = omega (arith, lt, full, long) in
       let below : get_or order i 0 < length others = places_order.declared i (omega (arith, low, many)) in
-      get_or-arranged order (arranged back x) i (omega (arith, lt, full)) ∙ get_or-arranged back x (get_or order i 0) (omega (arith, below, wide)) ∙
+      get_or-assignment_by_level order (assignment_by_level back x) i (omega (arith, lt, full)) ∙ get_or-assignment_by_level back x (get_or order i 0) (omega (arith, below, wide)) ∙
       ap (λ k. get_or x k false) (place_back i low))
 
   -- so functions agree wherever a condition holds in the one order exactly where they do in the other
@@ -192,16 +192,16 @@ module _ (others names : List (List ℕ)) (apart : IsDistinct bytes_eq names) (m
       AgreeWhere (length others) (by_declared order holds) (by_declared order f) (by_declared order g) ↔ AgreeWhere (length others) holds f g
   agree_where_arranged holds f g = (
     λ same x len h.
-        let y = arranged (places_among names others) x in
+        let y = assignment_by_level (places_among names others) x in
         let e = arranged_back x len in
-        let size : length y ≡ length others = length-arranged (places_among names others) x ∙ length-map others (level_of names) in
+        let size : length y ≡ length others = length-assignment_by_level (places_among names others) x ∙ length-map others (level_of names) in
         subst (λ z. f z ≡ g z) e (same y size (subst (λ z. IsTrue (holds z)) (sym e) h)),
-    λ same x len h. same (arranged (places_among others names) x) (length-arranged (places_among others names) x ∙ places_order.each_level) h,
+    λ same x len h. same (assignment_by_level (places_among others names) x) (length-assignment_by_level (places_among others names) x ∙ places_order.each_level) h,
   )
 
 -- ---- two pairings
 
-module _ (how : Match) (a b : Circuit) (given : Option Circuit) (q p : Paired) (h : ArePairings how a b given q p) where
+module _ (how : Match) (a b : Circuit) (given : Option Circuit) (q p : NamingModel) (h : ArePairings how a b given q p) where
   pub is_paired : IsPaired a b given q
   is_paired = (how, h.first_order, h.first)
 
@@ -232,7 +232,7 @@ module _ (how : Match) (a b : Circuit) (given : Option Circuit) (q p : Paired) (
   is_order = places_order p.names q.names apart_first many among
 
   -- the variables of one side
-  module _ (side : Sided) (levels others : List ℕ) (known : IsKnown (all_names (both how a b) (given_side given)) side)
+  module _ (side : NamedNetlistModel) (levels others : List ℕ) (known : IsKnown (all_names (both how a b) (given_side given)) side)
       (has : HasLevels (names_by how a b given h.first_order) side levels) (also : HasLevels (names_by how a b given h.second_order) side others) where
     side_there : (i d : ℕ) → i < length (variables_of side.net) → is_name_in q.names (named side (get_or (variables_of side.net) i d)) ≡ true
     side_there i d lt =
@@ -293,10 +293,10 @@ module _ (how : Match) (a b : Circuit) (given : Option Circuit) (q p : Paired) (
     levels_are : S.levels ≡ length p.names
     levels_are = c.levels ∙ many
 
-    shown_arranged : AreShown (by_declared (places_among p.names q.names)) a b given p S of refs
+    shown_arranged : DenoteCompared (by_declared (places_among p.names q.names)) a b given p S of refs
     shown_arranged =
         let order = places_among p.names q.names in
-        let second : Sided = record { how = how; namer = a; net = b } in
+        let second : NamedNetlistModel = record { how = how; name_source = a; net = b } in
         let known = known_sides (both how a b) (given_side given) in
         record {
           holds = by_declared order c.shown.holds;
@@ -317,7 +317,7 @@ module _ (how : Match) (a b : Circuit) (given : Option Circuit) (q p : Paired) (
       levels = levels_are;
       signals = same_signals c.signals;
       all = c.all ∙ same_subjects;
-      shown = subst (λ o. AreShown (by_declared o) a b given p S of refs) (sym e) shown_arranged;
+      shown = subst (λ o. DenoteCompared (by_declared o) a b given p S of refs) (sym e) shown_arranged;
     }
 
     pub order_arranged : (order : List ℕ) → order ≡ places_among p.names q.names → IsOrder S.levels order

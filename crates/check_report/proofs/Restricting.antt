@@ -3,11 +3,11 @@ use Rattle.std.proofs.Common.{◌≡◌, ◌≢◌, ◌∙◌, ap, sym, refl, su
 use Rattle.std.specs.Prelude.{◌&&◌, ◌↔◌, IsTrue}
 use Rattle.dd_store.specs.Functions.{Agree, Before, IsLeastDifference}
 use Rattle.dd_store.specs.Size.{HasSize}
-use Rattle.net_order.specs.Order.{Paired}
+use Rattle.net_order.specs.Order.{NamingModel}
 use Rattle.report_text.specs.declared.verdict.Verdict.{Verdict}
 use Rattle.report_text.specs.declared.verdict.Verdict.TheVariants.{Differs}
 use Rattle.report_text.specs.declared.verdict.Extras.{Extras}
-use Rattle.check_report.specs.declared.telling.Asked.{Asked}
+use Rattle.check_report.specs.declared.verdict_order.Details.{Details}
 use Rattle.check_report.specs.Conditions.{HoldsWhere, everywhere, restricted, AgreeWhere, IsLeastWhere}
 use Rattle.check_report.specs.Report.{Compared, IsSizeShown, IsSupportShown, AreExtrasShown, AreSizesShown, IsVerdictOf}
 use Rattle.check_report.specs.Report.IsVerdictOf.{where_equal, where_different}
@@ -30,7 +30,7 @@ support_as : (asked : Bool) (n : ℕ) (f g f' g' : List Bool → Bool) (shown : 
 support_as false n f g f' g' shown same other s = s
 support_as true n f g f' g' shown same other s = (s.0, levels_as n f g f' g' s.0 same other s.1, s.2)
 
-extras_as : (asked : Asked) (n : ℕ) (f g f' g' : List Bool → Bool) (shown : Extras) → Agree n f f' → Agree n g g' → AreExtrasShown asked n f g shown → AreExtrasShown asked n f' g' shown
+extras_as : (asked : Details) (n : ℕ) (f g f' g' : List Bool → Bool) (shown : Extras) → Agree n f f' → Agree n g g' → AreExtrasShown asked n f g shown → AreExtrasShown asked n f' g' shown
 extras_as asked n f g f' g' shown same other s = record {
   sizes = both_as asked.sizes n f g f' g' shown.sizes same other s.sizes;
   support = support_as asked.support n f g f' g' shown.support same other s.support;
@@ -93,7 +93,7 @@ least_both n holds f g x l = record {
 -- ---- verdicts
 
 -- the verdict of the plain functions of restrictions is the verdict where the condition holds
-pub verdict_where : (n : ℕ) (asked : Asked) (holds : List Bool → Bool) (d : Compared) (f g : List Bool → Bool) → Agree n d.first (restricted holds f) → Agree n d.second (restricted holds g) →
+pub verdict_where : (n : ℕ) (asked : Details) (holds : List Bool → Bool) (d : Compared) (f g : List Bool → Bool) → Agree n d.first (restricted holds f) → Agree n d.second (restricted holds g) →
     (v : Verdict) → IsVerdictOf n asked everywhere d v → IsVerdictOf n asked holds (record { role = d.role; name = d.name; first = f; second = g }) v
 verdict_where n asked holds d f g first second v (where_equal {shown = shown} agree size) =
     where_equal (agree_where n holds f g d.first d.second first second (λ x len. agree x len refl)) (shown_as asked.sizes n d.first (restricted holds f) shown first size)
@@ -108,7 +108,7 @@ verdict_where n asked holds d f g first second v (where_different {x = x} {shown
 
 -- ---- without a condition
 
-module _ (p : Paired) (holds : List Bool → Bool) (none : HoldsWhere None p holds) (n : ℕ) (f g : List Bool → Bool) where
+module _ (p : NamingModel) (holds : List Bool → Bool) (none : HoldsWhere None p holds) (n : ℕ) (f g : List Bool → Bool) where
   pub all_equal : AgreeWhere n holds f g ↔ Agree n f g
   all_equal = subst (λ h. AgreeWhere n h f g ↔ Agree n f g) (sym none) (λ same x len. same x len refl, λ same x len h. same x len)
 
@@ -118,5 +118,5 @@ module _ (p : Paired) (holds : List Bool → Bool) (none : HoldsWhere None p hol
     λ l. record { bits = l.bits; satisfies = refl; differ = l.differ; least = λ y len before h. l.least y len before },
   )
 
-pub all_whole : (p : Paired) (holds : List Bool → Bool) → HoldsWhere None p holds → (f : List Bool → Bool) → restricted holds f ≡ f
+pub all_whole : (p : NamingModel) (holds : List Bool → Bool) → HoldsWhere None p holds → (f : List Bool → Bool) → restricted holds f ≡ f
 all_whole p holds none f = subst (λ h. restricted h f ≡ f) (sym none) refl

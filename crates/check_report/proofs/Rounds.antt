@@ -8,31 +8,31 @@ use Rattle.net_bench.specs.Circuit.{Circuit, circuit}
 use Rattle.net_order.specs.declared.order.Match.{Match}
 use Rattle.net_order.specs.declared.order.Order.{Order}
 use Rattle.net_order.specs.declared.order.OrderFault.{OrderFault}
-use Rattle.net_order.specs.Order.{Paired, IsPairing, HasLevels, condition, own, names_by}
+use Rattle.net_order.specs.Order.{NamingModel, IsPairing, HasLevels, condition, own, names_by}
 use Rattle.expand_work.specs.declared.fault.WaveFault.TheVariants.{Full, TooManyRequests, NoWorker}
-use Rattle.check_report.specs.Asking.{asked_in}
-use Rattle.check_report.specs.declared.choice.Attempt.{Attempt}
-use Rattle.check_report.specs.declared.choice.Candidate.{Candidate}
-use Rattle.check_report.specs.declared.choice.Candidate.TheVariants.{Interleave, Force, Index, Depth, Declared}
-use Rattle.check_report.specs.declared.choice.Choice.{Choice}
+use Rattle.check_report.specs.Details.{details_in}
+use Rattle.check_report.specs.declared.strategy.Attempt.{Attempt}
+use Rattle.check_report.specs.declared.strategy.Candidate.{Candidate}
+use Rattle.check_report.specs.declared.strategy.Candidate.TheVariants.{Interleave, Force, Index, Depth, Declared}
+use Rattle.check_report.specs.declared.strategy.Strategy.{Strategy}
 use Rattle.check_report.specs.declared.fault.CheckFault.{CheckFault}
 use Rattle.check_report.specs.declared.fault.CheckFault.TheVariants.{Order as OrderRefused, Wave, GivenUp, OutOfMemory}
 use Rattle.check_report.specs.declared.task.Task.{Task}
 use Rattle.check_report.specs.declared.trials.Trial.{Trial}
-use Rattle.check_report.specs.Best.{AllBefore, AreGivenUp, IsGivenUpWithin, first_budget, order_of}
+use Rattle.check_report.specs.Attempts.{AllBefore, AreGivenUp, IsGivenUpWithin, first_budget, order_of}
 use Rattle.report_text.specs.Lines.{Found}
-use Rattle.check_report.specs.Check.{AreAccepted, AreFewFor, AreGiven, IsCheckFault, IsJudged, IsLate}
+use Rattle.check_report.specs.Check.{AreAccepted, AreVariablesFewFor, AreGiven, IsCheckFault, IsJudged, IsComparisonFault}
 use Rattle.check_report.specs.Report.{AreVerdicts}
-use Rattle.check_report.specs.Devices.{Told}
+use Rattle.check_report.specs.Devices.{DeviceTexts}
 use Rattle.check_report.specs.Limits.{AreBeyond, AreWithin, Exceeds, FitsWithin}
 use Rattle.check_report.proofs.Budgets.{each_smaller}
 use Rattle.check_report.proofs.Reporting.{few_for}
-use Rattle.check_report.specs.Trials.{AreGivenUpTrials, ArePassed, ArePassedBefore, AreTrials, AsksMore, EndsAtOnce, IsFull, IsNamingIn, IsPairingIn, IsPassed, IsTrial, IsTried, NeedsMore, WasGivenUp}
+use Rattle.check_report.specs.Trials.{AreGivenUpTrials, AreCandidatesGivenUp, AreEarlierGivenUp, AreTrials, AsksMore, EndsAtOnce, IsFull, IsNamingIn, IsPairingIn, IsCandidateGivenUp, IsTrial, IsTried, NeedsMore, WasGivenUp}
 
 -- ---- orders
 
 -- a pairing that has the names of one in another order is the pairing in that order
-pub same_pairing : (how : Match) (a b : Circuit) (given : Option Circuit) (o k : Order) (p q : Paired) → IsPairing how a b given o p → IsPairing how a b given k q → p.names ≡ q.names → IsPairing how a b given k p
+pub same_pairing : (how : Match) (a b : Circuit) (given : Option Circuit) (o k : Order) (p q : NamingModel) → IsPairing how a b given o p → IsPairing how a b given k q → p.names ≡ q.names → IsPairing how a b given k p
 same_pairing how a b given o k p q one other same =
     let is = one.naming in
     let of = other.naming in
@@ -43,7 +43,7 @@ same_pairing how a b given o k p q one other same =
         fit = of.fit;
         names = same ∙ of.names;
         first = subst (λ n. HasLevels n (own a) p.first) e is.first;
-        second = subst (λ n. HasLevels n (record { how = how; namer = a; net = b }) p.second) e is.second;
+        second = subst (λ n. HasLevels n (record { how = how; name_source = a; net = b }) p.second) e is.second;
         conditional = subst (λ n. IfSome given (λ c. HasLevels n (own c) p.given)) e is.conditional;
         outputs = is.outputs;
         registers = is.registers;
@@ -85,56 +85,56 @@ before_at P (suc (suc (suc (suc (suc k))))) d lt h = absurd (omega (arith, lt))
 
 -- ---- given up
 
-module _ {H : Type 0} (task : Task H) (told : Told) (given : AreGiven told (circuit task.first.now) (circuit task.second.now) (condition task.given)) where
-  pub accepted : (choice : Choice) (o : Order) (p : Paired) → IsNamingIn task o p → AreFewFor choice task.settings.now.matching (circuit task.first.now) (circuit task.second.now) (condition task.given) →
-      AreAccepted told choice task.settings.now.matching o
+module _ {H : Type 0} (task : Task H) (input : DeviceTexts) (given : AreGiven input (circuit task.first.now) (circuit task.second.now) (condition task.given)) where
+  pub accepted : (choice : Strategy) (o : Order) (p : NamingModel) → IsNamingIn task o p → AreVariablesFewFor choice task.settings.now.matching (circuit task.first.now) (circuit task.second.now) (condition task.given) →
+      AreAccepted input choice task.settings.now.matching o
   accepted choice o p is few = (circuit task.first.now, circuit task.second.now, condition task.given, p, record { netlists = given; naming = is }, few)
 
-  pub accepted_paired : (choice : Choice) (o : Order) (p : Paired) → IsPairingIn task o p → AreAccepted told choice task.settings.now.matching o
+  pub accepted_paired : (choice : Strategy) (o : Order) (p : NamingModel) → IsPairingIn task o p → AreAccepted input choice task.settings.now.matching o
   accepted_paired choice o p is = accepted choice o p is.naming (few_for choice task.settings.now.matching (circuit task.first.now) (circuit task.second.now) (condition task.given) is.few)
 
-  pub judged : (o : Order) (p : Paired) (found verdicts : Found) → IsPairingIn task o p → found ≡ verdicts →
-      AreVerdicts (asked_in task.settings.now) (circuit task.first.now) (circuit task.second.now) (condition task.given) p verdicts → IsJudged told task.settings.now.matching o (asked_in task.settings.now) found
+  pub judged : (o : Order) (p : NamingModel) (found verdicts : Found) → IsPairingIn task o p → found ≡ verdicts →
+      AreVerdicts (details_in task.settings.now) (circuit task.first.now) (circuit task.second.now) (condition task.given) p verdicts → IsJudged input task.settings.now.matching o (details_in task.settings.now) found
   judged o p found verdicts is e v = record {
     a = circuit task.first.now;
     b = circuit task.second.now;
     c = condition task.given;
     p = p;
     paired = record { netlists = given; pairing = is };
-    verdicts = subst (AreVerdicts (asked_in task.settings.now) (circuit task.first.now) (circuit task.second.now) (condition task.given) p) (sym e) v;
+    verdicts = subst (AreVerdicts (details_in task.settings.now) (circuit task.first.now) (circuit task.second.now) (condition task.given) p) (sym e) v;
   }
 
-  pub within : (o : Order) (p : Paired) (budget : ℕ) → IsPairingIn task o p → FitsWithin budget (circuit task.first.now) (circuit task.second.now) (condition task.given) p → AreWithin told task.settings.now.matching o budget
+  pub within : (o : Order) (p : NamingModel) (budget : ℕ) → IsPairingIn task o p → FitsWithin budget (circuit task.first.now) (circuit task.second.now) (condition task.given) p → AreWithin input task.settings.now.matching o budget
   within o p budget is fits = (circuit task.first.now, circuit task.second.now, condition task.given, p, record { netlists = given; pairing = is }, fits)
 
-  pub beyond : (o : Order) (p : Paired) (budget : ℕ) → IsPairingIn task o p → Exceeds budget (circuit task.first.now) (circuit task.second.now) (condition task.given) p → AreBeyond told task.settings.now.matching o budget
+  pub beyond : (o : Order) (p : NamingModel) (budget : ℕ) → IsPairingIn task o p → Exceeds budget (circuit task.first.now) (circuit task.second.now) (condition task.given) p → AreBeyond input task.settings.now.matching o budget
   beyond o p budget is more = (circuit task.first.now, circuit task.second.now, condition task.given, p, record { netlists = given; pairing = is }, more)
 
-  pub given_up_fault : (o : Order) (p : Paired) (fault : CheckFault) → IsPairingIn task o p → (fault ≡ Wave Full) ⊎ (fault ≡ GivenUp) → IsCheckFault told ⊥ ⊥ ⊥ task.settings.now.order task.settings.now.matching o fault
-  given_up_fault o p fault is (inl e) = subst (IsCheckFault told ⊥ ⊥ ⊥ task.settings.now.order task.settings.now.matching o) (sym e) (accepted_paired task.settings.now.order o p is)
-  given_up_fault o p fault is (inr e) = subst (IsCheckFault told ⊥ ⊥ ⊥ task.settings.now.order task.settings.now.matching o) (sym e) (accepted_paired task.settings.now.order o p is)
+  pub given_up_fault : (o : Order) (p : NamingModel) (fault : CheckFault) → IsPairingIn task o p → (fault ≡ Wave Full) ⊎ (fault ≡ GivenUp) → IsCheckFault input ⊥ ⊥ ⊥ task.settings.now.order task.settings.now.matching o fault
+  given_up_fault o p fault is (inl e) = subst (IsCheckFault input ⊥ ⊥ ⊥ task.settings.now.order task.settings.now.matching o) (sym e) (accepted_paired task.settings.now.order o p is)
+  given_up_fault o p fault is (inr e) = subst (IsCheckFault input ⊥ ⊥ ⊥ task.settings.now.order task.settings.now.matching o) (sym e) (accepted_paired task.settings.now.order o p is)
 
-  pub told_passed : (budget : ℕ) (bound : Option ℕ) (c : Candidate) → IsPassed task budget bound c → IsGivenUpWithin told task.settings.now.matching budget bound (order_of c)
-  told_passed budget bound c p = by p.cause
+  pub given_up_in_input : (budget : ℕ) (bound : Option ℕ) (c : Candidate) → IsCandidateGivenUp task budget bound c → IsGivenUpWithin input task.settings.now.matching budget bound (order_of c)
+  given_up_in_input budget bound c p = by p.cause
     where
-      by : NeedsMore task budget p.pairing ⊎ AsksMore task budget bound p.pairing → IsGivenUpWithin told task.settings.now.matching budget bound (order_of c)
+      by : NeedsMore task budget p.pairing ⊎ AsksMore task budget bound p.pairing → IsGivenUpWithin input task.settings.now.matching budget bound (order_of c)
       by (inl more) = inl (circuit task.first.now, circuit task.second.now, condition task.given, p.pairing, record { netlists = given; pairing = p.paired }, more)
       by (inr wide) = inr (circuit task.first.now, circuit task.second.now, condition task.given, p.pairing, record { netlists = given; pairing = p.paired }, wide)
 
-  pub told_full : (budget : ℕ) (c : Candidate) → IsFull task budget c → AreBeyond told task.settings.now.matching (order_of c) budget
-  told_full budget c p = (circuit task.first.now, circuit task.second.now, condition task.given, p.pairing, record { netlists = given; pairing = p.paired }, p.exceeds)
+  pub beyond_in_input : (budget : ℕ) (c : Candidate) → IsFull task budget c → AreBeyond input task.settings.now.matching (order_of c) budget
+  beyond_in_input budget c p = (circuit task.first.now, circuit task.second.now, condition task.given, p.pairing, record { netlists = given; pairing = p.paired }, p.exceeds)
 
-  pub told_before : (limit : ℕ) (bound : Option ℕ) (t : Attempt) → ArePassedBefore task limit bound t → AreGivenUp told task.settings.now.matching limit bound t
-  told_before limit bound t p = record {
-    smaller = λ budget is lt c. told_passed budget bound c (p.smaller budget is lt c);
-    first = λ e. all_before (IsPassed task t.budget bound) (λ c. IsGivenUpWithin told task.settings.now.matching t.budget bound (order_of c)) (told_passed t.budget bound) t.order (p.first e);
+  pub earlier_in_input : (limit : ℕ) (bound : Option ℕ) (t : Attempt) → AreEarlierGivenUp task limit bound t → AreGivenUp input task.settings.now.matching limit bound t
+  earlier_in_input limit bound t p = record {
+    smaller = λ budget is lt c. given_up_in_input budget bound c (p.smaller budget is lt c);
+    first = λ e. all_before (IsCandidateGivenUp task t.budget bound) (λ c. IsGivenUpWithin input task.settings.now.matching t.budget bound (order_of c)) (given_up_in_input t.budget bound) t.order (p.first e);
   }
 
 -- ---- rounds
 
 module _ {H : Type 0} (task : Task H) where
   -- a candidate whose trial was given up
-  pub passed_by : (budget : ℕ) (bound : Option ℕ) (full : Bool) (trials : List Trial) (c : Candidate) → AreGivenUpTrials task budget bound full trials → IsTried task trials c → IsPassed task budget bound c
+  pub passed_by : (budget : ℕ) (bound : Option ℕ) (full : Bool) (trials : List Trial) (c : Candidate) → AreGivenUpTrials task budget bound full trials → IsTried task trials c → IsCandidateGivenUp task budget bound c
   passed_by budget bound full trials c g t = record {
     pairing = t.trial.pairing;
     paired = t.paired;
@@ -149,7 +149,7 @@ module _ {H : Type 0} (task : Task H) where
   }
 
   -- the candidates of a round whose trials were all given up
-  pub all_passed : (budget : ℕ) (bound : Option ℕ) (full : Bool) (trials : List Trial) → AreGivenUpTrials task budget bound full trials → ((c : Candidate) → IsTried task trials c) → ArePassed task budget bound full trials
+  pub all_passed : (budget : ℕ) (bound : Option ℕ) (full : Bool) (trials : List Trial) → AreGivenUpTrials task budget bound full trials → ((c : Candidate) → IsTried task trials c) → AreCandidatesGivenUp task budget bound full trials
   all_passed budget bound full trials g each = record {
     trials_of = record { own = g.own; each = each };
     each = λ c. passed_by budget bound full trials c g (each c);
@@ -157,7 +157,7 @@ module _ {H : Type 0} (task : Task H) where
   }
 
   -- a trial that is like one before
-  pub tried_before : (trials : List Trial) (c : Candidate) (p : Paired) → All (IsTrial task) trials → IsPairingIn task (order_of c) p → (t : Trial) × Contains trials t × (t.pairing.names ≡ p.names) → IsTried task trials c
+  pub tried_before : (trials : List Trial) (c : Candidate) (p : NamingModel) → All (IsTrial task) trials → IsPairingIn task (order_of c) p → (t : Trial) × Contains trials t × (t.pairing.names ≡ p.names) → IsTried task trials c
   tried_before trials c p own is (t, among, same) = record {
     trial = t;
     among = among;
@@ -183,7 +183,7 @@ module _ {H : Type 0} (task : Task H) where
   }
 
   -- an attempt that was given up for its nodes, or for its requests
-  pub given_up_for : (budget : ℕ) (bound : Option ℕ) (full : Bool) (p : Paired) → (full ≡ true → NeedsMore task budget p) → (full ≡ false → AsksMore task budget bound p) → WasGivenUp task budget bound full p
+  pub given_up_for : (budget : ℕ) (bound : Option ℕ) (full : Bool) (p : NamingModel) → (full ≡ true → NeedsMore task budget p) → (full ≡ false → AsksMore task budget bound p) → WasGivenUp task budget bound full p
   given_up_for budget bound true p more wide = record { cause = inl (more refl); nodes = more }
   given_up_for budget bound false p more wide = record { cause = inr (wide refl); nodes = more }
 
@@ -203,7 +203,7 @@ module _ {H : Type 0} (task : Task H) where
   -- the last place
   pub whole_round : (budget : ℕ) (bound : Option ℕ) (full : Bool) (trials : List Trial) (n : ℕ) → length trials ≤ n → AreTrials task trials →
       All (λ (t : Trial). NeedsMore task budget t.pairing ⊎ AsksMore task budget bound t.pairing) (take n trials) → (full ≡ true → All (λ (t : Trial). NeedsMore task budget t.pairing) (take n trials)) →
-      ArePassed task budget bound full trials
+      AreCandidatesGivenUp task budget bound full trials
   whole_round budget bound full trials n le h causes nodes =
       all_passed budget bound full trials
       (record {
@@ -215,16 +215,16 @@ module _ {H : Type 0} (task : Task H) where
 
   -- an attempt within a later budget
   pub passed_at : (limit : ℕ) (bound : Option ℕ) (k budget : ℕ) (t : Attempt) → budget ≤ 16384 * 16 ^ k → budget ≤ limit → 16384 < budget →
-      ((j : ℕ) → j < k → (c : Candidate) → IsPassed task (16384 * 16 ^ j) bound c) → t.budget ≡ budget → ArePassedBefore task limit bound t
+      ((j : ℕ) → j < k → (c : Candidate) → IsCandidateGivenUp task (16384 * 16 ^ j) bound c) → t.budget ≡ budget → AreEarlierGivenUp task limit bound t
   passed_at limit bound k budget t most within more tried e = record {
-    smaller = each_smaller (λ n. (c : Candidate) → IsPassed task n bound c) limit k t.budget tried (omega (arith, e, most)) (omega (arith, e, within));
+    smaller = each_smaller (λ n. (c : Candidate) → IsCandidateGivenUp task n bound c) limit k t.budget tried (omega (arith, e, most)) (omega (arith, e, within));
     first = λ same. absurd (omega (arith, same, e, more));
   }
 
   -- and one within the first
-  pub passed_first : (limit : ℕ) (bound : Option ℕ) (t : Attempt) → t.budget ≡ first_budget limit → AllBefore t.order (IsPassed task t.budget bound) → ArePassedBefore task limit bound t
+  pub passed_first : (limit : ℕ) (bound : Option ℕ) (t : Attempt) → t.budget ≡ first_budget limit → AllBefore t.order (IsCandidateGivenUp task t.budget bound) → AreEarlierGivenUp task limit bound t
   passed_first limit bound t e before = record {
-    smaller = each_smaller (λ n. (c : Candidate) → IsPassed task n bound c) limit 0 t.budget (λ j lt. absurd (omega (arith, lt))) (omega (arith, e)) (omega (arith, e));
+    smaller = each_smaller (λ n. (c : Candidate) → IsCandidateGivenUp task n bound c) limit 0 t.budget (λ j lt. absurd (omega (arith, lt))) (omega (arith, e)) (omega (arith, e));
     first = λ same. before;
   }
 
@@ -248,24 +248,24 @@ module _ {H : Type 0} (task : Task H) where
 -- ---- faults
 
 -- a fault behind the pairing for which an attempt is not given up, and which is not want of a worker
-pub late_ends : (fault : CheckFault) → IsLate fault → fault ≢ Wave Full → fault ≢ Wave TooManyRequests → fault ≢ Wave NoWorker → EndsAtOnce fault
-late_ends fault late full wide alone = record {
-  search = record { written = λ e. subst IsLate e late; requests = wide; alone = alone; only = λ e. subst IsLate e late };
+pub late_ends : (fault : CheckFault) → IsComparisonFault fault → fault ≢ Wave Full → fault ≢ Wave TooManyRequests → fault ≢ Wave NoWorker → EndsAtOnce fault
+late_ends fault late full wide needs_no_thread = record {
+  search = record { written = λ e. subst IsComparisonFault e late; requests = wide; needs_no_thread = needs_no_thread; only = λ e. subst IsComparisonFault e late };
   nodes = full;
-  given_up = λ e. subst IsLate e late;
+  given_up = λ e. subst IsComparisonFault e late;
 }
 
 -- one of the pairing, and want of memory
 pub order_ends : (fault : CheckFault) (f : OrderFault) → fault ≡ OrderRefused f → EndsAtOnce fault
 order_ends fault f is = record {
-  search = record { written = λ e. cc; requests = λ e. cc; alone = λ e. cc; only = λ e. cc };
+  search = record { written = λ e. cc; requests = λ e. cc; needs_no_thread = λ e. cc; only = λ e. cc };
   nodes = λ e. cc;
   given_up = λ e. cc;
 }
 
 pub memory_ends : EndsAtOnce OutOfMemory
 memory_ends = record {
-  search = record { written = λ e. cc; requests = λ e. cc; alone = λ e. cc; only = λ e. cc };
+  search = record { written = λ e. cc; requests = λ e. cc; needs_no_thread = λ e. cc; only = λ e. cc };
   nodes = λ e. cc;
   given_up = λ e. cc;
 }

@@ -11,8 +11,8 @@ use Rattle.net_bench.specs.declared.netlist.GateLine.{GateLine}
 use Rattle.net_cone.specs.Cones.{HasGates, IsBelow}
 use Rattle.net_order.specs.Force.{numbers_below}
 use Rattle.check_report.specs.declared.subject.Subject.{Subject}
-use Rattle.check_report.specs.Picking.{AreShares, ComesBefore, HasWeight, dealt}
-use Rattle.check_report.proofs.Dealing.{number_at, numbers_long, shares_long}
+use Rattle.check_report.specs.PairSelection.{AreShares, ComesBefore, HasWeight, serpentine_share}
+use Rattle.check_report.proofs.SerpentineOrder.{number_at, numbers_long, shares_long}
 
 -- ---- a pair's share is one of those that there are
 
@@ -20,10 +20,10 @@ within : (n place : ℕ) (b : Bool) → place < n → (1 ≤ cond b (suc place) 
 within n place true low = (omega arith, omega arith)
 within n place false low = (omega arith, omega arith)
 
-pub dealt_within : (n turn : ℕ) → 0 < n → (1 ≤ dealt n turn) × (dealt n turn ≤ n)
-dealt_within n turn some =
-    let low : turn % n < n = omega arith in
-    within n (turn % n) (turn / n % 2 == 0) low
+pub serpentine_within : (n position : ℕ) → 0 < n → (1 ≤ serpentine_share n position) × (serpentine_share n position ≤ n)
+serpentine_within n position some =
+    let low : position % n < n = omega arith in
+    within n (position % n) (position / n % 2 == 0) low
 
 -- the place of a pair in the order
 turn_of : (n : ℕ) (order : List ℕ) → IsPermutation (numbers_below n) order → (i : ℕ) → i < n → (t : ℕ) × (t < length order) × (slice_index order t ≡ i)
@@ -34,7 +34,7 @@ turn_of n order moved i low =
     (t, below, get_or_default order t 0 i below ∙ at)
 
 module _ (a b : Circuit) (pairs : List Subject) (n : ℕ) (shares : List ℕ) (are : AreShares a b pairs n shares) where
-  pub share_at : (i : ℕ) → i < length shares → (t : ℕ) × (t < length are.order) × (slice_index are.order t ≡ i) × (slice_index shares i ≡ dealt n t)
+  pub share_at : (i : ℕ) → i < length shares → (t : ℕ) × (t < length are.order) × (slice_index are.order t ≡ i) × (slice_index shares i ≡ serpentine_share n t)
   share_at i low =
       let (t, below, at) = turn_of (length are.weights) are.order are.places i (subst (λ k. i < k) are.each low) in
       (t, below, at, ap (slice_index shares) (sym at) ∙ are.share t below)
@@ -42,7 +42,7 @@ module _ (a b : Circuit) (pairs : List Subject) (n : ℕ) (shares : List ℕ) (a
   pub shares_within : 0 < n → All (λ k. (1 ≤ k) × (k ≤ n)) shares
   shares_within some i d low =
       let (t, below, at, is) = share_at i low in
-      subst (λ k. (1 ≤ k) × (k ≤ n)) (sym is ∙ get_or_default shares i 0 d low) (dealt_within n t some)
+      subst (λ k. (1 ≤ k) × (k ≤ n)) (sym is ∙ get_or_default shares i 0 d low) (serpentine_within n t some)
 
 -- ---- one dealing
 

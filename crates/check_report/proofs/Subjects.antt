@@ -7,7 +7,7 @@ use Rattle.net_bench.specs.declared.netlist.GateLine.{GateLine}
 use Rattle.net_bench.specs.Circuit.{Circuit, Net, IsNet, circuit}
 use Rattle.net_order.specs.declared.order.Match.{Match}
 use Rattle.net_order.specs.declared.order.Order.{Order}
-use Rattle.net_order.specs.Order.{Paired, IsNaming, gate_operands, is_member, registers_of}
+use Rattle.net_order.specs.Order.{NamingModel, IsNaming, gate_operands, is_member, registers_of}
 use Rattle.net_order.proofs.Matching.{pairs_inside, only_first_inside, only_second_inside, register_pairs_in, register_pairs_inside, only_first_next_inside, only_second_next_inside}
 use Rattle.check_report.specs.Report.{next_of, next_subject, output_subject, subjects}
 use Rattle.check_report.specs.Comparing.{AreSignals, IsInside}
@@ -82,7 +82,7 @@ listed_more f xs i x y old new whole lt here is grown done =
 
 -- ---- a pairing's signals
 
-module _ (how : Match) (n m : Net) (given : Option Circuit) (order : Order) (p : Paired) (first : IsNet n) (second : IsNet m) (h : IsNaming how (circuit n) (circuit m) given order p) where
+module _ (how : Match) (n m : Net) (given : Option Circuit) (order : Order) (p : NamingModel) (first : IsNet n) (second : IsNet m) (h : IsNaming how (circuit n) (circuit m) given order p) where
   pub subjects_inside : All (IsInside (circuit n) (circuit m)) (subjects (circuit n) (circuit m) p)
   subjects_inside =
       let outputs = pairs_inside how n m given order p first second h in

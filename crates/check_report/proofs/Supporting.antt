@@ -5,11 +5,11 @@ use Rattle.std.proofs.Math.ListN.{length-replicate}
 use Rattle.std.proofs.lemmas.Bool.{cases_eq, true≢false}
 use Rattle.std.proofs.lemmas.List.{ext_get_or, length-append, length-set, get_or-set_same, get_or-set_other, get_or-replicate}
 use Rattle.dd_store.specs.Functions.{Agree, DependsOn}
-use Rattle.counter_walk.specs.Support.{AreLevelsOf}
-use Rattle.net_cone.specs.Spreading.{pick}
-use Rattle.net_cone.proofs.Spreading.{length-pick, bit-pick}
-use Rattle.check_report.specs.Spreading.{spread, with_bit}
-use Rattle.check_report.proofs.Spread.{length-spread, was_or_set, with_bits}
+use Rattle.counter_walk.specs.Support.{IsSupportOf}
+use Rattle.net_cone.specs.Spreading.{bits_at}
+use Rattle.net_cone.proofs.Spreading.{length-bits_at, bit-bits_at}
+use Rattle.check_report.specs.Scatter.{scattered, with_bit}
+use Rattle.check_report.proofs.Scattering.{length-scattered, was_or_set, with_bits}
 
 -- ---- functions that agree
 
@@ -22,7 +22,7 @@ either_as : (n v : ℕ) (f g f' g' : List Bool → Bool) → Agree n f f' → Ag
 either_as n v f g f' g' same other (inl d) = inl (depends_as n v f f' same d)
 either_as n v f g f' g' same other (inr d) = inr (depends_as n v g g' other d)
 
-pub levels_as : (n : ℕ) (f g f' g' : List Bool → Bool) (levels : List Bool) → Agree n f f' → Agree n g g' → AreLevelsOf n f g levels → AreLevelsOf n f' g' levels
+pub levels_as : (n : ℕ) (f g f' g' : List Bool → Bool) (levels : List Bool) → Agree n f f' → Agree n g g' → IsSupportOf n f g levels → IsSupportOf n f' g' levels
 levels_as n f g f' g' levels same other are = record {
   each_level = are.each_level;
   marked = λ v low. (
@@ -37,7 +37,7 @@ same_bit false true h k = k refl
 same_bit false false h k = refl
 
 -- the levels are determined
-pub one_levels : (n : ℕ) (f g : List Bool → Bool) (levels more : List Bool) → AreLevelsOf n f g levels → AreLevelsOf n f g more → levels ≡ more
+pub one_levels : (n : ℕ) (f g : List Bool → Bool) (levels more : List Bool) → IsSupportOf n f g levels → IsSupportOf n f g more → levels ≡ more
 one_levels n f g levels more are too =
     ext_get_or false levels more (are.each_level ∙ sym too.each_level)
     (λ i low. let below : i < n = subst (λ k. i < k) are.each_level low in
@@ -103,31 +103,31 @@ find_place (l ∷ places) v = elim (cases_eq l v) [
     nowhere other none (suc j) low = none j (omega (arith, low))
 
 -- a bit that is set at no place is not picked
-pick_elsewhere : (places : List ℕ) (x : List Bool) (v : ℕ) (b : Bool) → ((j : ℕ) → j < length places → get_or places j 0 ≢ v) → pick places (set x v b) ≡ pick places x
+pick_elsewhere : (places : List ℕ) (x : List Bool) (v : ℕ) (b : Bool) → ((j : ℕ) → j < length places → get_or places j 0 ≢ v) → bits_at places (set x v b) ≡ bits_at places x
 pick_elsewhere places x v b none =
-    let one : length (pick places (set x v b)) ≡ length places = length-pick places (set x v b) in
-    let two : length (pick places x) ≡ length places = length-pick places x in
-    ext_get_or false (pick places (set x v b)) (pick places x) (one ∙ sym two)
+    let one : length (bits_at places (set x v b)) ≡ length places = length-bits_at places (set x v b) in
+    let two : length (bits_at places x) ≡ length places = length-bits_at places x in
+    ext_get_or false (bits_at places (set x v b)) (bits_at places x) (one ∙ sym two)
     (λ j low. let within : j < length places = subst (λ k. j < k) one low in
-    bit-pick places (set x v b) j within ∙ (get_or-set_other x v (get_or places j 0) b false (none j within) ∙ sym (bit-pick places x j within)))
+    bit-bits_at places (set x v b) j within ∙ (get_or-set_other x v (get_or places j 0) b false (none j within) ∙ sym (bit-bits_at places x j within)))
 
 module _ (n : ℕ) (places : List ℕ) (are : AreApart n places) where
   -- a bit that is set at a place is set in what is picked
-  pick_set : (x : List Bool) (i : ℕ) (b : Bool) → length x ≡ n → i < length places → pick places (set x (get_or places i 0) b) ≡ set (pick places x) i b
+  pick_set : (x : List Bool) (i : ℕ) (b : Bool) → length x ≡ n → i < length places → bits_at places (set x (get_or places i 0) b) ≡ set (bits_at places x) i b
   pick_set x i b long low =
       let l = get_or places i 0 in
       let there : l < length x = subst (λ k. l < k) (sym long) (are.below i low) in
-      let one : length (pick places (set x l b)) ≡ length places = length-pick places (set x l b) in
-      let two : length (pick places x) ≡ length places = length-pick places x in
-      ext_get_or false (pick places (set x l b)) (set (pick places x) i b) (one ∙ (sym two ∙ sym (length-set (pick places x) i b)))
+      let one : length (bits_at places (set x l b)) ≡ length places = length-bits_at places (set x l b) in
+      let two : length (bits_at places x) ≡ length places = length-bits_at places x in
+      ext_get_or false (bits_at places (set x l b)) (set (bits_at places x) i b) (one ∙ (sym two ∙ sym (length-set (bits_at places x) i b)))
       (λ j less. let within : j < length places = subst (λ k. j < k) one less in
-      bit-pick places (set x l b) j within ∙ elim (cases_eq j i) [
+      bit-bits_at places (set x l b) j within ∙ elim (cases_eq j i) [
         | inl same ↦
             ap (λ k. get_or (set x l b) (get_or places k 0) false) same ∙ (get_or-set_same x l b false there
-            ∙ (sym (get_or-set_same (pick places x) i b false (subst (λ k. i < k) (sym two) low)) ∙ ap (λ k. get_or (set (pick places x) i b) k false) (sym same)))
+            ∙ (sym (get_or-set_same (bits_at places x) i b false (subst (λ k. i < k) (sym two) low)) ∙ ap (λ k. get_or (set (bits_at places x) i b) k false) (sym same)))
         | inr other ↦
             get_or-set_other x l (get_or places j 0) b false (λ e. other (are.apart j i within low e))
-            ∙ (sym (bit-pick places x j within) ∙ sym (get_or-set_other (pick places x) i j b false other))
+            ∙ (sym (bit-bits_at places x j within) ∙ sym (get_or-set_other (bits_at places x) i j b false other))
       ])
 
   -- ---- what is spread over them
@@ -149,61 +149,61 @@ module _ (n : ℕ) (places : List ℕ) (are : AreApart n places) where
       (λ j less. subst (λ k. get_or ls j 0 < k) (sym (length-set bits l b)) (below (suc j) (omega (arith, less))))
       (λ j k less more e. let same : suc j ≡ suc k = apart (suc j) (suc k) (omega (arith, less)) (omega (arith, more)) e in omega (arith, same)) (omega (arith, long)) (omega (arith, low))
 
-  spread_apart : (x : List Bool) (i : ℕ) → length x ≡ length places → i < length places → get_or (spread n places x) (get_or places i 0) false ≡ get_or x i false
-  spread_apart x i long low = at_apart (replicate n false) places x i (λ j less. subst (λ k. get_or places j 0 < k) (sym (length-replicate n false)) (are.below j less)) are.apart long low
+  scattered_apart : (x : List Bool) (i : ℕ) → length x ≡ length places → i < length places → get_or (scattered n places x) (get_or places i 0) false ≡ get_or x i false
+  scattered_apart x i long low = at_apart (replicate n false) places x i (λ j less. subst (λ k. get_or places j 0 < k) (sym (length-replicate n false)) (are.below j less)) are.apart long low
 
-  pick_spread : (x : List Bool) → length x ≡ length places → pick places (spread n places x) ≡ x
-  pick_spread x long =
-      let size : length (pick places (spread n places x)) ≡ length places = length-pick places (spread n places x) in
-      ext_get_or false (pick places (spread n places x)) x (size ∙ sym long)
+  pick_scattered : (x : List Bool) → length x ≡ length places → bits_at places (scattered n places x) ≡ x
+  pick_scattered x long =
+      let size : length (bits_at places (scattered n places x)) ≡ length places = length-bits_at places (scattered n places x) in
+      ext_get_or false (bits_at places (scattered n places x)) x (size ∙ sym long)
       (λ i low. let within : i < length places = subst (λ k. i < k) size low in
-      bit-pick places (spread n places x) i within ∙ spread_apart x i long within)
+      bit-bits_at places (scattered n places x) i within ∙ scattered_apart x i long within)
 
   -- ---- functions of what is picked
 
-  depends_picked : (i : ℕ) (f : List Bool → Bool) → i < length places → DependsOn (length places) i f → DependsOn n (get_or places i 0) (λ x. f (pick places x))
+  depends_picked : (i : ℕ) (f : List Bool → Bool) → i < length places → DependsOn (length places) i f → DependsOn n (get_or places i 0) (λ x. f (bits_at places x))
   depends_picked i f low d =
       let r = by_set (length places) i f d in
-      let y = spread n places r.0 in
-      let at : (b : Bool) → pick places (set y (get_or places i 0) b) ≡ set r.0 i b = λ b. pick_set y i b (length-spread n places r.0) low ∙ ap (λ z. set z i b) (pick_spread r.0 r.1) in
-      from_set n (get_or places i 0) (λ x. f (pick places x)) (y, length-spread n places r.0, are.below i low, λ e. r.3 (ap f (sym (at false)) ∙ (e ∙ ap f (at true))))
+      let y = scattered n places r.0 in
+      let at : (b : Bool) → bits_at places (set y (get_or places i 0) b) ≡ set r.0 i b = λ b. pick_set y i b (length-scattered n places r.0) low ∙ ap (λ z. set z i b) (pick_scattered r.0 r.1) in
+      from_set n (get_or places i 0) (λ x. f (bits_at places x)) (y, length-scattered n places r.0, are.below i low, λ e. r.3 (ap f (sym (at false)) ∙ (e ∙ ap f (at true))))
 
-  picked_depends : (i : ℕ) (f : List Bool → Bool) → i < length places → DependsOn n (get_or places i 0) (λ x. f (pick places x)) → DependsOn (length places) i f
+  picked_depends : (i : ℕ) (f : List Bool → Bool) → i < length places → DependsOn n (get_or places i 0) (λ x. f (bits_at places x)) → DependsOn (length places) i f
   picked_depends i f low d =
-      let r = by_set n (get_or places i 0) (λ x. f (pick places x)) d in
-      from_set (length places) i f (pick places r.0, length-pick places r.0, low, λ e. r.3 (ap f (pick_set r.0 i false r.1 low) ∙ (e ∙ ap f (sym (pick_set r.0 i true r.1 low)))))
+      let r = by_set n (get_or places i 0) (λ x. f (bits_at places x)) d in
+      from_set (length places) i f (bits_at places r.0, length-bits_at places r.0, low, λ e. r.3 (ap f (pick_set r.0 i false r.1 low) ∙ (e ∙ ap f (sym (pick_set r.0 i true r.1 low)))))
 
-  depends_elsewhere : (v : ℕ) (f : List Bool → Bool) → ((j : ℕ) → j < length places → get_or places j 0 ≢ v) → DependsOn n v (λ x. f (pick places x)) → ⊥
+  depends_elsewhere : (v : ℕ) (f : List Bool → Bool) → ((j : ℕ) → j < length places → get_or places j 0 ≢ v) → DependsOn n v (λ x. f (bits_at places x)) → ⊥
   depends_elsewhere v f none d =
-      let r = by_set n v (λ x. f (pick places x)) d in
+      let r = by_set n v (λ x. f (bits_at places x)) d in
       r.3 (ap f (pick_elsewhere places r.0 v false none ∙ sym (pick_elsewhere places r.0 v true none)))
 
-  either_picked : (i : ℕ) (f g : List Bool → Bool) → i < length places → DependsOn (length places) i f ⊎ DependsOn (length places) i g → DependsOn n (get_or places i 0) (λ x. f (pick places x)) ⊎ DependsOn n (get_or places i 0) (λ x. g (pick places x))
+  either_picked : (i : ℕ) (f g : List Bool → Bool) → i < length places → DependsOn (length places) i f ⊎ DependsOn (length places) i g → DependsOn n (get_or places i 0) (λ x. f (bits_at places x)) ⊎ DependsOn n (get_or places i 0) (λ x. g (bits_at places x))
   either_picked i f g low (inl d) = inl (depends_picked i f low d)
   either_picked i f g low (inr d) = inr (depends_picked i g low d)
 
-  picked_either : (i : ℕ) (f g : List Bool → Bool) → i < length places → DependsOn n (get_or places i 0) (λ x. f (pick places x)) ⊎ DependsOn n (get_or places i 0) (λ x. g (pick places x)) → DependsOn (length places) i f ⊎ DependsOn (length places) i g
+  picked_either : (i : ℕ) (f g : List Bool → Bool) → i < length places → DependsOn n (get_or places i 0) (λ x. f (bits_at places x)) ⊎ DependsOn n (get_or places i 0) (λ x. g (bits_at places x)) → DependsOn (length places) i f ⊎ DependsOn (length places) i g
   picked_either i f g low (inl d) = inl (picked_depends i f low d)
   picked_either i f g low (inr d) = inr (picked_depends i g low d)
 
-  neither_elsewhere : (v : ℕ) (f g : List Bool → Bool) → ((j : ℕ) → j < length places → get_or places j 0 ≢ v) → DependsOn n v (λ x. f (pick places x)) ⊎ DependsOn n v (λ x. g (pick places x)) → ⊥
+  neither_elsewhere : (v : ℕ) (f g : List Bool → Bool) → ((j : ℕ) → j < length places → get_or places j 0 ≢ v) → DependsOn n v (λ x. f (bits_at places x)) ⊎ DependsOn n v (λ x. g (bits_at places x)) → ⊥
   neither_elsewhere v f g none (inl d) = depends_elsewhere v f none d
   neither_elsewhere v f g none (inr d) = depends_elsewhere v g none d
 
-  zero_elsewhere : (levels : List Bool) (v : ℕ) → v < n → ((j : ℕ) → j < length places → get_or places j 0 ≢ v) → get_or (spread n places levels) v false ≡ true → ⊥
+  zero_elsewhere : (levels : List Bool) (v : ℕ) → v < n → ((j : ℕ) → j < length places → get_or places j 0 ≢ v) → get_or (scattered n places levels) v false ≡ true → ⊥
   zero_elsewhere levels v low none e = elim (was_or_set (replicate n false) places levels v e) [
     | inl was ↦ true≢false (sym was ∙ get_or-replicate n v false false low)
     | inr (j, within, at) ↦ none j within at
   ]
 
   -- the levels on which functions depend, spread, are those on which the functions of what is picked do
-  pub levels_spread : (f g : List Bool → Bool) (levels : List Bool) → AreLevelsOf (length places) f g levels → AreLevelsOf n (λ x. f (pick places x)) (λ x. g (pick places x)) (spread n places levels)
-  levels_spread f g levels of = record {
-    each_level = length-spread n places levels;
+  pub levels_scattered : (f g : List Bool → Bool) (levels : List Bool) → IsSupportOf (length places) f g levels → IsSupportOf n (λ x. f (bits_at places x)) (λ x. g (bits_at places x)) (scattered n places levels)
+  levels_scattered f g levels of = record {
+    each_level = length-scattered n places levels;
     marked = λ v low. elim (find_place places v) [
-      | inl (i, within, at) ↦ subst (λ k. (get_or (spread n places levels) k false ≡ true) ↔ (DependsOn n k (λ x. f (pick places x)) ⊎ DependsOn n k (λ x. g (pick places x)))) at (
-        λ e. either_picked i f g within ((of.marked i within).0 (sym (spread_apart levels i of.each_level within) ∙ e)),
-        λ d. spread_apart levels i of.each_level within ∙ (of.marked i within).1 (picked_either i f g within d),
+      | inl (i, within, at) ↦ subst (λ k. (get_or (scattered n places levels) k false ≡ true) ↔ (DependsOn n k (λ x. f (bits_at places x)) ⊎ DependsOn n k (λ x. g (bits_at places x)))) at (
+        λ e. either_picked i f g within ((of.marked i within).0 (sym (scattered_apart levels i of.each_level within) ∙ e)),
+        λ d. scattered_apart levels i of.each_level within ∙ (of.marked i within).1 (picked_either i f g within d),
       )
       | inr none ↦ (λ e. absurd (zero_elsewhere levels v low none e), λ d. absurd (neither_elsewhere v f g none d))
     ];

@@ -4,7 +4,7 @@ use Rattle.std.specs.Option.{MatchOption-prop}
 use Rattle.std.proofs.Math.Nat.{ℕ_set}
 use Rattle.net_bench.specs.Circuit.{Circuit}
 use Rattle.net_bench.specs.Labels.{IsFunctionOf}
-use Rattle.net_order.specs.Order.{Paired}
+use Rattle.net_order.specs.Order.{NamingModel}
 use Rattle.dd_store.specs.Functions.{Before}
 
 -- a condition has exactly one output
@@ -20,7 +20,7 @@ abbrev pub everywhere : List Bool → Bool
 everywhere x = true
 
 -- The condition holds where its output is 1, over the variables of the pairing. Without a condition it holds everywhere.
-abbrev pub HoldsWhere : Option Circuit → Paired → (List Bool → Bool) → Type 0
+abbrev pub HoldsWhere : Option Circuit → NamingModel → (List Bool → Bool) → Type 0
 HoldsWhere None p holds = holds ≡ everywhere
 HoldsWhere (Some c) p holds = IsFunctionOf c (slice_index p.given) (length p.names) (output_of c) holds
 

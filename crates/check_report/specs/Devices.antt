@@ -2,9 +2,9 @@
 use Rattle.std.specs.Prelude.{ℕ, Bool, List, Option, Some, None, IsTrue}
 
 -- what the device tells, where there is one
-abbrev pub told_by : {R : Type 0} → (R → Option (List ℕ)) → Option R → Option (Option (List ℕ))
-told_by tells None = None
-told_by tells (Some device) = Some (tells device)
+abbrev pub device_text : {R : Type 0} → (R → Option (List ℕ)) → Option R → Option (Option (List ℕ))
+device_text text_of None = None
+device_text text_of (Some device) = Some (text_of device)
 
 -- there is a device, and it has failed
 abbrev pub HasFailedIn : {R : Type 0} → (R → Bool) → Option R → Type 0
@@ -12,11 +12,11 @@ HasFailedIn failed None = ⊥
 HasFailedIn failed (Some device) = IsTrue (failed device)
 
 -- what the devices tell: those of the two netlists, and the condition's where there is one
-pub record Told : Type 0 where
+pub record DeviceTexts : Type 0 where
   pub first : Option (List ℕ)
   pub second : Option (List ℕ)
   pub given : Option (Option (List ℕ))
 
 -- the same, each by itself
-abbrev pub told_of : (first second : Option (List ℕ)) → Option (Option (List ℕ)) → Told
-told_of first second given = record { first = first; second = second; given = given }
+abbrev pub device_texts : (first second : Option (List ℕ)) → Option (Option (List ℕ)) → DeviceTexts
+device_texts first second given = record { first = first; second = second; given = given }

@@ -4,38 +4,38 @@ use Rattle.std.specs.declared.alloc.Global.{Global}
 use Rattle.std.specs.declared.vec.Vec.{Vec}
 use Rattle.net_bench.specs.Circuit.{Circuit, Net, circuit}
 use Rattle.net_bench.specs.Labels.{IsLabelling}
-use Rattle.net_explain.specs.declared.evaluate.Half.TheVariants.{First, Second}
+use Rattle.net_explain.specs.declared.evaluate.WhichNetlist.TheVariants.{First, Second}
 use Rattle.net_explain.specs.Values.{level_in}
 use Rattle.net_explain.specs.Vcd.{vcd_text}
-use Rattle.net_order.specs.Order.{Paired}
+use Rattle.net_order.specs.Order.{NamingModel}
 use Rattle.report_text.specs.declared.outcome.Outcome.{Outcome}
 use Rattle.report_text.specs.declared.verdict.Verdict.{Verdict}
-use Rattle.report_text.specs.declared.verdict.Verdict.TheVariants.{Equal, Differs, Lone, Undecided}
+use Rattle.report_text.specs.declared.verdict.Verdict.TheVariants.{Equal, Differs, Unmatched, Undecided}
 use Rattle.report_text.specs.Lines.{Found}
-use Rattle.check_report.specs.declared.choice.Attempt.{Attempt}
+use Rattle.check_report.specs.declared.strategy.Attempt.{Attempt}
 use Rattle.check_report.specs.declared.settings.Settings.{Settings}
 use Rattle.check_report.specs.Check.{HaveNaming}
 use Rattle.check_report.specs.Deciding.{IsReportBy}
-use Rattle.check_report.specs.Devices.{Told}
-use Rattle.check_report.specs.Explaining.{told_order}
+use Rattle.check_report.specs.Devices.{DeviceTexts}
+use Rattle.check_report.specs.Explaining.{reported_order}
 
 -- the assignment that a verdict tells: that of a pair that differs
-abbrev pub told_at : Verdict → Option (List Bool)
-told_at (Equal role name size) = None
-told_at (Differs role name at first second extras) = Some at
-told_at (Lone side role name) = None
-told_at (Undecided role name) = None
+abbrev pub difference_of : Verdict → Option (List Bool)
+difference_of (Equal role name size) = None
+difference_of (Differs role name at first second extras) = Some at
+difference_of (Unmatched side role name) = None
+difference_of (Undecided role name) = None
 
 -- the assignment of the first pair that differs, in the order of the report
-abbrev pub first_at : List Verdict → Option (List Bool)
-first_at [] = None
-first_at (Equal role name size ∷ vs) = first_at vs
-first_at (Differs role name at first second extras ∷ vs) = Some at
-first_at (Lone side role name ∷ vs) = first_at vs
-first_at (Undecided role name ∷ vs) = first_at vs
+abbrev pub first_difference_at : List Verdict → Option (List Bool)
+first_difference_at [] = None
+first_difference_at (Equal role name size ∷ vs) = first_difference_at vs
+first_difference_at (Differs role name at first second extras ∷ vs) = Some at
+first_difference_at (Unmatched side role name ∷ vs) = first_difference_at vs
+first_difference_at (Undecided role name ∷ vs) = first_difference_at vs
 
 -- The bytes are the values of all signals of two netlists as a VCD, at an assignment of the variables of their naming.
-pub record IsVcdAt (a b : Net) (p : Paired) (at : List Bool) (bytes : List ℕ) : Type 0 where
+pub record IsVcdAt (a b : Net) (p : NamingModel) (at : List Bool) (bytes : List ℕ) : Type 0 where
   pub values : List Bool
   pub others : List Bool
   pub first : IsLabelling (circuit a) (level_in p First) at values
@@ -43,12 +43,12 @@ pub record IsVcdAt (a b : Net) (p : Paired) (at : List Bool) (bytes : List ℕ) 
   pub text : bytes ≡ vcd_text a.names values b.names others
 
 -- The same of the netlists that the devices gave, at an assignment of the report.
-pub record HasVcd (told : Told) (s : Settings) (tried : Option Attempt) (found : Found) (at : List Bool) (bytes : List ℕ) : Type 0 where
+pub record HasVcd (input : DeviceTexts) (s : Settings) (tried : Option Attempt) (found : Found) (at : List Bool) (bytes : List ℕ) : Type 0 where
   pub a : Net
   pub b : Net
   pub c : Option Circuit
-  pub p : Paired
-  pub named : HaveNaming told s.matching (told_order s.order tried) (circuit a) (circuit b) c p
+  pub p : NamingModel
+  pub named : HaveNaming input s.matching (reported_order s.order tried) (circuit a) (circuit b) c p
   -- the bits of the assignment are those of the variables of this naming
   pub variables : found.variables ≡ p.names
   pub vcd : IsVcdAt a b p at bytes
@@ -62,17 +62,17 @@ abbrev pub bytes_in : Option Bytes → Option (List ℕ)
 bytes_in text = option_map (λ (v : Bytes). v.items) text
 
 -- there is a VCD where there is an assignment
-abbrev pub IsDumpAt : Option (List Bool) → Told → Settings → Option Attempt → Found → Option (List ℕ) → Type 0
-IsDumpAt None told s tried found vcd = vcd ≡ None
-IsDumpAt (Some at) told s tried found vcd = IsSomeAnd vcd (HasVcd told s tried found at)
+abbrev pub IsVcdDumpAt : Option (List Bool) → DeviceTexts → Settings → Option Attempt → Found → Option (List ℕ) → Type 0
+IsVcdDumpAt None input s tried found vcd = vcd ≡ None
+IsVcdDumpAt (Some at) input s tried found vcd = IsSomeAnd vcd (HasVcd input s tried found at)
 
 -- where it is wanted, the VCD of the first pair that differs, if one does
-abbrev pub IsDump : (wanted : Bool) → Told → Settings → Option Attempt → Found → Option (List ℕ) → Type 0
-IsDump false told s tried found vcd = vcd ≡ None
-IsDump true told s tried found vcd = IsDumpAt (first_at found.verdicts) told s tried found vcd
+abbrev pub IsVcdDump : (wanted : Bool) → DeviceTexts → Settings → Option Attempt → Found → Option (List ℕ) → Type 0
+IsVcdDump false input s tried found vcd = vcd ≡ None
+IsVcdDump true input s tried found vcd = IsVcdDumpAt (first_difference_at found.verdicts) input s tried found vcd
 
 -- The bytes are the report of what the devices gave, and this is the VCD of the first pair that differs in it.
-pub record IsReportWithVcd (told : Told) (s : Settings) (bound : Option ℕ) (tried : Option Attempt) (o : Outcome) (bytes : List ℕ)
+pub record IsReportWithVcd (input : DeviceTexts) (s : Settings) (bound : Option ℕ) (tried : Option Attempt) (o : Outcome) (bytes : List ℕ)
     (vcd : Option (List ℕ)) : Type 0 where
-  pub report : IsReportBy told s bound tried o bytes
-  pub dump : IsDump s.vcd told s tried report.found vcd
+  pub report : IsReportBy input s bound tried o bytes
+  pub dump : IsVcdDump s.vcd input s tried report.found vcd

@@ -3,16 +3,16 @@ use Rattle.std.specs.Prelude.{◌≡◌, ℕ, List, Option}
 use Rattle.net_bench.specs.Circuit.{Circuit}
 use Rattle.net_order.specs.declared.order.Match.{Match}
 use Rattle.net_order.specs.declared.order.Order.{Order}
-use Rattle.net_order.specs.Order.{Paired}
+use Rattle.net_order.specs.Order.{NamingModel}
 use Rattle.net_order.specs.OrderText.{order_text}
-use Rattle.check_report.specs.Devices.{Told}
+use Rattle.check_report.specs.Devices.{DeviceTexts}
 use Rattle.check_report.specs.Check.{ArePaired}
 
 -- The bytes are the order file of the variables of what the devices gave, from level 0 on.
-pub record IsOrderPrinted (told : Told) (how : Match) (order : Order) (bytes : List ℕ) : Type 0 where
+pub record IsOrderPrinted (input : DeviceTexts) (how : Match) (order : Order) (bytes : List ℕ) : Type 0 where
   pub a : Circuit
   pub b : Circuit
   pub c : Option Circuit
-  pub p : Paired
-  pub paired : ArePaired told how order a b c p
+  pub p : NamingModel
+  pub paired : ArePaired input how order a b c p
   pub text : bytes ≡ order_text p.names

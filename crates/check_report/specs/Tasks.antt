@@ -4,10 +4,10 @@ use Rattle.net_order.specs.Order.{condition}
 use Rattle.check_report.specs.declared.settings.Settings.{Settings}
 use Rattle.check_report.specs.declared.task.Task.{Task}
 use Rattle.check_report.specs.Check.{AreGiven}
-use Rattle.check_report.specs.Devices.{Told}
+use Rattle.check_report.specs.Devices.{DeviceTexts}
 
 -- This holds of the task's settings and of whatever the devices told, where that is the texts of its netlists, and of its condition where
 -- there is one.
-abbrev pub OfTask : {H : Type 0} → Task H → (Told → Settings → Type 0) → Type 0
-OfTask task P = (told : Told) → AreGiven told (circuit task.first.now) (circuit task.second.now) (condition task.given)
-    → P told task.settings.now
+abbrev pub OfTask : {H : Type 0} → Task H → (DeviceTexts → Settings → Type 0) → Type 0
+OfTask task P = (input : DeviceTexts) → AreGiven input (circuit task.first.now) (circuit task.second.now) (condition task.given)
+    → P input task.settings.now

@@ -3,20 +3,20 @@ use Rattle.std.specs.Prelude.{◌⊎◌, ℕ, length, Option, Some, IsSomeAnd}
 use Rattle.net_bench.specs.Circuit.{Circuit}
 use Rattle.net_order.specs.declared.order.Match.{Match}
 use Rattle.net_order.specs.declared.order.Order.{Order}
-use Rattle.net_order.specs.Order.{Paired}
+use Rattle.net_order.specs.Order.{NamingModel}
 use Rattle.dd_store.specs.Nodes.{Nodes, IsSound}
 use Rattle.wave_engine.specs.Bounds.{AreMoreThan}
 use Rattle.gate_plan.specs.Asking.{IsWide}
 use Rattle.gate_plan.specs.Building.{References, levelled, reference_of}
 use Rattle.gate_plan.specs.Conjoining.{conjunctions}
-use Rattle.check_report.specs.Devices.{Told}
+use Rattle.check_report.specs.Devices.{DeviceTexts}
 use Rattle.check_report.specs.Check.{ArePaired}
 use Rattle.check_report.specs.Comparing.{AreBuilt, references}
 use Rattle.check_report.specs.Conditions.{output_of}
 use Rattle.check_report.specs.Report.{subjects}
 
 -- In some store that has the diagrams of the netlists and of the condition, the wave of what is compared reaches more than n requests.
-pub record IsWideWhere (n : ℕ) (a b c : Circuit) (p : Paired) : Type 0 where
+pub record IsWideWhere (n : ℕ) (a b c : Circuit) (p : NamingModel) : Type 0 where
   pub store : Nodes
   pub sound : IsSound store
   pub built : References
@@ -24,9 +24,9 @@ pub record IsWideWhere (n : ℕ) (a b c : Circuit) (p : Paired) : Type 0 where
   pub more : AreMoreThan n store (conjunctions (references built (subjects a b p)) (reference_of built.given (output_of c)))
 
 -- one wave of a comparison reaches more than n requests: one of the building, or that of what is compared where the condition holds
-abbrev pub IsTooWide : ℕ → Circuit → Circuit → Option Circuit → Paired → Type 0
+abbrev pub IsTooWide : ℕ → Circuit → Circuit → Option Circuit → NamingModel → Type 0
 IsTooWide n a b given p = IsWide n (length p.names) (levelled a b given p) ⊎ IsSomeAnd given (λ c. IsWideWhere n a b c p)
 
 -- the devices gave netlists that have a pairing, and one wave of their comparison reaches more than n requests
-abbrev pub AreTooWide : Told → Match → Order → (n : ℕ) → Type 0
-AreTooWide told how order n = (a b : Circuit) × (c : Option Circuit) × (p : Paired) × ArePaired told how order a b c p × IsTooWide n a b c p
+abbrev pub AreTooWide : DeviceTexts → Match → Order → (n : ℕ) → Type 0
+AreTooWide input how order n = (a b : Circuit) × (c : Option Circuit) × (p : NamingModel) × ArePaired input how order a b c p × IsTooWide n a b c p

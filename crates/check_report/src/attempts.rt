@@ -4,22 +4,22 @@ ghost use Rattle.expand_work.specs.Bounds.{most_of};
 ghost use Rattle.net_bench.specs.Circuit.{circuit};
 ghost use Rattle.net_order.specs.declared.order.Order.{Order as OrderValue};
 ghost use Rattle.net_order.specs.Order.{condition};
-ghost use Rattle.check_report.specs.Asking.{asked_in};
-ghost use Rattle.check_report.specs.declared.choice.Candidate.{Candidate as CandidateValue};
-ghost use Rattle.check_report.specs.Best.{order_of};
-ghost use Rattle.check_report.specs.Check.{IsCheckFault, IsLate};
+ghost use Rattle.check_report.specs.Details.{details_in};
+ghost use Rattle.check_report.specs.declared.strategy.Candidate.{Candidate as CandidateValue};
+ghost use Rattle.check_report.specs.Attempts.{order_of};
+ghost use Rattle.check_report.specs.Check.{IsCheckFault, IsComparisonFault};
 ghost use Rattle.check_report.specs.Limits.{FitsWithin, Exceeds};
 ghost use Rattle.check_report.specs.Report.{AreVerdicts};
 ghost use Rattle.check_report.specs.Tasks.{OfTask};
-ghost use Rattle.check_report.specs.Trials.{AreTrials, EndsAtOnce, IsEnded, IsFirstRound, IsPairingIn, IsRound, IsTelling, IsTrial, IsTurn};
-ghost use Rattle.check_report.specs.Trials.{told_in};
+ghost use Rattle.check_report.specs.Trials.{AreTrials, EndsAtOnce, IsEnded, IsFirstRound, IsPairingIn, IsRound, IsReportedIn, IsTrial, IsFirstAttempt};
+ghost use Rattle.check_report.specs.Trials.{reported_pairing};
 ghost use Rattle.check_report.specs.Widths.{IsTooWide};
 
-use crate::bounded::Bounded;
-use crate::checking::{compare, compare_as_declared};
-use crate::choice::Candidate;
-use crate::ending::{cause_of, end_of, tell};
+use crate::attempt_end::{end_of, give_up_reason, notify_attempt};
+use crate::bounded_monitor::BoundedMonitor;
+use crate::comparison::{compare, compare_as_declared};
 use crate::fault::CheckFault;
+use crate::strategy::Candidate;
 use crate::task::Task;
 use crate::trials::{Trial, is_tried, keep, paired, put_furthest_first};
 use expand_work::{AttemptEnd, Monitor, WaveFault};
@@ -74,12 +74,12 @@ fn verdicts_by<H: Threads + Wait + Sync, G: Monitor>(
     monitor: &G,
 ) -> Result<Vec<Verdict>, CheckFault>
     requires small { limit < 2 ^ 32 }
-    requires telling { IsTelling task.now declared }
+    requires verdict_order { IsReportedIn task.now declared }
     requires paired { (order : OrderValue) × IsPairingIn task.now order pairing.now }
-    ensures ok { IfOk result (λ v. AreVerdicts (asked_in task.now.settings.now) (circuit task.now.first.now) (circuit task.now.second.now)
-        (condition task.now.given) (told_in declared.entry pairing.now)
-        (record { variables = (told_in declared.entry pairing.now).names; verdicts = v.items })) }
-    ensures err { IfErr result IsLate }
+    ensures ok { IfOk result (λ v. AreVerdicts (details_in task.now.settings.now) (circuit task.now.first.now) (circuit task.now.second.now)
+        (condition task.now.given) (reported_pairing declared.entry pairing.now)
+        (record { variables = (reported_pairing declared.entry pairing.now).names; verdicts = v.items })) }
+    ensures err { IfErr result IsComparisonFault }
     ensures within { OnOk result (FitsWithin limit (circuit task.now.first.now) (circuit task.now.second.now)
         (condition task.now.given) pairing.now) }
     ensures full { result ≡ Err (CheckFault.Wave WaveFault.Full)
@@ -87,7 +87,7 @@ fn verdicts_by<H: Threads + Wait + Sync, G: Monitor>(
     ensures past { result ≡ Err (CheckFault.Wave WaveFault.TooManyRequests)
         → IsSomeAnd (G.bound monitor.now) (λ n. IsTooWide n (circuit task.now.first.now) (circuit task.now.second.now)
         (condition task.now.given) pairing.now) }
-    ensures alone { most_of (G.bound monitor.now) < 2 ^ 64 - 1 → result ≢ Err (CheckFault.Wave WaveFault.NoWorker) }
+    ensures needs_no_thread { most_of (G.bound monitor.now) < 2 ^ 64 - 1 → result ≢ Err (CheckFault.Wave WaveFault.NoWorker) }
 {
     match declared {
         Some(declared) => compare_as_declared(task, pairing, declared, limit, monitor),
@@ -104,14 +104,14 @@ fn attempt<H: Threads + Wait + Sync, G: Monitor>(
     monitor: &G,
 ) -> Result<Ended, CheckFault>
     requires small { budget < 2 ^ 32 }
-    requires telling { IsTelling task.now declared }
+    requires verdict_order { IsReportedIn task.now declared }
     requires trial { IsTrial task.now trial.now }
     ensures ended { IfOk result (IsEnded task.now declared.entry budget (G.bound monitor.now) trial.now) }
-    ensures fault { OfTask task.now (λ told s. IfErr result (λ fault. (c : CandidateValue)
-        × IsCheckFault told ⊥ ⊥ ⊥ s.order s.matching (order_of c) fault)) }
+    ensures fault { OfTask task.now (λ input s. IfErr result (λ fault. (c : CandidateValue)
+        × IsCheckFault input ⊥ ⊥ ⊥ s.order s.matching (order_of c) fault)) }
     ensures ends { IfErr result EndsAtOnce }
 {
-    let bounded = Bounded {
+    let bounded = BoundedMonitor {
         monitor,
         most: (budget * REQUESTS) as usize,
         reached: &trial.reached,
@@ -119,12 +119,12 @@ fn attempt<H: Threads + Wait + Sync, G: Monitor>(
     match verdicts_by(task, declared, &trial.pairing, budget, &bounded) {
         Ok(verdicts) => {
             let order = trial.candidate.name();
-            tell(task, budget, AttemptEnd::Decided { order }, monitor);
+            notify_attempt(task, budget, AttemptEnd::Decided { order }, monitor);
             Ok(Ended::Decided(verdicts))
         }
-        Err(fault) => match cause_of(fault) {
+        Err(fault) => match give_up_reason(fault) {
             Ok(full) => {
-                tell(task, budget, end_of(trial.candidate, full), monitor);
+                notify_attempt(task, budget, end_of(trial.candidate, full), monitor);
                 Ok(Ended::GivenUp { full })
             }
             Err(fault) => Err(fault),
@@ -142,11 +142,11 @@ fn try_candidate<H: Threads + Wait + Sync, G: Monitor>(
     monitor: &G,
 ) -> Result<Round, CheckFault>
     requires small { budget < 2 ^ 32 }
-    requires telling { IsTelling task.now declared }
+    requires verdict_order { IsReportedIn task.now declared }
     requires own { All (IsTrial task.now) trials.old.items }
-    ensures turn { IfOk result (IsTurn task.now declared.entry budget (G.bound monitor.now) candidate trials.old.items trials.new.items) }
-    ensures fault { OfTask task.now (λ told s. IfErr result (λ fault. (c : CandidateValue)
-        × IsCheckFault told ⊥ ⊥ ⊥ s.order s.matching (order_of c) fault)) }
+    ensures first_attempt { IfOk result (IsFirstAttempt task.now declared.entry budget (G.bound monitor.now) candidate trials.old.items trials.new.items) }
+    ensures fault { OfTask task.now (λ input s. IfErr result (λ fault. (c : CandidateValue)
+        × IsCheckFault input ⊥ ⊥ ⊥ s.order s.matching (order_of c) fault)) }
     ensures ends { IfErr result EndsAtOnce }
 {
     let pairing = paired(task, &candidate.order())?;
@@ -183,12 +183,12 @@ pub fn try_first<H: Threads + Wait + Sync, G: Monitor>(
     monitor: &G,
 ) -> Result<Round, CheckFault>
     requires small { budget < 2 ^ 32 }
-    requires telling { IsTelling task.now declared }
+    requires verdict_order { IsReportedIn task.now declared }
     requires none { trials.old.items ≡ [] }
     ensures round { IfOk result (IsRound task.now declared.entry budget (G.bound monitor.now) trials.new.items) }
     ensures first { IfOk result (IsFirstRound task.now budget (G.bound monitor.now)) }
-    ensures fault { OfTask task.now (λ told s. IfErr result (λ fault. (c : CandidateValue)
-        × IsCheckFault told ⊥ ⊥ ⊥ s.order s.matching (order_of c) fault)) }
+    ensures fault { OfTask task.now (λ input s. IfErr result (λ fault. (c : CandidateValue)
+        × IsCheckFault input ⊥ ⊥ ⊥ s.order s.matching (order_of c) fault)) }
     ensures ends { IfErr result EndsAtOnce }
 {
     let mut all_full = true;
@@ -210,11 +210,11 @@ pub fn try_again<H: Threads + Wait + Sync, G: Monitor>(
     monitor: &G,
 ) -> Result<Round, CheckFault>
     requires small { budget < 2 ^ 32 }
-    requires telling { IsTelling task.now declared }
+    requires verdict_order { IsReportedIn task.now declared }
     requires trials { AreTrials task.now trials.old.items }
     ensures round { IfOk result (IsRound task.now declared.entry budget (G.bound monitor.now) trials.new.items) }
-    ensures fault { OfTask task.now (λ told s. IfErr result (λ fault. (c : CandidateValue)
-        × IsCheckFault told ⊥ ⊥ ⊥ s.order s.matching (order_of c) fault)) }
+    ensures fault { OfTask task.now (λ input s. IfErr result (λ fault. (c : CandidateValue)
+        × IsCheckFault input ⊥ ⊥ ⊥ s.order s.matching (order_of c) fault)) }
     ensures ends { IfErr result EndsAtOnce }
 {
     put_furthest_first(trials);

@@ -1,13 +1,13 @@
 //! What is told of two diagrams beside their verdict: their sizes, and the variables on which one of them depends.
 ghost use Rattle.std.specs.Prelude.{◌≡◌, false, IfOk};
-ghost use Rattle.counter_walk.specs.Arranged.{IsOrder, by_declared};
-ghost use Rattle.counter_walk.specs.Support.{AreLevelsOf};
+ghost use Rattle.counter_walk.specs.DeclaredOrder.{IsOrder, by_declared};
+ghost use Rattle.counter_walk.specs.Support.{IsSupportOf};
 ghost use Rattle.dd_store.specs.Nodes.{den};
 ghost use Rattle.dd_store.specs.View.{Has};
 ghost use Rattle.check_report.specs.Report.{IsSizeShown, IsSupportShown, AreExtrasShown, AreSizesShown};
 
-use crate::spreading::spread_bits;
-use crate::telling::Asked;
+use crate::scatter::scatter_bits;
+use crate::verdict_order::Details;
 use counter_walk::support_of;
 use dd_store::{Ref, Store};
 use report_text::{Bits, Extras, PairKind};
@@ -81,7 +81,7 @@ pub fn extras_of(
     store: &Store,
     first: Ref,
     second: Ref,
-    asked: Asked,
+    asked: Details,
 ) -> Result<Extras, AllocError>
     requires first_known { Has store.now first }
     requires second_known { Has store.now second }
@@ -113,12 +113,12 @@ fn arranged_support(
     requires first_known { Has store.now of.now.first }
     requires second_known { Has store.now of.now.second }
     requires order { IsOrder store.now.levels order.now }
-    ensures { IfOk result (AreLevelsOf store.now.levels (by_declared order.now (den store.now of.now.first))
+    ensures { IfOk result (IsSupportOf store.now.levels (by_declared order.now (den store.now of.now.first))
         (by_declared order.now (den store.now of.now.second))) }
 {
     let levels = support_of(alloc, store, of.first, of.second)?;
     let places = as_places(alloc, order)?;
-    let declared = spread_bits(alloc, levels.as_slice(), order.len(), places.as_slice())?;
+    let declared = scatter_bits(alloc, levels.as_slice(), order.len(), places.as_slice())?;
     Ok(Bits::of(declared))
 }
 

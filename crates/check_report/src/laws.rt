@@ -3,20 +3,20 @@ ghost use Rattle.std.specs.Prelude.{◌≡◌, ◌↔◌, ◌≤◌, ℕ, All, B
 ghost use Rattle.net_bench.specs.Circuit.{Circuit, Net, IsNet, circuit};
 ghost use Rattle.net_order.specs.declared.order.Match.{Match};
 ghost use Rattle.net_order.specs.declared.order.Order.{Order};
-ghost use Rattle.net_order.specs.Order.{Paired, IsPairing};
+ghost use Rattle.net_order.specs.Order.{NamingModel, IsPairing};
 ghost use Rattle.dd_store.specs.Functions.{Agree, IsLeastDifference};
 ghost use Rattle.report_text.specs.declared.outcome.Outcome.{Outcome};
-ghost use Rattle.check_report.specs.declared.telling.Asked.{Asked};
+ghost use Rattle.check_report.specs.declared.verdict_order.Details.{Details};
 ghost use Rattle.check_report.specs.Conditions.{HasOneOutput, HoldsWhere, restricted, AgreeWhere, IsLeastWhere};
 ghost use Rattle.check_report.specs.declared.subject.Subject.{Subject};
-ghost use Rattle.check_report.specs.Picking.{AreShares};
+ghost use Rattle.check_report.specs.PairSelection.{AreShares};
 ghost use Rattle.check_report.specs.Limits.{FitsWithin, Exceeds};
 ghost use Rattle.report_text.specs.Lines.{Found};
 ghost use Rattle.check_report.specs.Report.{IsReport};
 
 /// What two netlists need, with a condition or without, is never both within a limit and beyond it.
 pub fn limits()
-    ensures { (limit : ℕ) (a b : Circuit) (given : Option Circuit) (p : Paired) → FitsWithin limit a b given p → Exceeds limit a b given p
+    ensures { (limit : ℕ) (a b : Circuit) (given : Option Circuit) (p : NamingModel) → FitsWithin limit a b given p → Exceeds limit a b given p
         → ⊥ }
 {}
 
@@ -24,21 +24,21 @@ pub fn limits()
 /// that count: its counts and its bytes are determined.
 pub fn one_report()
     ensures { (one two : Net) (given : Option Net) → IsNet one → IsNet two → IfSome given (λ net. IsNet net × HasOneOutput (circuit net))
-        → (how : Match) (order : Order) (p q : Paired) →
+        → (how : Match) (order : Order) (p q : NamingModel) →
         IsPairing how (circuit one) (circuit two) (option_map circuit given) order p
         → IsPairing how (circuit one) (circuit two) (option_map circuit given) order q →
-        (form : Found → List ℕ) (asked : Asked) (o more : Outcome) (bytes text : List ℕ)
+        (form : Found → List ℕ) (asked : Details) (o more : Outcome) (bytes text : List ℕ)
         → IsReport form asked (circuit one) (circuit two) (option_map circuit given) p o bytes →
         IsReport form asked (circuit one) (circuit two) (option_map circuit given) q more text → (o ≡ more) × (bytes ≡ text) }
 {}
 
 /// Without a condition the report speaks of all assignments.
 pub fn without_condition()
-    ensures equal { (p : Paired) (holds : List Bool → Bool) → HoldsWhere None p holds → (n : ℕ) (f g : List Bool → Bool)
+    ensures equal { (p : NamingModel) (holds : List Bool → Bool) → HoldsWhere None p holds → (n : ℕ) (f g : List Bool → Bool)
         → AgreeWhere n holds f g ↔ Agree n f g }
-    ensures least { (p : Paired) (holds : List Bool → Bool) → HoldsWhere None p holds → (n : ℕ) (f g : List Bool → Bool) (x : List Bool)
+    ensures least { (p : NamingModel) (holds : List Bool → Bool) → HoldsWhere None p holds → (n : ℕ) (f g : List Bool → Bool) (x : List Bool)
         → IsLeastWhere n holds f g x ↔ IsLeastDifference n f g x }
-    ensures whole { (p : Paired) (holds : List Bool → Bool) → HoldsWhere None p holds → (f : List Bool → Bool) → restricted holds f ≡ f }
+    ensures unrestricted { (p : NamingModel) (holds : List Bool → Bool) → HoldsWhere None p holds → (f : List Bool → Bool) → restricted holds f ≡ f }
 {}
 
 /// Functions agree where a condition holds exactly where they agree everywhere once each is taken together with the condition, and their

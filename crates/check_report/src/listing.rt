@@ -4,17 +4,17 @@ ghost use Rattle.std.specs.Io.KnownBytes.{Appends};
 ghost use Rattle.expand_work.specs.declared.fault.WaveFault.TheVariants.{Full, NoWorker, TooManyRequests};
 ghost use Rattle.net_order.specs.declared.order.Order.{Order as OrderValue};
 ghost use Rattle.report_text.specs.Writing.{AppendsFront};
-ghost use Rattle.check_report.specs.declared.choice.Attempt.{Attempt as AttemptValue};
-ghost use Rattle.check_report.specs.Best.{AreGivenUp, AreTried, IsAllowed, IsFound, IsGivenUpWithin, MayGoByCones, last_budget};
+ghost use Rattle.check_report.specs.declared.strategy.Attempt.{Attempt as AttemptValue};
+ghost use Rattle.check_report.specs.Attempts.{AreGivenUp, AreTried, IsAllowed, IsFound, IsGivenUpWithin, MayGoByCones, last_budget};
 ghost use Rattle.check_report.specs.Check.{IsCheckFault};
-ghost use Rattle.check_report.specs.Devices.{HasFailedIn, told_by, told_of};
+ghost use Rattle.check_report.specs.Devices.{HasFailedIn, device_text, device_texts};
 ghost use Rattle.check_report.specs.Limits.{AreBeyond};
 ghost use Rattle.check_report.specs.Listing.{IsOrderPrinted};
 
-use crate::choice::Attempt;
 use crate::fault::CheckFault;
 use crate::ordering::text_for;
 use crate::reading::{Netlists, read_netlists};
+use crate::strategy::Attempt;
 use crate::task::{Context, Task};
 use expand_work::Monitor;
 use net_bench::device::{Sink, Source};
@@ -29,33 +29,33 @@ fn listed<H: Threads + Wait + Sync, R1: Source, R2: Source, R3: Source, G: Monit
     second: &mut R2,
     given: &mut Option<R3>,
 ) -> Result<(Vec<u8>, Option<Attempt>), CheckFault>
-    ensures text { let told = told_of (R1.remaining first.old) (R2.remaining second.old) (told_by R3.remaining given.old) in
+    ensures text { let input = device_texts (R1.remaining first.old) (R2.remaining second.old) (device_text R3.remaining given.old) in
         let s = context.now.settings.now in
-        IfOk result (λ r. (order : OrderValue) × IsOrderPrinted told s.matching order r.0.items
-        × IsFound told s.matching s.order s.limit r.1 order) }
-    ensures passed { let told = told_of (R1.remaining first.old) (R2.remaining second.old) (told_by R3.remaining given.old) in
+        IfOk result (λ r. (order : OrderValue) × IsOrderPrinted input s.matching order r.0.items
+        × IsFound input s.matching s.order s.limit r.1 order) }
+    ensures earlier_given_up { let input = device_texts (R1.remaining first.old) (R2.remaining second.old) (device_text R3.remaining given.old) in
         let s = context.now.settings.now in
-        IfOk result (λ r. IfSome r.1 (AreGivenUp told s.matching (last_budget s.order s.limit) (G.bound context.now.monitor.now))) }
-    ensures full { let told = told_of (R1.remaining first.old) (R2.remaining second.old) (told_by R3.remaining given.old) in
+        IfOk result (λ r. IfSome r.1 (AreGivenUp input s.matching (last_budget s.order s.limit) (G.bound context.now.monitor.now))) }
+    ensures full { let input = device_texts (R1.remaining first.old) (R2.remaining second.old) (device_text R3.remaining given.old) in
         let s = context.now.settings.now in
-        result ≡ Err (CheckFault.Wave Full) → (order : OrderValue) → IsAllowed s.order order → AreBeyond told s.matching order s.limit }
-    ensures given_up { let told = told_of (R1.remaining first.old) (R2.remaining second.old) (told_by R3.remaining given.old) in
+        result ≡ Err (CheckFault.Wave Full) → (order : OrderValue) → IsAllowed s.order order → AreBeyond input s.matching order s.limit }
+    ensures given_up { let input = device_texts (R1.remaining first.old) (R2.remaining second.old) (device_text R3.remaining given.old) in
         let s = context.now.settings.now in
         result ≡ Err CheckFault.GivenUp → AreTried s.order × ((order : OrderValue) → IsAllowed s.order order
-        → IsGivenUpWithin told s.matching s.limit (G.bound context.now.monitor.now) order) }
+        → IsGivenUpWithin input s.matching s.limit (G.bound context.now.monitor.now) order) }
     ensures by_cones { MayGoByCones context.now.settings.now.order
         → (result ≢ Err (CheckFault.Wave Full)) × (result ≢ Err CheckFault.GivenUp) }
-    ensures unbounded { result ≢ Err (CheckFault.Wave TooManyRequests) }
-    ensures alone { result ≢ Err (CheckFault.Wave NoWorker) }
-    ensures others { result ≢ Err CheckFault.Only }
-    ensures fault { let told = told_of (R1.remaining first.old) (R2.remaining second.old) (told_by R3.remaining given.old) in
+    ensures never_too_many_requests { result ≢ Err (CheckFault.Wave TooManyRequests) }
+    ensures needs_no_thread { result ≢ Err (CheckFault.Wave NoWorker) }
+    ensures no_unknown_name { result ≢ Err CheckFault.Only }
+    ensures fault { let input = device_texts (R1.remaining first.old) (R2.remaining second.old) (device_text R3.remaining given.old) in
         let s = context.now.settings.now in
         IfErr result (λ fault. (order : OrderValue) × IsAllowed s.order order
-        × IsCheckFault told (IsTrue (R1.has_failed first.new)) (IsTrue (R2.has_failed second.new))
+        × IsCheckFault input (IsTrue (R1.has_failed first.new)) (IsTrue (R2.has_failed second.new))
         (HasFailedIn R3.has_failed given.new) s.order s.matching order fault) }
     ensures unwritten { result ≢ Err CheckFault.Write }
     ensures origins { (R1.origin first.new ≡ R1.origin first.old) × (R2.origin second.new ≡ R2.origin second.old)
-        × (told_by R3.origin given.new ≡ told_by R3.origin given.old) }
+        × (device_text R3.origin given.new ≡ device_text R3.origin given.old) }
 {
     let nets = match read_netlists(context.alloc, first, second, given) {
         Ok(nets) => nets,
@@ -95,47 +95,47 @@ pub fn print_order<
     out: &mut W,
 ) -> Result<Option<Attempt>, CheckFault>
     // What was written is an order of what was read that the settings allow, and nothing else.
-    ensures order { let told = told_of (R1.remaining first.old) (R2.remaining second.old) (told_by R3.remaining given.old) in
+    ensures order { let input = device_texts (R1.remaining first.old) (R2.remaining second.old) (device_text R3.remaining given.old) in
         let s = context.now.settings.now in
-        IfOk result (λ tried. (order : OrderValue) × (bytes : List ℕ) × IsOrderPrinted told s.matching order bytes
-        × IsFound told s.matching s.order s.limit tried order × Appends (W.contents out.old) (W.contents out.new) bytes) }
+        IfOk result (λ tried. (order : OrderValue) × (bytes : List ℕ) × IsOrderPrinted input s.matching order bytes
+        × IsFound input s.matching s.order s.limit tried order × Appends (W.contents out.old) (W.contents out.new) bytes) }
     // Each attempt within a smaller budget than that of the one that is told was given up, and within the first budget each before it.
-    ensures passed { let told = told_of (R1.remaining first.old) (R2.remaining second.old) (told_by R3.remaining given.old) in
+    ensures earlier_given_up { let input = device_texts (R1.remaining first.old) (R2.remaining second.old) (device_text R3.remaining given.old) in
         let s = context.now.settings.now in
-        IfOk result (λ tried. IfSome tried (AreGivenUp told s.matching (last_budget s.order s.limit) (G.bound context.now.monitor.now))) }
+        IfOk result (λ tried. IfSome tried (AreGivenUp input s.matching (last_budget s.order s.limit) (G.bound context.now.monitor.now))) }
     // Full comes only where the nodes that the netlists need are not within the limit, in each order that the settings allow.
-    ensures full { let told = told_of (R1.remaining first.old) (R2.remaining second.old) (told_by R3.remaining given.old) in
+    ensures full { let input = device_texts (R1.remaining first.old) (R2.remaining second.old) (device_text R3.remaining given.old) in
         let s = context.now.settings.now in
-        result ≡ Err (CheckFault.Wave Full) → (order : OrderValue) → IsAllowed s.order order → AreBeyond told s.matching order s.limit }
+        result ≡ Err (CheckFault.Wave Full) → (order : OrderValue) → IsAllowed s.order order → AreBeyond input s.matching order s.limit }
     // GivenUp comes only where orders are tried and each attempt within the limit was given up, by declared order in place of Full.
-    ensures given_up { let told = told_of (R1.remaining first.old) (R2.remaining second.old) (told_by R3.remaining given.old) in
+    ensures given_up { let input = device_texts (R1.remaining first.old) (R2.remaining second.old) (device_text R3.remaining given.old) in
         let s = context.now.settings.now in
         result ≡ Err CheckFault.GivenUp → AreTried s.order × ((order : OrderValue) → IsAllowed s.order order
-        → IsGivenUpWithin told s.matching s.limit (G.bound context.now.monitor.now) order) }
+        → IsGivenUpWithin input s.matching s.limit (G.bound context.now.monitor.now) order) }
     ensures by_cones { MayGoByCones context.now.settings.now.order
         → (result ≢ Err (CheckFault.Wave Full)) × (result ≢ Err CheckFault.GivenUp) }
     // Waves are those of attempts alone, and no pairs are picked.
-    ensures unbounded { result ≢ Err (CheckFault.Wave TooManyRequests) }
-    ensures alone { result ≢ Err (CheckFault.Wave NoWorker) }
-    ensures others { result ≢ Err CheckFault.Only }
+    ensures never_too_many_requests { result ≢ Err (CheckFault.Wave TooManyRequests) }
+    ensures needs_no_thread { result ≢ Err (CheckFault.Wave NoWorker) }
+    ensures no_unknown_name { result ≢ Err CheckFault.Only }
     // A fault has its cause, and what comes before it was accepted.
-    ensures fault { let told = told_of (R1.remaining first.old) (R2.remaining second.old) (told_by R3.remaining given.old) in
+    ensures fault { let input = device_texts (R1.remaining first.old) (R2.remaining second.old) (device_text R3.remaining given.old) in
         let s = context.now.settings.now in
         IfErr result (λ fault. (order : OrderValue) × IsAllowed s.order order
-        × IsCheckFault told (IsTrue (R1.has_failed first.new)) (IsTrue (R2.has_failed second.new))
+        × IsCheckFault input (IsTrue (R1.has_failed first.new)) (IsTrue (R2.has_failed second.new))
         (HasFailedIn R3.has_failed given.new) s.order s.matching order fault) }
     // Where the writing failed, a front part of the order was written, and the device has failed or taken nothing of the rest.
-    ensures unwritten { let told = told_of (R1.remaining first.old) (R2.remaining second.old) (told_by R3.remaining given.old) in
+    ensures unwritten { let input = device_texts (R1.remaining first.old) (R2.remaining second.old) (device_text R3.remaining given.old) in
         let s = context.now.settings.now in
         result ≡ Err CheckFault.Write → (tried : Option AttemptValue) × (order : OrderValue) × (bytes : List ℕ)
-        × IsOrderPrinted told s.matching order bytes × IsFound told s.matching s.order s.limit tried order
+        × IsOrderPrinted input s.matching order bytes × IsFound input s.matching s.order s.limit tried order
         × AppendsFront (W.contents out.old) (W.contents out.new) (W.has_failed out.new) (W.has_stopped out.new) bytes }
     // At any other fault nothing was written.
     ensures untouched { OnErr result (result ≢ Err CheckFault.Write → out.new ≡ out.old) }
     // A writer that took the order has not failed, and took some bytes at each write.
     ensures written { OnOk result ((W.has_failed out.new ≡ W.has_failed out.old) × (W.has_stopped out.new ≡ W.has_stopped out.old)) }
     ensures origins { (R1.origin first.new ≡ R1.origin first.old) × (R2.origin second.new ≡ R2.origin second.old)
-        × (told_by R3.origin given.new ≡ told_by R3.origin given.old) }
+        × (device_text R3.origin given.new ≡ device_text R3.origin given.old) }
 {
     let (text, tried) = match listed(context, first, second, given) {
         Ok((text, tried)) => (text, tried),

@@ -4,15 +4,15 @@ ghost use Rattle.expand_work.specs.declared.fault.WaveFault.TheVariants.{Full, N
 ghost use Rattle.net_order.specs.declared.order.Order.{Order as OrderValue};
 ghost use Rattle.net_order.specs.declared.order.Order.TheVariants.{Declared};
 ghost use Rattle.net_order.specs.OrderText.{order_text};
-ghost use Rattle.check_report.specs.Best.{AreGivenUp, AreTried, IsAllowed, IsFound, IsGivenUpWithin, MayGoByCones, last_budget};
+ghost use Rattle.check_report.specs.Attempts.{AreGivenUp, AreTried, IsAllowed, IsFound, IsGivenUpWithin, MayGoByCones, last_budget};
 ghost use Rattle.check_report.specs.Check.{IsCheckFault};
 ghost use Rattle.check_report.specs.Limits.{AreBeyond};
 ghost use Rattle.check_report.specs.Listing.{IsOrderPrinted};
 ghost use Rattle.check_report.specs.Tasks.{OfTask};
 
-use crate::choice::{Attempt, Choice};
-use crate::deciding::find_best;
+use crate::decision::find_best_order;
 use crate::fault::CheckFault;
+use crate::strategy::{Attempt, Strategy};
 use crate::task::Task;
 use expand_work::Monitor;
 use net_order::names::Names;
@@ -36,13 +36,13 @@ fn file_of(alloc: Global, names: &Names) -> Result<Vec<u8>, CheckFault>
 
 /// The order file of the variables of two netlists, in this order.
 fn text_by<H>(task: &Task<'_, H>, order: &Order) -> Result<Vec<u8>, CheckFault>
-    ensures text { OfTask task.now (λ told s. IfOk result (λ text. IsOrderPrinted told s.matching order.now text.items)) }
-    ensures fault { OfTask task.now (λ told s. IfErr result (IsCheckFault told ⊥ ⊥ ⊥ s.order s.matching order.now)) }
-    ensures unbuilt { result ≢ Err (CheckFault.Wave Full) }
+    ensures text { OfTask task.now (λ input s. IfOk result (λ text. IsOrderPrinted input s.matching order.now text.items)) }
+    ensures fault { OfTask task.now (λ input s. IfErr result (IsCheckFault input ⊥ ⊥ ⊥ s.order s.matching order.now)) }
+    ensures never_out_of_nodes { result ≢ Err (CheckFault.Wave Full) }
     ensures kept { result ≢ Err CheckFault.GivenUp }
-    ensures unbounded { result ≢ Err (CheckFault.Wave TooManyRequests) }
-    ensures alone { result ≢ Err (CheckFault.Wave NoWorker) }
-    ensures others { result ≢ Err CheckFault.Only }
+    ensures never_too_many_requests { result ≢ Err (CheckFault.Wave TooManyRequests) }
+    ensures needs_no_thread { result ≢ Err (CheckFault.Wave NoWorker) }
+    ensures no_unknown_name { result ≢ Err CheckFault.Only }
     ensures unwritten { result ≢ Err CheckFault.Write }
 {
     match pair(
@@ -63,18 +63,18 @@ fn given_text<H>(
     task: &Task<'_, H>,
     order: &Order,
 ) -> Result<(Vec<u8>, Option<Attempt>), CheckFault>
-    ensures text { OfTask task.now (λ told s.
-        IfOk result (λ r. (o : OrderValue) × IsOrderPrinted told s.matching o r.0.items
-        × IsFound told s.matching (Choice.One order.now) s.limit r.1 o)) }
-    ensures untried { IfOk result (λ r. r.1 ≡ None) }
-    ensures fault { OfTask task.now (λ told s.
-        IfErr result (λ fault. (o : OrderValue) × IsAllowed (Choice.One order.now) o
-        × IsCheckFault told ⊥ ⊥ ⊥ s.order s.matching o fault)) }
-    ensures unbuilt { result ≢ Err (CheckFault.Wave Full) }
+    ensures text { OfTask task.now (λ input s.
+        IfOk result (λ r. (o : OrderValue) × IsOrderPrinted input s.matching o r.0.items
+        × IsFound input s.matching (Strategy.One order.now) s.limit r.1 o)) }
+    ensures no_attempt { IfOk result (λ r. r.1 ≡ None) }
+    ensures fault { OfTask task.now (λ input s.
+        IfErr result (λ fault. (o : OrderValue) × IsAllowed (Strategy.One order.now) o
+        × IsCheckFault input ⊥ ⊥ ⊥ s.order s.matching o fault)) }
+    ensures never_out_of_nodes { result ≢ Err (CheckFault.Wave Full) }
     ensures kept { result ≢ Err CheckFault.GivenUp }
-    ensures unbounded { result ≢ Err (CheckFault.Wave TooManyRequests) }
-    ensures alone { result ≢ Err (CheckFault.Wave NoWorker) }
-    ensures others { result ≢ Err CheckFault.Only }
+    ensures never_too_many_requests { result ≢ Err (CheckFault.Wave TooManyRequests) }
+    ensures needs_no_thread { result ≢ Err (CheckFault.Wave NoWorker) }
+    ensures no_unknown_name { result ≢ Err CheckFault.Only }
     ensures unwritten { result ≢ Err CheckFault.Write }
 {
     match text_by(task, order) {
@@ -85,16 +85,16 @@ fn given_text<H>(
 
 /// The order file of the variables of two netlists, in declared order, in which a report is told where other orders are taken for it.
 fn auto_text<H>(task: &Task<'_, H>) -> Result<(Vec<u8>, Option<Attempt>), CheckFault>
-    ensures text { OfTask task.now (λ told s.
-        IfOk result (λ r. (o : OrderValue) × IsOrderPrinted told s.matching o r.0.items
-        × IsFound told s.matching Choice.Auto s.limit r.1 o)) }
-    ensures untried { IfOk result (λ r. r.1 ≡ None) }
-    ensures fault { OfTask task.now (λ told s. IfErr result (IsCheckFault told ⊥ ⊥ ⊥ s.order s.matching Declared)) }
-    ensures unbuilt { result ≢ Err (CheckFault.Wave Full) }
+    ensures text { OfTask task.now (λ input s.
+        IfOk result (λ r. (o : OrderValue) × IsOrderPrinted input s.matching o r.0.items
+        × IsFound input s.matching Strategy.Auto s.limit r.1 o)) }
+    ensures no_attempt { IfOk result (λ r. r.1 ≡ None) }
+    ensures fault { OfTask task.now (λ input s. IfErr result (IsCheckFault input ⊥ ⊥ ⊥ s.order s.matching Declared)) }
+    ensures never_out_of_nodes { result ≢ Err (CheckFault.Wave Full) }
     ensures kept { result ≢ Err CheckFault.GivenUp }
-    ensures unbounded { result ≢ Err (CheckFault.Wave TooManyRequests) }
-    ensures alone { result ≢ Err (CheckFault.Wave NoWorker) }
-    ensures others { result ≢ Err CheckFault.Only }
+    ensures never_too_many_requests { result ≢ Err (CheckFault.Wave TooManyRequests) }
+    ensures needs_no_thread { result ≢ Err (CheckFault.Wave NoWorker) }
+    ensures no_unknown_name { result ≢ Err CheckFault.Only }
     ensures unwritten { result ≢ Err CheckFault.Write }
 {
     match text_by(task, &Order::Declared) {
@@ -105,16 +105,16 @@ fn auto_text<H>(task: &Task<'_, H>) -> Result<(Vec<u8>, Option<Attempt>), CheckF
 
 /// The same where each pair is judged by its cones.
 fn cones_text<H>(task: &Task<'_, H>) -> Result<(Vec<u8>, Option<Attempt>), CheckFault>
-    ensures text { OfTask task.now (λ told s.
-        IfOk result (λ r. (o : OrderValue) × IsOrderPrinted told s.matching o r.0.items
-        × IsFound told s.matching Choice.Cones s.limit r.1 o)) }
-    ensures untried { IfOk result (λ r. r.1 ≡ None) }
-    ensures fault { OfTask task.now (λ told s. IfErr result (IsCheckFault told ⊥ ⊥ ⊥ s.order s.matching Declared)) }
-    ensures unbuilt { result ≢ Err (CheckFault.Wave Full) }
+    ensures text { OfTask task.now (λ input s.
+        IfOk result (λ r. (o : OrderValue) × IsOrderPrinted input s.matching o r.0.items
+        × IsFound input s.matching Strategy.Cones s.limit r.1 o)) }
+    ensures no_attempt { IfOk result (λ r. r.1 ≡ None) }
+    ensures fault { OfTask task.now (λ input s. IfErr result (IsCheckFault input ⊥ ⊥ ⊥ s.order s.matching Declared)) }
+    ensures never_out_of_nodes { result ≢ Err (CheckFault.Wave Full) }
     ensures kept { result ≢ Err CheckFault.GivenUp }
-    ensures unbounded { result ≢ Err (CheckFault.Wave TooManyRequests) }
-    ensures alone { result ≢ Err (CheckFault.Wave NoWorker) }
-    ensures others { result ≢ Err CheckFault.Only }
+    ensures never_too_many_requests { result ≢ Err (CheckFault.Wave TooManyRequests) }
+    ensures needs_no_thread { result ≢ Err (CheckFault.Wave NoWorker) }
+    ensures no_unknown_name { result ≢ Err CheckFault.Only }
     ensures unwritten { result ≢ Err CheckFault.Write }
 {
     auto_text(task)
@@ -125,23 +125,23 @@ fn best_text<H: Threads + Wait + Sync, G: Monitor>(
     task: &Task<'_, H>,
     monitor: &G,
 ) -> Result<(Vec<u8>, Option<Attempt>), CheckFault>
-    ensures text { OfTask task.now (λ told s.
-        IfOk result (λ r. (o : OrderValue) × IsOrderPrinted told s.matching o r.0.items
-        × IsFound told s.matching Choice.Best s.limit r.1 o)) }
-    ensures full { OfTask task.now (λ told s.
-        result ≡ Err (CheckFault.Wave Full) → (o : OrderValue) → IsAllowed Choice.Best o → AreBeyond told s.matching o s.limit) }
-    ensures given_up { OfTask task.now (λ told s.
-        result ≡ Err CheckFault.GivenUp → (o : OrderValue) → IsAllowed Choice.Best o
-        → IsGivenUpWithin told s.matching s.limit (G.bound monitor.now) o) }
-    ensures fault { OfTask task.now (λ told s.
-        IfErr result (λ fault. (o : OrderValue) × IsAllowed Choice.Best o × IsCheckFault told ⊥ ⊥ ⊥ s.order s.matching o fault)) }
+    ensures text { OfTask task.now (λ input s.
+        IfOk result (λ r. (o : OrderValue) × IsOrderPrinted input s.matching o r.0.items
+        × IsFound input s.matching Strategy.Best s.limit r.1 o)) }
+    ensures full { OfTask task.now (λ input s.
+        result ≡ Err (CheckFault.Wave Full) → (o : OrderValue) → IsAllowed Strategy.Best o → AreBeyond input s.matching o s.limit) }
+    ensures given_up { OfTask task.now (λ input s.
+        result ≡ Err CheckFault.GivenUp → (o : OrderValue) → IsAllowed Strategy.Best o
+        → IsGivenUpWithin input s.matching s.limit (G.bound monitor.now) o) }
+    ensures fault { OfTask task.now (λ input s.
+        IfErr result (λ fault. (o : OrderValue) × IsAllowed Strategy.Best o × IsCheckFault input ⊥ ⊥ ⊥ s.order s.matching o fault)) }
     ensures unwritten { result ≢ Err CheckFault.Write }
-    ensures unbounded { result ≢ Err (CheckFault.Wave TooManyRequests) }
-    ensures passed { OfTask task.now (λ told s. IfOk result (λ r. IfSome r.1 (AreGivenUp told s.matching s.limit (G.bound monitor.now)))) }
-    ensures alone { result ≢ Err (CheckFault.Wave NoWorker) }
-    ensures others { result ≢ Err CheckFault.Only }
+    ensures never_too_many_requests { result ≢ Err (CheckFault.Wave TooManyRequests) }
+    ensures earlier_given_up { OfTask task.now (λ input s. IfOk result (λ r. IfSome r.1 (AreGivenUp input s.matching s.limit (G.bound monitor.now)))) }
+    ensures needs_no_thread { result ≢ Err (CheckFault.Wave NoWorker) }
+    ensures no_unknown_name { result ≢ Err CheckFault.Only }
 {
-    match find_best(task, monitor) {
+    match find_best_order(task, monitor) {
         Ok((verdicts, found)) => match file_of(task.alloc, verdicts.variables()) {
             Ok(text) => Ok((text, Some(found))),
             Err(fault) => Err(fault),
@@ -155,29 +155,29 @@ pub(crate) fn text_for<H: Threads + Wait + Sync, G: Monitor>(
     task: &Task<'_, H>,
     monitor: &G,
 ) -> Result<(Vec<u8>, Option<Attempt>), CheckFault>
-    ensures text { OfTask task.now (λ told s.
-        IfOk result (λ r. (order : OrderValue) × IsOrderPrinted told s.matching order r.0.items
-        × IsFound told s.matching s.order s.limit r.1 order)) }
-    ensures full { OfTask task.now (λ told s.
-        result ≡ Err (CheckFault.Wave Full) → (order : OrderValue) → IsAllowed s.order order → AreBeyond told s.matching order s.limit) }
-    ensures given_up { OfTask task.now (λ told s.
+    ensures text { OfTask task.now (λ input s.
+        IfOk result (λ r. (order : OrderValue) × IsOrderPrinted input s.matching order r.0.items
+        × IsFound input s.matching s.order s.limit r.1 order)) }
+    ensures full { OfTask task.now (λ input s.
+        result ≡ Err (CheckFault.Wave Full) → (order : OrderValue) → IsAllowed s.order order → AreBeyond input s.matching order s.limit) }
+    ensures given_up { OfTask task.now (λ input s.
         result ≡ Err CheckFault.GivenUp → AreTried s.order × ((order : OrderValue) → IsAllowed s.order order
-        → IsGivenUpWithin told s.matching s.limit (G.bound monitor.now) order)) }
+        → IsGivenUpWithin input s.matching s.limit (G.bound monitor.now) order)) }
     ensures by_cones { MayGoByCones task.now.settings.now.order
         → (result ≢ Err (CheckFault.Wave Full)) × (result ≢ Err CheckFault.GivenUp) }
-    ensures fault { OfTask task.now (λ told s.
-        IfErr result (λ fault. (order : OrderValue) × IsAllowed s.order order × IsCheckFault told ⊥ ⊥ ⊥ s.order s.matching order fault)) }
+    ensures fault { OfTask task.now (λ input s.
+        IfErr result (λ fault. (order : OrderValue) × IsAllowed s.order order × IsCheckFault input ⊥ ⊥ ⊥ s.order s.matching order fault)) }
     ensures unwritten { result ≢ Err CheckFault.Write }
-    ensures unbounded { result ≢ Err (CheckFault.Wave TooManyRequests) }
-    ensures passed { OfTask task.now (λ told s.
-        IfOk result (λ r. IfSome r.1 (AreGivenUp told s.matching (last_budget s.order s.limit) (G.bound monitor.now)))) }
-    ensures alone { result ≢ Err (CheckFault.Wave NoWorker) }
-    ensures others { result ≢ Err CheckFault.Only }
+    ensures never_too_many_requests { result ≢ Err (CheckFault.Wave TooManyRequests) }
+    ensures earlier_given_up { OfTask task.now (λ input s.
+        IfOk result (λ r. IfSome r.1 (AreGivenUp input s.matching (last_budget s.order s.limit) (G.bound monitor.now)))) }
+    ensures needs_no_thread { result ≢ Err (CheckFault.Wave NoWorker) }
+    ensures no_unknown_name { result ≢ Err CheckFault.Only }
 {
     match &task.settings.order {
-        Choice::One(order) => given_text(task, order),
-        Choice::Best => best_text(task, monitor),
-        Choice::Auto => auto_text(task),
-        Choice::Cones => cones_text(task),
+        Strategy::One(order) => given_text(task, order),
+        Strategy::Best => best_text(task, monitor),
+        Strategy::Auto => auto_text(task),
+        Strategy::Cones => cones_text(task),
     }
 }

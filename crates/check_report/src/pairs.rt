@@ -4,16 +4,18 @@ ghost use Rattle.net_bench.specs.Circuit.{circuit};
 ghost use Rattle.net_order.specs.declared.order.Order.{Order as OrderValue};
 ghost use Rattle.net_order.specs.Order.{condition};
 ghost use Rattle.report_text.specs.Lines.{Found};
-ghost use Rattle.check_report.specs.declared.choice.Candidate.{Candidate as CandidateValue};
-ghost use Rattle.check_report.specs.Asking.{asked_in};
-ghost use Rattle.check_report.specs.Coning.{AreConesOf, EndsPairs, IsConeTask, IsEndedIn, IsOf, IsReady, IsWidened};
+ghost use Rattle.check_report.specs.declared.strategy.Candidate.{Candidate as CandidateValue};
+ghost use Rattle.check_report.specs.Details.{details_in};
+ghost use Rattle.check_report.specs.ConeRounds.{AreConesOf, EndsPairs, IsConeTask, IsJobResult, IsInContext, IsConeContext, IsWidened};
 ghost use Rattle.check_report.specs.Report.{AreVerdicts};
-ghost use Rattle.check_report.specs.Trials.{EndsAtOnce, IsDecidedWithin, IsPairingIn, IsPassed};
+ghost use Rattle.check_report.specs.Trials.{EndsAtOnce, IsDecidedWithin, IsPairingIn, IsCandidateGivenUp};
 
 use crate::attempts::{Decided, Round, try_first};
-use crate::coning::{Cones, Whole, as_late, cone_pairing, cones_of, places_of, task_of};
 use crate::fault::CheckFault;
-use crate::spreading::widened;
+use crate::pair_cones::{
+    ConeContext, Cones, as_comparison_fault, cone_pairing, cones_of, places_of, task_of,
+};
+use crate::scatter::widen_verdict;
 use crate::subject::Subject;
 use crate::task::Task;
 use expand_work::Monitor;
@@ -42,13 +44,13 @@ fn try_cones<H: Threads + Wait + Sync, G: Monitor>(
     requires small { budget < 2 ^ 32 }
     requires paired { (order : OrderValue) × IsPairingIn task.now order pairing.now }
     requires no_sizes { task.now.settings.now.sizes ≡ false }
-    requires one { (found : Found) → AreVerdicts (asked_in task.now.settings.now) (circuit task.now.first.now)
+    requires one { (found : Found) → AreVerdicts (details_in task.now.settings.now) (circuit task.now.first.now)
         (circuit task.now.second.now) (condition task.now.given) pairing.now found → length found.verdicts ≡ 1 }
-    ensures decided { IfOk result (λ o. IfSome o (λ v. AreVerdicts (asked_in task.now.settings.now) (circuit task.now.first.now)
+    ensures decided { IfOk result (λ o. IfSome o (λ v. AreVerdicts (details_in task.now.settings.now) (circuit task.now.first.now)
         (circuit task.now.second.now) (condition task.now.given) pairing.now
         (record { variables = pairing.now.names; verdicts = v ∷ [] }))) }
     ensures within { IfOk result (λ o. IfSome o (λ _. IsDecidedWithin task.now budget)) }
-    ensures left { result ≡ Ok None → (c : CandidateValue) → IsPassed task.now budget (G.bound monitor.now) c }
+    ensures left { result ≡ Ok None → (c : CandidateValue) → IsCandidateGivenUp task.now budget (G.bound monitor.now) c }
     ensures ends { IfErr result EndsAtOnce }
 {
     let mut trials = Vec::new(task.alloc);
@@ -62,23 +64,23 @@ fn try_cones<H: Threads + Wait + Sync, G: Monitor>(
 }
 
 /// The verdict of a pair over all variables, where there is one over those at these levels.
-fn told_over<H>(
-    whole: &Whole<'_, H>,
+fn over_all_variables<H>(
+    context: &ConeContext<'_, H>,
     subject: &Subject,
     places: &[u32],
     found: Option<Verdict>,
 ) -> Result<Option<Verdict>, AllocError>
-    requires inside { IsOf whole.now subject.now }
-    requires low { All (λ place. place < length whole.now.naming.now.names) places.now }
-    ensures { IfOk result (IsWidened whole.now subject.now places.now found) }
+    requires in_range { IsInContext context.now subject.now }
+    requires low { All (λ place. place < length context.now.naming.now.names) places.now }
+    ensures { IfOk result (IsWidened context.now subject.now places.now found) }
 {
     let Some(verdict) = found else {
         return Ok(None);
     };
-    let name = whole.task.first.name(subject.named);
-    let levels = whole.naming.names().len();
-    let verdict = widened(
-        whole.task.alloc,
+    let name = context.task.first.name(subject.named);
+    let levels = context.naming.names().len();
+    let verdict = widen_verdict(
+        context.task.alloc,
         verdict,
         subject.role,
         name,
@@ -90,34 +92,34 @@ fn told_over<H>(
 
 /// Judges a pair by its cones. It is left where they have more variables together than a pairing has.
 fn judge_cones<H: Threads + Wait + Sync, G: Monitor>(
-    whole: &Whole<'_, H>,
+    context: &ConeContext<'_, H>,
     subject: &Subject,
     cones: &Cones,
     budget: u64,
     monitor: &G,
 ) -> Result<Option<Verdict>, CheckFault>
     requires small { budget < 2 ^ 32 }
-    requires ready { IsReady whole.now }
-    requires inside { IsOf whole.now subject.now }
-    requires cones { AreConesOf whole.now subject.now cones.now }
-    ensures { IsEndedIn whole.now budget (G.bound monitor.now) subject.now result }
+    requires ready { IsConeContext context.now }
+    requires in_range { IsInContext context.now subject.now }
+    requires cones { AreConesOf context.now subject.now cones.now }
+    ensures { IsJobResult context.now budget (G.bound monitor.now) subject.now result }
 {
-    let _ = whole.task.first.inputs();
-    let _ = whole.task.second.inputs();
-    let Ok(places) = places_of(whole, cones) else {
+    let _ = context.task.first.inputs();
+    let _ = context.task.second.inputs();
+    let Ok(places) = places_of(context, cones) else {
         return Err(CheckFault::OutOfMemory);
     };
-    let task = task_of(whole, cones);
-    let paired = cone_pairing(&task, whole.naming.names(), places.as_slice())?;
+    let task = task_of(context, cones);
+    let paired = cone_pairing(&task, context.naming.names(), places.as_slice())?;
     let Some(pairing) = paired else {
         return Ok(None);
     };
     let found = match try_cones(&task, &pairing, budget, monitor) {
         Ok(found) => found,
-        Err(fault) => return Err(as_late(fault)),
+        Err(fault) => return Err(as_comparison_fault(fault)),
     };
-    match told_over(whole, subject, places.as_slice(), found) {
-        Ok(told) => Ok(told),
+    match over_all_variables(context, subject, places.as_slice(), found) {
+        Ok(verdict) => Ok(verdict),
         Err(_) => Err(CheckFault::OutOfMemory),
     }
 }
@@ -125,18 +127,18 @@ fn judge_cones<H: Threads + Wait + Sync, G: Monitor>(
 /// The verdict of a pair by its cones over all variables, or none where each attempt within so many nodes was given up, or the cones
 /// have more variables than a pairing has. All that it takes is given back.
 pub fn judge_pair<H: Threads + Wait + Sync, G: Monitor>(
-    whole: &Whole<'_, H>,
+    context: &ConeContext<'_, H>,
     subject: &Subject,
     budget: u64,
     monitor: &G,
 ) -> Result<Option<Verdict>, CheckFault>
     requires small { budget < 2 ^ 32 }
-    requires ready { IsReady whole.now }
-    requires inside { IsOf whole.now subject.now }
-    ensures { IsEndedIn whole.now budget (G.bound monitor.now) subject.now result }
+    requires ready { IsConeContext context.now }
+    requires in_range { IsInContext context.now subject.now }
+    ensures { IsJobResult context.now budget (G.bound monitor.now) subject.now result }
 {
-    match cones_of(whole, subject) {
-        Ok(cones) => judge_cones(whole, subject, &cones, budget, monitor),
+    match cones_of(context, subject) {
+        Ok(cones) => judge_cones(context, subject, &cones, budget, monitor),
         Err(_) => Err(CheckFault::OutOfMemory),
     }
 }

@@ -3,9 +3,9 @@ ghost use Rattle.std.specs.Prelude.{◌≡◌, IfOk, IfErr, IfSome, IsTrue, opti
 ghost use Rattle.net_bench.specs.Circuit.{circuit};
 ghost use Rattle.net_order.specs.declared.order.Match.{Match};
 ghost use Rattle.net_order.specs.declared.order.Order.{Order};
-ghost use Rattle.check_report.specs.declared.choice.Choice.{Choice};
-ghost use Rattle.check_report.specs.Check.{AreGiven, IsCheckFault, IsCondition, IsConditionFault, IsEarly};
-ghost use Rattle.check_report.specs.Devices.{HasFailedIn, told_by, told_of};
+ghost use Rattle.check_report.specs.declared.strategy.Strategy.{Strategy};
+ghost use Rattle.check_report.specs.Check.{AreGiven, IsCheckFault, IsCondition, IsConditionFault, IsFaultOfReading};
+ghost use Rattle.check_report.specs.Devices.{HasFailedIn, device_text, device_texts};
 
 use crate::fault::CheckFault;
 use net_bench::device::Source;
@@ -26,9 +26,9 @@ fn read_condition<R: Source>(
     alloc: Global,
     given: &mut Option<R>,
 ) -> Result<Option<Netlist>, CheckFault>
-    ensures condition { IfOk result (λ net. IsCondition (told_by R.remaining given.old) (option_map circuit net)) }
-    ensures fault { IfErr result (IsConditionFault (told_by R.remaining given.old) (HasFailedIn R.has_failed given.new)) }
-    ensures origin { told_by R.origin given.new ≡ told_by R.origin given.old }
+    ensures condition { IfOk result (λ net. IsCondition (device_text R.remaining given.old) (option_map circuit net)) }
+    ensures fault { IfErr result (IsConditionFault (device_text R.remaining given.old) (HasFailedIn R.has_failed given.new)) }
+    ensures origin { device_text R.origin given.new ≡ device_text R.origin given.old }
 {
     let Some(device) = given else {
         return Ok(None);
@@ -50,15 +50,15 @@ pub fn read_netlists<R1: Source, R2: Source, R3: Source>(
     second: &mut R2,
     given: &mut Option<R3>,
 ) -> Result<Netlists, CheckFault>
-    ensures read { let told = told_of (R1.remaining first.old) (R2.remaining second.old) (told_by R3.remaining given.old) in
-        IfOk result (λ nets. AreGiven told (circuit nets.first) (circuit nets.second) (option_map circuit nets.given)) }
-    ensures fault { let told = told_of (R1.remaining first.old) (R2.remaining second.old) (told_by R3.remaining given.old) in
-        (choice : Choice) (how : Match) (order : Order) → IfErr result
-        (IsCheckFault told (IsTrue (R1.has_failed first.new)) (IsTrue (R2.has_failed second.new))
+    ensures read { let input = device_texts (R1.remaining first.old) (R2.remaining second.old) (device_text R3.remaining given.old) in
+        IfOk result (λ nets. AreGiven input (circuit nets.first) (circuit nets.second) (option_map circuit nets.given)) }
+    ensures fault { let input = device_texts (R1.remaining first.old) (R2.remaining second.old) (device_text R3.remaining given.old) in
+        (choice : Strategy) (how : Match) (order : Order) → IfErr result
+        (IsCheckFault input (IsTrue (R1.has_failed first.new)) (IsTrue (R2.has_failed second.new))
         (HasFailedIn R3.has_failed given.new) choice how order) }
-    ensures early { IfErr result IsEarly }
+    ensures early { IfErr result IsFaultOfReading }
     ensures origins { (R1.origin first.new ≡ R1.origin first.old) × (R2.origin second.new ≡ R2.origin second.old)
-        × (told_by R3.origin given.new ≡ told_by R3.origin given.old) }
+        × (device_text R3.origin given.new ≡ device_text R3.origin given.old) }
 {
     let one = match read_bench(alloc, first) {
         Ok(net) => net,

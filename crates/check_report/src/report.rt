@@ -1,11 +1,11 @@
 //! What a comparison found as the bytes of a report, in the form that is asked for.
 ghost use Rattle.std.specs.Prelude.{◌≡◌, IfOk, option_map};
-ghost use Rattle.check_report.specs.Best.{told_kind};
-ghost use Rattle.check_report.specs.Picking.{share_of};
+ghost use Rattle.check_report.specs.Attempts.{reported_kind};
+ghost use Rattle.check_report.specs.PairSelection.{share_of};
 ghost use Rattle.report_text.specs.Json.{form_text};
 
-use crate::choice::Attempt;
 use crate::settings::Settings;
+use crate::strategy::Attempt;
 use report_text::{Cause, Heading, Verdicts, json_of, report_of};
 use std::alloc::{AllocError, Global};
 
@@ -19,7 +19,7 @@ pub(crate) fn form_text(
     verdicts: &Verdicts,
 ) -> Result<Vec<u8>, AllocError>
     ensures { IfOk result (λ text. text.items ≡ form_text settings.now.json settings.now.assignment settings.now.matching
-        (told_kind settings.now.order tried) given
+        (reported_kind settings.now.order tried) given
         (share_of settings.now.picked) (option_map (λ c. c.now) causes.entry) verdicts.now) }
 {
     let share = settings.picked.share();

@@ -1,10 +1,10 @@
 //! What a comparison is asked for.
 ghost use Rattle.std.specs.Prelude.{◌≡◌, ◌≢◌, ◌≤◌, false};
-ghost use Rattle.check_report.specs.declared.choice.Choice.TheVariants.{Auto, Cones};
-ghost use Rattle.check_report.specs.declared.picked.Picked.TheVariants.{All};
+ghost use Rattle.check_report.specs.declared.strategy.Strategy.TheVariants.{Auto, Cones};
+ghost use Rattle.check_report.specs.declared.pair_filter.PairFilter.TheVariants.{All};
 
-use crate::choice::Choice;
-use crate::picked::Picked;
+use crate::pair_filter::PairFilter;
+use crate::strategy::Strategy;
 use net_order::order::Match;
 use report_text::{Assignment, PairName};
 
@@ -13,9 +13,9 @@ use report_text::{Assignment, PairName};
 pub struct Settings {
     pub matching: Match,
     /// The order of the variables, or that one is to be found.
-    pub order: Choice,
+    pub order: Strategy,
     /// Which pairs are compared.
-    pub picked: Picked,
+    pub picked: PairFilter,
     /// The number of worker threads; of auto and of cones, of those that judge pairs.
     pub workers: u32,
     /// The most nodes that the store may hold; where orders are tried, the last of their budgets.

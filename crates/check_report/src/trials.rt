@@ -7,11 +7,11 @@ ghost use Rattle.net_order.specs.declared.order.OrderFault.{OrderFault as OrderF
 ghost use Rattle.net_order.specs.declared.order.Order.TheVariants.{Declared};
 ghost use Rattle.check_report.specs.Check.{IsCheckFault};
 ghost use Rattle.check_report.specs.Tasks.{OfTask};
-ghost use Rattle.check_report.specs.Trials.{HasFew, HasMany, IsNamingIn};
+ghost use Rattle.check_report.specs.Trials.{HasFewVariables, HasTooManyVariables, IsNamingIn};
 ghost use Rattle.check_report.specs.declared.trials.Trial.{Trial as TrialValue};
 
-use crate::choice::Candidate;
 use crate::fault::CheckFault;
+use crate::strategy::Candidate;
 use crate::task::Task;
 use net_order::names::Names;
 use net_order::naming::{Naming, naming_of};
@@ -34,9 +34,9 @@ pub struct Trial {
 pub fn paired<H>(task: &Task<'_, H>, order: &Order) -> Result<Pairing, CheckFault>
     ensures paired { IfOk result (IsPairing task.now.settings.now.matching (circuit task.now.first.now) (circuit task.now.second.now)
         (condition task.now.given) order.now) }
-    ensures fault { OfTask task.now (λ told s. IfErr result (IsCheckFault told ⊥ ⊥ ⊥ s.order s.matching order.now)) }
+    ensures fault { OfTask task.now (λ input s. IfErr result (IsCheckFault input ⊥ ⊥ ⊥ s.order s.matching order.now)) }
     ensures refused { IfErr result (λ fault. (f : OrderFaultValue) × (fault ≡ CheckFault.Order f)) }
-    ensures many { result ≡ Err (CheckFault.Order OrderFault.TooManyInputs) → HasMany task.now }
+    ensures many { result ≡ Err (CheckFault.Order OrderFault.TooManyInputs) → HasTooManyVariables task.now }
 {
     match pair(
         task.alloc,
@@ -54,8 +54,8 @@ pub fn paired<H>(task: &Task<'_, H>, order: &Order) -> Result<Pairing, CheckFaul
 /// The naming of a task's netlists in this order, in which they have a pairing.
 pub fn named_in<H>(task: &Task<'_, H>, order: &Order) -> Result<Naming, CheckFault>
     ensures named { IfOk result (IsNamingIn task.now order.now) }
-    ensures few { IfOk result (λ _. HasFew task.now) }
-    ensures fault { OfTask task.now (λ told s. IfErr result (IsCheckFault told ⊥ ⊥ ⊥ s.order s.matching order.now)) }
+    ensures few { IfOk result (λ _. HasFewVariables task.now) }
+    ensures fault { OfTask task.now (λ input s. IfErr result (IsCheckFault input ⊥ ⊥ ⊥ s.order s.matching order.now)) }
     ensures refused { IfErr result (λ fault. (f : OrderFaultValue) × (fault ≡ CheckFault.Order f)) }
 {
     match paired(task, order) {
@@ -67,9 +67,9 @@ pub fn named_in<H>(task: &Task<'_, H>, order: &Order) -> Result<Naming, CheckFau
 /// The naming of a task's netlists as their variables are declared, of whatever number.
 pub fn named<H>(task: &Task<'_, H>) -> Result<Naming, CheckFault>
     ensures named { IfOk result (IsNamingIn task.now Declared) }
-    ensures fault { OfTask task.now (λ told s. IfErr result (IsCheckFault told ⊥ ⊥ ⊥ s.order s.matching Declared)) }
+    ensures fault { OfTask task.now (λ input s. IfErr result (IsCheckFault input ⊥ ⊥ ⊥ s.order s.matching Declared)) }
     ensures refused { IfErr result (λ fault. (f : OrderFaultValue) × (fault ≡ CheckFault.Order f)) }
-    ensures whole { result ≢ Err (CheckFault.Order OrderFault.TooManyInputs) }
+    ensures any_number_of_inputs { result ≢ Err (CheckFault.Order OrderFault.TooManyInputs) }
 {
     match naming_of(
         task.alloc,

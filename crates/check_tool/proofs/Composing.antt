@@ -7,7 +7,7 @@ use Rattle.std.proofs.lemmas.List.{append_assoc}
 use Rattle.command_line.specs.declared.options.Options.{Options}
 use Rattle.command_line.specs.declared.options.Texts.{Texts}
 use Rattle.command_line.specs.declared.options.Texts.TheVariants.{Input, Files, InputAndFile, FileAndInput, InputTwice, One}
-use Rattle.check_tool.specs.declared.fault.Place.TheVariants.{First, Second, Given as GivenFile, Order as OrderFile}
+use Rattle.check_tool.specs.declared.fault.FileRole.TheVariants.{First, Second, Given as GivenFile, Order as OrderFile}
 use Rattle.check_tool.specs.declared.fault.ToolFault.{ToolFault}
 use Rattle.check_tool.specs.declared.fault.ToolFault.TheVariants.{OneFile, InputTwice as DashTwice, CannotOpen, CannotSave, InputUnread, InputTooLong, InputUndivided, BadOrder, Check, OutOfMemory}
 use Rattle.check_tool.specs.Splitting.{IsSplit}
@@ -51,12 +51,12 @@ keeps_own None = tt
 keeps_own (Some xs) = refl
 
 -- nothing is told where more is not asked for, nor seen
-pub neither : (verbose seen : Bool) → verbose ≡ false → seen ≡ false → (verbose || seen) ≡ false
-neither verbose seen e f = ap (λ v. v || seen) e ∙ f
+pub neither : (verbose on_terminal : Bool) → verbose ≡ false → on_terminal ≡ false → (verbose || on_terminal) ≡ false
+neither verbose on_terminal e f = ap (λ v. v || on_terminal) e ∙ f
 
 -- the status of a fault that is said is that fault's
-pub code_of : (told : List ℕ → Option (List ℕ)) (o : Options) (w : Written) (fault : ToolFault) (status : ℕ) → IsSaidOf told o w fault status → status ≡ fault_status fault
-code_of told o w fault status said = said.1.code
+pub code_of : (bytes_at : List ℕ → Option (List ℕ)) (o : Options) (w : Written) (fault : ToolFault) (status : ℕ) → IsSaidOf bytes_at o w fault status → status ≡ fault_status fault
+code_of bytes_at o w fault status said = said.1.code
 
 -- either more is asked for, or it is not
 pub asked_or : {A B : Type 0} (verbose : Bool) → (verbose ≡ true → A) → (verbose ≡ false → B) → A ⊎ B
@@ -65,26 +65,26 @@ asked_or false f g = inr (g refl)
 
 -- ---- the two texts
 
-pub input_texts : (told : List ℕ → Option (List ℕ)) (input : Option (List ℕ)) (o : Options) → o.texts ≡ Input → (text one two : List ℕ) (first second : Option (List ℕ)) → first ≡ Some one → second ≡ Some two
-    → IfSome input (λ t. text ≡ t) → IsShort text → IsSplit text (Some (one, two)) → AreTexts told input o.texts first second
-input_texts told input o is text one two first second f g e short s = subst (λ t. AreTexts told input t first second) (sym is) (by input e)
+pub input_texts : (bytes_at : List ℕ → Option (List ℕ)) (input : Option (List ℕ)) (o : Options) → o.texts ≡ Input → (text one two : List ℕ) (first second : Option (List ℕ)) → first ≡ Some one → second ≡ Some two
+    → IfSome input (λ t. text ≡ t) → IsShort text → IsSplit text (Some (one, two)) → AreTexts bytes_at input o.texts first second
+input_texts bytes_at input o is text one two first second f g e short s = subst (λ t. AreTexts bytes_at input t first second) (sym is) (by input e)
   where
-    by : (input : Option (List ℕ)) → IfSome input (λ t. text ≡ t) → AreTexts told input Input first second
+    by : (input : Option (List ℕ)) → IfSome input (λ t. text ≡ t) → AreTexts bytes_at input Input first second
     by None e = tt
     by (Some t) e = (subst IsShort e short, (one, two), subst (λ z. IsSplit z (Some (one, two))) e s, f, g)
 
-pub files_texts : (told told' : List ℕ → Option (List ℕ)) → told' ≡ told → (input : Option (List ℕ)) (o : Options) (first second : Bor (List ℕ)) → o.texts ≡ Files first second → (one two : Option (List ℕ))
-    → IfSome (told first.now) (λ text. one ≡ Some text) → IfSome (told' second.now) (λ text. two ≡ Some text) → AreTexts told input o.texts one two
-files_texts told told' kept input o first second is one two e f =
-    subst (λ t. AreTexts told input t one two) (sym is) (e, subst (λ t. IfSome (t second.now) (λ text. two ≡ Some text)) kept f)
+pub files_texts : (bytes_at bytes_at' : List ℕ → Option (List ℕ)) → bytes_at' ≡ bytes_at → (input : Option (List ℕ)) (o : Options) (first second : Bor (List ℕ)) → o.texts ≡ Files first second → (one two : Option (List ℕ))
+    → IfSome (bytes_at first.now) (λ text. one ≡ Some text) → IfSome (bytes_at' second.now) (λ text. two ≡ Some text) → AreTexts bytes_at input o.texts one two
+files_texts bytes_at bytes_at' files_unchanged input o first second is one two e f =
+    subst (λ t. AreTexts bytes_at input t one two) (sym is) (e, subst (λ t. IfSome (t second.now) (λ text. two ≡ Some text)) files_unchanged f)
 
-pub file_and_input : (told : List ℕ → Option (List ℕ)) (input : Option (List ℕ)) (o : Options) (first : Bor (List ℕ)) → o.texts ≡ FileAndInput first → (one : Option (List ℕ)) → IfSome (told first.now) (λ text. one ≡ Some text)
-    → AreTexts told input o.texts one input
-file_and_input told input o first is one e = subst (λ t. AreTexts told input t one input) (sym is) (e, refl)
+pub file_and_input : (bytes_at : List ℕ → Option (List ℕ)) (input : Option (List ℕ)) (o : Options) (first : Bor (List ℕ)) → o.texts ≡ FileAndInput first → (one : Option (List ℕ)) → IfSome (bytes_at first.now) (λ text. one ≡ Some text)
+    → AreTexts bytes_at input o.texts one input
+file_and_input bytes_at input o first is one e = subst (λ t. AreTexts bytes_at input t one input) (sym is) (e, refl)
 
-pub input_and_file : (told : List ℕ → Option (List ℕ)) (input : Option (List ℕ)) (o : Options) (second : Bor (List ℕ)) → o.texts ≡ InputAndFile second → (two : Option (List ℕ)) → IfSome (told second.now) (λ text. two ≡ Some text)
-    → AreTexts told input o.texts input two
-input_and_file told input o second is two e = subst (λ t. AreTexts told input t input two) (sym is) (refl, e)
+pub input_and_file : (bytes_at : List ℕ → Option (List ℕ)) (input : Option (List ℕ)) (o : Options) (second : Bor (List ℕ)) → o.texts ≡ InputAndFile second → (two : Option (List ℕ)) → IfSome (bytes_at second.now) (λ text. two ≡ Some text)
+    → AreTexts bytes_at input o.texts input two
+input_and_file bytes_at input o second is two e = subst (λ t. AreTexts bytes_at input t input two) (sym is) (refl, e)
 
 pub split_parts : (text slice : List ℕ) (r : Option (Bor (List ℕ) × Bor (List ℕ))) (one two : Bor (List ℕ)) → slice ≡ text → r ≡ Some (one, two) → IsSplit slice (option_map (λ parts. (parts.0.now, parts.1.now)) r)
     → IsSplit text (Some (one.now, two.now))
@@ -98,22 +98,22 @@ pub undivided : (input : Option (List ℕ)) (text : List ℕ) → IfSome input (
 undivided None text e short s = tt
 undivided (Some t) text e short s = (subst IsShort e short, subst (λ z. IsSplit z None) e s)
 
-has_texts : (told : List ℕ → Option (List ℕ)) (input : Option (List ℕ)) (t : Texts) (one two : Option (List ℕ)) → AreTexts told input t one two → HasTexts input t
-has_texts told input (Files first second) one two a = tt
-has_texts told None Input one two a = tt
-has_texts told (Some text) Input one two a = (a.0, a.1, a.2)
-has_texts told input (FileAndInput first) one two a = tt
-has_texts told input (InputAndFile second) one two a = tt
-has_texts told input InputTwice one two a = absurd a
-has_texts told input One one two a = absurd a
+has_texts : (bytes_at : List ℕ → Option (List ℕ)) (input : Option (List ℕ)) (t : Texts) (one two : Option (List ℕ)) → AreTexts bytes_at input t one two → HasTexts input t
+has_texts bytes_at input (Files first second) one two a = tt
+has_texts bytes_at None Input one two a = tt
+has_texts bytes_at (Some text) Input one two a = (a.0, a.1, a.2)
+has_texts bytes_at input (FileAndInput first) one two a = tt
+has_texts bytes_at input (InputAndFile second) one two a = tt
+has_texts bytes_at input InputTwice one two a = absurd a
+has_texts bytes_at input One one two a = absurd a
 
-are_two : (told : List ℕ → Option (List ℕ)) (input : Option (List ℕ)) (t : Texts) (one two : Option (List ℕ)) → AreTexts told input t one two → AreTwo t
-are_two told input (Files first second) one two a = tt
-are_two told input Input one two a = tt
-are_two told input (FileAndInput first) one two a = tt
-are_two told input (InputAndFile second) one two a = tt
-are_two told input InputTwice one two a = absurd a
-are_two told input One one two a = absurd a
+are_two : (bytes_at : List ℕ → Option (List ℕ)) (input : Option (List ℕ)) (t : Texts) (one two : Option (List ℕ)) → AreTexts bytes_at input t one two → AreTwo t
+are_two bytes_at input (Files first second) one two a = tt
+are_two bytes_at input Input one two a = tt
+are_two bytes_at input (FileAndInput first) one two a = tt
+are_two bytes_at input (InputAndFile second) one two a = tt
+are_two bytes_at input InputTwice one two a = absurd a
+are_two bytes_at input One one two a = absurd a
 
 two_from_first : (t : Texts) (path : List ℕ) → first_paths t ≡ path ∷ [] → AreTwo t
 two_from_first (Files first second) path e = tt
@@ -125,9 +125,9 @@ two_from_first One path e = cc
 
 -- ---- a file behind those of the texts
 
-module _ (told : List ℕ → Option (List ℕ)) (broken : List ℕ → Type 0) (input_broken : Type 0) (input : Option (List ℕ)) (o : Options) (one two : Option (List ℕ)) (texts : AreTexts told input o.texts one two) where
+module _ (bytes_at : List ℕ → Option (List ℕ)) (broken : List ℕ → Type 0) (input_broken : Type 0) (input : Option (List ℕ)) (o : Options) (one two : Option (List ℕ)) (texts : AreTexts bytes_at input o.texts one two) where
   -- the files behind those of the texts, with these before them
-  pub later_fault : (tries : List Try) (fault : ToolFault) → IsLaterFault told broken o tries fault → IsToolFault told broken input_broken input o (opened (text_paths o.texts) ++ tries) fault
+  pub later_fault : (tries : List Try) (fault : ToolFault) → IsLaterFault bytes_at broken o tries fault → IsToolFault bytes_at broken input_broken input o (opened (text_paths o.texts) ++ tries) fault
   later_fault tries OneFile (inl f) = absurd f
   later_fault tries OneFile (inr f) = absurd f.2.2
   later_fault tries DashTwice (inl f) = absurd f
@@ -147,18 +147,18 @@ module _ (told : List ℕ → Option (List ℕ)) (broken : List ℕ → Type 0) 
   later_fault tries (CannotOpen Second obstacle) (inl f) = absurd f
   later_fault tries (CannotOpen Second obstacle) (inr f) = absurd f.2.2
   later_fault tries (CannotOpen GivenFile obstacle) (inl f) =
-      (f.0, f.1, has_texts told input o.texts one two texts, ap (λ l. opened (text_paths o.texts) ++ l) f.2)
+      (f.0, f.1, has_texts bytes_at input o.texts one two texts, ap (λ l. opened (text_paths o.texts) ++ l) f.2)
   later_fault tries (CannotOpen GivenFile obstacle) (inr f) = absurd f.2.2
   later_fault tries (CannotOpen OrderFile obstacle) (inl f) = absurd f
   later_fault tries (CannotOpen OrderFile obstacle) (inr f) =
-      (f.2.0, f.2.1, has_texts told input o.texts one two texts, ap (λ l. opened (text_paths o.texts) ++ l) (f.1 ∙ ap (λ l. opened (path_in o.given) ++ l) f.2.2) ∙ opened_twice (text_paths o.texts) (path_in o.given) ((f.2.0, false) ∷ []))
+      (f.2.0, f.2.1, has_texts bytes_at input o.texts one two texts, ap (λ l. opened (text_paths o.texts) ++ l) (f.1 ∙ ap (λ l. opened (path_in o.given) ++ l) f.2.2) ∙ opened_twice (text_paths o.texts) (path_in o.given) ((f.2.0, false) ∷ []))
   later_fault tries (BadOrder fault) (inl f) = absurd f
   later_fault tries (BadOrder fault) (inr f) =
-      (f.2.0, f.2.1, has_texts told input o.texts one two texts, ap (λ l. opened (text_paths o.texts) ++ l) (f.1 ∙ ap (λ l. opened (path_in o.given) ++ l) (f.2.2.0 ∙ ap opened (sym f.2.1)) ∙ sym (opened_more (path_in o.given) (order_paths o.order))) ∙ sym (opened_more (text_paths o.texts) (later_paths o)), f.2.2.1)
+      (f.2.0, f.2.1, has_texts bytes_at input o.texts one two texts, ap (λ l. opened (text_paths o.texts) ++ l) (f.1 ∙ ap (λ l. opened (path_in o.given) ++ l) (f.2.2.0 ∙ ap opened (sym f.2.1)) ∙ sym (opened_more (path_in o.given) (order_paths o.order))) ∙ sym (opened_more (text_paths o.texts) (later_paths o)), f.2.2.1)
   later_fault tries OutOfMemory (inl f) =
-      (are_two told input o.texts one two texts, tried_more (text_paths o.texts) (later_paths o) tries (tried_first (path_in o.given) (order_paths o.order) tries f))
+      (are_two bytes_at input o.texts one two texts, tried_more (text_paths o.texts) (later_paths o) tries (tried_first (path_in o.given) (order_paths o.order) tries f))
   later_fault tries OutOfMemory (inr f) = (
-    are_two told input o.texts one two texts,
+    are_two bytes_at input o.texts one two texts,
     tried_more (text_paths o.texts) (later_paths o) tries (subst (λ l. AreTried (later_paths o) l) (sym f.1) (tried_more (path_in o.given) (order_paths o.order) f.0 (subst (λ p. AreTried p f.0) (sym f.2.1) f.2.2))),
   )
 
@@ -168,30 +168,30 @@ module _ (o : Options) (first second : Bor (List ℕ)) (files : o.texts ≡ File
   pub both_opened : (a b c : Option (List Try)) → Extends a b ((first.now, true) ∷ []) → Extends b c ((second.now, true) ∷ []) → Extends a c (opened (text_paths o.texts))
   both_opened a b c e f = subst (λ t. Extends a c (opened (text_paths t))) (sym files) (extends_more a b c ((first.now, true) ∷ []) ((second.now, true) ∷ []) e f)
 
-  pub second_unopened : (told : List ℕ → Option (List ℕ)) (broken : List ℕ → Type 0) (input_broken : Type 0) (input : Option (List ℕ)) (fault : ToolFault) (a b c : Option (List Try)) → IsOpenFault Second fault
-      → Extends a b ((first.now, true) ∷ []) → Extends b c ((second.now, false) ∷ []) → (tries : List Try) × Extends a c tries × IsToolFault told broken input_broken input o tries fault
-  second_unopened told broken input_broken input fault a b c (inl (obstacle, is)) e f = (
+  pub second_unopened : (bytes_at : List ℕ → Option (List ℕ)) (broken : List ℕ → Type 0) (input_broken : Type 0) (input : Option (List ℕ)) (fault : ToolFault) (a b c : Option (List Try)) → IsOpenFault Second fault
+      → Extends a b ((first.now, true) ∷ []) → Extends b c ((second.now, false) ∷ []) → (tries : List Try) × Extends a c tries × IsToolFault bytes_at broken input_broken input o tries fault
+  second_unopened bytes_at broken input_broken input fault a b c (inl (obstacle, is)) e f = (
     (first.now, true) ∷ (second.now, false) ∷ [],
     extends_more a b c ((first.now, true) ∷ []) ((second.now, false) ∷ []) e f,
-    subst (λ x. IsToolFault told broken input_broken input o ((first.now, true) ∷ (second.now, false) ∷ []) x) (sym is) (second.now, ap second_paths files, sym (ap (λ t. opened (first_paths t) ++ (second.now, false) ∷ []) files)),
+    subst (λ x. IsToolFault bytes_at broken input_broken input o ((first.now, true) ∷ (second.now, false) ∷ []) x) (sym is) (second.now, ap second_paths files, sym (ap (λ t. opened (first_paths t) ++ (second.now, false) ∷ []) files)),
   )
-  second_unopened told broken input_broken input fault a b c (inr is) e f = (
+  second_unopened bytes_at broken input_broken input fault a b c (inr is) e f = (
     (first.now, true) ∷ (second.now, false) ∷ [],
     extends_more a b c ((first.now, true) ∷ []) ((second.now, false) ∷ []) e f,
-    subst (λ x. IsToolFault told broken input_broken input o ((first.now, true) ∷ (second.now, false) ∷ []) x) (sym is)
+    subst (λ x. IsToolFault bytes_at broken input_broken input o ((first.now, true) ∷ (second.now, false) ∷ []) x) (sym is)
         (subst (λ t. AreTwo t × AreTried (text_paths t ++ later_paths o) ((first.now, true) ∷ (second.now, false) ∷ [])) (sym files) (tt, (refl, (refl, refl)))),
   )
 
 -- ---- a first file that is not opened
 
-pub first_unopened : (o : Options) (path : List ℕ) → first_paths o.texts ≡ path ∷ [] → (told : List ℕ → Option (List ℕ)) (broken : List ℕ → Type 0) (input_broken : Type 0) (input : Option (List ℕ)) (fault : ToolFault) (a b : Option (List Try))
-    → IsOpenFault First fault → Extends a b ((path, false) ∷ []) → (tries : List Try) × Extends a b tries × IsToolFault told broken input_broken input o tries fault
-first_unopened o path named told broken input_broken input fault a b (inl (obstacle, is)) e =
-    ((path, false) ∷ [], e, subst (λ x. IsToolFault told broken input_broken input o ((path, false) ∷ []) x) (sym is) (path, named, refl))
-first_unopened o path named told broken input_broken input fault a b (inr is) e = (
+pub first_unopened : (o : Options) (path : List ℕ) → first_paths o.texts ≡ path ∷ [] → (bytes_at : List ℕ → Option (List ℕ)) (broken : List ℕ → Type 0) (input_broken : Type 0) (input : Option (List ℕ)) (fault : ToolFault) (a b : Option (List Try))
+    → IsOpenFault First fault → Extends a b ((path, false) ∷ []) → (tries : List Try) × Extends a b tries × IsToolFault bytes_at broken input_broken input o tries fault
+first_unopened o path named bytes_at broken input_broken input fault a b (inl (obstacle, is)) e =
+    ((path, false) ∷ [], e, subst (λ x. IsToolFault bytes_at broken input_broken input o ((path, false) ∷ []) x) (sym is) (path, named, refl))
+first_unopened o path named bytes_at broken input_broken input fault a b (inr is) e = (
   (path, false) ∷ [],
   e,
-  subst (λ x. IsToolFault told broken input_broken input o ((path, false) ∷ []) x) (sym is)
+  subst (λ x. IsToolFault bytes_at broken input_broken input o ((path, false) ∷ []) x) (sym is)
       (two_from_first o.texts path named, subst (λ ps. AreTried ((ps ++ second_paths o.texts) ++ later_paths o) ((path, false) ∷ [])) (sym named) (refl, refl)),
 )
 
@@ -201,16 +201,16 @@ module _ (o : Options) (path : List ℕ) (named : text_paths o.texts ≡ path �
   pub one_opened : (a b : Option (List Try)) → Extends a b ((path, true) ∷ []) → Extends a b (opened (text_paths o.texts))
   one_opened a b e = subst (λ ps. Extends a b (opened ps)) (sym named) e
 
-pub second_unopened_beside : (o : Options) (second : Bor (List ℕ)) → o.texts ≡ InputAndFile second → (told : List ℕ → Option (List ℕ)) (broken : List ℕ → Type 0) (input_broken : Type 0) (input : Option (List ℕ)) (fault : ToolFault) (a b : Option (List Try))
-    → IsOpenFault Second fault → Extends a b ((second.now, false) ∷ []) → (tries : List Try) × Extends a b tries × IsToolFault told broken input_broken input o tries fault
-second_unopened_beside o second beside told broken input_broken input fault a b (inl (obstacle, is)) e = (
+pub second_unopened_beside : (o : Options) (second : Bor (List ℕ)) → o.texts ≡ InputAndFile second → (bytes_at : List ℕ → Option (List ℕ)) (broken : List ℕ → Type 0) (input_broken : Type 0) (input : Option (List ℕ)) (fault : ToolFault) (a b : Option (List Try))
+    → IsOpenFault Second fault → Extends a b ((second.now, false) ∷ []) → (tries : List Try) × Extends a b tries × IsToolFault bytes_at broken input_broken input o tries fault
+second_unopened_beside o second beside bytes_at broken input_broken input fault a b (inl (obstacle, is)) e = (
   (second.now, false) ∷ [],
   e,
-  subst (λ x. IsToolFault told broken input_broken input o ((second.now, false) ∷ []) x) (sym is) (second.now, ap second_paths beside, sym (ap (λ t. opened (first_paths t) ++ (second.now, false) ∷ []) beside)),
+  subst (λ x. IsToolFault bytes_at broken input_broken input o ((second.now, false) ∷ []) x) (sym is) (second.now, ap second_paths beside, sym (ap (λ t. opened (first_paths t) ++ (second.now, false) ∷ []) beside)),
 )
-second_unopened_beside o second beside told broken input_broken input fault a b (inr is) e = (
+second_unopened_beside o second beside bytes_at broken input_broken input fault a b (inr is) e = (
   (second.now, false) ∷ [],
   e,
-  subst (λ x. IsToolFault told broken input_broken input o ((second.now, false) ∷ []) x) (sym is)
+  subst (λ x. IsToolFault bytes_at broken input_broken input o ((second.now, false) ∷ []) x) (sym is)
       (subst (λ t. AreTwo t × AreTried (text_paths t ++ later_paths o) ((second.now, false) ∷ [])) (sym beside) (tt, (refl, refl))),
 )

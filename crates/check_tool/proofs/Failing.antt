@@ -11,20 +11,20 @@ use Rattle.net_order.specs.declared.order.OrderFault.TheVariants.{Read as OrderR
 use Rattle.net_order.specs.OrderText.{IsBadText}
 use Rattle.command_line.specs.declared.options.Texts.{Texts}
 use Rattle.check_tool.specs.Opening.{HasFailedAt}
-use Rattle.check_report.specs.Devices.{told_of, told_by, HasFailedIn}
+use Rattle.check_report.specs.Devices.{device_texts, device_text, HasFailedIn}
 use Rattle.std.specs.Borrow.{Bor}
-use Rattle.check_report.specs.declared.choice.Choice.{Choice}
+use Rattle.check_report.specs.declared.strategy.Strategy.{Strategy}
 use Rattle.check_report.specs.declared.settings.Settings.{Settings}
 use Rattle.check_report.specs.Explaining.{IsReportFault}
 use Rattle.check_tool.specs.Running.{HasFirstFailed, HasSecondFailed, HasGivenFailed, IsGivenFrom, IsOrderRefused}
 
 -- what a failure of the devices implies stands in the cause of a fault in its place
-pub check_fault : (one two : Option (List ℕ)) (given : Option (Option (List ℕ))) (first_failed second_failed given_failed first second condition : Type 0) (choice : Choice) (how : Match) (order : Order) → (first_failed → first) → (second_failed → second) → (given_failed → condition) → (fault : CheckFault) →
-    IsCheckFault (told_of one two given) first_failed second_failed given_failed choice how order fault → IsCheckFault (told_of one two given) first second condition choice how order fault
+pub check_fault : (one two : Option (List ℕ)) (given : Option (Option (List ℕ))) (first_failed second_failed given_failed first second condition : Type 0) (choice : Strategy) (how : Match) (order : Order) → (first_failed → first) → (second_failed → second) → (given_failed → condition) → (fault : CheckFault) →
+    IsCheckFault (device_texts one two given) first_failed second_failed given_failed choice how order fault → IsCheckFault (device_texts one two given) first second condition choice how order fault
 check_fault one two given first_failed second_failed given_failed first second condition choice how order f g h (First fault) c = record { cause = c.cause; read = λ e. f (c.read e) }
 check_fault one two given first_failed second_failed given_failed first second condition choice how order f g h (Second fault) c = (c.0, c.1, record { cause = c.2.cause; read = λ e. g (c.2.read e) })
 check_fault one two None first_failed second_failed given_failed first second condition choice how order f g h (Given fault) c = c
-check_fault one two (Some told) first_failed second_failed given_failed first second condition choice how order f g h (Given fault) c = (c.0, c.1, c.2, c.3, record { cause = c.4.cause; read = λ e. h (c.4.read e) })
+check_fault one two (Some known) first_failed second_failed given_failed first second condition choice how order f g h (Given fault) c = (c.0, c.1, c.2, c.3, record { cause = c.4.cause; read = λ e. h (c.4.read e) })
 check_fault one two given first_failed second_failed given_failed first second condition choice how order f g h GivenOutputs c = c
 check_fault one two given first_failed second_failed given_failed first second condition choice how order f g h (OrderRefused fault) c = c
 check_fault one two given first_failed second_failed given_failed first second condition choice how order f g h Only c = c
@@ -36,7 +36,7 @@ check_fault one two given first_failed second_failed given_failed first second c
 
 -- the same of all that a report fails for
 pub report_fault : (one two : Option (List ℕ)) (given : Option (Option (List ℕ))) (first_failed second_failed given_failed first second condition : Type 0) (s : Settings) → (first_failed → first) → (second_failed → second) → (given_failed → condition) → (fault : CheckFault) →
-    IsReportFault (told_of one two given) first_failed second_failed given_failed s fault → IsReportFault (told_of one two given) first second condition s fault
+    IsReportFault (device_texts one two given) first_failed second_failed given_failed s fault → IsReportFault (device_texts one two given) first second condition s fault
 report_fault one two given first_failed second_failed given_failed first second condition s f g h fault (inl unknown) = inl unknown
 report_fault one two given first_failed second_failed given_failed first second condition s f g h fault (inr c) =
     inr (c.0, c.1, check_fault one two given first_failed second_failed given_failed first second condition s.order s.matching c.0 f g h fault c.2)
@@ -47,7 +47,7 @@ pub failed_at : {File : Type 0} (origin : File → Option (List ℕ)) (has_faile
 failed_at origin has_failed path before after named same failed = (after, subst (λ o. IfSome o (λ from. from ≡ path)) (sym same) named, failed)
 
 -- the condition's file too
-pub given_failed : {File : Type 0} (origin : File → Option (List ℕ)) (has_failed : File → Bool) (path : Option (Bor (List ℕ))) (before after : Option File) → IsGivenFrom path (told_by origin before) → told_by origin after ≡ told_by origin before
+pub given_failed : {File : Type 0} (origin : File → Option (List ℕ)) (has_failed : File → Bool) (path : Option (Bor (List ℕ))) (before after : Option File) → IsGivenFrom path (device_text origin before) → device_text origin after ≡ device_text origin before
     → HasFailedIn has_failed after → HasGivenFailed (HasFailedAt origin has_failed) path
 given_failed origin has_failed path before None named same failed = absurd failed
 given_failed origin has_failed None before (Some file) named same failed = let none : Some (origin file) ≡ None = same ∙ named in cc
@@ -67,8 +67,8 @@ pub never : (A : Type 0) → IsTrue false → A
 never A e = cc
 
 -- why the text of a file was refused is why the file at its path was
-refused_as : (told given : Option (List ℕ)) (fault : OrderFault) → IfSome told (λ text. given ≡ Some text) → (fault ≡ NoOrderMemory) ⊎ (fault ≡ OrderReadFailed) ⊎ IfSome given (λ text. IsBadText text fault)
-    → (fault ≡ NoOrderMemory) ⊎ (fault ≡ OrderReadFailed) ⊎ IfSome told (λ text. IsBadText text fault)
+refused_as : (known given : Option (List ℕ)) (fault : OrderFault) → IfSome known (λ text. given ≡ Some text) → (fault ≡ NoOrderMemory) ⊎ (fault ≡ OrderReadFailed) ⊎ IfSome given (λ text. IsBadText text fault)
+    → (fault ≡ NoOrderMemory) ⊎ (fault ≡ OrderReadFailed) ⊎ IfSome known (λ text. IsBadText text fault)
 refused_as None given fault same (inl e) = inl e
 refused_as None given fault same (inr (inl e)) = inr (inl e)
 refused_as None given fault same (inr (inr bad)) = inr (inr tt)
@@ -76,10 +76,10 @@ refused_as (Some text) given fault same (inl e) = inl e
 refused_as (Some text) given fault same (inr (inl e)) = inr (inl e)
 refused_as (Some text) given fault same (inr (inr bad)) = inr (inr (subst (λ g. IfSome g (λ t. IsBadText t fault)) same bad))
 
-pub order_refused : {File : Type 0} (origin : File → Option (List ℕ)) (has_failed : File → Bool) (path : List ℕ) (before after : File) (told given : Option (List ℕ)) (fault : OrderFault) → IfSome told (λ text. given ≡ Some text)
+pub order_refused : {File : Type 0} (origin : File → Option (List ℕ)) (has_failed : File → Bool) (path : List ℕ) (before after : File) (known given : Option (List ℕ)) (fault : OrderFault) → IfSome known (λ text. given ≡ Some text)
     → (fault ≡ NoOrderMemory) ⊎ (fault ≡ OrderReadFailed) ⊎ IfSome given (λ text. IsBadText text fault) → IfSome (origin before) (λ from. from ≡ path) → origin after ≡ origin before → (fault ≡ OrderReadFailed → IsTrue (has_failed after))
-    → IsOrderRefused told (HasFailedAt origin has_failed path) fault
-order_refused origin has_failed path before after told given fault tells cause named same read = record {
-  cause = refused_as told given fault tells cause;
+    → IsOrderRefused known (HasFailedAt origin has_failed path) fault
+order_refused origin has_failed path before after known given fault is_known cause named same read = record {
+  cause = refused_as known given fault is_known cause;
   read = λ e. failed_at origin has_failed path before after named same (read e);
 }

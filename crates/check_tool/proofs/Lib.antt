@@ -4,7 +4,7 @@ pub mod Failing
 pub mod Preparing
 pub mod Quoting
 pub mod Naming
-pub mod Asking
+pub mod OptionsToSettings
 pub mod Saying
 pub mod Unsaved
 pub mod Comparing

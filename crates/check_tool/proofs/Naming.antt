@@ -5,6 +5,6 @@ use Rattle.check_report.specs.Check.{Gives}
 use Rattle.check_tool.specs.Running.{IsReadOf}
 
 -- the circuit of a file that is opened once more is that of what it told
-pub gives_again : (told read : Option (List ℕ)) (a : Circuit) → IsReadOf told read → Gives read a → Gives told a
+pub gives_again : (known read : Option (List ℕ)) (a : Circuit) → IsReadOf known read → Gives read a → Gives known a
 gives_again None read a is g = tt
 gives_again (Some text) read a is g = subst (λ r. Gives r a) is g

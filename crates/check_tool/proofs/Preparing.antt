@@ -2,7 +2,7 @@
 use Rattle.std.proofs.Common.{◌≡◌, ◌++◌, inl, inr, ℕ, false, List, [], ◌∷◌, Option, Some, refl, sym, subst}
 use Rattle.std.specs.Borrow.{Bor}
 use Rattle.command_line.specs.declared.options.Options.{Options}
-use Rattle.check_tool.specs.declared.fault.Place.TheVariants.{Given}
+use Rattle.check_tool.specs.declared.fault.FileRole.TheVariants.{Given}
 use Rattle.check_tool.specs.declared.fault.ToolFault.{ToolFault}
 use Rattle.check_tool.specs.Opening.{Try, Extends, opened, AreTried}
 use Rattle.check_tool.specs.Running.{IsOpenFault, path_in, order_paths, later_paths, IsGivenFault, IsOrderFault, IsLaterFault}
@@ -15,13 +15,13 @@ given_unopened given path is fault a b (inl (obstacle, e)) x =
 given_unopened given path is fault a b (inr e) x =
     ((path.now, false) ∷ [], x, subst (λ f. IsGivenFault given ((path.now, false) ∷ []) f) (sym e) (subst (λ g. AreTried (path_in g) ((path.now, false) ∷ [])) (sym is) (refl, refl)))
 
-pub given_unhad : (told : List ℕ → Option (List ℕ)) (broken : List ℕ → Type 0) (o : Options) (fault : ToolFault) (a b : Option (List Try)) → (tries : List Try) × Extends a b tries × IsGivenFault o.given tries fault
-    → (tries : List Try) × Extends a b tries × IsLaterFault told broken o tries fault
-given_unhad told broken o fault a b h = (h.0, h.1, inl h.2)
+pub given_unhad : (bytes_at : List ℕ → Option (List ℕ)) (broken : List ℕ → Type 0) (o : Options) (fault : ToolFault) (a b : Option (List Try)) → (tries : List Try) × Extends a b tries × IsGivenFault o.given tries fault
+    → (tries : List Try) × Extends a b tries × IsLaterFault bytes_at broken o tries fault
+given_unhad bytes_at broken o fault a b h = (h.0, h.1, inl h.2)
 
-pub order_unhad : (told told' : List ℕ → Option (List ℕ)) (broken : List ℕ → Type 0) (o : Options) (fault : ToolFault) (a b c : Option (List Try)) → told' ≡ told → Extends a b (opened (path_in o.given))
-    → (tries : List Try) × Extends b c tries × IsOrderFault told' broken o.order tries fault → (tries : List Try) × Extends a c tries × IsLaterFault told broken o tries fault
-order_unhad told told' broken o fault a b c same e h = (
+pub order_unhad : (bytes_at bytes_at' : List ℕ → Option (List ℕ)) (broken : List ℕ → Type 0) (o : Options) (fault : ToolFault) (a b c : Option (List Try)) → bytes_at' ≡ bytes_at → Extends a b (opened (path_in o.given))
+    → (tries : List Try) × Extends b c tries × IsOrderFault bytes_at' broken o.order tries fault → (tries : List Try) × Extends a c tries × IsLaterFault bytes_at broken o tries fault
+order_unhad bytes_at bytes_at' broken o fault a b c same e h = (
   opened (path_in o.given) ++ h.0,
   extends_more a b c (opened (path_in o.given)) h.0 e h.1,
   inr (h.0, refl, subst (λ t. IsOrderFault t broken o.order h.0 fault) same h.2),

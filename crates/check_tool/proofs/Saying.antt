@@ -28,9 +28,9 @@ why_more back rest (inl f) = inl f
 why_more back rest (inr s) = inr (s.0, still_some back rest s.1)
 
 -- all of one text was taken, and a front part of the next
-pub front_behind : (held middle now : Option (List ℕ)) (has_failed has_stopped : Bool) (front part rest : List ℕ) → Appends held middle front → AppendsFront middle now has_failed has_stopped part
+pub front_following : (held middle now : Option (List ℕ)) (has_failed has_stopped : Bool) (front part rest : List ℕ) → Appends held middle front → AppendsFront middle now has_failed has_stopped part
     → AppendsFront held now has_failed has_stopped (front ++ (part ++ rest))
-front_behind held middle now has_failed has_stopped front part rest a f = record {
+front_following held middle now has_failed has_stopped front part rest a f = record {
   front = front ++ f.front;
   back = f.back ++ rest;
   parts = ap (λ l. front ++ (l ++ rest)) f.parts ∙ ap (λ l. front ++ l) (append_assoc f.front f.back rest) ∙ sym (append_assoc front f.front (f.back ++ rest));
@@ -59,4 +59,4 @@ module _ (held middle now : Option (List ℕ)) (parts : List (Bor (List ℕ))) (
       → AppendsFront held now has_failed has_stopped (flat_map (λ q. q.now) parts)
   front_taken has_failed has_stopped a f =
       let r = text_at parts i p low at in
-      subst (AppendsFront held now has_failed has_stopped) (sym r.1) (front_behind held middle now has_failed has_stopped (flat_map (λ q. q.now) (take i parts)) p.now r.0 a f)
+      subst (AppendsFront held now has_failed has_stopped) (sym r.1) (front_following held middle now has_failed has_stopped (flat_map (λ q. q.now) (take i parts)) p.now r.0 a f)

@@ -3,8 +3,8 @@ use Rattle.std.specs.Prelude.{◌≡◌, ◌≢◌, ◌⊎◌, ◌↔◌, ◌/�
 use Rattle.std.specs.Prelude.{string_bytes, codes, decimal, if◌then◌else◌, nat_lt, ⊤}
 use Rattle.std.specs.Io.KnownBytes.{Appends, Keeps}
 use Rattle.report_text.specs.declared.outcome.Outcome.{Outcome}
-use Rattle.check_report.specs.declared.choice.Attempt.{Attempt}
-use Rattle.check_report.specs.Best.{candidate_text}
+use Rattle.check_report.specs.declared.strategy.Attempt.{Attempt}
+use Rattle.check_report.specs.Attempts.{candidate_text}
 use Rattle.check_report.specs.Cones.{cone_limit}
 use Rattle.check_report.specs.declared.fault.CheckFault.TheVariants.{Only, Wave, GivenUp, Write}
 use Rattle.report_text.specs.Writing.{AppendsFront}
@@ -20,13 +20,13 @@ use Rattle.check_tool.specs.declared.done.Done.{Done}
 use Rattle.check_tool.specs.declared.done.Done.TheVariants.{Compared, OrderPrinted}
 use Rattle.check_tool.specs.declared.fault.ToolFault.{ToolFault}
 use Rattle.check_tool.specs.declared.fault.ToolFault.TheVariants.{Check, InputUnread, OutOfMemory}
-use Rattle.check_tool.specs.declared.process.NoWords.{NoWords}
-use Rattle.check_tool.specs.declared.process.NoWords.TheVariants.{OutOfMemory as NoArguments, NoText}
+use Rattle.check_tool.specs.declared.process.ArgumentsError.{ArgumentsError}
+use Rattle.check_tool.specs.declared.process.ArgumentsError.TheVariants.{OutOfMemory as NoArguments, NotUtf8}
 use Rattle.check_tool.specs.Faults.{fault_line, fault_status}
 use Rattle.check_tool.specs.Helping.{IsHelp, refused_paths}
 use Rattle.check_tool.specs.Opening.{Try, Save, Extends, AreTried, opened}
-use Rattle.check_tool.specs.Running.{paths_of, HasReported, HasReportedFront, IsBeyond, IsGivenUp, ArePassed, AreUnknown, MayGoByCones}
-use Rattle.check_tool.specs.Running.{NamesOrder, IsToolFault, StandOnInput, limit_of, node_bytes}
+use Rattle.check_tool.specs.Running.{paths_of, HasReported, HasReportedFront, IsBeyond, IsGivenUp, AreEarlierAttemptsGivenUp, AreUnknown, MayGoByCones}
+use Rattle.check_tool.specs.Running.{NamesOrder, IsToolFault, AreOnStandardInput, limit_of, node_bytes}
 use Rattle.check_tool.specs.Saving.{IsSaveFault, saves_of}
 
 -- what a device held and holds now, and whether it has failed by now, and whether a write has taken nothing of some bytes
@@ -59,36 +59,36 @@ abbrev pub MaySay : Written → List ℕ → Type 0
 MaySay w text = Says w text ⊎ Keeps w.held w.holds
 
 -- what a device holds between two texts, and whether it has failed or stopped by then
-pub record Between : Type 0 where
+pub record DeviceState : Type 0 where
   pub holds : Option (List ℕ)
   pub has_failed : Bool
   pub has_stopped : Bool
 
 -- what was written until then
-abbrev pub until : Written → Between → Written
-until w b = record { held = w.held; holds = b.holds; has_failed = b.has_failed; has_stopped = b.has_stopped }
+abbrev pub written_until : Written → DeviceState → Written
+written_until w b = record { held = w.held; holds = b.holds; has_failed = b.has_failed; has_stopped = b.has_stopped }
 
 -- what was written from then on
-abbrev pub from : Written → Between → Written
-from w b = record { held = b.holds; holds = w.holds; has_failed = w.has_failed; has_stopped = w.has_stopped }
+abbrev pub written_from : Written → DeviceState → Written
+written_from w b = record { held = b.holds; holds = w.holds; has_failed = w.has_failed; has_stopped = w.has_stopped }
 
 -- whether progress is told while diagrams are built: it is asked for, or the device for it is seen on a terminal
-abbrev pub tells : Options → (seen : Bool) → Bool
-tells o seen = o.verbose || seen
+abbrev pub shows_progress : Options → (on_terminal : Bool) → Bool
+shows_progress o on_terminal = o.verbose || on_terminal
 
 -- what a device holds behind progress: what it held, where none may be told, and else what is not spoken of
-abbrev pub HasProgress : (tells : Bool) → Written → Type 0
+abbrev pub HasProgress : (shows_progress : Bool) → Written → Type 0
 HasProgress false w = Keeps w.held w.holds
 HasProgress true w = ⊤
 
 -- this holds of what was written behind progress
-abbrev pub IsBehindProgress : (tells : Bool) → Written → (Written → Type 0) → Type 0
-IsBehindProgress t w P = (b : Between) × HasProgress t (until w b) × P (from w b)
+abbrev pub IsAfterProgress : (shows_progress : Bool) → Written → (Written → Type 0) → Type 0
+IsAfterProgress t w P = (b : DeviceState) × HasProgress t (written_until w b) × P (written_from w b)
 
 -- what is said of a fault of a run, always: its line, and after it the line of what helps
-abbrev pub IsSaidOf : (told : List ℕ → Option (List ℕ)) → Options → Written → ToolFault → (status : ℕ) → Type 0
-IsSaidOf told o w fault status = (b : Between) × IsSaid (until w b) fault status × (line : List ℕ) × IsHelp told o fault line
-    × MaySay (from w b) line
+abbrev pub IsSaidOf : (bytes_at : List ℕ → Option (List ℕ)) → Options → Written → ToolFault → (status : ℕ) → Type 0
+IsSaidOf bytes_at o w fault status = (b : DeviceState) × IsSaid (written_until w b) fault status × (line : List ℕ) × IsHelp bytes_at o fault line
+    × MaySay (written_from w b) line
 
 -- the line that names the attempt that has decided
 abbrev pub attempt_line : Attempt → List ℕ
@@ -104,22 +104,22 @@ abbrev pub cones_line : List ℕ
 cones_line = codes "bddcheck: each pair was judged by its cones\n"
 
 -- what is said of what has decided a run, where an order was to be found: an attempt, or cones
-abbrev pub IsWaySaid : OrderChoice → Option Attempt → Written → Type 0
-IsWaySaid choice (Some t) w = IsAttemptSaid (Some t) w
-IsWaySaid Auto None w = Says w cones_line
-IsWaySaid Cones None w = Says w cones_line
-IsWaySaid Declared None w = IsAttemptSaid None w
-IsWaySaid Depth None w = IsAttemptSaid None w
-IsWaySaid Interleave None w = IsAttemptSaid None w
-IsWaySaid Index None w = IsAttemptSaid None w
-IsWaySaid Force None w = IsAttemptSaid None w
-IsWaySaid Best None w = IsAttemptSaid None w
-IsWaySaid (File path) None w = IsAttemptSaid None w
-IsWaySaid (Extended path) None w = IsAttemptSaid None w
+abbrev pub IsMethodSaid : OrderChoice → Option Attempt → Written → Type 0
+IsMethodSaid choice (Some t) w = IsAttemptSaid (Some t) w
+IsMethodSaid Auto None w = Says w cones_line
+IsMethodSaid Cones None w = Says w cones_line
+IsMethodSaid Declared None w = IsAttemptSaid None w
+IsMethodSaid Depth None w = IsAttemptSaid None w
+IsMethodSaid Interleave None w = IsAttemptSaid None w
+IsMethodSaid Index None w = IsAttemptSaid None w
+IsMethodSaid Force None w = IsAttemptSaid None w
+IsMethodSaid Best None w = IsAttemptSaid None w
+IsMethodSaid (File path) None w = IsAttemptSaid None w
+IsMethodSaid (Extended path) None w = IsAttemptSaid None w
 
 -- the option that allows more nodes: the limit where that is less than what the memory holds, else the memory
-abbrev pub larger_word : Options → List ℕ
-larger_word o = if nat_lt o.limit (o.memory / node_bytes) then codes "--limit" else codes "--memory"
+abbrev pub larger_option : Options → List ℕ
+larger_option o = if nat_lt o.limit (o.memory / node_bytes) then codes "--limit" else codes "--memory"
 
 -- the line that says how many pairs are undecided, within how many nodes each was given up, and which option helps
 abbrev pub undecided_words : (undecided nodes : ℕ) → (larger : List ℕ) → List ℕ
@@ -130,7 +130,7 @@ undecided_words n nodes larger =
     ++ (larger ++ codes " may help\n")))))
 
 abbrev pub undecided_line : Options → (undecided : ℕ) → List ℕ
-undecided_line o n = undecided_words n (cone_limit (limit_of o)) (larger_word o)
+undecided_line o n = undecided_words n (cone_limit (limit_of o)) (larger_option o)
 
 -- it is said where some are
 abbrev pub IsUndecidedSaid : Options → (undecided : ℕ) → Written → Type 0
@@ -140,13 +140,13 @@ IsUndecidedSaid o (suc n) w = Says w (undecided_line o (suc n))
 -- what is said of a run that has done this, where more is asked for: what has decided, and how many pairs are undecided
 abbrev pub IsDoneSaid : (verbose : Bool) → Options → Done → Written → Type 0
 IsDoneSaid false o done w = Keeps w.held w.holds
-IsDoneSaid true o (Compared outcome tried vcd) w = (b : Between) × IsWaySaid o.order tried (until w b)
-    × IsUndecidedSaid o outcome.undecided (from w b)
+IsDoneSaid true o (Compared outcome tried vcd) w = (b : DeviceState) × IsMethodSaid o.order tried (written_until w b)
+    × IsUndecidedSaid o outcome.undecided (written_from w b)
 IsDoneSaid true o (OrderPrinted tried) w = IsAttemptSaid tried w
 
 -- the words ask for more on standard error than faults
-abbrev pub AskForMore : List (List ℕ) → Type 0
-AskForMore words = (o : Options) × AskFor words o × (o.verbose ≡ true)
+abbrev pub AskForVerbose : List (List ℕ) → Type 0
+AskForVerbose words = (o : Options) × AskFor words o × (o.verbose ≡ true)
 
 -- some outputs or next states differ, or have no partner
 abbrev pub AreUnlike : Outcome → Type 0
@@ -165,9 +165,9 @@ IsDoneStatus (OrderPrinted tried) status = status ≡ 0
 
 -- what a run is given and leaves: whether the error device is seen on a terminal, the files that are told, the tries and the saves before
 -- and now, the bytes of the input and whether it has failed now, and what was written to the output and to the error device
-pub record Scene : Type 0 where
-  pub seen : Bool
-  pub told : List ℕ → Option (List ℕ)
+pub record RunEffects : Type 0 where
+  pub on_terminal : Bool
+  pub bytes_at : List ℕ → Option (List ℕ)
   pub tried : Option (List Try)
   pub tries : Option (List Try)
   pub saved : Option (List Save)
@@ -178,12 +178,12 @@ pub record Scene : Type 0 where
   pub errors : Written
 
 -- the same, of a folder and an input before and now
-abbrev pub scene_of : {F R : Type 0} → (seen : Bool) → (told : F → List ℕ → Option (List ℕ)) → (tries : F → Option (List Try))
+abbrev pub run_effects_of : {F R : Type 0} → (on_terminal : Bool) → (bytes_at : F → List ℕ → Option (List ℕ)) → (tries : F → Option (List Try))
     → (saves : F → Option (List Save)) → (folder folder' : F) → (remaining : R → Option (List ℕ)) → (has_failed : R → Bool)
-    → (input input' : R) → (output errors : Written) → Scene
-scene_of seen told tries saves folder folder' remaining has_failed input input' output errors = record {
-  seen = seen;
-  told = told folder;
+    → (input input' : R) → (output errors : Written) → RunEffects
+run_effects_of on_terminal bytes_at tries saves folder folder' remaining has_failed input input' output errors = record {
+  on_terminal = on_terminal;
+  bytes_at = bytes_at folder;
   tried = tries folder;
   tries = tries folder';
   saved = saves folder;
@@ -196,22 +196,22 @@ scene_of seen told tries saves folder folder' remaining has_failed input input' 
 
 -- What the options ask for of what they name was written, all files were opened, and the VCD saved where there is one. Without `--verbose`
 -- nothing was said, but for progress on a terminal.
-pub record Reports (s : Scene) (o : Options) (done : Done) (status : ℕ) : Type 0 where
-  pub report : HasReported s.told s.input o s.output.held s.output.holds done
+pub record Reports (s : RunEffects) (o : Options) (done : Done) (status : ℕ) : Type 0 where
+  pub report : HasReported s.bytes_at s.input o s.output.held s.output.holds done
   pub opened_all : Extends s.tried s.tries (opened (paths_of o))
-  pub passed : ArePassed s.told s.input o done
+  pub earlier_given_up : AreEarlierAttemptsGivenUp s.bytes_at s.input o done
   pub saved : Extends s.saved s.saves (saves_of o done true)
-  pub said : IsBehindProgress (tells o s.seen) s.errors (IsDoneSaid o.verbose o done)
+  pub said : IsAfterProgress (shows_progress o s.on_terminal) s.errors (IsDoneSaid o.verbose o done)
   pub code : IsDoneStatus done status
 
 -- What the options ask for of what they name was written as above, and then the VCD could not be saved: that was said.
-pub record IsUnsaved (s : Scene) (o : Options) (done : Done) (fault : ToolFault) (status : ℕ) : Type 0 where
-  pub report : HasReported s.told s.input o s.output.held s.output.holds done
+pub record IsUnsaved (s : RunEffects) (o : Options) (done : Done) (fault : ToolFault) (status : ℕ) : Type 0 where
+  pub report : HasReported s.bytes_at s.input o s.output.held s.output.holds done
   pub opened_all : Extends s.tried s.tries (opened (paths_of o))
-  pub passed : ArePassed s.told s.input o done
+  pub earlier_given_up : AreEarlierAttemptsGivenUp s.bytes_at s.input o done
   pub cause : IsSaveFault o done fault
   pub saved : Extends s.saved s.saves (saves_of o done false)
-  pub line : IsBehindProgress (tells o s.seen) s.errors (λ w. IsSaidOf s.told o w fault status)
+  pub line : IsAfterProgress (shows_progress o s.on_terminal) s.errors (λ w. IsSaidOf s.bytes_at o w fault status)
 
 -- Behind a report its VCD was saved, where there is one, and no file opened; without `--verbose` nothing was said.
 pub record Finishes (o : Options) (done : Done) (tried tries : Option (List Try)) (saved saves : Option (List Save)) (w : Written)
@@ -222,59 +222,59 @@ pub record Finishes (o : Options) (done : Done) (tried tries : Option (List Try)
   pub code : IsDoneStatus done status
 
 -- Behind a report its VCD could not be saved, and that was said.
-pub record BreaksOff (told : List ℕ → Option (List ℕ)) (o : Options) (done : Done) (tried tries : Option (List Try))
+pub record FailsToSave (bytes_at : List ℕ → Option (List ℕ)) (o : Options) (done : Done) (tried tries : Option (List Try))
     (saved saves : Option (List Save)) (w : Written) (fault : ToolFault) (status : ℕ) : Type 0 where
   pub unopened : Extends tried tries []
   pub saved_part : Extends saved saves (saves_of o done false)
   pub cause : IsSaveFault o done fault
-  pub line : IsSaidOf told o w fault status
+  pub line : IsSaidOf bytes_at o w fault status
 
 -- There is a fault: its line was said, and the line of what helps; nothing was written but for a front part of the report if the writing
 -- failed. The file of a refused text, or of the first netlist for a name that it does not have, may have been opened once more. Nothing was
 -- saved.
-pub record Refuses (broken : List ℕ → Type 0) (s : Scene) (o : Options) (fault : ToolFault) (status : ℕ) : Type 0 where
+pub record Refuses (broken : List ℕ → Type 0) (s : RunEffects) (o : Options) (fault : ToolFault) (status : ℕ) : Type 0 where
   pub tries : List Try
   pub again : List Try
   pub tried : Extends s.tried s.tries (tries ++ again)
   pub once_more : AreTried (refused_paths o fault) again
-  pub cause : IsToolFault s.told broken (IsTrue s.input_failed) s.input o tries fault
+  pub cause : IsToolFault s.bytes_at broken (IsTrue s.input_failed) s.input o tries fault
   pub unread : fault ≡ InputUnread → IsTrue s.input_failed
-  pub full : fault ≡ Check (Wave Full) → IsBeyond s.told s.input o
-  pub given_up : fault ≡ Check GivenUp → IsGivenUp s.told s.input o
+  pub full : fault ≡ Check (Wave Full) → IsBeyond s.bytes_at s.input o
+  pub given_up : fault ≡ Check GivenUp → IsGivenUp s.bytes_at s.input o
   pub by_cones : MayGoByCones o.order → (fault ≢ Check (Wave Full)) × (fault ≢ Check GivenUp)
-  pub hired : fault ≡ Check (Wave NoWorker) → (o.print_order ≡ false) × NamesOrder o.order
-  pub only : fault ≡ Check Only → AreUnknown s.told s.input o
-  pub unbounded : fault ≢ Check (Wave TooManyRequests)
-  pub line : IsBehindProgress (tells o s.seen) s.errors (λ w. IsSaidOf s.told o w fault status)
-  pub front : fault ≡ Check Write → HasReportedFront s.told s.input o s.output.held s.output.holds s.output.has_failed s.output.has_stopped
+  pub thread_for_named_order : fault ≡ Check (Wave NoWorker) → (o.print_order ≡ false) × NamesOrder o.order
+  pub only : fault ≡ Check Only → AreUnknown s.bytes_at s.input o
+  pub never_too_many_requests : fault ≢ Check (Wave TooManyRequests)
+  pub line : IsAfterProgress (shows_progress o s.on_terminal) s.errors (λ w. IsSaidOf s.bytes_at o w fault status)
+  pub front : fault ≡ Check Write → HasReportedFront s.bytes_at s.input o s.output.held s.output.holds s.output.has_failed s.output.has_stopped
   pub nothing : fault ≢ Check Write → Keeps s.output.held s.output.holds
   pub unsaved : Extends s.saved s.saves []
 
 -- How a run of some options ends. `broken` says of a path that a file that was opened there has failed.
-abbrev pub IsEnding : (broken : List ℕ → Type 0) → Scene → Options → ℕ → Type 0
+abbrev pub IsEnding : (broken : List ℕ → Type 0) → RunEffects → Options → ℕ → Type 0
 IsEnding broken s o status = ((done : Done) × Reports s o done status)
     ⊎ (((done : Done) × (fault : ToolFault) × IsUnsaved s o done fault status) ⊎ ((fault : ToolFault) × Refuses broken s o fault status))
 
 -- what is told of words that ask for no options: help on the output, a mistake, or want of memory
-abbrev pub IsWordEnd : (output errors : Written) → Refused → ℕ → Type 0
-IsWordEnd output errors (Help text) status =
+abbrev pub IsEndOfRefused : (output errors : Written) → Refused → ℕ → Type 0
+IsEndOfRefused output errors (Help text) status =
     Keeps errors.held errors.holds
     × ((Appends output.held output.holds (string_bytes text) × (status ≡ 0)) ⊎ (HasFront output (string_bytes text) × (status ≡ 3)))
-IsWordEnd output errors (Mistake text) status = Keeps output.held output.holds × Says errors (string_bytes text) × (status ≡ 2)
-IsWordEnd output errors NoWordMemory status = Keeps output.held output.holds × IsSaid errors OutOfMemory status
+IsEndOfRefused output errors (Mistake text) status = Keeps output.held output.holds × Says errors (string_bytes text) × (status ≡ 2)
+IsEndOfRefused output errors NoWordMemory status = Keeps output.held output.holds × IsSaid errors OutOfMemory status
 
 -- the words are refused for a cause, which is told
-abbrev pub IsWordEnding : Scene → List (List ℕ) → ℕ → Type 0
-IsWordEnding s words status = (refused : Refused) × IsRefusal words refused × IsWordEnd s.output s.errors refused status
+abbrev pub IsRefusedEnding : RunEffects → List (List ℕ) → ℕ → Type 0
+IsRefusedEnding s words status = (refused : Refused) × IsRefusal words refused × IsEndOfRefused s.output s.errors refused status
 
 -- How a run of the program on some words ends. They ask for options, whose run ends as above, and the input stays unread unless a
 -- text stands on it; or they are refused, no file is asked for, and the input stays unread.
-abbrev pub IsRun : (broken : List ℕ → Type 0) → Scene → (unopened unread : Type 0) → List (List ℕ) → ℕ → Type 0
+abbrev pub IsRun : (broken : List ℕ → Type 0) → RunEffects → (unopened unread : Type 0) → List (List ℕ) → ℕ → Type 0
 IsRun broken s unopened unread words status =
-    ((o : Options) × AskFor words o × IsEnding broken s o status × ((StandOnInput o.texts → ⊥) → unread))
-    ⊎ (IsWordEnding s words status × unopened × unread)
+    ((o : Options) × AskFor words o × IsEnding broken s o status × ((AreOnStandardInput o.texts → ⊥) → unread))
+    ⊎ (IsRefusedEnding s words status × unopened × unread)
 
 -- what is told where the process has no words for the program
-abbrev pub IsWordless : (errors : Written) → NoWords → ℕ → Type 0
-IsWordless errors NoArguments status = IsSaid errors OutOfMemory status
-IsWordless errors NoText status = Says errors (codes "bddcheck: a word of the command line is no UTF-8\n") × (status ≡ 2)
+abbrev pub IsArgumentsErrorSaid : (errors : Written) → ArgumentsError → ℕ → Type 0
+IsArgumentsErrorSaid errors NoArguments status = IsSaid errors OutOfMemory status
+IsArgumentsErrorSaid errors NotUtf8 status = Says errors (codes "bddcheck: a word of the command line is no UTF-8\n") × (status ≡ 2)

@@ -13,26 +13,26 @@ use Rattle.check_report.specs.declared.fault.CheckFault.{CheckFault}
 use Rattle.check_report.specs.declared.fault.CheckFault.TheVariants.{First, Second, Given, GivenOutputs, Order, Only, Explain, Wave}
 use Rattle.check_report.specs.declared.fault.CheckFault.TheVariants.{GivenUp, Write, OutOfMemory as NoCheckMemory}
 use Rattle.check_report.specs.Texts.{check_fault_text}
-use Rattle.check_tool.specs.declared.fault.Place.{Place}
-use Rattle.check_tool.specs.declared.fault.Place.TheVariants.{First as FirstFile, Second as SecondFile, Given as GivenFile}
-use Rattle.check_tool.specs.declared.fault.Place.TheVariants.{Order as OrderFile}
+use Rattle.check_tool.specs.declared.fault.FileRole.{FileRole}
+use Rattle.check_tool.specs.declared.fault.FileRole.TheVariants.{First as FirstFile, Second as SecondFile, Given as GivenFile}
+use Rattle.check_tool.specs.declared.fault.FileRole.TheVariants.{Order as OrderFile}
 use Rattle.check_tool.specs.declared.fault.Words.{Words}
 use Rattle.check_tool.specs.declared.fault.ToolFault.{ToolFault}
 use Rattle.check_tool.specs.declared.fault.ToolFault.TheVariants.{OneFile, InputTwice, CannotOpen, CannotSave, InputUnread, InputTooLong}
 use Rattle.check_tool.specs.declared.fault.ToolFault.TheVariants.{InputUndivided, BadOrder, Check, OutOfMemory}
 
 -- what a file is
-abbrev pub place_text : Place → List ℕ
-place_text FirstFile = codes "first"
-place_text SecondFile = codes "second"
-place_text GivenFile = codes "given"
-place_text OrderFile = codes "order"
+abbrev pub file_role_text : FileRole → List ℕ
+file_role_text FirstFile = codes "first"
+file_role_text SecondFile = codes "second"
+file_role_text GivenFile = codes "given"
+file_role_text OrderFile = codes "order"
 
 -- the text of a fault, without the program's name before it
 abbrev pub tool_fault_text : ToolFault → List ℕ
 tool_fault_text OneFile = codes "give two files or none"
 tool_fault_text InputTwice = codes "standard input: given twice"
-tool_fault_text (CannotOpen place obstacle) = place_text place ++ codes ": cannot be opened"
+tool_fault_text (CannotOpen place obstacle) = file_role_text place ++ codes ": cannot be opened"
 tool_fault_text (CannotSave obstacle) = codes "vcd: cannot be written"
 tool_fault_text InputUnread = codes "standard input: cannot be read"
 tool_fault_text InputTooLong = codes "standard input: too long"
@@ -48,7 +48,7 @@ number_text (Some n) = decimal n
 
 -- the text of these words
 abbrev pub words_text : Words → List ℕ
-words_text w = w.place.now ++ (w.before.now ++ (number_text w.number ++ w.behind.now))
+words_text w = w.place.now ++ (w.before.now ++ (number_text w.number ++ w.following.now))
 
 -- the line that is printed for a fault
 abbrev pub fault_line : ToolFault → List ℕ

@@ -19,7 +19,7 @@ use Rattle.check_report.specs.declared.fault.CheckFault.TheVariants.{GivenUp, Wr
 use Rattle.report_text.specs.declared.cause.PairName.{PairName}
 use Rattle.check_report.specs.Check.{Gives}
 use Rattle.check_report.specs.Explaining.{IsTargetIn}
-use Rattle.check_report.specs.Picking.{IsNamedIn}
+use Rattle.check_report.specs.PairSelection.{IsNamedIn}
 use Rattle.command_line.specs.declared.options.Picks.{Picks}
 use Rattle.command_line.specs.declared.options.Picks.TheVariants.{All as AllPicks, Only as OnlyPicks, Share as SharePicks}
 use Rattle.command_line.specs.declared.options.Options.{Options}
@@ -28,20 +28,20 @@ use Rattle.command_line.specs.declared.options.OrderChoice.TheVariants.{Declared
 use Rattle.command_line.specs.declared.options.OrderChoice.TheVariants.{Extended}
 use Rattle.command_line.specs.declared.options.Texts.{Texts}
 use Rattle.command_line.specs.declared.options.Texts.TheVariants.{Input, Files, InputAndFile, FileAndInput, InputTwice, One}
-use Rattle.check_tool.specs.declared.fault.Place.TheVariants.{First as FirstFile, Second as SecondFile, Given as GivenFile}
-use Rattle.check_tool.specs.declared.fault.Place.TheVariants.{Order as OrderFile}
+use Rattle.check_tool.specs.declared.fault.FileRole.TheVariants.{First as FirstFile, Second as SecondFile, Given as GivenFile}
+use Rattle.check_tool.specs.declared.fault.FileRole.TheVariants.{Order as OrderFile}
 use Rattle.check_tool.specs.declared.fault.ToolFault.{ToolFault}
 use Rattle.check_tool.specs.declared.fault.ToolFault.TheVariants.{OneFile, InputTwice as DashTwice, CannotOpen, CannotSave, InputUnread}
 use Rattle.check_tool.specs.declared.fault.ToolFault.TheVariants.{InputTooLong, InputUndivided, BadOrder, Check, OutOfMemory}
 use Rattle.check_tool.specs.declared.folder.Obstacle.{Obstacle}
 use Rattle.check_tool.specs.declared.folder.Obstacle.TheVariants.{Missing, Forbidden, NoFolder, Links, Unwritten, Other}
-use Rattle.check_tool.specs.declared.help.Spot.{Spot}
-use Rattle.check_tool.specs.declared.help.Spot.TheVariants.{Nowhere, Text, Line}
+use Rattle.check_tool.specs.declared.help.Location.{Location}
+use Rattle.check_tool.specs.declared.help.Location.TheVariants.{NoLocation, Text, Line}
 use Rattle.net_bench.specs.Statement.{is_word}
-use Rattle.check_tool.specs.declared.help.Mark.{Mark}
-use Rattle.check_tool.specs.declared.help.Mark.TheVariants.{Line as in_line, Broken, Listed}
+use Rattle.check_tool.specs.declared.help.QuotedPart.{QuotedPart}
+use Rattle.check_tool.specs.declared.help.QuotedPart.TheVariants.{Line as in_line, BrokenStatement, Listed}
 use Rattle.check_tool.specs.Quoting.{remark}
-use Rattle.check_tool.specs.Running.{path_in, first_paths, second_paths, order_paths, IsCalled, IsReadOf}
+use Rattle.check_tool.specs.Running.{path_in, first_paths, second_paths, order_paths, IsKindAndName, IsReadOf}
 
 -- what the first text is called: the path of its file, or what it is
 abbrev pub first_name : Texts → List ℕ
@@ -74,94 +74,94 @@ abbrev pub on_line : List ℕ → ℕ → Where
 on_line name line = Some (name, Some line)
 
 -- the place that a spot is
-abbrev pub where_of : Spot → Where
-where_of Nowhere = None
+abbrev pub where_of : Location → Where
+where_of NoLocation = None
 where_of (Text name) = in_text name.now
 where_of (Line name line) = on_line name.now line
 
 -- where a refused text is at fault
-abbrev pub text_spot : List ℕ → BenchFault → Where
-text_spot name LongText = in_text name
-text_spot name (BadByte line) = on_line name line
-text_spot name (BadStatement line) = on_line name line
-text_spot name (UnknownGate line) = on_line name line
-text_spot name (WrongOperands line) = on_line name line
-text_spot name (Redefined line) = on_line name line
-text_spot name (TooMany line) = on_line name line
-text_spot name (Undefined line) = on_line name line
-text_spot name (Cycle line) = on_line name line
-text_spot name ReadFailed = in_text name
-text_spot name NoTextMemory = in_text name
+abbrev pub text_location : List ℕ → BenchFault → Where
+text_location name LongText = in_text name
+text_location name (BadByte line) = on_line name line
+text_location name (BadStatement line) = on_line name line
+text_location name (UnknownGate line) = on_line name line
+text_location name (WrongOperands line) = on_line name line
+text_location name (Redefined line) = on_line name line
+text_location name (TooMany line) = on_line name line
+text_location name (Undefined line) = on_line name line
+text_location name (Cycle line) = on_line name line
+text_location name ReadFailed = in_text name
+text_location name NoTextMemory = in_text name
 
 -- where a list of names is at fault: in the line of a name that is none, or as a whole
-abbrev pub list_spot : List ℕ → OrderFault → Where
-list_spot path (BadName line) = on_line path line
-list_spot path (NotAPermutation place) = in_text path
-list_spot path LongOrder = in_text path
-list_spot path OrderReadFailed = in_text path
-list_spot path NoOrderMemory = in_text path
-list_spot path CountsDiffer = None
-list_spot path TooManyInputs = None
+abbrev pub list_location : List ℕ → OrderFault → Where
+list_location path (BadName line) = on_line path line
+list_location path (NotAPermutation place) = in_text path
+list_location path LongOrder = in_text path
+list_location path OrderReadFailed = in_text path
+list_location path NoOrderMemory = in_text path
+list_location path CountsDiffer = None
+list_location path TooManyInputs = None
 
 -- where the file of an order is at fault
-abbrev pub order_spot : OrderChoice → OrderFault → Where
-order_spot (File path) fault = list_spot path.now fault
-order_spot (Extended path) fault = list_spot path.now fault
-order_spot Declared fault = None
-order_spot Depth fault = None
-order_spot Interleave fault = None
-order_spot Index fault = None
-order_spot Force fault = None
-order_spot Best fault = None
-order_spot Auto fault = None
-order_spot Cones fault = None
+abbrev pub order_location : OrderChoice → OrderFault → Where
+order_location (File path) fault = list_location path.now fault
+order_location (Extended path) fault = list_location path.now fault
+order_location Declared fault = None
+order_location Depth fault = None
+order_location Interleave fault = None
+order_location Index fault = None
+order_location Force fault = None
+order_location Best fault = None
+order_location Auto fault = None
+order_location Cones fault = None
 
 -- where the condition is at fault: in the line of a refused text, or as a whole
-abbrev pub given_spot : Option (Bor (List ℕ)) → BenchFault → Where
-given_spot None fault = None
-given_spot (Some path) fault = text_spot path.now fault
+abbrev pub given_location : Option (Bor (List ℕ)) → BenchFault → Where
+given_location None fault = None
+given_location (Some path) fault = text_location path.now fault
 
 -- a file, where there is one
-abbrev pub file_spot : Option (Bor (List ℕ)) → Where
-file_spot None = None
-file_spot (Some path) = in_text path.now
+abbrev pub file_location : Option (Bor (List ℕ)) → Where
+file_location None = None
+file_location (Some path) = in_text path.now
 
 -- the place of a fault that stands in a file, or in a text of standard input
-abbrev pub fault_spot : Texts → (given vcd : Option (Bor (List ℕ))) → OrderChoice → ToolFault → Where
-fault_spot texts given vcd choice (CannotOpen FirstFile obstacle) = in_text (first_name texts)
-fault_spot texts given vcd choice (CannotOpen SecondFile obstacle) = in_text (second_name texts)
-fault_spot texts given vcd choice (CannotOpen GivenFile obstacle) = given_spot given ReadFailed
-fault_spot texts given vcd choice (CannotOpen OrderFile obstacle) = order_spot choice OrderReadFailed
-fault_spot texts given vcd choice (CannotSave obstacle) = file_spot vcd
-fault_spot texts given vcd choice (BadOrder fault) = order_spot choice fault
-fault_spot texts given vcd choice (Check (First fault)) = text_spot (first_name texts) fault
-fault_spot texts given vcd choice (Check (Second fault)) = text_spot (second_name texts) fault
-fault_spot texts given vcd choice (Check (Given fault)) = given_spot given fault
-fault_spot texts given vcd choice (Check GivenOutputs) = given_spot given ReadFailed
-fault_spot texts given vcd choice (Check (Order fault)) = order_spot choice fault
-fault_spot texts given vcd choice (Check Only) = in_text (first_name texts)
-fault_spot texts given vcd choice (Check Explain) = in_text (first_name texts)
-fault_spot texts given vcd choice (Check (Wave fault)) = None
-fault_spot texts given vcd choice (Check GivenUp) = None
-fault_spot texts given vcd choice (Check Write) = None
-fault_spot texts given vcd choice (Check NoCheckMemory) = None
-fault_spot texts given vcd choice OneFile = None
-fault_spot texts given vcd choice DashTwice = None
-fault_spot texts given vcd choice InputUnread = None
-fault_spot texts given vcd choice InputTooLong = None
-fault_spot texts given vcd choice InputUndivided = None
-fault_spot texts given vcd choice OutOfMemory = None
+abbrev pub fault_location : Texts → (given vcd : Option (Bor (List ℕ))) → OrderChoice → ToolFault → Where
+fault_location texts given vcd choice (CannotOpen FirstFile obstacle) = in_text (first_name texts)
+fault_location texts given vcd choice (CannotOpen SecondFile obstacle) = in_text (second_name texts)
+fault_location texts given vcd choice (CannotOpen GivenFile obstacle) = given_location given ReadFailed
+fault_location texts given vcd choice (CannotOpen OrderFile obstacle) = order_location choice OrderReadFailed
+fault_location texts given vcd choice (CannotSave obstacle) = file_location vcd
+fault_location texts given vcd choice (BadOrder fault) = order_location choice fault
+fault_location texts given vcd choice (Check (First fault)) = text_location (first_name texts) fault
+fault_location texts given vcd choice (Check (Second fault)) = text_location (second_name texts) fault
+fault_location texts given vcd choice (Check (Given fault)) = given_location given fault
+fault_location texts given vcd choice (Check GivenOutputs) = given_location given ReadFailed
+fault_location texts given vcd choice (Check (Order fault)) = order_location choice fault
+fault_location texts given vcd choice (Check Only) = in_text (first_name texts)
+fault_location texts given vcd choice (Check Explain) = in_text (first_name texts)
+fault_location texts given vcd choice (Check (Wave fault)) = None
+fault_location texts given vcd choice (Check GivenUp) = None
+fault_location texts given vcd choice (Check Write) = None
+fault_location texts given vcd choice (Check NoCheckMemory) = None
+fault_location texts given vcd choice OneFile = None
+fault_location texts given vcd choice DashTwice = None
+fault_location texts given vcd choice InputUnread = None
+fault_location texts given vcd choice InputTooLong = None
+fault_location texts given vcd choice InputUndivided = None
+fault_location texts given vcd choice OutOfMemory = None
 
 -- what helps against a word that names no gate
-abbrev pub other_word : List ℕ
-other_word = codes "the gates are AND, NAND, OR, NOR, XOR, XNOR, NOT, BUFF and DFF; see docs/FLOWS.md"
+abbrev pub unknown_gate_help : List ℕ
+unknown_gate_help = codes "the gates are AND, NAND, OR, NOR, XOR, XNOR, NOT, BUFF and DFF; see docs/FLOWS.md"
 
 -- what helps where a text is refused
 abbrev pub text_help : BenchFault → List ℕ
 text_help LongText = codes "a text has at most 67108864 bytes"
 text_help (BadByte line) = codes "outside comments a netlist has only printable ASCII, blanks and line ends"
 text_help (BadStatement line) = codes "a statement is INPUT(a), OUTPUT(a) or a = GATE(b, c)"
-text_help (UnknownGate line) = other_word
+text_help (UnknownGate line) = unknown_gate_help
 text_help (WrongOperands line) = codes "NOT, BUFF and DFF take one operand"
 text_help (Redefined line) = codes "a signal may have only one INPUT, gate or register"
 text_help (TooMany line) = codes "a netlist has at most 1000000 signals and 4000000 operands, and a name has at most 255 bytes"
@@ -239,9 +239,9 @@ fault_help choice OutOfMemory = codes "more memory is needed"
 -- ---- a word that names no gate
 
 -- what stands behind the first =
-abbrev pub behind_equals : List ℕ → List ℕ
-behind_equals [] = []
-behind_equals (b ∷ bs) = if b == 61 then bs else behind_equals bs
+abbrev pub after_equals : List ℕ → List ℕ
+after_equals [] = []
+after_equals (b ∷ bs) = if b == 61 then bs else after_equals bs
 
 -- the bytes from the first one on that is no blank
 abbrev pub unindented : List ℕ → List ℕ
@@ -255,7 +255,7 @@ front_word (b ∷ bs) = if b == 32 || b == 40 then [] else b ∷ front_word bs
 
 -- the gate's word in a line, as it is shown
 abbrev pub gate_word : List ℕ → List ℕ
-gate_word shown = front_word (unindented (behind_equals shown))
+gate_word shown = front_word (unindented (after_equals shown))
 
 -- what helps against it, in either case
 abbrev pub word_help : List ℕ → List ℕ
@@ -265,7 +265,7 @@ word_help w =
     if is_word w (codes "VDD") then codes "the constant 1 is XNOR(a, a) of any signal a; see docs/FLOWS.md" else (
     if is_word w (codes "GND") then codes "the constant 0 is XOR(a, a) of any signal a; see docs/FLOWS.md" else (
     if is_word w (codes "LATCH") then codes "a register is DFF, and there is no keyword for a latch; see docs/FLOWS.md" else (
-    if is_word w (codes "LUT") then codes "abc writes no LUT lines by write_bench -l; see docs/FLOWS.md" else other_word)))))
+    if is_word w (codes "LUT") then codes "abc writes no LUT lines by write_bench -l; see docs/FLOWS.md" else unknown_gate_help)))))
 
 -- a text is refused for such a word
 abbrev pub is_unknown_gate : BenchFault → Bool
@@ -282,27 +282,27 @@ is_unknown_gate ReadFailed = false
 is_unknown_gate NoTextMemory = false
 
 -- a fault is of such a word
-abbrev pub names_gate : ToolFault → Bool
-names_gate (Check (First fault)) = is_unknown_gate fault
-names_gate (Check (Second fault)) = is_unknown_gate fault
-names_gate (Check (Given fault)) = is_unknown_gate fault
-names_gate (Check GivenOutputs) = false
-names_gate (Check (Order fault)) = false
-names_gate (Check Only) = false
-names_gate (Check Explain) = false
-names_gate (Check (Wave fault)) = false
-names_gate (Check GivenUp) = false
-names_gate (Check Write) = false
-names_gate (Check NoCheckMemory) = false
-names_gate (BadOrder fault) = false
-names_gate (CannotOpen place obstacle) = false
-names_gate (CannotSave obstacle) = false
-names_gate OneFile = false
-names_gate DashTwice = false
-names_gate InputUnread = false
-names_gate InputTooLong = false
-names_gate InputUndivided = false
-names_gate OutOfMemory = false
+abbrev pub is_unknown_gate_fault : ToolFault → Bool
+is_unknown_gate_fault (Check (First fault)) = is_unknown_gate fault
+is_unknown_gate_fault (Check (Second fault)) = is_unknown_gate fault
+is_unknown_gate_fault (Check (Given fault)) = is_unknown_gate fault
+is_unknown_gate_fault (Check GivenOutputs) = false
+is_unknown_gate_fault (Check (Order fault)) = false
+is_unknown_gate_fault (Check Only) = false
+is_unknown_gate_fault (Check Explain) = false
+is_unknown_gate_fault (Check (Wave fault)) = false
+is_unknown_gate_fault (Check GivenUp) = false
+is_unknown_gate_fault (Check Write) = false
+is_unknown_gate_fault (Check NoCheckMemory) = false
+is_unknown_gate_fault (BadOrder fault) = false
+is_unknown_gate_fault (CannotOpen place obstacle) = false
+is_unknown_gate_fault (CannotSave obstacle) = false
+is_unknown_gate_fault OneFile = false
+is_unknown_gate_fault DashTwice = false
+is_unknown_gate_fault InputUnread = false
+is_unknown_gate_fault InputTooLong = false
+is_unknown_gate_fault InputUndivided = false
+is_unknown_gate_fault OutOfMemory = false
 
 -- the same of a check, if the name that it refuses is shown
 abbrev pub check_help_by_name : OrderChoice → CheckFault → List ℕ
@@ -333,7 +333,7 @@ help_by_name choice OutOfMemory = fault_help choice OutOfMemory
 
 -- what helps against a fault whose line or name is shown so: against a word that names no gate its own remedy
 abbrev pub shown_help : OrderChoice → ToolFault → List ℕ → List ℕ
-shown_help choice fault shown = if names_gate fault then word_help (gate_word shown) else help_by_name choice fault
+shown_help choice fault shown = if is_unknown_gate_fault fault then word_help (gate_word shown) else help_by_name choice fault
 
 -- the line of a place and of what helps there
 abbrev pub help_line : Where → List ℕ → List ℕ
@@ -377,12 +377,12 @@ names_text names = flat_map (λ (n : Bor (List ℕ)). codes " " ++ n.now) names
 
 -- the line that is said after a fault's own, with all names of which one is refused
 abbrev pub help_text : Options → ToolFault → List ℕ
-help_text o fault = help_line (fault_spot o.texts o.given o.vcd o.order fault)
+help_text o fault = help_line (fault_location o.texts o.given o.vcd o.order fault)
     (fault_help o.order fault ++ names_text (refused_names o fault))
 
 -- the same with what is shown of the file, or with the name that is refused
 abbrev pub help_quoting : Options → ToolFault → List ℕ → List ℕ
-help_quoting o fault quoted = help_line (fault_spot o.texts o.given o.vcd o.order fault)
+help_quoting o fault quoted = help_line (fault_location o.texts o.given o.vcd o.order fault)
     (shown_help o.order fault quoted ++ (codes ": " ++ quoted))
 
 -- the file of a text that was refused, or in which a name is missing, if it came from one
@@ -409,89 +409,89 @@ refused_paths o InputUndivided = []
 refused_paths o OutOfMemory = []
 
 -- what a refused text is shown by: the line at fault
-abbrev pub text_mark : BenchFault → Option Mark
-text_mark (BadByte line) = Some (in_line line)
-text_mark (BadStatement line) = Some (Broken line)
-text_mark (UnknownGate line) = Some (in_line line)
-text_mark (WrongOperands line) = Some (in_line line)
-text_mark (Redefined line) = Some (in_line line)
-text_mark (TooMany line) = Some (in_line line)
-text_mark (Undefined line) = Some (in_line line)
-text_mark (Cycle line) = Some (in_line line)
-text_mark LongText = None
-text_mark ReadFailed = None
-text_mark NoTextMemory = None
+abbrev pub text_part : BenchFault → Option QuotedPart
+text_part (BadByte line) = Some (in_line line)
+text_part (BadStatement line) = Some (BrokenStatement line)
+text_part (UnknownGate line) = Some (in_line line)
+text_part (WrongOperands line) = Some (in_line line)
+text_part (Redefined line) = Some (in_line line)
+text_part (TooMany line) = Some (in_line line)
+text_part (Undefined line) = Some (in_line line)
+text_part (Cycle line) = Some (in_line line)
+text_part LongText = None
+text_part ReadFailed = None
+text_part NoTextMemory = None
 
 -- what a refused order is shown by: the line at fault, or the first name that does not fit
-abbrev pub order_mark : OrderFault → Option Mark
-order_mark (BadName line) = Some (in_line line)
-order_mark (NotAPermutation place) = Some (Listed place)
-order_mark LongOrder = None
-order_mark OrderReadFailed = None
-order_mark NoOrderMemory = None
-order_mark CountsDiffer = None
-order_mark TooManyInputs = None
+abbrev pub order_part : OrderFault → Option QuotedPart
+order_part (BadName line) = Some (in_line line)
+order_part (NotAPermutation place) = Some (Listed place)
+order_part LongOrder = None
+order_part OrderReadFailed = None
+order_part NoOrderMemory = None
+order_part CountsDiffer = None
+order_part TooManyInputs = None
 
 -- what a fault points at in the file of a text that was refused
-abbrev pub fault_mark : ToolFault → Option Mark
-fault_mark (BadOrder fault) = order_mark fault
-fault_mark (Check (First fault)) = text_mark fault
-fault_mark (Check (Second fault)) = text_mark fault
-fault_mark (Check (Given fault)) = text_mark fault
-fault_mark (Check (Order fault)) = order_mark fault
-fault_mark (Check GivenOutputs) = None
-fault_mark (Check Only) = None
-fault_mark (Check Explain) = None
-fault_mark (Check (Wave fault)) = None
-fault_mark (Check GivenUp) = None
-fault_mark (Check Write) = None
-fault_mark (Check NoCheckMemory) = None
-fault_mark (CannotOpen place obstacle) = None
-fault_mark (CannotSave obstacle) = None
-fault_mark OneFile = None
-fault_mark DashTwice = None
-fault_mark InputUnread = None
-fault_mark InputTooLong = None
-fault_mark InputUndivided = None
-fault_mark OutOfMemory = None
+abbrev pub fault_part : ToolFault → Option QuotedPart
+fault_part (BadOrder fault) = order_part fault
+fault_part (Check (First fault)) = text_part fault
+fault_part (Check (Second fault)) = text_part fault
+fault_part (Check (Given fault)) = text_part fault
+fault_part (Check (Order fault)) = order_part fault
+fault_part (Check GivenOutputs) = None
+fault_part (Check Only) = None
+fault_part (Check Explain) = None
+fault_part (Check (Wave fault)) = None
+fault_part (Check GivenUp) = None
+fault_part (Check Write) = None
+fault_part (Check NoCheckMemory) = None
+fault_part (CannotOpen place obstacle) = None
+fault_part (CannotSave obstacle) = None
+fault_part OneFile = None
+fault_part DashTwice = None
+fault_part InputUnread = None
+fault_part InputTooLong = None
+fault_part InputUndivided = None
+fault_part OutOfMemory = None
 
 -- this is what is shown of what a fault points at, as the file has it
-pub record IsShown (told : List ℕ → Option (List ℕ)) (o : Options) (fault : ToolFault) (quoted : List ℕ) : Type 0 where
+pub record IsShown (bytes_at : List ℕ → Option (List ℕ)) (o : Options) (fault : ToolFault) (quoted : List ℕ) : Type 0 where
   pub path : List ℕ
-  pub mark : Mark
+  pub quoted_part : QuotedPart
   pub text : List ℕ
   pub file : refused_paths o fault ≡ path ∷ []
-  pub points : fault_mark fault ≡ Some mark
-  pub read : IsReadOf (told path) (Some text)
-  pub is : quoted ≡ remark mark text
+  pub points : fault_part fault ≡ Some quoted_part
+  pub read : IsReadOf (bytes_at path) (Some text)
+  pub is : quoted ≡ remark quoted_part text
 
 -- the file of the first netlist, as it is, has this circuit
-abbrev pub IsFirstCircuit : (told : List ℕ → Option (List ℕ)) → Options → Circuit → Type 0
-IsFirstCircuit told o a = (path : List ℕ) × (first_paths o.texts ≡ path ∷ []) × Gives (told path) a
+abbrev pub IsFirstCircuit : (bytes_at : List ℕ → Option (List ℕ)) → Options → Circuit → Type 0
+IsFirstCircuit bytes_at o a = (path : List ℕ) × (first_paths o.texts ≡ path ∷ []) × Gives (bytes_at path) a
 
 -- this name picks pairs, and is that of no output and no register of the first netlist
-abbrev pub IsUnknownPick : (told : List ℕ → Option (List ℕ)) → Options → (name : Bor (List ℕ)) → Type 0
-IsUnknownPick told o name = Contains (picked_names o.picks) name × (a : Circuit) × IsFirstCircuit told o a × (IsNamedIn a name.now → ⊥)
+abbrev pub IsUnknownPick : (bytes_at : List ℕ → Option (List ℕ)) → Options → (name : Bor (List ℕ)) → Type 0
+IsUnknownPick bytes_at o name = Contains (picked_names o.picks) name × (a : Circuit) × IsFirstCircuit bytes_at o a × (IsNamedIn a name.now → ⊥)
 
 -- what this word calls is no output, or no register, of the circuit
 abbrev pub IsUnknownTarget : Circuit → (word : List ℕ) → Type 0
-IsUnknownTarget a word = (t : PairName) × IsCalled word t.role t.name × (IsTargetIn a t → ⊥)
+IsUnknownTarget a word = (t : PairName) × IsKindAndName word t.role t.name × (IsTargetIn a t → ⊥)
 
 -- what this word calls is to be explained, and the first netlist does not have it
-abbrev pub IsUnexplainedWord : (told : List ℕ → Option (List ℕ)) → Options → (word : Bor (List ℕ)) → Type 0
-IsUnexplainedWord told o word = Contains o.explain.items word × (a : Circuit) × IsFirstCircuit told o a × IsUnknownTarget a word.now
+abbrev pub IsUnknownTargetWord : (bytes_at : List ℕ → Option (List ℕ)) → Options → (word : Bor (List ℕ)) → Type 0
+IsUnknownTargetWord bytes_at o word = Contains o.explain.items word × (a : Circuit) × IsFirstCircuit bytes_at o a × IsUnknownTarget a word.now
 
 -- this is the name that a fault refuses: it is the only one, or the file of the first netlist does not have it
-abbrev pub IsRefusedName : (told : List ℕ → Option (List ℕ)) → Options → ToolFault → (name : Bor (List ℕ)) → Type 0
-IsRefusedName told o fault name = (refused_names o fault ≡ name ∷ [])
-    ⊎ (((fault ≡ Check Only) × IsUnknownPick told o name) ⊎ ((fault ≡ Check Explain) × IsUnexplainedWord told o name))
+abbrev pub IsRefusedName : (bytes_at : List ℕ → Option (List ℕ)) → Options → ToolFault → (name : Bor (List ℕ)) → Type 0
+IsRefusedName bytes_at o fault name = (refused_names o fault ≡ name ∷ [])
+    ⊎ (((fault ≡ Check Only) × IsUnknownPick bytes_at o name) ⊎ ((fault ≡ Check Explain) × IsUnknownTargetWord bytes_at o name))
 
 -- this is what is shown of a fault: a line of a file, or a name
-abbrev pub IsQuoted : (told : List ℕ → Option (List ℕ)) → Options → ToolFault → (quoted : List ℕ) → Type 0
-IsQuoted told o fault quoted = IsShown told o fault quoted
-    ⊎ ((name : Bor (List ℕ)) × IsRefusedName told o fault name × (quoted ≡ name.now))
+abbrev pub IsQuoted : (bytes_at : List ℕ → Option (List ℕ)) → Options → ToolFault → (quoted : List ℕ) → Type 0
+IsQuoted bytes_at o fault quoted = IsShown bytes_at o fault quoted
+    ⊎ ((name : Bor (List ℕ)) × IsRefusedName bytes_at o fault name × (quoted ≡ name.now))
 
 -- the line that may be said after a fault's own: with what is shown of the file, or with the name that is refused, or without
-abbrev pub IsHelp : (told : List ℕ → Option (List ℕ)) → Options → ToolFault → List ℕ → Type 0
-IsHelp told o fault line = (line ≡ help_text o fault) ⊎ ((quoted : List ℕ) × IsQuoted told o fault quoted
+abbrev pub IsHelp : (bytes_at : List ℕ → Option (List ℕ)) → Options → ToolFault → List ℕ → Type 0
+IsHelp bytes_at o fault line = (line ≡ help_text o fault) ⊎ ((quoted : List ℕ) × IsQuoted bytes_at o fault quoted
     × (line ≡ help_quoting o fault quoted))

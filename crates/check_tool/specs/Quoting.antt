@@ -4,15 +4,15 @@ use Rattle.std.specs.Prelude.{if◌then◌else◌, codes, decimal, Option, Some,
 use Rattle.std.specs.Char.{is_ascii_graphic}
 use Rattle.net_bench.specs.Text.{Open, Close, Comma, Equals, Name, Unknown, End, Tokens}
 use Rattle.net_bench.specs.Pieces.{tokens_at}
-use Rattle.check_tool.specs.declared.help.Mark.{Mark}
-use Rattle.check_tool.specs.declared.help.Mark.TheVariants.{Line, Broken, Listed}
+use Rattle.check_tool.specs.declared.help.QuotedPart.{QuotedPart}
+use Rattle.check_tool.specs.declared.help.QuotedPart.TheVariants.{Line, BrokenStatement, Listed}
 use Rattle.check_tool.specs.declared.quote.Reading.{Reading}
 
 -- the bytes behind so many line feeds
-abbrev pub behind : ℕ → List ℕ → List ℕ
-behind zero text = text
-behind (suc feeds) [] = []
-behind (suc feeds) (b ∷ bs) = if b == 10 then behind feeds bs else behind (suc feeds) bs
+abbrev pub following : ℕ → List ℕ → List ℕ
+following zero text = text
+following (suc feeds) [] = []
+following (suc feeds) (b ∷ bs) = if b == 10 then following feeds bs else following (suc feeds) bs
 
 -- the bytes before the first line feed
 abbrev pub first_line : List ℕ → List ℕ
@@ -21,7 +21,7 @@ first_line (b ∷ bs) = if b == 10 then [] else b ∷ first_line bs
 
 -- a line of a text, the first of which is 1
 abbrev pub line_in : List ℕ → ℕ → List ℕ
-line_in text line = first_line (behind (line - 1) text)
+line_in text line = first_line (following (line - 1) text)
 
 -- the byte that is shown for one: a blank for a tab or a carriage return, and ? for what is not printable ASCII
 abbrev pub shown : ℕ → ℕ
@@ -51,12 +51,12 @@ read_byte r b =
     if b == 41 then record { line = r.line; in_comment = false; unclosed = None } else r))))
 
 -- the line of the last ( of a text, outside comments, where no ) follows it
-abbrev pub open_in : List ℕ → Option ℕ
-open_in text = (fold read_byte unread text).unclosed
+abbrev pub unclosed_in : List ℕ → Option ℕ
+unclosed_in text = (fold read_byte unread text).unclosed
 
 -- the bytes before a line
 abbrev pub before_line : List ℕ → ℕ → List ℕ
-before_line text line = take (length text - length (behind (line - 1) text)) text
+before_line text line = take (length text - length (following (line - 1) text)) text
 
 -- what is shown of a line with a broken statement: where a ( before it has no ), the line of that
 abbrev pub broken_remark : List ℕ → (line : ℕ) → Option ℕ → List ℕ
@@ -84,7 +84,7 @@ name_remark (suc n) ((line, Unknown byte) ∷ ts) = name_remark n ts
 
 -- ---- what is shown of what a fault points at
 
-abbrev pub remark : Mark → List ℕ → List ℕ
+abbrev pub remark : QuotedPart → List ℕ → List ℕ
 remark (Line line) text = quotation text line
-remark (Broken line) text = broken_remark text line (open_in (before_line text line))
+remark (BrokenStatement line) text = broken_remark text line (unclosed_in (before_line text line))
 remark (Listed place) text = name_remark (place - 1) (tokens_at 1 text)

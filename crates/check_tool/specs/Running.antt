@@ -13,15 +13,15 @@ use Rattle.net_order.specs.declared.order.OrderFault.TheVariants.{Read as OrderR
 use Rattle.net_order.specs.OrderText.{IsOrderText, IsBadText}
 use Rattle.check_report.specs.Listing.{IsOrderPrinted}
 use Rattle.check_report.specs.Check.{IsCheckFault}
-use Rattle.check_report.specs.Devices.{Told, told_of}
+use Rattle.check_report.specs.Devices.{DeviceTexts, device_texts}
 use Rattle.check_report.specs.declared.fault.CheckFault.{CheckFault}
 use Rattle.check_report.specs.Limits.{AreBeyond}
-use Rattle.check_report.specs.Best.{AreGivenUp, AreTried as TriesOrders, IsAllowed, IsFound, IsGivenUpWithin, last_budget}
-use Rattle.check_report.specs.declared.choice.Attempt.{Attempt}
-use Rattle.check_report.specs.declared.choice.Choice.{Choice}
-use Rattle.check_report.specs.declared.choice.Choice.TheVariants.{One as Ordered, Best as TheBest, Auto as Found, Cones as ByCones}
-use Rattle.check_report.specs.declared.picked.Picked.{Picked}
-use Rattle.check_report.specs.declared.picked.Picked.TheVariants.{All as AllPairs, Only as OnlyPairs, Share as SharedPairs}
+use Rattle.check_report.specs.Attempts.{AreGivenUp, AreTried as TriesOrders, IsAllowed, IsFound, IsGivenUpWithin, last_budget}
+use Rattle.check_report.specs.declared.strategy.Attempt.{Attempt}
+use Rattle.check_report.specs.declared.strategy.Strategy.{Strategy}
+use Rattle.check_report.specs.declared.strategy.Strategy.TheVariants.{One as Ordered, Best as TheBest, Auto as Found, Cones as ByCones}
+use Rattle.check_report.specs.declared.pair_filter.PairFilter.{PairFilter}
+use Rattle.check_report.specs.declared.pair_filter.PairFilter.TheVariants.{All as AllPairs, Only as OnlyPairs, Share as SharedPairs}
 use Rattle.check_report.specs.declared.settings.Settings.{Settings}
 use Rattle.check_report.specs.Deciding.{IsUnknown}
 use Rattle.check_report.specs.Dumping.{IsReportWithVcd, bytes_in}
@@ -39,8 +39,8 @@ use Rattle.command_line.specs.declared.options.Texts.{Texts}
 use Rattle.command_line.specs.declared.options.Texts.TheVariants.{Input, Files, InputAndFile, FileAndInput, InputTwice, One}
 use Rattle.check_tool.specs.declared.done.Done.{Done}
 use Rattle.check_tool.specs.declared.done.Done.TheVariants.{Compared, OrderPrinted}
-use Rattle.check_tool.specs.declared.fault.Place.{Place}
-use Rattle.check_tool.specs.declared.fault.Place.TheVariants.{First, Second, Given as GivenFile, Order as OrderFile}
+use Rattle.check_tool.specs.declared.fault.FileRole.{FileRole}
+use Rattle.check_tool.specs.declared.fault.FileRole.TheVariants.{First, Second, Given as GivenFile, Order as OrderFile}
 use Rattle.check_tool.specs.declared.fault.ToolFault.{ToolFault}
 use Rattle.check_tool.specs.declared.fault.ToolFault.TheVariants.{OneFile, InputTwice as DashTwice, CannotOpen, CannotSave, InputUnread}
 use Rattle.check_tool.specs.declared.fault.ToolFault.TheVariants.{InputTooLong, InputUndivided, BadOrder, Check, OutOfMemory}
@@ -49,7 +49,7 @@ use Rattle.check_tool.specs.Splitting.{IsSplit}
 use Rattle.check_tool.specs.Opening.{Try, opened, AreTried}
 
 -- a file at this place was not opened
-abbrev pub IsOpenFault : Place → ToolFault → Type 0
+abbrev pub IsOpenFault : FileRole → ToolFault → Type 0
 IsOpenFault place fault = ((obstacle : Obstacle) × (fault ≡ CannotOpen place obstacle)) ⊎ (fault ≡ OutOfMemory)
 
 -- the file that is opened for the first text
@@ -75,13 +75,13 @@ abbrev pub text_paths : Texts → List (List ℕ)
 text_paths texts = first_paths texts ++ second_paths texts
 
 -- a text stands on the input, or both
-abbrev pub StandOnInput : Texts → Type 0
-StandOnInput Input = ⊤
-StandOnInput (InputAndFile second) = ⊤
-StandOnInput (FileAndInput first) = ⊤
-StandOnInput (Files first second) = ⊥
-StandOnInput InputTwice = ⊥
-StandOnInput One = ⊥
+abbrev pub AreOnStandardInput : Texts → Type 0
+AreOnStandardInput Input = ⊤
+AreOnStandardInput (InputAndFile second) = ⊤
+AreOnStandardInput (FileAndInput first) = ⊤
+AreOnStandardInput (Files first second) = ⊥
+AreOnStandardInput InputTwice = ⊥
+AreOnStandardInput One = ⊥
 
 -- two texts are named, the input as one of them at most
 abbrev pub AreTwo : Texts → Type 0
@@ -120,7 +120,7 @@ paths_of o = text_paths o.texts ++ later_paths o
 
 -- what was told of a file is what is read of it
 abbrev pub IsReadOf : Option (List ℕ) → Option (List ℕ) → Type 0
-IsReadOf told read = IfSome told (λ text. read ≡ Some text)
+IsReadOf known read = IfSome known (λ text. read ≡ Some text)
 
 -- an input of two texts and the line between them, with its end, or of less
 abbrev pub IsShort : List ℕ → Type 0
@@ -128,18 +128,18 @@ IsShort text = length text ≤ 134221824
 
 -- the two texts: of two files, of a file and the whole input, or the parts of the input
 abbrev pub AreTexts : (List ℕ → Option (List ℕ)) → Option (List ℕ) → Texts → Option (List ℕ) → Option (List ℕ) → Type 0
-AreTexts told input (Files first second) one two = IsReadOf (told first.now) one × IsReadOf (told second.now) two
-AreTexts told input Input one two = IfSome input (λ text. IsShort text × (parts : List ℕ × List ℕ) × IsSplit text (Some parts)
+AreTexts bytes_at input (Files first second) one two = IsReadOf (bytes_at first.now) one × IsReadOf (bytes_at second.now) two
+AreTexts bytes_at input Input one two = IfSome input (λ text. IsShort text × (parts : List ℕ × List ℕ) × IsSplit text (Some parts)
     × (one ≡ Some parts.0) × (two ≡ Some parts.1))
-AreTexts told input (InputAndFile second) one two = (one ≡ input) × IsReadOf (told second.now) two
-AreTexts told input (FileAndInput first) one two = IsReadOf (told first.now) one × (two ≡ input)
-AreTexts told input InputTwice one two = ⊥
-AreTexts told input One one two = ⊥
+AreTexts bytes_at input (InputAndFile second) one two = (one ≡ input) × IsReadOf (bytes_at second.now) two
+AreTexts bytes_at input (FileAndInput first) one two = IsReadOf (bytes_at first.now) one × (two ≡ input)
+AreTexts bytes_at input InputTwice one two = ⊥
+AreTexts bytes_at input One one two = ⊥
 
 -- what the device of the condition tells: its file, where there is one
 abbrev pub IsGivenOf : (List ℕ → Option (List ℕ)) → Option (Bor (List ℕ)) → Option (Option (List ℕ)) → Type 0
-IsGivenOf told None given = given ≡ None
-IsGivenOf told (Some path) given = (read : Option (List ℕ)) × (given ≡ Some read) × IsReadOf (told path.now) read
+IsGivenOf bytes_at None given = given ≡ None
+IsGivenOf bytes_at (Some path) given = (read : Option (List ℕ)) × (given ≡ Some read) × IsReadOf (bytes_at path.now) read
 
 -- the device of the condition tells where it was opened, where it tells that
 abbrev pub IsGivenFrom : Option (Bor (List ℕ)) → Option (Option (List ℕ)) → Type 0
@@ -147,19 +147,19 @@ IsGivenFrom None origin = origin ≡ None
 IsGivenFrom (Some path) origin = (from : Option (List ℕ)) × (origin ≡ Some from) × IfSome from (λ p. p ≡ path.now)
 
 -- the order that is asked for, or that one is to be found; a file of names has been read
-abbrev pub IsOrderOf : (List ℕ → Option (List ℕ)) → OrderChoice → Choice → Type 0
-IsOrderOf told Declared choice = choice ≡ Ordered declared
-IsOrderOf told Depth choice = choice ≡ Ordered depth
-IsOrderOf told Interleave choice = choice ≡ Ordered interleave
-IsOrderOf told Index choice = choice ≡ Ordered index
-IsOrderOf told Force choice = choice ≡ Ordered force
-IsOrderOf told Best choice = choice ≡ TheBest
-IsOrderOf told Auto choice = choice ≡ Found
-IsOrderOf told Cones choice = choice ≡ ByCones
-IsOrderOf told (File path) choice = (names : List (List ℕ)) × (choice ≡ Ordered (Listed names))
-    × IfSome (told path.now) (λ text. IsOrderText text names)
-IsOrderOf told (Extended path) choice = (names : List (List ℕ)) × (choice ≡ Ordered (extended names))
-    × IfSome (told path.now) (λ text. IsOrderText text names)
+abbrev pub IsOrderOf : (List ℕ → Option (List ℕ)) → OrderChoice → Strategy → Type 0
+IsOrderOf bytes_at Declared choice = choice ≡ Ordered declared
+IsOrderOf bytes_at Depth choice = choice ≡ Ordered depth
+IsOrderOf bytes_at Interleave choice = choice ≡ Ordered interleave
+IsOrderOf bytes_at Index choice = choice ≡ Ordered index
+IsOrderOf bytes_at Force choice = choice ≡ Ordered force
+IsOrderOf bytes_at Best choice = choice ≡ TheBest
+IsOrderOf bytes_at Auto choice = choice ≡ Found
+IsOrderOf bytes_at Cones choice = choice ≡ ByCones
+IsOrderOf bytes_at (File path) choice = (names : List (List ℕ)) × (choice ≡ Ordered (Listed names))
+    × IfSome (bytes_at path.now) (λ text. IsOrderText text names)
+IsOrderOf bytes_at (Extended path) choice = (names : List (List ℕ)) × (choice ≡ Ordered (extended names))
+    × IfSome (bytes_at path.now) (λ text. IsOrderText text names)
 
 -- The bytes of memory that are reckoned for each node of an attempt: what the store takes for it, and what a wave takes for eight requests.
 abbrev pub node_bytes : ℕ
@@ -209,7 +209,7 @@ NamesOrder Auto = ⊥
 NamesOrder Cones = ⊥
 
 -- the pairs that are asked for
-abbrev pub IsPickedOf : Picks → Picked → Type 0
+abbrev pub IsPickedOf : Picks → PairFilter → Type 0
 IsPickedOf All picked = picked ≡ AllPairs
 IsPickedOf (Share share) picked = picked ≡ SharedPairs share
 IsPickedOf (Only words) (OnlyPairs names) = names.items ≡ map (λ w. w.now) words.items
@@ -217,16 +217,16 @@ IsPickedOf (Only words) AllPairs = ⊥
 IsPickedOf (Only words) (SharedPairs share) = ⊥
 
 -- what a word calls: behind `NEXT ` the next state of a register, else an output
-abbrev pub IsCalled : (word : List ℕ) → PairKind → (name : List ℕ) → Type 0
-IsCalled word Output name = (word ≡ name) × ((register : List ℕ) → word ≢ codes "NEXT " ++ register)
-IsCalled word NextState name = word ≡ codes "NEXT " ++ name
+abbrev pub IsKindAndName : (word : List ℕ) → PairKind → (name : List ℕ) → Type 0
+IsKindAndName word Output name = (word ≡ name) × ((register : List ℕ) → word ≢ codes "NEXT " ++ register)
+IsKindAndName word NextState name = word ≡ codes "NEXT " ++ name
 
 -- what these words ask to be explained
 abbrev pub AreTargetsOf : List (Bor (List ℕ)) → List PairName → Type 0
-AreTargetsOf words targets = AllZip (λ (w : Bor (List ℕ)) (t : PairName). IsCalled w.now t.role t.name) words targets
+AreTargetsOf words targets = AllZip (λ (w : Bor (List ℕ)) (t : PairName). IsKindAndName w.now t.role t.name) words targets
 
 -- The settings of a check that the options ask for, in an order of this choice, of these pairs.
-pub record AreSettings (o : Options) (choice : Choice) (picked : Picked) (s : Settings) : Type 0 where
+pub record AreSettings (o : Options) (choice : Strategy) (picked : PairFilter) (s : Settings) : Type 0 where
   pub matching : s.matching ≡ o.matching
   pub order : s.order ≡ choice
   pub picked_pairs : s.picked ≡ picked
@@ -241,58 +241,58 @@ pub record AreSettings (o : Options) (choice : Choice) (picked : Picked) (s : Se
 -- The bytes are what is asked for of these texts, and the condition's, by these settings: the report in their form, with its counts and the
 -- VCD of the first pair that differs, or, to print it, the order itself. The nodes that are needed in the order of a report are within the
 -- limit of the settings.
-abbrev pub IsMade : Told → Settings → (print : Bool) → Done → (bytes : List ℕ) → Type 0
-IsMade told s print (Compared outcome tried vcd) bytes = (print ≡ false) × IsReportWithVcd told s None tried outcome bytes (bytes_in vcd)
-IsMade told s print (OrderPrinted tried) bytes =
-    (print ≡ true) × (order : Order) × IsOrderPrinted told s.matching order bytes × IsFound told s.matching s.order s.limit tried order
+abbrev pub IsMade : DeviceTexts → Settings → (print : Bool) → Done → (bytes : List ℕ) → Type 0
+IsMade sources s print (Compared outcome tried vcd) bytes = (print ≡ false) × IsReportWithVcd sources s None tried outcome bytes (bytes_in vcd)
+IsMade sources s print (OrderPrinted tried) bytes =
+    (print ≡ true) × (order : Order) × IsOrderPrinted sources s.matching order bytes × IsFound sources s.matching s.order s.limit tried order
 
 -- the bytes are what the options ask for of these two texts
-pub record IsCompared (told : List ℕ → Option (List ℕ)) (one two : Option (List ℕ)) (o : Options) (done : Done)
+pub record IsCompared (bytes_at : List ℕ → Option (List ℕ)) (one two : Option (List ℕ)) (o : Options) (done : Done)
     (bytes : List ℕ) : Type 0 where
   pub given : Option (Option (List ℕ))
-  pub choice : Choice
-  pub picked : Picked
+  pub choice : Strategy
+  pub picked : PairFilter
   pub settings : Settings
-  pub conditioned : IsGivenOf told o.given given
-  pub ordered : IsOrderOf told o.order choice
+  pub conditioned : IsGivenOf bytes_at o.given given
+  pub ordered : IsOrderOf bytes_at o.order choice
   pub picks : IsPickedOf o.picks picked
   pub set : AreSettings o choice picked settings
-  pub made : IsMade (told_of one two given) settings o.print_order done bytes
+  pub made : IsMade (device_texts one two given) settings o.print_order done bytes
 
 -- The bytes are what the options ask for of the texts that they name.
-pub record IsReported (told : List ℕ → Option (List ℕ)) (input : Option (List ℕ)) (o : Options) (done : Done)
+pub record IsReported (bytes_at : List ℕ → Option (List ℕ)) (input : Option (List ℕ)) (o : Options) (done : Done)
     (bytes : List ℕ) : Type 0 where
   pub one : Option (List ℕ)
   pub two : Option (List ℕ)
-  pub texts : AreTexts told input o.texts one two
-  pub compared : IsCompared told one two o done bytes
+  pub texts : AreTexts bytes_at input o.texts one two
+  pub compared : IsCompared bytes_at one two o done bytes
 
 -- a device has taken what is asked for, and nothing else
 abbrev pub HasReported : (List ℕ → Option (List ℕ)) → Option (List ℕ) → Options → Option (List ℕ) → Option (List ℕ) → Done → Type 0
-HasReported told input o before now done = (bytes : List ℕ) × IsReported told input o done bytes × Appends before now bytes
+HasReported bytes_at input o before now done = (bytes : List ℕ) × IsReported bytes_at input o done bytes × Appends before now bytes
 
 -- a device has taken a front part of it, and has failed or taken nothing of the rest
 abbrev pub HasReportedFront : (List ℕ → Option (List ℕ)) → Option (List ℕ) → Options → (before now : Option (List ℕ))
     → (has_failed has_stopped : Bool) → Type 0
-HasReportedFront told input o before now has_failed has_stopped =
-    (done : Done) × (bytes : List ℕ) × IsReported told input o done bytes × AppendsFront before now has_failed has_stopped bytes
+HasReportedFront bytes_at input o before now has_failed has_stopped =
+    (done : Done) × (bytes : List ℕ) × IsReported bytes_at input o done bytes × AppendsFront before now has_failed has_stopped bytes
 
 -- this holds of the texts, the condition and the order that the options name
 abbrev pub AreNamed : (List ℕ → Option (List ℕ)) → Option (List ℕ) → Options
-    → (Option (List ℕ) → Option (List ℕ) → Option (Option (List ℕ)) → Choice → Type 0) → Type 0
-AreNamed told input o P =
-    (one two : Option (List ℕ)) × (given : Option (Option (List ℕ))) × (choice : Choice) × AreTexts told input o.texts one two
-    × IsGivenOf told o.given given × IsOrderOf told o.order choice × P one two given choice
+    → (Option (List ℕ) → Option (List ℕ) → Option (Option (List ℕ)) → Strategy → Type 0) → Type 0
+AreNamed bytes_at input o P =
+    (one two : Option (List ℕ)) × (given : Option (Option (List ℕ))) × (choice : Strategy) × AreTexts bytes_at input o.texts one two
+    × IsGivenOf bytes_at o.given given × IsOrderOf bytes_at o.order choice × P one two given choice
 
 -- the nodes that the texts need are not within the limit of the options, in any order that is asked for
 abbrev pub IsBeyond : (List ℕ → Option (List ℕ)) → Option (List ℕ) → Options → Type 0
-IsBeyond told input o = AreNamed told input o (λ one two given choice. (order : Order) → IsAllowed choice order
-    → AreBeyond (told_of one two given) o.matching order (limit_of o))
+IsBeyond bytes_at input o = AreNamed bytes_at input o (λ one two given choice. (order : Order) → IsAllowed choice order
+    → AreBeyond (device_texts one two given) o.matching order (limit_of o))
 
 -- orders are tried, and in each of them the attempt within the limit of the options was given up
 abbrev pub IsGivenUp : (List ℕ → Option (List ℕ)) → Option (List ℕ) → Options → Type 0
-IsGivenUp told input o = AreNamed told input o (λ one two given choice. TriesOrders choice
-    × ((order : Order) → IsAllowed choice order → IsGivenUpWithin (told_of one two given) o.matching (limit_of o) None order))
+IsGivenUp bytes_at input o = AreNamed bytes_at input o (λ one two given choice. TriesOrders choice
+    × ((order : Order) → IsAllowed choice order → IsGivenUpWithin (device_texts one two given) o.matching (limit_of o) None order))
 
 -- the attempt that a run tells, where orders were tried and one of them decided
 abbrev pub attempt_of : Done → Option Attempt
@@ -300,33 +300,33 @@ attempt_of (Compared outcome tried vcd) = tried
 attempt_of (OrderPrinted tried) = tried
 
 -- the attempts before the one that is told were given up: each within a smaller budget, and within the first budget each before it
-abbrev pub ArePassed : (List ℕ → Option (List ℕ)) → Option (List ℕ) → Options → Done → Type 0
-ArePassed told input o done =
-    IfSome (attempt_of done) (λ t. AreNamed told input o (λ one two given choice. AreGivenUp (told_of one two given) o.matching
+abbrev pub AreEarlierAttemptsGivenUp : (List ℕ → Option (List ℕ)) → Option (List ℕ) → Options → Done → Type 0
+AreEarlierAttemptsGivenUp bytes_at input o done =
+    IfSome (attempt_of done) (λ t. AreNamed bytes_at input o (λ one two given choice. AreGivenUp (device_texts one two given) o.matching
     (last_budget choice (limit_of o)) None t))
 
 -- a name that is picked is that of no output and no register of the first of these texts
 abbrev pub ArePicksUnknown : (List ℕ → Option (List ℕ)) → (one two : Option (List ℕ)) → Options → Type 0
-ArePicksUnknown told one two o =
-    (given : Option (Option (List ℕ))) × (picked : Picked) × IsGivenOf told o.given given × IsPickedOf o.picks picked
-    × IsUnknown (told_of one two given) picked
+ArePicksUnknown bytes_at one two o =
+    (given : Option (Option (List ℕ))) × (picked : PairFilter) × IsGivenOf bytes_at o.given given × IsPickedOf o.picks picked
+    × IsUnknown (device_texts one two given) picked
 
 -- the same of the texts that the options name
 abbrev pub AreUnknown : (List ℕ → Option (List ℕ)) → Option (List ℕ) → Options → Type 0
-AreUnknown told input o = (one two : Option (List ℕ)) × AreTexts told input o.texts one two × ArePicksUnknown told one two o
+AreUnknown bytes_at input o = (one two : Option (List ℕ)) × AreTexts bytes_at input o.texts one two × ArePicksUnknown bytes_at one two o
 
 -- what is to be explained is refused: one name is that of no output and no register of the first of these texts
 abbrev pub AreTargetsUnknown : (one two : Option (List ℕ)) → (given : Option (Option (List ℕ))) → Options → CheckFault → Type 0
 AreTargetsUnknown one two given o fault = (targets : List PairName) × AreTargetsOf o.explain.items targets
-    × IsUnexplained (told_of one two given) targets fault
+    × IsUnexplained (device_texts one two given) targets fault
 
 -- why the check of two texts failed, in an order of this choice
 abbrev pub IsFailedCheck : (one two : Option (List ℕ)) → (given : Option (Option (List ℕ)))
-    → (first_failed second_failed given_failed : Type 0) → Options → Choice → CheckFault → Type 0
+    → (first_failed second_failed given_failed : Type 0) → Options → Strategy → CheckFault → Type 0
 IsFailedCheck one two given first_failed second_failed given_failed o choice fault =
     AreTargetsUnknown one two given o fault
     ⊎ ((order : Order) × IsAllowed choice order × IsCheckFault
-    (told_of one two given) first_failed second_failed given_failed choice o.matching order fault)
+    (device_texts one two given) first_failed second_failed given_failed choice o.matching order fault)
 
 -- both texts are at hand
 abbrev pub HasTexts : Option (List ℕ) → Texts → Type 0
@@ -338,30 +338,30 @@ HasTexts input InputTwice = ⊥
 HasTexts input One = ⊥
 
 -- Why the order file was refused: want of memory, a file that has failed, or what stands in it.
-pub record IsOrderRefused (told : Option (List ℕ)) (has_failed : Type 0) (fault : OrderFault) : Type 0 where
-  pub cause : (fault ≡ NoOrderMemory) ⊎ (fault ≡ OrderReadFailed) ⊎ IfSome told (λ text. IsBadText text fault)
+pub record IsOrderRefused (known : Option (List ℕ)) (has_failed : Type 0) (fault : OrderFault) : Type 0 where
+  pub cause : (fault ≡ NoOrderMemory) ⊎ (fault ≡ OrderReadFailed) ⊎ IfSome known (λ text. IsBadText text fault)
   pub read : fault ≡ OrderReadFailed → has_failed
 
 -- Why the names of the file of an order were not had, and whether it was tried. `broken` says of a path that a file that was opened there
 -- has failed.
 abbrev pub IsListFault : (List ℕ → Option (List ℕ)) → (broken : List ℕ → Type 0) → (path : List ℕ) → List Try → ToolFault → Type 0
-IsListFault told broken path tries (CannotOpen OrderFile obstacle) = tries ≡ (path, false) ∷ []
-IsListFault told broken path tries (BadOrder fault) = (tries ≡ opened (path ∷ [])) × IsOrderRefused (told path) (broken path) fault
-IsListFault told broken path tries OutOfMemory = AreTried (path ∷ []) tries
-IsListFault told broken path tries (CannotOpen First obstacle) = ⊥
-IsListFault told broken path tries (CannotOpen Second obstacle) = ⊥
-IsListFault told broken path tries (CannotOpen GivenFile obstacle) = ⊥
-IsListFault told broken path tries (CannotSave obstacle) = ⊥
-IsListFault told broken path tries OneFile = ⊥
-IsListFault told broken path tries DashTwice = ⊥
-IsListFault told broken path tries InputUnread = ⊥
-IsListFault told broken path tries InputTooLong = ⊥
-IsListFault told broken path tries InputUndivided = ⊥
-IsListFault told broken path tries (Check fault) = ⊥
+IsListFault bytes_at broken path tries (CannotOpen OrderFile obstacle) = tries ≡ (path, false) ∷ []
+IsListFault bytes_at broken path tries (BadOrder fault) = (tries ≡ opened (path ∷ [])) × IsOrderRefused (bytes_at path) (broken path) fault
+IsListFault bytes_at broken path tries OutOfMemory = AreTried (path ∷ []) tries
+IsListFault bytes_at broken path tries (CannotOpen First obstacle) = ⊥
+IsListFault bytes_at broken path tries (CannotOpen Second obstacle) = ⊥
+IsListFault bytes_at broken path tries (CannotOpen GivenFile obstacle) = ⊥
+IsListFault bytes_at broken path tries (CannotSave obstacle) = ⊥
+IsListFault bytes_at broken path tries OneFile = ⊥
+IsListFault bytes_at broken path tries DashTwice = ⊥
+IsListFault bytes_at broken path tries InputUnread = ⊥
+IsListFault bytes_at broken path tries InputTooLong = ⊥
+IsListFault bytes_at broken path tries InputUndivided = ⊥
+IsListFault bytes_at broken path tries (Check fault) = ⊥
 
 -- Why the order that is asked for was not had: its file, where it is that of one.
 abbrev pub IsOrderFault : (List ℕ → Option (List ℕ)) → (broken : List ℕ → Type 0) → OrderChoice → List Try → ToolFault → Type 0
-IsOrderFault told broken choice tries fault = (path : List ℕ) × (order_paths choice ≡ path ∷ []) × IsListFault told broken path tries fault
+IsOrderFault bytes_at broken choice tries fault = (path : List ℕ) × (order_paths choice ≡ path ∷ []) × IsListFault bytes_at broken path tries fault
 
 -- Why the condition's file was not opened, and whether it was tried.
 abbrev pub IsGivenFault : Option (Bor (List ℕ)) → List Try → ToolFault → Type 0
@@ -380,13 +380,13 @@ IsGivenFault given tries InputUndivided = ⊥
 IsGivenFault given tries (Check fault) = ⊥
 
 -- why the order that is asked for was not had, where the condition's file was opened before
-abbrev pub IsOrderFaultBehind : (List ℕ → Option (List ℕ)) → (broken : List ℕ → Type 0) → Options → List Try → ToolFault → Type 0
-IsOrderFaultBehind told broken o tries fault = (ts : List Try) × (tries ≡ opened (path_in o.given) ++ ts)
-    × IsOrderFault told broken o.order ts fault
+abbrev pub IsOrderFaultAfterGiven : (List ℕ → Option (List ℕ)) → (broken : List ℕ → Type 0) → Options → List Try → ToolFault → Type 0
+IsOrderFaultAfterGiven bytes_at broken o tries fault = (ts : List Try) × (tries ≡ opened (path_in o.given) ++ ts)
+    × IsOrderFault bytes_at broken o.order ts fault
 
 -- Why the files behind those of the texts were not had.
 abbrev pub IsLaterFault : (List ℕ → Option (List ℕ)) → (broken : List ℕ → Type 0) → Options → List Try → ToolFault → Type 0
-IsLaterFault told broken o tries fault = IsGivenFault o.given tries fault ⊎ IsOrderFaultBehind told broken o tries fault
+IsLaterFault bytes_at broken o tries fault = IsGivenFault o.given tries fault ⊎ IsOrderFaultAfterGiven bytes_at broken o tries fault
 
 -- the device of the condition has failed: its file
 abbrev pub HasGivenFailed : (broken : List ℕ → Type 0) → Option (Bor (List ℕ)) → Type 0
@@ -407,7 +407,7 @@ IsInputFault input DashTwice = ⊥
 IsInputFault input InputUndivided = ⊥
 
 -- why a file was not opened, with all that was tried before
-abbrev pub IsUnopened : Option (List ℕ) → Options → List Try → Place → Type 0
+abbrev pub IsUnopened : Option (List ℕ) → Options → List Try → FileRole → Type 0
 IsUnopened input o tries First = (path : List ℕ) × (first_paths o.texts ≡ path ∷ []) × (tries ≡ (path, false) ∷ [])
 IsUnopened input o tries Second = (path : List ℕ) × (second_paths o.texts ≡ path ∷ [])
     × (tries ≡ opened (first_paths o.texts) ++ (path, false) ∷ [])
@@ -440,21 +440,21 @@ HasSecondFailed broken input_broken One = ⊥
 -- `broken` says of a path that a file that was opened there has failed, and `input_broken` that the input has.
 abbrev pub IsToolFault : (List ℕ → Option (List ℕ)) → (broken : List ℕ → Type 0) → (input_broken : Type 0) → Option (List ℕ) → Options
     → List Try → ToolFault → Type 0
-IsToolFault told broken input_broken input o tries OneFile = (o.texts ≡ One) × (tries ≡ [])
-IsToolFault told broken input_broken input o tries DashTwice = (o.texts ≡ InputTwice) × (tries ≡ [])
-IsToolFault told broken input_broken input o tries (CannotOpen place obstacle) = IsUnopened input o tries place
-IsToolFault told broken input_broken input o tries (CannotSave obstacle) = ⊥
-IsToolFault told broken input_broken input o tries InputUnread = (o.texts ≡ Input) × (tries ≡ [])
-IsToolFault told broken input_broken input o tries InputTooLong = (o.texts ≡ Input) × (tries ≡ [])
+IsToolFault bytes_at broken input_broken input o tries OneFile = (o.texts ≡ One) × (tries ≡ [])
+IsToolFault bytes_at broken input_broken input o tries DashTwice = (o.texts ≡ InputTwice) × (tries ≡ [])
+IsToolFault bytes_at broken input_broken input o tries (CannotOpen place obstacle) = IsUnopened input o tries place
+IsToolFault bytes_at broken input_broken input o tries (CannotSave obstacle) = ⊥
+IsToolFault bytes_at broken input_broken input o tries InputUnread = (o.texts ≡ Input) × (tries ≡ [])
+IsToolFault bytes_at broken input_broken input o tries InputTooLong = (o.texts ≡ Input) × (tries ≡ [])
     × IfSome input (λ text. 134221824 < length text)
-IsToolFault told broken input_broken input o tries InputUndivided = (o.texts ≡ Input) × (tries ≡ [])
+IsToolFault bytes_at broken input_broken input o tries InputUndivided = (o.texts ≡ Input) × (tries ≡ [])
     × IfSome input (λ text. IsShort text × IsSplit text None)
-IsToolFault told broken input_broken input o tries (BadOrder fault) =
+IsToolFault bytes_at broken input_broken input o tries (BadOrder fault) =
     (path : List ℕ) × (order_paths o.order ≡ path ∷ []) × HasTexts input o.texts × (tries ≡ opened (paths_of o))
-    × IsOrderRefused (told path) (broken path) fault
-IsToolFault told broken input_broken input o tries (Check fault) =
-    (one two : Option (List ℕ)) × (given : Option (Option (List ℕ))) × (choice : Choice) × AreTexts told input o.texts one two
-    × IsGivenOf told o.given given × IsOrderOf told o.order choice
+    × IsOrderRefused (bytes_at path) (broken path) fault
+IsToolFault bytes_at broken input_broken input o tries (Check fault) =
+    (one two : Option (List ℕ)) × (given : Option (Option (List ℕ))) × (choice : Strategy) × AreTexts bytes_at input o.texts one two
+    × IsGivenOf bytes_at o.given given × IsOrderOf bytes_at o.order choice
     × (tries ≡ opened (paths_of o)) × IsFailedCheck one two given (HasFirstFailed broken input_broken o.texts)
     (HasSecondFailed broken input_broken o.texts) (HasGivenFailed broken o.given) o choice fault
-IsToolFault told broken input_broken input o tries OutOfMemory = AreTwo o.texts × AreTried (paths_of o) tries
+IsToolFault bytes_at broken input_broken input o tries OutOfMemory = AreTwo o.texts × AreTried (paths_of o) tries

@@ -1,17 +1,17 @@
 //! The comparison of two texts that are at hand, behind the files that are opened for it.
 ghost use Rattle.std.specs.Prelude.{◌≡◌, ◌≢◌, ◌⊎◌, None, IfOk, IfErr, OnOk, OnErr, IsTrue, Err};
-ghost use Rattle.check_report.specs.Devices.{HasFailedIn, told_by, told_of};
+ghost use Rattle.check_report.specs.Devices.{HasFailedIn, device_text, device_texts};
 ghost use Rattle.check_report.specs.declared.fault.CheckFault.TheVariants.{Write};
 ghost use Rattle.check_tool.specs.Comparing.{IsChecked, IsUnchecked, IsReady, IsUnready, IsComparison, IsFailedComparison};
 ghost use Rattle.check_tool.specs.Ending.{written};
 ghost use Rattle.check_tool.specs.Opening.{HasFailedAt};
 ghost use Rattle.check_tool.specs.Running.{IsGivenFrom};
 
-use crate::asked::{picked_of, settings_of, targets_of};
 use crate::done::Done;
 use crate::fault::ToolFault;
 use crate::files::prepare;
 use crate::folder::Folder;
+use crate::settings::{picked_of, settings_of, targets_of};
 use check_report::{Context, Settings, check, print_order};
 use command_line::Options;
 use expand_work::Monitor;
@@ -34,12 +34,12 @@ fn ready<F: Folder>(
     folder: &mut F,
     options: &Options<'_>,
 ) -> Result<(Option<F::File>, Settings), ToolFault>
-    ensures ready { IfOk result (λ r. IsReady (F.told folder.old) options.now (F.tries folder.old) (F.tries folder.new)
-        (told_by F.File.remaining r.0) r.1) }
-    ensures named { IfOk result (λ r. IsGivenFrom options.now.given (told_by F.File.origin r.0)) }
-    ensures kept { F.told folder.new ≡ F.told folder.old }
+    ensures ready { IfOk result (λ r. IsReady (F.bytes_at folder.old) options.now (F.tries folder.old) (F.tries folder.new)
+        (device_text F.File.remaining r.0) r.1) }
+    ensures named { IfOk result (λ r. IsGivenFrom options.now.given (device_text F.File.origin r.0)) }
+    ensures files_unchanged { F.bytes_at folder.new ≡ F.bytes_at folder.old }
     ensures unsaved { F.saves folder.new ≡ F.saves folder.old }
-    ensures fault { IfErr result (IsUnready (F.told folder.old) (HasFailedAt F.File.origin F.File.has_failed) options.now
+    ensures fault { IfErr result (IsUnready (F.bytes_at folder.old) (HasFailedAt F.File.origin F.File.has_failed) options.now
         (F.tries folder.old) (F.tries folder.new)) }
 {
     let picked = picked_of(alloc, &options.picks)?;
@@ -64,18 +64,18 @@ fn check_or_print<
     given: &mut Option<R3>,
     out: &mut W,
 ) -> Result<Done, ToolFault>
-    requires unbounded { G.bound run.now.monitor.now ≡ None }
-    ensures report { let told = told_of (R1.remaining first.old) (R2.remaining second.old) (told_by R3.remaining given.old) in
-        IfOk result (IsChecked told settings.now run.now.options.now.print_order
+    requires no_request_bound { G.bound run.now.monitor.now ≡ None }
+    ensures report { let sources = device_texts (R1.remaining first.old) (R2.remaining second.old) (device_text R3.remaining given.old) in
+        IfOk result (IsChecked sources settings.now run.now.options.now.print_order
         (written W.contents W.has_failed W.has_stopped out.old out.new)) }
-    ensures fault { let told = told_of (R1.remaining first.old) (R2.remaining second.old) (told_by R3.remaining given.old) in
-        IfErr result (IsUnchecked told settings.now run.now.options.now.print_order (IsTrue (R1.has_failed first.new))
+    ensures fault { let sources = device_texts (R1.remaining first.old) (R2.remaining second.old) (device_text R3.remaining given.old) in
+        IfErr result (IsUnchecked sources settings.now run.now.options.now.print_order (IsTrue (R1.has_failed first.new))
         (IsTrue (R2.has_failed second.new)) (HasFailedIn R3.has_failed given.new)
         (written W.contents W.has_failed W.has_stopped out.old out.new)) }
     ensures untouched { OnErr result (result ≢ Err (ToolFault.Check Write) → out.new ≡ out.old) }
     ensures written { OnOk result ((W.has_failed out.new ≡ W.has_failed out.old) × (W.has_stopped out.new ≡ W.has_stopped out.old)) }
     ensures origins { (R1.origin first.new ≡ R1.origin first.old) × (R2.origin second.new ≡ R2.origin second.old)
-        × (told_by R3.origin given.new ≡ told_by R3.origin given.old) }
+        × (device_text R3.origin given.new ≡ device_text R3.origin given.old) }
 {
     let options = run.options;
     let context = Context {
@@ -112,15 +112,15 @@ pub(crate) fn compare<
     second: &mut R2,
     out: &mut W,
 ) -> Result<Done, ToolFault>
-    requires unbounded { G.bound run.now.monitor.now ≡ None }
-    ensures report { IfOk result (IsComparison (F.told folder.old) (R1.remaining first.old) (R2.remaining second.old) run.now.options.now
+    requires no_request_bound { G.bound run.now.monitor.now ≡ None }
+    ensures report { IfOk result (IsComparison (F.bytes_at folder.old) (R1.remaining first.old) (R2.remaining second.old) run.now.options.now
         (F.tries folder.old) (F.tries folder.new) (written W.contents W.has_failed W.has_stopped out.old out.new)) }
     ensures fault { let broken = HasFailedAt F.File.origin F.File.has_failed in
-        IfErr result (λ fault. IsUnready (F.told folder.old) broken run.now.options.now (F.tries folder.old) (F.tries folder.new) fault
-        ⊎ IsFailedComparison (F.told folder.old) broken (R1.remaining first.old) (R2.remaining second.old)
+        IfErr result (λ fault. IsUnready (F.bytes_at folder.old) broken run.now.options.now (F.tries folder.old) (F.tries folder.new) fault
+        ⊎ IsFailedComparison (F.bytes_at folder.old) broken (R1.remaining first.old) (R2.remaining second.old)
         (IsTrue (R1.has_failed first.new)) (IsTrue (R2.has_failed second.new)) run.now.options.now (F.tries folder.old)
         (F.tries folder.new) (written W.contents W.has_failed W.has_stopped out.old out.new) fault) }
-    ensures kept { F.told folder.new ≡ F.told folder.old }
+    ensures files_unchanged { F.bytes_at folder.new ≡ F.bytes_at folder.old }
     ensures unsaved { F.saves folder.new ≡ F.saves folder.old }
     ensures untouched { OnErr result (result ≢ Err (ToolFault.Check Write) → out.new ≡ out.old) }
     ensures written { OnOk result ((W.has_failed out.new ≡ W.has_failed out.old) × (W.has_stopped out.new ≡ W.has_stopped out.old)) }

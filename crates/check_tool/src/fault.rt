@@ -4,7 +4,7 @@ ghost use Rattle.net_bench.specs.FaultText.{fault_text};
 ghost use Rattle.net_order.specs.Fault.{order_fault_text};
 ghost use Rattle.expand_work.specs.Fault.{wave_fault_text};
 ghost use Rattle.check_report.specs.Texts.{check_fault_text};
-ghost use Rattle.check_tool.specs.Faults.{place_text, tool_fault_text, words_text, text_status, order_status, check_status, fault_status};
+ghost use Rattle.check_tool.specs.Faults.{file_role_text, tool_fault_text, words_text, text_status, order_status, check_status, fault_status};
 
 use crate::folder::Obstacle;
 use check_report::CheckFault;
@@ -14,7 +14,7 @@ use net_order::order::OrderFault;
 
 /// What a file is.
 #[derive(Clone, Copy, Drop, Debug, PartialEq, Eq)]
-pub enum Place {
+pub enum FileRole {
     First,
     Second,
     Given,
@@ -28,7 +28,7 @@ pub enum ToolFault {
     OneFile,
     /// Standard input was named as both files.
     InputTwice,
-    CannotOpen(Place, Obstacle),
+    CannotOpen(FileRole, Obstacle),
     /// The file for the VCD was not written.
     CannotSave(Obstacle),
     InputUnread,
@@ -48,32 +48,32 @@ pub(crate) struct Words {
     pub(crate) place: &'static str,
     pub(crate) before: &'static str,
     pub(crate) number: Option<u32>,
-    pub(crate) behind: &'static str,
+    pub(crate) following: &'static str,
 }
 
 /// A text with no number.
 fn plain(text: &'static str) -> Words
     ensures text { words_text result ≡ text.now }
-    ensures bare { result.place.now ≡ [] }
+    ensures has_no_place { result.place.now ≡ [] }
 {
     Words {
         place: "",
         before: text,
         number: None,
-        behind: "",
+        following: "",
     }
 }
 
 /// A text with a number.
-fn numbered(before: &'static str, number: u32, behind: &'static str) -> Words
-    ensures text { words_text result ≡ before.now ++ decimal number ++ behind.now }
-    ensures bare { result.place.now ≡ [] }
+fn numbered(before: &'static str, number: u32, following: &'static str) -> Words
+    ensures text { words_text result ≡ before.now ++ decimal number ++ following.now }
+    ensures has_no_place { result.place.now ≡ [] }
 {
     Words {
         place: "",
         before,
         number: Some(number),
-        behind,
+        following,
     }
 }
 
@@ -86,21 +86,21 @@ fn refused(place: &'static str, words: Words) -> Words
 }
 
 /// What a file is called.
-fn name_of(place: Place) -> &'static str
-    ensures { result.now ≡ place_text place }
+fn name_of(place: FileRole) -> &'static str
+    ensures { result.now ≡ file_role_text place }
 {
     match place {
-        Place::First => "first",
-        Place::Second => "second",
-        Place::Given => "given",
-        Place::Order => "order",
+        FileRole::First => "first",
+        FileRole::Second => "second",
+        FileRole::Given => "given",
+        FileRole::Order => "order",
     }
 }
 
 /// The words for a text that is refused.
 fn words_of_text(fault: BenchFault) -> Words
     ensures text { words_text result ≡ fault_text fault }
-    ensures bare { result.place.now ≡ [] }
+    ensures has_no_place { result.place.now ≡ [] }
 {
     match fault {
         BenchFault::TooLong => plain("longer than 67108864 bytes"),
@@ -126,7 +126,7 @@ fn words_of_text(fault: BenchFault) -> Words
 /// The words for an order that is refused.
 fn words_of_order(fault: OrderFault) -> Words
     ensures text { words_text result ≡ order_fault_text fault }
-    ensures bare { result.place.now ≡ [] }
+    ensures has_no_place { result.place.now ≡ [] }
 {
     match fault {
         OrderFault::CountsDiffer => {
@@ -146,7 +146,7 @@ fn words_of_order(fault: OrderFault) -> Words
 /// The words for a building that failed.
 fn words_of_wave(fault: WaveFault) -> Words
     ensures text { words_text result ≡ wave_fault_text fault }
-    ensures bare { result.place.now ≡ [] }
+    ensures has_no_place { result.place.now ≡ [] }
 {
     match fault {
         WaveFault::OutOfMemory => plain("out of memory"),

@@ -5,7 +5,7 @@ ghost use Rattle.report_text.specs.Writing.{AppendsFront};
 ghost use Rattle.check_tool.specs.Opening.{Extends, Save, Try};
 
 use check_report::write_whole;
-use net_bench::device::{Sink, Source, Through};
+use net_bench::device::{Sink, Source, StdDevice};
 use std::rt::Files;
 use std::{fs, io};
 
@@ -38,27 +38,27 @@ pub trait Folder {
     // The paths that were asked for, the earliest first, each with whether it was opened, where the folder tells them.
     ghost tries: { Self → Option (List Try) };
     // The bytes of the file at a path, where the folder tells them.
-    ghost told: { Self → List ℕ → Option (List ℕ) };
+    ghost bytes_at: { Self → List ℕ → Option (List ℕ) };
     // What was to be saved, the earliest first, where the folder tells that.
     ghost saves: { Self → Option (List Save) } = { λ _. None };
 
     /// Opens the file at the path.
     fn open(&mut self, path: &str) -> Result<Self::File, OpenFault>
         ensures tried { Extends (tries self.old) (tries self.new) ((path.now, is_ok result) ∷ []) }
-        ensures file { IfOk result (λ file. IfSome (told self.old path.now) (λ text. Self.File.remaining file ≡ Some text)) }
+        ensures file { IfOk result (λ file. IfSome (bytes_at self.old path.now) (λ text. Self.File.remaining file ≡ Some text)) }
         ensures fresh { IfOk result (λ file. Self.File.has_failed file ≡ false) }
         ensures named { IfOk result (λ file. IfSome (Self.File.origin file) (λ from. from ≡ path.now)) }
-        ensures kept { told self.new ≡ told self.old }
+        ensures files_unchanged { bytes_at self.new ≡ bytes_at self.old }
         ensures unsaved { saves self.new ≡ saves self.old };
 
     /// Makes the file at the path, anew where it is there, with these bytes.
     fn save(&mut self, path: &str, bytes: &[u8]) -> Result<(), Obstacle>
         ensures saved { Extends (saves self.old) (saves self.new) ((path.now, bytes.now, is_ok result) ∷ []) }
         ensures unopened { tries self.new ≡ tries self.old }
-        ensures kept { told self.new ≡ told self.old };
+        ensures files_unchanged { bytes_at self.new ≡ bytes_at self.old };
 
     /// Whether a plain file stands at the path: one that is still there when it was read, and that nobody has to write meanwhile.
-    fn is_plain(&self, path: &str) -> bool;
+    fn is_regular(&self, path: &str) -> bool;
 }
 
 /// What the system tells of an obstacle.
@@ -113,27 +113,27 @@ impl<'a, H> Disk<'a, H> {
 }
 
 impl<'a, H: Files> Folder for Disk<'a, H> {
-    type File = Through<H::File>;
+    type File = StdDevice<H::File>;
 
     ghost tries = { λ _. None };
 
-    ghost told = { λ _ _. None };
+    ghost bytes_at = { λ _ _. None };
 
-    fn open(&mut self, path: &str) -> Result<Through<H::File>, OpenFault> {
+    fn open(&mut self, path: &str) -> Result<StdDevice<H::File>, OpenFault> {
         match fs::open(self.rt, path) {
-            Ok(file) => Ok(Through::new(file)),
+            Ok(file) => Ok(StdDevice::new(file)),
             Err(error) => Err(fault_of(error.kind())),
         }
     }
 
     fn save(&mut self, path: &str, bytes: &[u8]) -> Result<(), Obstacle> {
         match fs::create(self.rt, path) {
-            Ok(file) => fill(&mut Through::new(file), bytes),
+            Ok(file) => fill(&mut StdDevice::new(file), bytes),
             Err(error) => Err(obstacle_of(error.kind())),
         }
     }
 
-    fn is_plain(&self, path: &str) -> bool {
+    fn is_regular(&self, path: &str) -> bool {
         match fs::metadata(self.rt, path) {
             Ok(known) => known.is_file(),
             Err(_) => false,

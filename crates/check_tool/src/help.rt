@@ -1,11 +1,11 @@
 //! Where a fault is, and what it points at there: the line after a fault's own.
 ghost use Rattle.std.specs.Prelude.{◌≡◌, ◌∷◌, [], Some, IfOk, IfSome, string_bytes};
-ghost use Rattle.check_tool.specs.Helping.{first_name, second_name, in_text, on_line, where_of, text_spot, order_spot, given_spot};
-ghost use Rattle.check_tool.specs.Helping.{file_spot, fault_spot, help_line, help_text, help_quoting, refused_paths, text_mark};
-ghost use Rattle.check_tool.specs.Helping.{order_mark, fault_mark};
+ghost use Rattle.check_tool.specs.Helping.{first_name, second_name, in_text, on_line, where_of, text_location, order_location, given_location};
+ghost use Rattle.check_tool.specs.Helping.{file_location, fault_location, help_line, help_text, help_quoting, refused_paths, text_part};
+ghost use Rattle.check_tool.specs.Helping.{order_part, fault_part};
 ghost use Rattle.check_tool.specs.Running.{first_paths, second_paths, order_paths, path_in};
 
-use crate::fault::{Place, ToolFault};
+use crate::fault::{FileRole, ToolFault};
 use crate::names::{refused_names, with_names};
 use crate::remedy::{help_against, help_shown};
 use check_report::CheckFault;
@@ -16,8 +16,8 @@ use std::alloc::{AllocError, Global};
 
 /// Where a fault is.
 #[derive(Clone, Copy, Drop)]
-pub enum Spot<'a> {
-    Nowhere,
+pub enum Location<'a> {
+    NoLocation,
     /// In a text, which is named by its path or by what it is.
     Text(&'a str),
     /// In a line of it.
@@ -47,8 +47,8 @@ fn name_of_second<'a>(texts: Texts<'a>) -> &'a str
 }
 
 /// Where a refused text is at fault.
-fn spot_in_text<'a>(name: &'a str, fault: BenchFault) -> Spot<'a>
-    ensures { where_of result ≡ text_spot name.now fault }
+fn location_in_text<'a>(name: &'a str, fault: BenchFault) -> Location<'a>
+    ensures { where_of result ≡ text_location name.now fault }
 {
     match fault {
         BenchFault::BadByte { line }
@@ -58,71 +58,77 @@ fn spot_in_text<'a>(name: &'a str, fault: BenchFault) -> Spot<'a>
         | BenchFault::Redefined { line }
         | BenchFault::TooMany { line }
         | BenchFault::Undefined { line }
-        | BenchFault::Cycle { line } => Spot::Line(name, line),
-        BenchFault::TooLong | BenchFault::Read | BenchFault::OutOfMemory => Spot::Text(name),
+        | BenchFault::Cycle { line } => Location::Line(name, line),
+        BenchFault::TooLong | BenchFault::Read | BenchFault::OutOfMemory => Location::Text(name),
     }
 }
 
 /// Where the file of an order is at fault.
-fn spot_in_order<'a>(choice: OrderChoice<'a>, fault: OrderFault) -> Spot<'a>
-    ensures { where_of result ≡ order_spot choice.entry fault }
+fn location_in_order<'a>(choice: OrderChoice<'a>, fault: OrderFault) -> Location<'a>
+    ensures { where_of result ≡ order_location choice.entry fault }
 {
     let (OrderChoice::File(path) | OrderChoice::Extended(path)) = choice else {
-        return Spot::Nowhere;
+        return Location::NoLocation;
     };
     match fault {
-        OrderFault::BadName { line } => Spot::Line(path, line),
-        OrderFault::CountsDiffer | OrderFault::TooManyInputs => Spot::Nowhere,
-        _ => Spot::Text(path),
+        OrderFault::BadName { line } => Location::Line(path, line),
+        OrderFault::CountsDiffer | OrderFault::TooManyInputs => Location::NoLocation,
+        _ => Location::Text(path),
     }
 }
 
 /// Where the condition is at fault.
-fn spot_in_given<'a>(path: Option<&'a str>, fault: BenchFault) -> Spot<'a>
-    ensures { where_of result ≡ given_spot path.entry fault }
+fn location_in_given<'a>(path: Option<&'a str>, fault: BenchFault) -> Location<'a>
+    ensures { where_of result ≡ given_location path.entry fault }
 {
     match path {
-        Some(path) => spot_in_text(path, fault),
-        None => Spot::Nowhere,
+        Some(path) => location_in_text(path, fault),
+        None => Location::NoLocation,
     }
 }
 
 /// A file, where there is one.
-fn spot_in_file<'a>(path: Option<&'a str>) -> Spot<'a>
-    ensures { where_of result ≡ file_spot path.entry }
+fn location_in_file<'a>(path: Option<&'a str>) -> Location<'a>
+    ensures { where_of result ≡ file_location path.entry }
 {
     match path {
-        Some(path) => Spot::Text(path),
-        None => Spot::Nowhere,
+        Some(path) => Location::Text(path),
+        None => Location::NoLocation,
     }
 }
 
 /// Where a fault is.
-fn spot_of<'a>(options: &Options<'a>, fault: ToolFault) -> Spot<'a>
-    ensures { where_of result ≡ fault_spot options.now.texts options.now.given options.now.vcd options.now.order fault }
+fn location_of<'a>(options: &Options<'a>, fault: ToolFault) -> Location<'a>
+    ensures { where_of result ≡ fault_location options.now.texts options.now.given options.now.vcd options.now.order fault }
 {
     match fault {
-        ToolFault::CannotOpen(Place::First, _) => Spot::Text(name_of_first(options.texts)),
-        ToolFault::CannotOpen(Place::Second, _) => Spot::Text(name_of_second(options.texts)),
-        ToolFault::CannotOpen(Place::Given, _) => spot_in_given(options.given, BenchFault::Read),
-        ToolFault::CannotOpen(Place::Order, _) => spot_in_order(options.order, OrderFault::Read),
-        ToolFault::CannotSave(_) => spot_in_file(options.vcd),
-        ToolFault::BadOrder(fault) => spot_in_order(options.order, fault),
+        ToolFault::CannotOpen(FileRole::First, _) => Location::Text(name_of_first(options.texts)),
+        ToolFault::CannotOpen(FileRole::Second, _) => Location::Text(name_of_second(options.texts)),
+        ToolFault::CannotOpen(FileRole::Given, _) => location_in_given(
+            options.given,
+            BenchFault::Read,
+        ),
+        ToolFault::CannotOpen(FileRole::Order, _) => location_in_order(
+            options.order,
+            OrderFault::Read,
+        ),
+        ToolFault::CannotSave(_) => location_in_file(options.vcd),
+        ToolFault::BadOrder(fault) => location_in_order(options.order, fault),
         ToolFault::Check(CheckFault::First(fault)) => {
-            spot_in_text(name_of_first(options.texts), fault)
+            location_in_text(name_of_first(options.texts), fault)
         }
         ToolFault::Check(CheckFault::Second(fault)) => {
-            spot_in_text(name_of_second(options.texts), fault)
+            location_in_text(name_of_second(options.texts), fault)
         }
-        ToolFault::Check(CheckFault::Given(fault)) => spot_in_given(options.given, fault),
+        ToolFault::Check(CheckFault::Given(fault)) => location_in_given(options.given, fault),
         ToolFault::Check(CheckFault::GivenOutputs) => {
-            spot_in_given(options.given, BenchFault::Read)
+            location_in_given(options.given, BenchFault::Read)
         }
-        ToolFault::Check(CheckFault::Order(fault)) => spot_in_order(options.order, fault),
+        ToolFault::Check(CheckFault::Order(fault)) => location_in_order(options.order, fault),
         ToolFault::Check(CheckFault::Only | CheckFault::Explain) => {
-            Spot::Text(name_of_first(options.texts))
+            Location::Text(name_of_first(options.texts))
         }
-        _ => Spot::Nowhere,
+        _ => Location::NoLocation,
     }
 }
 
@@ -175,61 +181,61 @@ fn refused_file<'a>(options: &Options<'a>, fault: ToolFault) -> Option<&'a str>
 
 /// What a fault points at in a file: a line, a line with a broken statement, or a name of a list by its place.
 #[derive(Clone, Copy, Drop)]
-pub enum Mark {
+pub enum QuotedPart {
     Line(u32),
-    Broken(u32),
+    BrokenStatement(u32),
     Listed(u32),
 }
 
 /// What a refused text is shown by.
-fn mark_in_text(fault: BenchFault) -> Option<Mark>
-    ensures { result ≡ text_mark fault }
+fn quoted_part_in_text(fault: BenchFault) -> Option<QuotedPart>
+    ensures { result ≡ text_part fault }
 {
     match fault {
-        BenchFault::BadStatement { line } => Some(Mark::Broken(line)),
+        BenchFault::BadStatement { line } => Some(QuotedPart::BrokenStatement(line)),
         BenchFault::BadByte { line }
         | BenchFault::UnknownGate { line }
         | BenchFault::WrongOperands { line }
         | BenchFault::Redefined { line }
         | BenchFault::TooMany { line }
         | BenchFault::Undefined { line }
-        | BenchFault::Cycle { line } => Some(Mark::Line(line)),
+        | BenchFault::Cycle { line } => Some(QuotedPart::Line(line)),
         BenchFault::TooLong | BenchFault::Read | BenchFault::OutOfMemory => None,
     }
 }
 
 /// What a refused order is shown by.
-fn mark_in_order(fault: OrderFault) -> Option<Mark>
-    ensures { result ≡ order_mark fault }
+fn quoted_part_in_order(fault: OrderFault) -> Option<QuotedPart>
+    ensures { result ≡ order_part fault }
 {
     match fault {
-        OrderFault::BadName { line } => Some(Mark::Line(line)),
-        OrderFault::NotAPermutation { place } => Some(Mark::Listed(place)),
+        OrderFault::BadName { line } => Some(QuotedPart::Line(line)),
+        OrderFault::NotAPermutation { place } => Some(QuotedPart::Listed(place)),
         _ => None,
     }
 }
 
 /// What a fault points at in the file of a text that was refused.
-fn mark_of(fault: ToolFault) -> Option<Mark>
-    ensures { result ≡ fault_mark fault }
+fn quoted_part_of(fault: ToolFault) -> Option<QuotedPart>
+    ensures { result ≡ fault_part fault }
 {
     match fault {
-        ToolFault::BadOrder(fault) => mark_in_order(fault),
-        ToolFault::Check(CheckFault::First(fault)) => mark_in_text(fault),
-        ToolFault::Check(CheckFault::Second(fault)) => mark_in_text(fault),
-        ToolFault::Check(CheckFault::Given(fault)) => mark_in_text(fault),
-        ToolFault::Check(CheckFault::Order(fault)) => mark_in_order(fault),
+        ToolFault::BadOrder(fault) => quoted_part_in_order(fault),
+        ToolFault::Check(CheckFault::First(fault)) => quoted_part_in_text(fault),
+        ToolFault::Check(CheckFault::Second(fault)) => quoted_part_in_text(fault),
+        ToolFault::Check(CheckFault::Given(fault)) => quoted_part_in_text(fault),
+        ToolFault::Check(CheckFault::Order(fault)) => quoted_part_in_order(fault),
         _ => None,
     }
 }
 
 /// The file of a text that was refused, and what the fault points at in it.
-pub fn refused_mark<'a>(options: &Options<'a>, fault: ToolFault) -> Option<(&'a str, Mark)>
-    ensures { IfSome result (λ r. (refused_paths options.now fault ≡ r.0.now ∷ []) × (fault_mark fault ≡ Some r.1)) }
+pub fn refused_part<'a>(options: &Options<'a>, fault: ToolFault) -> Option<(&'a str, QuotedPart)>
+    ensures { IfSome result (λ r. (refused_paths options.now fault ≡ r.0.now ∷ []) × (fault_part fault ≡ Some r.1)) }
 {
     let path = refused_file(options, fault)?;
-    let mark = mark_of(fault)?;
-    Some((path, mark))
+    let quoted_part = quoted_part_of(fault)?;
+    Some((path, quoted_part))
 }
 
 fn line_in_text(alloc: Global, name: &str, help: &str) -> Result<String, AllocError>
@@ -245,13 +251,13 @@ fn line_on_line(alloc: Global, name: &str, line: u32, help: &str) -> Result<Stri
 }
 
 /// The line of a place, and of what helps there.
-fn line_at(alloc: Global, spot: Spot<'_>, help: &str) -> Result<String, AllocError>
-    ensures { IfOk result (λ line. string_bytes line ≡ help_line (where_of spot.entry) help.now) }
+fn line_at(alloc: Global, location: Location<'_>, help: &str) -> Result<String, AllocError>
+    ensures { IfOk result (λ line. string_bytes line ≡ help_line (where_of location.entry) help.now) }
 {
-    match spot {
-        Spot::Nowhere => format!(in alloc; "bddcheck: {help}\n"),
-        Spot::Text(name) => line_in_text(alloc, name, help),
-        Spot::Line(name, line) => line_on_line(alloc, name, line, help),
+    match location {
+        Location::NoLocation => format!(in alloc; "bddcheck: {help}\n"),
+        Location::Text(name) => line_in_text(alloc, name, help),
+        Location::Line(name, line) => line_on_line(alloc, name, line, help),
     }
 }
 
@@ -259,10 +265,10 @@ fn line_at(alloc: Global, spot: Spot<'_>, help: &str) -> Result<String, AllocErr
 pub fn help_of(alloc: Global, options: &Options<'_>, fault: ToolFault) -> Result<String, AllocError>
     ensures { IfOk result (λ line. string_bytes line ≡ help_text options.now fault) }
 {
-    let spot = spot_of(options, fault);
+    let location = location_of(options, fault);
     let help = help_against(options.order, fault);
     let both = with_names(alloc, help, refused_names(options, fault))?;
-    line_at(alloc, spot, both.as_str())
+    line_at(alloc, location, both.as_str())
 }
 
 /// The same line with what is shown of a file, or with the name that is refused.
@@ -274,8 +280,8 @@ pub fn help_with(
 ) -> Result<String, AllocError>
     ensures { IfOk result (λ line. string_bytes line ≡ help_quoting options.now fault quoted.now) }
 {
-    let spot = spot_of(options, fault);
+    let location = location_of(options, fault);
     let help = help_shown(options.order, fault, quoted);
     let both = format!(in alloc; "{help}: {quoted}")?;
-    line_at(alloc, spot, both.as_str())
+    line_at(alloc, location, both.as_str())
 }

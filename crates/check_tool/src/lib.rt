@@ -5,19 +5,18 @@
 //! nothing was written (`untouched`), at 0 and 1 nothing said, unless more is asked for or seen on a terminal
 //! (`silent`). If a pair differs, the file for the VCD has it (`ending`).
 //! `run::run_options` says so of options: the report (`report`, `unwritten`), the files that were opened, in their
-//! order (`opened`), the input that is read only where a text stands on it (`unasked`), faults and their causes
-//! (`fault`, `full`, `given_up`, `only`, `hired`, `unbounded`). `split::split_input` divides at the first line `%%`;
+//! order (`opened`), the input that is read only where a text stands on it (`input_unread`), faults and their causes
+//! (`fault`, `full`, `given_up`, `only`, `thread_for_named_order`, `never_too_many_requests`). `split::split_input` divides at the first line `%%`;
 //! `fault::status_of_fault` is the status of a fault (`status`).
 //!
 //! **Only tests show** files, pipes, terminals and signals of the built program (`tests/run.sh`), and what progress
 //! says (`report_tests`).
 //!
 //! **Begin** with `tool`, then `run` for the texts, and `compare`: files are opened (`files`), and `check_report` is
-//! called with the settings of `asked`. How a run ends is in `specs/Ending`, its causes in `specs/Running`, its steps in
+//! called with the settings of `settings`. How a run ends is in `specs/Ending`, its causes in `specs/Running`, its steps in
 //! `specs/Comparing`.
 #![tactic(auto)]
 
-mod asked;
 mod compare;
 pub mod done;
 pub mod fault;
@@ -32,7 +31,8 @@ mod remedy;
 pub mod run;
 mod saving;
 mod say;
-pub mod screen;
+mod settings;
 pub mod split;
-mod tell;
+pub mod terminal;
 pub mod tool;
+mod verbose;

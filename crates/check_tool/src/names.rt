@@ -2,17 +2,17 @@
 ghost use Rattle.std.specs.Prelude.{◌≡◌, ◌++◌, ◌∷◌, [], List, Contains, IfOk, IfSome, string_bytes};
 ghost use Rattle.net_bench.specs.Circuit.{circuit};
 ghost use Rattle.check_report.specs.Check.{Gives};
-ghost use Rattle.check_report.specs.Picking.{IsNamedIn};
+ghost use Rattle.check_report.specs.PairSelection.{IsNamedIn};
 ghost use Rattle.check_tool.specs.Helping.{names_text, picked_names, refused_names, refused_paths, IsFirstCircuit, IsQuoted};
-ghost use Rattle.check_tool.specs.Helping.{IsRefusedName, IsUnexplainedWord, IsUnknownPick, IsUnknownTarget};
+ghost use Rattle.check_tool.specs.Helping.{IsRefusedName, IsUnknownTargetWord, IsUnknownPick, IsUnknownTarget};
 ghost use Rattle.check_tool.specs.Opening.{AreTried, Extends, Try};
 ghost use Rattle.check_tool.specs.Running.{first_paths};
 
-use crate::asked::target_of;
 use crate::fault::ToolFault;
 use crate::folder::Folder;
 use crate::help::file_of_first;
-use check_report::{CheckFault, is_known, is_named};
+use crate::settings::target_of;
+use check_report::{CheckFault, has_pair, is_named};
 use command_line::{Options, Picks};
 use net_bench::netlist::Netlist;
 use net_bench::reader::read_bench;
@@ -55,11 +55,11 @@ pub(crate) fn with_names(alloc: Global, text: &str, names: &[&str]) -> Result<St
 /// or memory ran out.
 #[tactic(auto, using(crate::proofs::Composing::extends_none, crate::proofs::Quoting::tried_once, crate::proofs::Naming::gives_again))]
 fn read_again<F: Folder>(alloc: Global, folder: &mut F, path: &str) -> Option<Netlist>
-    ensures read { IfSome result (λ net. Gives (F.told folder.old path.now) (circuit net)) }
+    ensures read { IfSome result (λ net. Gives (F.bytes_at folder.old path.now) (circuit net)) }
     ensures tried { (again : List Try) × Extends (F.tries folder.old) (F.tries folder.new) again × AreTried (path.now ∷ []) again }
     ensures unsaved { F.saves folder.new ≡ F.saves folder.old }
 {
-    if !folder.is_plain(path) {
+    if !folder.is_regular(path) {
         return None;
     }
     let Ok(mut file) = folder.open(path) else {
@@ -74,7 +74,7 @@ fn read_again<F: Folder>(alloc: Global, folder: &mut F, path: &str) -> Option<Ne
 /// The first netlist, if it is in a file that can be read once more.
 #[tactic(auto, using(crate::proofs::Composing::extends_none))]
 fn first_netlist<F: Folder>(alloc: Global, folder: &mut F, options: &Options<'_>) -> Option<Netlist>
-    ensures read { IfSome result (λ net. IsFirstCircuit (F.told folder.old) options.now (circuit net)) }
+    ensures read { IfSome result (λ net. IsFirstCircuit (F.bytes_at folder.old) options.now (circuit net)) }
     ensures tried { (again : List Try) × Extends (F.tries folder.old) (F.tries folder.new) again
         × AreTried (first_paths options.now.texts) again }
     ensures unsaved { F.saves folder.new ≡ F.saves folder.old }
@@ -86,7 +86,7 @@ fn first_netlist<F: Folder>(alloc: Global, folder: &mut F, options: &Options<'_>
 }
 
 /// The first of these names that is that of no output and no register.
-fn unnamed_in<'a>(net: &Netlist, names: &[&'a str]) -> Option<&'a str>
+fn unknown_name_in<'a>(net: &Netlist, names: &[&'a str]) -> Option<&'a str>
     ensures { IfSome result (λ n. Contains names.now n × (IsNamedIn (circuit net.now) n.now → ⊥)) }
 {
     for name in names {
@@ -98,14 +98,14 @@ fn unnamed_in<'a>(net: &Netlist, names: &[&'a str]) -> Option<&'a str>
 }
 
 /// The first of these words that calls no output and no register.
-fn unexplained_in<'a>(alloc: Global, net: &Netlist, words: &[&'a str]) -> Option<&'a str>
+fn unknown_target_in<'a>(alloc: Global, net: &Netlist, words: &[&'a str]) -> Option<&'a str>
     ensures { IfSome result (λ w. Contains words.now w × IsUnknownTarget (circuit net.now) w.now) }
 {
     for word in words {
         let Ok(target) = target_of(alloc, *word) else {
             return None;
         };
-        if !is_known(net, &target) {
+        if !has_pair(net, &target) {
             return Some(*word);
         }
     }
@@ -118,30 +118,30 @@ fn unknown_pick<'a, F: Folder>(
     folder: &mut F,
     options: &Options<'a>,
 ) -> Option<&'a str>
-    ensures unknown { IfSome result (IsUnknownPick (F.told folder.old) options.now) }
+    ensures unknown { IfSome result (IsUnknownPick (F.bytes_at folder.old) options.now) }
     ensures tried { (again : List Try) × Extends (F.tries folder.old) (F.tries folder.new) again
         × AreTried (first_paths options.now.texts) again }
     ensures unsaved { F.saves folder.new ≡ F.saves folder.old }
 {
     match first_netlist(alloc, folder, options) {
-        Some(net) => unnamed_in(&net, picked_names(&options.picks)),
+        Some(net) => unknown_name_in(&net, picked_names(&options.picks)),
         None => None,
     }
 }
 
 /// The first word that calls what is to be explained and is no output and no register of the first netlist.
-fn unexplained_word<'a, F: Folder>(
+fn unknown_target_word<'a, F: Folder>(
     alloc: Global,
     folder: &mut F,
     options: &Options<'a>,
 ) -> Option<&'a str>
-    ensures unknown { IfSome result (IsUnexplainedWord (F.told folder.old) options.now) }
+    ensures unknown { IfSome result (IsUnknownTargetWord (F.bytes_at folder.old) options.now) }
     ensures tried { (again : List Try) × Extends (F.tries folder.old) (F.tries folder.new) again
         × AreTried (first_paths options.now.texts) again }
     ensures unsaved { F.saves folder.new ≡ F.saves folder.old }
 {
     match first_netlist(alloc, folder, options) {
-        Some(net) => unexplained_in(alloc, &net, options.explain.as_slice()),
+        Some(net) => unknown_target_in(alloc, &net, options.explain.as_slice()),
         None => None,
     }
 }
@@ -153,7 +153,7 @@ fn refused_name<'a, F: Folder>(
     options: &Options<'a>,
     fault: ToolFault,
 ) -> Option<&'a str>
-    ensures named { IfSome result (IsRefusedName (F.told folder.old) options.now fault) }
+    ensures named { IfSome result (IsRefusedName (F.bytes_at folder.old) options.now fault) }
     ensures tried { (again : List Try) × Extends (F.tries folder.old) (F.tries folder.new) again
         × AreTried (refused_paths options.now fault) again }
     ensures unsaved { F.saves folder.new ≡ F.saves folder.old }
@@ -164,7 +164,7 @@ fn refused_name<'a, F: Folder>(
     }
     match fault {
         ToolFault::Check(CheckFault::Only) => unknown_pick(alloc, folder, options),
-        ToolFault::Check(CheckFault::Explain) => unexplained_word(alloc, folder, options),
+        ToolFault::Check(CheckFault::Explain) => unknown_target_word(alloc, folder, options),
         _ => None,
     }
 }
@@ -176,7 +176,7 @@ pub(crate) fn name_of_refused<F: Folder>(
     options: &Options<'_>,
     fault: ToolFault,
 ) -> Option<String>
-    ensures quoted { IfSome result (λ s. IsQuoted (F.told folder.old) options.now fault (string_bytes s)) }
+    ensures quoted { IfSome result (λ s. IsQuoted (F.bytes_at folder.old) options.now fault (string_bytes s)) }
     ensures tried { (again : List Try) × Extends (F.tries folder.old) (F.tries folder.new) again
         × AreTried (refused_paths options.now fault) again }
     ensures unsaved { F.saves folder.new ≡ F.saves folder.old }

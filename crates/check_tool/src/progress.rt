@@ -3,9 +3,9 @@ ghost use Rattle.std.specs.Prelude.{◌≡◌, ◌||◌, is_some};
 
 use crate::folder::{Disk, Folder};
 use crate::say::say;
-use crate::screen::Screen;
+use crate::terminal::TerminalSink;
 use dd_store::Watch;
-use expand_work::{AttemptEnd, Free, Monitor};
+use expand_work::{AttemptEnd, Monitor, NoMonitor};
 use net_bench::device::{Sink, read_text};
 use std::alloc::{AllocError, Global};
 use std::fmt;
@@ -20,7 +20,7 @@ const STATM: &str = "/proc/self/statm";
 const MAX_STATM: usize = 4_096;
 
 /// A runtime that knows how much memory its process has.
-pub trait Meter {
+pub trait MemoryMeter {
     /// The resident megabytes, rounded down, where they can be told.
     fn megabytes(&self, alloc: Global) -> Option<u64>;
 }
@@ -33,7 +33,7 @@ fn megabytes_of(text: &[u8]) -> Option<u64> {
 }
 
 /// What Linux says.
-impl Meter for HostRuntime {
+impl MemoryMeter for HostRuntime {
     fn megabytes(&self, alloc: Global) -> Option<u64> {
         let mut file = Disk::new(self).open(STATM).ok()?;
         let text = read_text(alloc, &mut file, MAX_STATM).ok()?;
@@ -51,12 +51,12 @@ pub enum Form {
 }
 
 /// How builds are told of on this device, where lines are asked for or not: not at all where it is no terminal and they are not.
-pub(crate) fn form_on<E: Screen>(asked: bool, errors: &E) -> Option<Form>
-    ensures { is_some result ≡ (asked || E.seen errors.now) }
+pub(crate) fn form_on<E: TerminalSink>(asked: bool, errors: &E) -> Option<Form>
+    ensures { is_some result ≡ (asked || E.on_terminal errors.now) }
 {
     if asked {
         Some(Form::Lines)
-    } else if errors.is_seen() {
+    } else if errors.is_on_terminal() {
         Some(Form::InPlace)
     } else {
         None
@@ -65,7 +65,7 @@ pub(crate) fn form_on<E: Screen>(asked: bool, errors: &E) -> Option<Form>
 
 /// How far a build is.
 #[derive(Clone, Copy, Drop)]
-struct Stand {
+struct BuildStatus {
     rank: u32,
     ranks: u32,
     nodes: u64,
@@ -73,7 +73,7 @@ struct Stand {
     memory: Option<u64>,
 }
 
-impl fmt::Display for Stand {
+impl fmt::Display for BuildStatus {
     fn fmt<W: fmt::Write>(&self, f: &mut fmt::Formatter<W>) -> fmt::Result {
         write!(
             f,
@@ -121,17 +121,17 @@ const CLEAN: &[u8] = b"\r\x1b[K";
 
 /// Where builds are told of, and what of them was told.
 #[derive(Drop)]
-struct Board<'a, E> {
+struct ProgressDisplay<'a, E> {
     errors: &'a mut E,
     form: Form,
     // When it was told last, or the monitor was made, in milliseconds of the clock.
-    told: u64,
+    shown_at: u64,
     // How many builds have begun, and whether the terminal has a line of them.
     attempts: u32,
     shown: bool,
 }
 
-impl<E: Sink> Board<'_, E> {
+impl<E: Sink> ProgressDisplay<'_, E> {
     /// Writes a text.
     fn write(&mut self, text: &[u8]) {
         say(&mut *self.errors, text);
@@ -147,7 +147,7 @@ impl<E: Sink> Board<'_, E> {
 
     /// Hears of a rank, and answers whether it is to be told: a second has gone by since one was. Behind the last rank a report may come,
     /// and the terminal is to be clean then.
-    fn hears(&mut self, now: u64, rank: u32, ranks: u32) -> bool {
+    fn note_rank(&mut self, now: u64, rank: u32, ranks: u32) -> bool {
         if rank == 1 {
             self.attempts = self.attempts.saturating_add(1);
         }
@@ -155,21 +155,21 @@ impl<E: Sink> Board<'_, E> {
             self.clean();
         }
         let is_last_in_place = self.form == Form::InPlace && rank == ranks;
-        if is_last_in_place || now.saturating_sub(self.told) < 1_000 {
+        if is_last_in_place || now.saturating_sub(self.shown_at) < 1_000 {
             return false;
         }
-        self.told = now;
+        self.shown_at = now;
         true
     }
 
     /// Tells this by a line, or in the place of the line before.
-    fn tell<D: fmt::Display + Drop>(&mut self, alloc: Global, stand: D) -> Result<(), AllocError> {
+    fn show<D: fmt::Display + Drop>(&mut self, alloc: Global, update: D) -> Result<(), AllocError> {
         let line = match self.form {
-            Form::Lines => format!(in alloc; "bddcheck: {stand}\n")?,
+            Form::Lines => format!(in alloc; "bddcheck: {update}\n")?,
             Form::InPlace => {
                 let attempt = self.attempts;
                 self.shown = true;
-                format!(in alloc; "\rbddcheck: attempt {attempt} is {stand}\u{1b}[K")?
+                format!(in alloc; "\rbddcheck: attempt {attempt} is {update}\u{1b}[K")?
             }
         };
         self.write(line.as_bytes());
@@ -183,7 +183,7 @@ impl<E: Sink> Board<'_, E> {
 pub struct Progress<'a, 'e, H, E> {
     rt: &'a H,
     alloc: Global,
-    board: Mutex<Board<'e, E>>,
+    display: Mutex<ProgressDisplay<'e, E>>,
     // The requests that were expanded so far.
     requests: AtomicU64,
 }
@@ -199,17 +199,17 @@ fn millis<H: Clock>(rt: &H) -> u64 {
     }
 }
 
-impl<'a, 'e, H: Clock + Meter + Wait, E: Sink> Progress<'a, 'e, H, E> {
+impl<'a, 'e, H: Clock + MemoryMeter + Wait, E: Sink> Progress<'a, 'e, H, E> {
     /// A monitor that tells in this form on this device, a second from now at the earliest.
     pub fn new(rt: &'a H, alloc: Global, form: Form, errors: &'e mut E) -> Progress<'a, 'e, H, E> {
-        let told = millis(rt);
+        let shown_at = millis(rt);
         Progress {
             rt,
             alloc,
-            board: Mutex::new(Board {
+            display: Mutex::new(ProgressDisplay {
                 errors,
                 form,
-                told,
+                shown_at,
                 attempts: 0,
                 shown: false,
             }),
@@ -219,26 +219,26 @@ impl<'a, 'e, H: Clock + Meter + Wait, E: Sink> Progress<'a, 'e, H, E> {
 
     /// Takes the line from the terminal, where one is there, and gives the device back.
     pub fn end(self) {
-        let Progress { board, .. } = self;
-        let mut board = board.into_inner();
-        board.clean();
+        let Progress { display, .. } = self;
+        let mut display = display.into_inner();
+        display.clean();
     }
 
     /// Tells this, where there is memory for its line.
-    fn tell<D: fmt::Display + Drop>(&self, stand: D) {
-        let _ = self.board.lock(self.rt).tell(self.alloc, stand);
+    fn show<D: fmt::Display + Drop>(&self, update: D) {
+        let _ = self.display.lock(self.rt).show(self.alloc, update);
     }
 }
 
-impl<H: Clock + Meter + Wait + Sync, E: Sink + Send> Watch for Progress<'_, '_, H, E> {
+impl<H: Clock + MemoryMeter + Wait + Sync, E: Sink + Send> Watch for Progress<'_, '_, H, E> {
     fn at_shard(&self, _shard: u8, _level: u16) {}
 }
 
-impl<H: Clock + Meter + Wait + Sync, E: Sink + Send> Monitor for Progress<'_, '_, H, E> {
+impl<H: Clock + MemoryMeter + Wait + Sync, E: Sink + Send> Monitor for Progress<'_, '_, H, E> {
     fn at_level(&self, _worker: u32, _level: u16) {}
 
-    fn most_alone(&self, workers: u32, expected: usize) -> usize {
-        Free.most_alone(workers, expected)
+    fn caller_level_limit(&self, workers: u32, expected: usize) -> usize {
+        NoMonitor.caller_level_limit(workers, expected)
     }
 
     fn most_requests(&self) -> usize {
@@ -247,9 +247,9 @@ impl<H: Clock + Meter + Wait + Sync, E: Sink + Send> Monitor for Progress<'_, '_
 
     fn at_rank(&self, rank: u32, ranks: u32, nodes: u64) {
         let now = millis(self.rt);
-        let is_told = self.board.lock(self.rt).hears(now, rank, ranks);
-        if is_told {
-            self.tell(Stand {
+        let is_shown = self.display.lock(self.rt).note_rank(now, rank, ranks);
+        if is_shown {
+            self.show(BuildStatus {
                 rank,
                 ranks,
                 nodes,
@@ -265,9 +265,9 @@ impl<H: Clock + Meter + Wait + Sync, E: Sink + Send> Monitor for Progress<'_, '_
 
     // The attempt that decides is told behind the report.
     fn at_attempt(&self, budget: u64, end: AttemptEnd) {
-        let is_told = self.board.lock(self.rt).form == Form::Lines;
-        if is_told && !matches!(end, AttemptEnd::Decided { .. }) {
-            self.tell(Ended { budget, end });
+        let is_shown = self.display.lock(self.rt).form == Form::Lines;
+        if is_shown && !matches!(end, AttemptEnd::Decided { .. }) {
+            self.show(Ended { budget, end });
         }
     }
 }

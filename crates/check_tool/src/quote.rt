@@ -4,13 +4,13 @@ ghost use Rattle.std.specs.Prelude.{string_bytes, ◌++◌};
 ghost use Rattle.net_bench.specs.Pieces.{tokens_at};
 ghost use Rattle.check_tool.specs.Helping.{refused_paths, IsQuoted, IsShown};
 ghost use Rattle.check_tool.specs.Opening.{Extends, Try, AreTried};
-ghost use Rattle.check_tool.specs.Quoting.{before_line, behind, broken_remark, excerpt, first_line, line_in, name_remark, open_in};
+ghost use Rattle.check_tool.specs.Quoting.{before_line, following, broken_remark, excerpt, first_line, line_in, name_remark, unclosed_in};
 ghost use Rattle.check_tool.specs.Quoting.{quotation, read_byte, remark, shown, unread};
 ghost use Rattle.check_tool.specs.Running.{IsReadOf};
 
 use crate::fault::ToolFault;
 use crate::folder::Folder;
-use crate::help::{Mark, refused_mark};
+use crate::help::{QuotedPart, refused_part};
 use crate::names::name_of_refused;
 use check_report::CheckFault;
 use command_line::Options;
@@ -25,8 +25,8 @@ const LINE_FEED: u8 = b'\n';
 const MOST_SHOWN: usize = 100;
 
 /// What stands behind so many line feeds.
-fn behind(text: &[u8], feeds: u32) -> &[u8]
-    ensures { result.now ≡ behind feeds text.now }
+fn following(text: &[u8], feeds: u32) -> &[u8]
+    ensures { result.now ≡ following feeds text.now }
 {
     let mut left = feeds;
     for at in 0..text.len() {
@@ -103,7 +103,7 @@ fn excerpt(alloc: Global, whole: &[u8]) -> Result<String, AllocError>
 pub fn quotation(alloc: Global, text: &[u8], line: u32) -> Result<String, AllocError>
     ensures { IfOk result (λ s. string_bytes s ≡ quotation text.now line) }
 {
-    excerpt(alloc, first_line(behind(text, line.saturating_sub(1))))
+    excerpt(alloc, first_line(following(text, line.saturating_sub(1))))
 }
 
 /// How far a text is read: on which line, whether in a comment, and the line of the last parenthesis that is not closed.
@@ -156,9 +156,9 @@ fn read_byte(at: Reading, byte: u8) -> Reading
 }
 
 /// The line of the last parenthesis that is not closed.
-fn open_in(text: &[u8]) -> Option<u32>
+fn unclosed_in(text: &[u8]) -> Option<u32>
     requires { length text.now ≤ 67108864 }
-    ensures { result ≡ open_in text.now }
+    ensures { result ≡ unclosed_in text.now }
 {
     let mut at = Reading {
         line: 1,
@@ -172,21 +172,21 @@ fn open_in(text: &[u8]) -> Option<u32>
 }
 
 /// The bytes before a line.
-#[tactic(auto, using(crate::proofs::Quoting::behind_short))]
+#[tactic(auto, using(crate::proofs::Quoting::following_short))]
 fn before_line(text: &[u8], line: u32) -> &[u8]
     ensures before { result.now ≡ before_line text.now line }
     ensures few { length result.now ≤ length text.now }
 {
-    let rest = behind(text, line.saturating_sub(1));
+    let rest = following(text, line.saturating_sub(1));
     &text[..text.len() - rest.len()]
 }
 
 /// What is shown of a line with a broken statement: the line of a parenthesis before it that is not closed, where there is one.
 fn broken(alloc: Global, text: &[u8], line: u32) -> Result<String, AllocError>
     requires { length text.now ≤ 67108864 }
-    ensures { IfOk result (λ s. string_bytes s ≡ broken_remark text.now line (open_in (before_line text.now line))) }
+    ensures { IfOk result (λ s. string_bytes s ≡ broken_remark text.now line (unclosed_in (before_line text.now line))) }
 {
-    match open_in(before_line(text, line)) {
+    match unclosed_in(before_line(text, line)) {
         Some(unclosed) => {
             let shown = quotation(alloc, text, unclosed)?;
             format!(in alloc; "the ( of line {unclosed} has no ): {shown}")
@@ -204,7 +204,7 @@ fn named(alloc: Global, line: u32, name: &[u8]) -> Result<String, AllocError>
 }
 
 /// What is shown of the name at a place of a list, the first of which is 1, or that the list ends before it.
-fn listed(alloc: Global, text: &[u8], place: u32) -> Result<String, AllocError>
+fn name_in_list(alloc: Global, text: &[u8], place: u32) -> Result<String, AllocError>
     requires { length text.now ≤ 67108864 }
     ensures { IfOk result (λ s. string_bytes s ≡ name_remark (place - 1) (tokens_at 1 text.now)) }
 {
@@ -223,27 +223,32 @@ fn listed(alloc: Global, text: &[u8], place: u32) -> Result<String, AllocError>
 }
 
 /// What is shown of what a fault points at.
-fn remark(alloc: Global, text: &[u8], mark: Mark) -> Result<String, AllocError>
+fn remark(alloc: Global, text: &[u8], quoted_part: QuotedPart) -> Result<String, AllocError>
     requires { length text.now ≤ 67108864 }
-    ensures { IfOk result (λ s. string_bytes s ≡ remark mark text.now) }
+    ensures { IfOk result (λ s. string_bytes s ≡ remark quoted_part text.now) }
 {
-    match mark {
-        Mark::Line(line) => quotation(alloc, text, line),
-        Mark::Broken(line) => broken(alloc, text, line),
-        Mark::Listed(place) => listed(alloc, text, place),
+    match quoted_part {
+        QuotedPart::Line(line) => quotation(alloc, text, line),
+        QuotedPart::BrokenStatement(line) => broken(alloc, text, line),
+        QuotedPart::Listed(place) => name_in_list(alloc, text, place),
     }
 }
 
 /// What is shown of a file, which is opened and read once more: nothing where that is no plain file, the file is gone or refused,
 /// or memory is wanting.
 #[tactic(auto, using(crate::proofs::Composing::extends_none, crate::proofs::Quoting::tried_once))]
-fn quote_file<F: Folder>(alloc: Global, folder: &mut F, path: &str, mark: Mark) -> Option<String>
-    ensures quoted { IfSome result (λ s. (text : List ℕ) × IsReadOf (F.told folder.old path.now) (Some text)
-        × (string_bytes s ≡ remark mark text)) }
+fn quote_file<F: Folder>(
+    alloc: Global,
+    folder: &mut F,
+    path: &str,
+    quoted_part: QuotedPart,
+) -> Option<String>
+    ensures quoted { IfSome result (λ s. (text : List ℕ) × IsReadOf (F.bytes_at folder.old path.now) (Some text)
+        × (string_bytes s ≡ remark quoted_part text)) }
     ensures tried { (again : List Try) × Extends (F.tries folder.old) (F.tries folder.new) again × AreTried (path.now ∷ []) again }
     ensures unsaved { F.saves folder.new ≡ F.saves folder.old }
 {
-    if !folder.is_plain(path) {
+    if !folder.is_regular(path) {
         return None;
     }
     let Ok(mut file) = folder.open(path) else {
@@ -252,7 +257,7 @@ fn quote_file<F: Folder>(alloc: Global, folder: &mut F, path: &str, mark: Mark) 
     let Ok(text) = read_text(alloc, &mut file, MAX_TEXT) else {
         return None;
     };
-    match remark(alloc, text.as_slice(), mark) {
+    match remark(alloc, text.as_slice(), quoted_part) {
         Ok(shown) => Some(shown),
         Err(_) => None,
     }
@@ -266,13 +271,13 @@ fn quote_refused<F: Folder>(
     options: &Options<'_>,
     fault: ToolFault,
 ) -> Option<String>
-    ensures quoted { IfSome result (λ s. IsShown (F.told folder.old) options.now fault (string_bytes s)) }
+    ensures quoted { IfSome result (λ s. IsShown (F.bytes_at folder.old) options.now fault (string_bytes s)) }
     ensures tried { (again : List Try) × Extends (F.tries folder.old) (F.tries folder.new) again
         × AreTried (refused_paths options.now fault) again }
     ensures unsaved { F.saves folder.new ≡ F.saves folder.old }
 {
-    match refused_mark(options, fault) {
-        Some((path, mark)) => quote_file(alloc, folder, path, mark),
+    match refused_part(options, fault) {
+        Some((path, quoted_part)) => quote_file(alloc, folder, path, quoted_part),
         None => None,
     }
 }
@@ -284,7 +289,7 @@ pub fn quote<F: Folder>(
     options: &Options<'_>,
     fault: ToolFault,
 ) -> Option<String>
-    ensures quoted { IfSome result (λ s. IsQuoted (F.told folder.old) options.now fault (string_bytes s)) }
+    ensures quoted { IfSome result (λ s. IsQuoted (F.bytes_at folder.old) options.now fault (string_bytes s)) }
     ensures tried { (again : List Try) × Extends (F.tries folder.old) (F.tries folder.new) again
         × AreTried (refused_paths options.now fault) again }
     ensures unsaved { F.saves folder.new ≡ F.saves folder.old }

@@ -1,7 +1,7 @@
 //! What helps against a fault.
 ghost use Rattle.std.specs.Prelude.{◌≡◌};
 ghost use Rattle.check_tool.specs.Helping.{text_help, order_help, wave_help, opening_help, fewer_nodes, check_help, fault_help};
-ghost use Rattle.check_tool.specs.Helping.{behind_equals, unindented, front_word, gate_word, word_help, names_gate, shown_help};
+ghost use Rattle.check_tool.specs.Helping.{after_equals, unindented, front_word, gate_word, word_help, is_unknown_gate_fault, shown_help};
 ghost use Rattle.check_tool.specs.Helping.{check_help_by_name, help_by_name};
 
 use crate::fault::ToolFault;
@@ -137,8 +137,8 @@ pub(crate) fn help_against(choice: OrderChoice<'_>, fault: ToolFault) -> &'stati
 }
 
 /// What stands behind the first equals sign.
-fn behind_equals(line: &[u8]) -> &[u8]
-    ensures { result.now ≡ behind_equals line.now }
+fn after_equals(line: &[u8]) -> &[u8]
+    ensures { result.now ≡ after_equals line.now }
 {
     for at in 0..line.len() {
         if line[at] == b'=' {
@@ -176,7 +176,7 @@ fn front_word(bytes: &[u8]) -> &[u8]
 fn gate_word(shown: &[u8]) -> &[u8]
     ensures { result.now ≡ gate_word shown.now }
 {
-    front_word(unindented(behind_equals(shown)))
+    front_word(unindented(after_equals(shown)))
 }
 
 /// What helps against a word that names no gate.
@@ -205,8 +205,8 @@ fn help_by_word(word: &[u8]) -> &'static str
 }
 
 /// Whether a fault is of a word that names no gate.
-fn names_gate(fault: ToolFault) -> bool
-    ensures { result ≡ names_gate fault }
+fn is_unknown_gate_fault(fault: ToolFault) -> bool
+    ensures { result ≡ is_unknown_gate_fault fault }
 {
     match fault {
         ToolFault::Check(CheckFault::First(BenchFault::UnknownGate { .. }))
@@ -243,7 +243,7 @@ fn help_by_name(choice: OrderChoice<'_>, fault: ToolFault) -> &'static str
 pub(crate) fn help_shown(choice: OrderChoice<'_>, fault: ToolFault, shown: &str) -> &'static str
     ensures { result.now ≡ shown_help choice.entry fault shown.now }
 {
-    if names_gate(fault) {
+    if is_unknown_gate_fault(fault) {
         help_by_word(gate_word(shown.as_bytes()))
     } else {
         help_by_name(choice, fault)

@@ -6,19 +6,19 @@ ghost use Rattle.expand_work.specs.declared.fault.WaveFault.TheVariants.{Full, N
 ghost use Rattle.check_tool.specs.Comparing.{IsRunOf, IsFailedRun};
 ghost use Rattle.check_tool.specs.Opening.{Extends, HasFailedAt, Try, opened};
 ghost use Rattle.check_tool.specs.Running.{paths_of, IsShort, IsInputFault, IsToolFault, HasReported, HasReportedFront, IsBeyond};
-ghost use Rattle.check_tool.specs.Running.{IsGivenUp, ArePassed, AreUnknown, MayGoByCones, NamesOrder, StandOnInput};
-ghost use Rattle.check_tool.specs.Ending.{HasProgress, tells, written, written as said_by};
+ghost use Rattle.check_tool.specs.Running.{IsGivenUp, AreEarlierAttemptsGivenUp, AreUnknown, MayGoByCones, NamesOrder, AreOnStandardInput};
+ghost use Rattle.check_tool.specs.Ending.{HasProgress, shows_progress, written, written as said_by};
 
 use crate::compare::{Run, compare};
 use crate::done::Done;
-use crate::fault::{Place, ToolFault};
+use crate::fault::{FileRole, ToolFault};
 use crate::files::open;
 use crate::folder::Folder;
-use crate::progress::{Meter, Progress, form_on};
-use crate::screen::Screen;
+use crate::progress::{MemoryMeter, Progress, form_on};
 use crate::split::split_input;
+use crate::terminal::TerminalSink;
 use command_line::{Options, Texts};
-use expand_work::{Free, Monitor};
+use expand_work::{Monitor, NoMonitor};
 use net_bench::device::{InMemory, Sink, Source, TextFault, read_text};
 use std::alloc::Global;
 use std::rt::Clock;
@@ -30,7 +30,7 @@ const INPUT_LIMIT: usize = 134_221_824;
 
 /// The text of standard input.
 fn read_input<R: Source>(alloc: Global, input: &mut R) -> Result<Vec<u8>, ToolFault>
-    ensures text { IfOk result (λ text. IfSome (R.remaining input.old) (λ told. text.items ≡ told)) }
+    ensures text { IfOk result (λ text. IfSome (R.remaining input.old) (λ bytes. text.items ≡ bytes)) }
     ensures short { IfOk result (λ text. IsShort text.items) }
     ensures fault { IfErr result (λ fault. IsInputFault (R.remaining input.old) fault) }
     ensures read { result ≡ Err ToolFault.InputUnread → IsTrue (R.has_failed input.new) }
@@ -51,22 +51,22 @@ fn by_files<H: AllocGlobal + Threads + Wait + Sync, F: Folder, W: Sink, G: Monit
     second: &str,
     out: &mut W,
 ) -> Result<Done, ToolFault>
-    requires unbounded { G.bound run.now.monitor.now ≡ None }
+    requires no_request_bound { G.bound run.now.monitor.now ≡ None }
     requires texts { run.now.options.now.texts ≡ Files first second }
     ensures report { (input : Option (List ℕ)) → IfOk result
-        (IsRunOf (F.told folder.old) input run.now.options.now (F.tries folder.old) (F.tries folder.new)
+        (IsRunOf (F.bytes_at folder.old) input run.now.options.now (F.tries folder.old) (F.tries folder.new)
         (written W.contents W.has_failed W.has_stopped out.old out.new)) }
     ensures fault { (input : Option (List ℕ)) (input_failed : Bool)
-        → IfErr result (IsFailedRun (F.told folder.old) (HasFailedAt F.File.origin F.File.has_failed)
+        → IfErr result (IsFailedRun (F.bytes_at folder.old) (HasFailedAt F.File.origin F.File.has_failed)
         (IsTrue input_failed) input run.now.options.now (F.tries folder.old) (F.tries folder.new)
         (written W.contents W.has_failed W.has_stopped out.old out.new)) }
-    ensures kept { F.told folder.new ≡ F.told folder.old }
+    ensures files_unchanged { F.bytes_at folder.new ≡ F.bytes_at folder.old }
     ensures unsaved { F.saves folder.new ≡ F.saves folder.old }
     ensures untouched { OnErr result (result ≢ Err (ToolFault.Check Write) → out.new ≡ out.old) }
     ensures written { OnOk result ((W.has_failed out.new ≡ W.has_failed out.old) × (W.has_stopped out.new ≡ W.has_stopped out.old)) }
 {
-    let mut first = open(folder, first, Place::First)?;
-    let mut second = open(folder, second, Place::Second)?;
+    let mut first = open(folder, first, FileRole::First)?;
+    let mut second = open(folder, second, FileRole::Second)?;
     compare(run, folder, &mut first, &mut second, out)
 }
 
@@ -84,19 +84,19 @@ fn by_input_and_file<
     path: &str,
     out: &mut W,
 ) -> Result<Done, ToolFault>
-    requires unbounded { G.bound run.now.monitor.now ≡ None }
+    requires no_request_bound { G.bound run.now.monitor.now ≡ None }
     requires texts { run.now.options.now.texts ≡ InputAndFile path }
-    ensures report { IfOk result (IsRunOf (F.told folder.old) (R.remaining input.old) run.now.options.now (F.tries folder.old)
+    ensures report { IfOk result (IsRunOf (F.bytes_at folder.old) (R.remaining input.old) run.now.options.now (F.tries folder.old)
         (F.tries folder.new) (written W.contents W.has_failed W.has_stopped out.old out.new)) }
-    ensures fault { IfErr result (IsFailedRun (F.told folder.old) (HasFailedAt F.File.origin F.File.has_failed)
+    ensures fault { IfErr result (IsFailedRun (F.bytes_at folder.old) (HasFailedAt F.File.origin F.File.has_failed)
         (IsTrue (R.has_failed input.new)) (R.remaining input.old) run.now.options.now (F.tries folder.old) (F.tries folder.new)
         (written W.contents W.has_failed W.has_stopped out.old out.new)) }
-    ensures kept { F.told folder.new ≡ F.told folder.old }
+    ensures files_unchanged { F.bytes_at folder.new ≡ F.bytes_at folder.old }
     ensures unsaved { F.saves folder.new ≡ F.saves folder.old }
     ensures untouched { OnErr result (result ≢ Err (ToolFault.Check Write) → out.new ≡ out.old) }
     ensures written { OnOk result ((W.has_failed out.new ≡ W.has_failed out.old) × (W.has_stopped out.new ≡ W.has_stopped out.old)) }
 {
-    let mut file = open(folder, path, Place::Second)?;
+    let mut file = open(folder, path, FileRole::Second)?;
     compare(run, folder, input, &mut file, out)
 }
 
@@ -114,19 +114,19 @@ fn by_file_and_input<
     input: &mut R,
     out: &mut W,
 ) -> Result<Done, ToolFault>
-    requires unbounded { G.bound run.now.monitor.now ≡ None }
+    requires no_request_bound { G.bound run.now.monitor.now ≡ None }
     requires texts { run.now.options.now.texts ≡ FileAndInput path }
-    ensures report { IfOk result (IsRunOf (F.told folder.old) (R.remaining input.old) run.now.options.now (F.tries folder.old)
+    ensures report { IfOk result (IsRunOf (F.bytes_at folder.old) (R.remaining input.old) run.now.options.now (F.tries folder.old)
         (F.tries folder.new) (written W.contents W.has_failed W.has_stopped out.old out.new)) }
-    ensures fault { IfErr result (IsFailedRun (F.told folder.old) (HasFailedAt F.File.origin F.File.has_failed)
+    ensures fault { IfErr result (IsFailedRun (F.bytes_at folder.old) (HasFailedAt F.File.origin F.File.has_failed)
         (IsTrue (R.has_failed input.new)) (R.remaining input.old) run.now.options.now (F.tries folder.old) (F.tries folder.new)
         (written W.contents W.has_failed W.has_stopped out.old out.new)) }
-    ensures kept { F.told folder.new ≡ F.told folder.old }
+    ensures files_unchanged { F.bytes_at folder.new ≡ F.bytes_at folder.old }
     ensures unsaved { F.saves folder.new ≡ F.saves folder.old }
     ensures untouched { OnErr result (result ≢ Err (ToolFault.Check Write) → out.new ≡ out.old) }
     ensures written { OnOk result ((W.has_failed out.new ≡ W.has_failed out.old) × (W.has_stopped out.new ≡ W.has_stopped out.old)) }
 {
-    let mut file = open(folder, path, Place::First)?;
+    let mut file = open(folder, path, FileRole::First)?;
     compare(run, folder, &mut file, input, out)
 }
 
@@ -137,14 +137,14 @@ fn by_input<H: AllocGlobal + Threads + Wait + Sync, F: Folder, R: Source, W: Sin
     input: &mut R,
     out: &mut W,
 ) -> Result<Done, ToolFault>
-    requires unbounded { G.bound run.now.monitor.now ≡ None }
+    requires no_request_bound { G.bound run.now.monitor.now ≡ None }
     requires texts { run.now.options.now.texts ≡ Input }
-    ensures report { IfOk result (IsRunOf (F.told folder.old) (R.remaining input.old) run.now.options.now (F.tries folder.old)
+    ensures report { IfOk result (IsRunOf (F.bytes_at folder.old) (R.remaining input.old) run.now.options.now (F.tries folder.old)
         (F.tries folder.new) (written W.contents W.has_failed W.has_stopped out.old out.new)) }
-    ensures fault { IfErr result (IsFailedRun (F.told folder.old) (HasFailedAt F.File.origin F.File.has_failed)
+    ensures fault { IfErr result (IsFailedRun (F.bytes_at folder.old) (HasFailedAt F.File.origin F.File.has_failed)
         (IsTrue (R.has_failed input.new)) (R.remaining input.old) run.now.options.now (F.tries folder.old) (F.tries folder.new)
         (written W.contents W.has_failed W.has_stopped out.old out.new)) }
-    ensures kept { F.told folder.new ≡ F.told folder.old }
+    ensures files_unchanged { F.bytes_at folder.new ≡ F.bytes_at folder.old }
     ensures unsaved { F.saves folder.new ≡ F.saves folder.old }
     ensures untouched { OnErr result (result ≢ Err (ToolFault.Check Write) → out.new ≡ out.old) }
     ensures written { OnOk result ((W.has_failed out.new ≡ W.has_failed out.old) × (W.has_stopped out.new ≡ W.has_stopped out.old)) }
@@ -165,16 +165,16 @@ fn run_by<H: AllocGlobal + Threads + Wait + Sync, F: Folder, R: Source, W: Sink,
     input: &mut R,
     out: &mut W,
 ) -> Result<Done, ToolFault>
-    requires unbounded { G.bound run.now.monitor.now ≡ None }
-    ensures report { IfOk result (IsRunOf (F.told folder.old) (R.remaining input.old) run.now.options.now (F.tries folder.old)
+    requires no_request_bound { G.bound run.now.monitor.now ≡ None }
+    ensures report { IfOk result (IsRunOf (F.bytes_at folder.old) (R.remaining input.old) run.now.options.now (F.tries folder.old)
         (F.tries folder.new) (written W.contents W.has_failed W.has_stopped out.old out.new)) }
-    ensures fault { IfErr result (IsFailedRun (F.told folder.old) (HasFailedAt F.File.origin F.File.has_failed)
+    ensures fault { IfErr result (IsFailedRun (F.bytes_at folder.old) (HasFailedAt F.File.origin F.File.has_failed)
         (IsTrue (R.has_failed input.new)) (R.remaining input.old) run.now.options.now (F.tries folder.old) (F.tries folder.new)
         (written W.contents W.has_failed W.has_stopped out.old out.new)) }
-    ensures kept { F.told folder.new ≡ F.told folder.old }
+    ensures files_unchanged { F.bytes_at folder.new ≡ F.bytes_at folder.old }
     ensures unsaved { F.saves folder.new ≡ F.saves folder.old }
     ensures untouched { OnErr result (result ≢ Err (ToolFault.Check Write) → out.new ≡ out.old) }
-    ensures unasked { (StandOnInput run.now.options.now.texts → ⊥) → input.new ≡ input.old }
+    ensures input_unread { (AreOnStandardInput run.now.options.now.texts → ⊥) → input.new ≡ input.old }
     ensures written { OnOk result ((W.has_failed out.new ≡ W.has_failed out.old) × (W.has_stopped out.new ≡ W.has_stopped out.old)) }
 {
     match run.options.texts {
@@ -191,11 +191,11 @@ fn run_by<H: AllocGlobal + Threads + Wait + Sync, F: Folder, R: Source, W: Sink,
 /// and the order's are opened in this order; where the input is divided, the latter two are opened behind that.
 pub fn run_options<
     'a,
-    H: AllocGlobal + Clock + Meter + Threads + Wait + Sync,
+    H: AllocGlobal + Clock + MemoryMeter + Threads + Wait + Sync,
     F: Folder,
     R: Source,
     W: Sink,
-    E: Screen + Send,
+    E: TerminalSink + Send,
 >(
     rt: &'a H,
     options: &'a Options<'_>,
@@ -206,35 +206,35 @@ pub fn run_options<
 ) -> Result<Done, ToolFault>
     // What was written is the report of the two texts where the condition holds, in the order that is asked for, or of each pair that is
     // picked by its cones, or this order, and nothing else.
-    ensures report { IfOk result (HasReported (F.told folder.old) (R.remaining input.old) options.now (W.contents out.old)
+    ensures report { IfOk result (HasReported (F.bytes_at folder.old) (R.remaining input.old) options.now (W.contents out.old)
         (W.contents out.new)) }
     // Then each file that the options name was opened in the folder, in the stated order, and no other.
     ensures opened { OnOk result (Extends (F.tries folder.old) (F.tries folder.new) (opened (paths_of options.now))) }
-    ensures kept { F.told folder.new ≡ F.told folder.old }
+    ensures files_unchanged { F.bytes_at folder.new ≡ F.bytes_at folder.old }
     ensures unsaved { F.saves folder.new ≡ F.saves folder.old }
     // The attempts before the one that is told were given up: each within a smaller budget, and within the first budget each before it.
-    ensures passed { IfOk result (ArePassed (F.told folder.old) (R.remaining input.old) options.now) }
+    ensures earlier_given_up { IfOk result (AreEarlierAttemptsGivenUp (F.bytes_at folder.old) (R.remaining input.old) options.now) }
     // The nodes that the texts need are within the limit where there is a report, and Full comes only where they are not, in any order
     // that is asked for.
-    ensures full { result ≡ Err (ToolFault.Check (Wave Full)) → IsBeyond (F.told folder.old) (R.remaining input.old) options.now }
+    ensures full { result ≡ Err (ToolFault.Check (Wave Full)) → IsBeyond (F.bytes_at folder.old) (R.remaining input.old) options.now }
     // GivenUp comes only where orders are tried, and each attempt within the limit was given up; where one is to be found, neither comes,
     // since pairs are judged by their cones then.
-    ensures given_up { result ≡ Err (ToolFault.Check GivenUp) → IsGivenUp (F.told folder.old) (R.remaining input.old) options.now }
+    ensures given_up { result ≡ Err (ToolFault.Check GivenUp) → IsGivenUp (F.bytes_at folder.old) (R.remaining input.old) options.now }
     ensures by_cones { MayGoByCones options.now.order → (result ≢ Err (ToolFault.Check (Wave Full)))
         × (result ≢ Err (ToolFault.Check GivenUp)) }
     // NoWorker comes only of a comparison in an order that is named.
-    ensures hired { result ≡ Err (ToolFault.Check (Wave NoWorker)) → (options.now.print_order ≡ false) × NamesOrder options.now.order }
+    ensures thread_for_named_order { result ≡ Err (ToolFault.Check (Wave NoWorker)) → (options.now.print_order ≡ false) × NamesOrder options.now.order }
     // A name that is picked is refused only where the first text has no such output or register.
-    ensures only { result ≡ Err (ToolFault.Check Only) → AreUnknown (F.told folder.old) (R.remaining input.old) options.now }
+    ensures only { result ≡ Err (ToolFault.Check Only) → AreUnknown (F.bytes_at folder.old) (R.remaining input.old) options.now }
     // No wave of a run of the program is given up for its requests but within an attempt.
-    ensures unbounded { result ≢ Err (ToolFault.Check (Wave TooManyRequests)) }
+    ensures never_too_many_requests { result ≢ Err (ToolFault.Check (Wave TooManyRequests)) }
     // A fault has its cause, what comes before it was accepted, and no file was tried beyond it.
     ensures fault { IfErr result (λ fault. (tries : List Try) × Extends (F.tries folder.old) (F.tries folder.new) tries
-        × IsToolFault (F.told folder.old) (HasFailedAt F.File.origin F.File.has_failed) (IsTrue (R.has_failed input.new))
+        × IsToolFault (F.bytes_at folder.old) (HasFailedAt F.File.origin F.File.has_failed) (IsTrue (R.has_failed input.new))
         (R.remaining input.old) options.now tries fault) }
     // Where the writing failed, a front part of the report was written, and the device has failed or taken nothing of the rest.
     ensures unwritten { result ≡ Err (ToolFault.Check Write)
-        → HasReportedFront (F.told folder.old) (R.remaining input.old) options.now (W.contents out.old) (W.contents out.new)
+        → HasReportedFront (F.bytes_at folder.old) (R.remaining input.old) options.now (W.contents out.old) (W.contents out.new)
         (W.has_failed out.new) (W.has_stopped out.new) }
     // At any other fault nothing was written.
     ensures untouched { OnErr result (result ≢ Err (ToolFault.Check Write) → out.new ≡ out.old) }
@@ -242,15 +242,15 @@ pub fn run_options<
     ensures read { result ≡ Err ToolFault.InputUnread → IsTrue (R.has_failed input.new) }
     ensures written { OnOk result ((W.has_failed out.new ≡ W.has_failed out.old) × (W.has_stopped out.new ≡ W.has_stopped out.old)) }
     // The input is read only where a text stands on it.
-    ensures unasked { (StandOnInput options.now.texts → ⊥) → input.new ≡ input.old }
+    ensures input_unread { (AreOnStandardInput options.now.texts → ⊥) → input.new ≡ input.old }
     // Nothing is said before the run ends where more is not asked for and the device for it is no terminal; else progress may be.
-    ensures silent { tells options.now (E.seen errors.old) ≡ false → errors.new ≡ errors.old }
-    ensures progress { HasProgress (tells options.now (E.seen errors.old))
+    ensures silent { shows_progress options.now (E.on_terminal errors.old) ≡ false → errors.new ≡ errors.old }
+    ensures progress { HasProgress (shows_progress options.now (E.on_terminal errors.old))
         (said_by E.contents E.has_failed E.has_stopped errors.old errors.new) }
 {
     match form_on(options.verbose, errors) {
         None => {
-            let monitor = &Free;
+            let monitor = &NoMonitor;
             run_by(
                 &Run {
                     rt,

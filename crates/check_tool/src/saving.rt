@@ -28,7 +28,7 @@ pub(crate) fn save<F: Folder>(
     ensures saved { Extends (F.saves folder.old) (F.saves folder.new) (saves_of options.now done.now (is_ok result)) }
     ensures fault { IfErr result (IsSaveFault options.now done.now) }
     ensures unopened { F.tries folder.new ≡ F.tries folder.old }
-    ensures kept { F.told folder.new ≡ F.told folder.old }
+    ensures files_unchanged { F.bytes_at folder.new ≡ F.bytes_at folder.old }
 {
     let Some(path) = options.vcd else {
         return Ok(());

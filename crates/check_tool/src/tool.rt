@@ -1,10 +1,10 @@
 //! A run of the program: its words, its folder and its devices to a status.
 ghost use Rattle.std.specs.Prelude.{◌≡◌, ◌≢◌, ◌≤◌, ◌⊎◌, ℕ, List, true, false, IfOk, map, string_bytes};
 ghost use Rattle.check_tool.specs.Faults.{number_text};
-ghost use Rattle.check_tool.specs.Ending.{written, scene_of, IsSaid, MaySay, IsSaidOf, AskForMore, tells, IsReportStatus};
-ghost use Rattle.check_tool.specs.Ending.{IsDoneStatus, Finishes, BreaksOff, IsEnding, IsRun, IsWordEnd};
+ghost use Rattle.check_tool.specs.Ending.{written, run_effects_of, IsSaid, MaySay, IsSaidOf, AskForVerbose, shows_progress, IsReportStatus};
+ghost use Rattle.check_tool.specs.Ending.{IsDoneStatus, Finishes, FailsToSave, IsEnding, IsRun, IsEndOfRefused};
 ghost use Rattle.check_tool.specs.declared.fault.ToolFault.{ToolFault as FaultValue};
-ghost use Rattle.check_tool.specs.Running.{StandOnInput};
+ghost use Rattle.check_tool.specs.Running.{AreOnStandardInput};
 ghost use Rattle.check_tool.specs.Helping.{IsHelp, refused_paths};
 ghost use Rattle.check_tool.specs.Opening.{AreTried, Extends, HasFailedAt, Try};
 
@@ -12,13 +12,13 @@ use crate::done::Done;
 use crate::fault::{ToolFault, status_of_fault, words_of};
 use crate::folder::Folder;
 use crate::help::{help_of, help_with};
-use crate::progress::Meter;
+use crate::progress::MemoryMeter;
 use crate::quote::quote;
 use crate::run::run_options;
 use crate::saving::save;
 use crate::say::{say, say_parts};
-use crate::screen::Screen;
-use crate::tell::tell;
+use crate::terminal::TerminalSink;
+use crate::verbose::say_if_verbose;
 use check_report::{Outcome, write_whole};
 use command_line::{Options, Refused, read_options};
 use itoa::Buffer;
@@ -51,7 +51,7 @@ pub fn refuse<E: Sink>(alloc: Global, fault: ToolFault, errors: &mut E) -> u8
         words.place,
         words.before,
         number,
-        words.behind,
+        words.following,
         "\n",
     ];
     say_parts(alloc, errors, &parts);
@@ -65,7 +65,7 @@ fn help_line<F: Folder>(
     options: &Options<'_>,
     fault: ToolFault,
 ) -> Result<String, AllocError>
-    ensures line { IfOk result (λ line. IsHelp (F.told folder.old) options.now fault (string_bytes line)) }
+    ensures line { IfOk result (λ line. IsHelp (F.bytes_at folder.old) options.now fault (string_bytes line)) }
     ensures tried { (again : List Try) × Extends (F.tries folder.old) (F.tries folder.new) again
         × AreTried (refused_paths options.now fault) again }
     ensures unsaved { F.saves folder.new ≡ F.saves folder.old }
@@ -84,7 +84,7 @@ fn help<F: Folder, E: Sink>(
     fault: ToolFault,
     errors: &mut E,
 )
-    ensures said { (line : List ℕ) × IsHelp (F.told folder.old) options.now fault line
+    ensures said { (line : List ℕ) × IsHelp (F.bytes_at folder.old) options.now fault line
         × MaySay (written E.contents E.has_failed E.has_stopped errors.old errors.new) line }
     ensures tried { (again : List Try) × Extends (F.tries folder.old) (F.tries folder.new) again
         × AreTried (refused_paths options.now fault) again }
@@ -103,7 +103,7 @@ fn refuse_run<F: Folder, E: Sink>(
     fault: ToolFault,
     errors: &mut E,
 ) -> u8
-    ensures said { IsSaidOf (F.told folder.old) options.now
+    ensures said { IsSaidOf (F.bytes_at folder.old) options.now
         (written E.contents E.has_failed E.has_stopped errors.old errors.new) fault result }
     ensures tried { (again : List Try) × Extends (F.tries folder.old) (F.tries folder.new) again
         × AreTried (refused_paths options.now fault) again }
@@ -118,13 +118,13 @@ fn refuse_run<F: Folder, E: Sink>(
 
 /// Prints what the words were refused with, and answers the status: 0 for help, 2 for a mistake.
 #[tactic(auto, using(crate::proofs::Composing::keeps_own))]
-fn refuse_words<W: Sink, E: Sink>(
+fn refuse_arguments<W: Sink, E: Sink>(
     alloc: Global,
     refused: &Refused,
     out: &mut W,
     errors: &mut E,
 ) -> u8
-    ensures ending { IsWordEnd (written W.contents W.has_failed W.has_stopped out.old out.new)
+    ensures ending { IsEndOfRefused (written W.contents W.has_failed W.has_stopped out.old out.new)
         (written E.contents E.has_failed E.has_stopped errors.old errors.new) refused.now result }
     ensures bound { result ≤ 3 }
     ensures untouched { result ≡ 2 → out.new ≡ out.old }
@@ -178,7 +178,7 @@ fn finish<F: Folder, E: Sink>(
 ) -> u8
     ensures ending { let w = written E.contents E.has_failed E.has_stopped errors.old errors.new in
         Finishes options.now done.now (F.tries folder.old) (F.tries folder.new) (F.saves folder.old) (F.saves folder.new) w result
-        ⊎ ((fault : FaultValue) × BreaksOff (F.told folder.old) options.now done.now (F.tries folder.old) (F.tries folder.new)
+        ⊎ ((fault : FaultValue) × FailsToSave (F.bytes_at folder.old) options.now done.now (F.tries folder.old) (F.tries folder.new)
         (F.saves folder.old) (F.saves folder.new) w fault result) }
     ensures bound { result ≤ 3 }
     ensures reported { result ≢ 2 }
@@ -186,7 +186,7 @@ fn finish<F: Folder, E: Sink>(
 {
     match save(folder, options, done) {
         Ok(()) => {
-            tell(alloc, options, done, errors);
+            say_if_verbose(alloc, options, done, errors);
             status_of_done(done)
         }
         Err(fault) => refuse_run(alloc, folder, options, fault, errors),
@@ -194,22 +194,22 @@ fn finish<F: Folder, E: Sink>(
 }
 
 /// Runs what the options ask for, and answers the status.
-fn run_asked<
-    H: AllocGlobal + Clock + Meter + Threads + Wait + Sync,
+fn run_with_options<
+    H: AllocGlobal + Clock + MemoryMeter + Threads + Wait + Sync,
     F: Folder,
     R: Source,
     W: Sink,
-    E: Screen + Send,
+    E: TerminalSink + Send,
 >(rt: &H, options: &Options<'_>, folder: &mut F, input: &mut R, out: &mut W, errors: &mut E) -> u8
-    ensures ending { let scene = scene_of (E.seen errors.old) F.told F.tries F.saves folder.old folder.new R.remaining R.has_failed
+    ensures ending { let effects = run_effects_of (E.on_terminal errors.old) F.bytes_at F.tries F.saves folder.old folder.new R.remaining R.has_failed
         input.old input.new
         (written W.contents W.has_failed W.has_stopped out.old out.new)
         (written E.contents E.has_failed E.has_stopped errors.old errors.new) in
-        IsEnding (HasFailedAt F.File.origin F.File.has_failed) scene options.now result }
-    ensures unasked { (StandOnInput options.now.texts → ⊥) → input.new ≡ input.old }
+        IsEnding (HasFailedAt F.File.origin F.File.has_failed) effects options.now result }
+    ensures input_unread { (AreOnStandardInput options.now.texts → ⊥) → input.new ≡ input.old }
     ensures bound { result ≤ 3 }
     ensures untouched { result ≡ 2 → out.new ≡ out.old }
-    ensures silent { tells options.now (E.seen errors.old) ≡ false → result ≤ 1 → errors.new ≡ errors.old }
+    ensures silent { shows_progress options.now (E.on_terminal errors.old) ≡ false → result ≤ 1 → errors.new ≡ errors.old }
 {
     let alloc = rt.alloc();
     match run_options(rt, options, folder, input, out, errors) {
@@ -220,31 +220,31 @@ fn run_asked<
 
 /// Runs the program on its words, and answers its status.
 pub fn run_tool<
-    H: AllocGlobal + Clock + Meter + Threads + Wait + Sync,
+    H: AllocGlobal + Clock + MemoryMeter + Threads + Wait + Sync,
     F: Folder,
     R: Source,
     W: Sink,
-    E: Screen + Send,
+    E: TerminalSink + Send,
 >(rt: &H, words: &[String], folder: &mut F, input: &mut R, out: &mut W, errors: &mut E) -> u8
     // The words ask for options, and then the run ends with their report, or their order, and its status, or with the line and the status
     // of a fault that has its cause, and after it the line of what helps, which is left out only if there is no memory for it; the input is
     // read only if a text is on it; the VCD of the first pair that differs is saved in the file that they name after the report, and
     // nothing else is. Or they are refused for a cause, no file is opened, nothing is read, and help, a mistake or want of memory is
     // printed.
-    ensures ending { let scene = scene_of (E.seen errors.old) F.told F.tries F.saves folder.old folder.new R.remaining R.has_failed
+    ensures ending { let effects = run_effects_of (E.on_terminal errors.old) F.bytes_at F.tries F.saves folder.old folder.new R.remaining R.has_failed
         input.old input.new
         (written W.contents W.has_failed W.has_stopped out.old out.new)
         (written E.contents E.has_failed E.has_stopped errors.old errors.new) in
-        IsRun (HasFailedAt F.File.origin F.File.has_failed) scene (folder.new ≡ folder.old) (input.new ≡ input.old)
+        IsRun (HasFailedAt F.File.origin F.File.has_failed) effects (folder.new ≡ folder.old) (input.new ≡ input.old)
         (map string_bytes words.now) result }
     ensures bound { result ≤ 3 }
     // Status 2 says that nothing was written, statuses 0 and 1 that nothing was said, unless more is asked for, or seen on a terminal.
     ensures untouched { result ≡ 2 → out.new ≡ out.old }
-    ensures silent { AskForMore (map string_bytes words.now) ⊎ (E.seen errors.old ≡ true) ⊎ (result ≤ 1 → errors.new ≡ errors.old) }
+    ensures silent { AskForVerbose (map string_bytes words.now) ⊎ (E.on_terminal errors.old ≡ true) ⊎ (result ≤ 1 → errors.new ≡ errors.old) }
 {
     let alloc = rt.alloc();
     match read_options(alloc, words) {
-        Ok(options) => run_asked(rt, &options, folder, input, out, errors),
-        Err(refused) => refuse_words(alloc, &refused, out, errors),
+        Ok(options) => run_with_options(rt, &options, folder, input, out, errors),
+        Err(refused) => refuse_arguments(alloc, &refused, out, errors),
     }
 }

@@ -12,7 +12,7 @@ use Rattle.command_line.specs.declared.options.OrderChoice.{OrderChoice}
 use Rattle.command_line.specs.declared.options.OrderChoice.TheVariants.{Auto}
 use Rattle.command_line.specs.declared.options.Picks.{Picks}
 use Rattle.command_line.specs.declared.options.Picks.TheVariants.{All}
-use Rattle.command_line.specs.Words.{tool_app, ArePicks, AreTexts, AskFor, IsChoice, IsOrderWhere, are_picked, explained_in, names_in, share_in, unnamed_order, flag_of, IsFile, IsForm, IsAssignment, IsMatching, IsMemory, IsNumberIn, IsLimit}
+use Rattle.command_line.specs.Words.{tool_app, ArePicks, AreTexts, AskFor, IsChoice, IsOrderIfPicked, are_picked, explained_in, names_in, share_in, default_order_of, flag_of, IsFile, IsForm, IsAssignment, IsMatching, IsMemory, IsNumberIn, IsLimit}
 use Rattle.command_line.specs.Defaults.{AreDefaults}
 use Rattle.command_line.proofs.Sizing.{one_size}
 
@@ -124,10 +124,10 @@ pick : (picks : Picks) (names : List (List ℕ)) (share : Option (List ℕ)) →
 pick picks names share no_names no_share = subst (λ n. ArePicks n share picks → picks ≡ All) (sym no_names) (subst (λ s. ArePicks [] s picks → picks ≡ All) (sym no_share) (λ e. e))
 
 -- and the order is that of the words
-unpicked : (names : List (List ℕ)) (share file word : Option (List ℕ)) (extend : Bool) (unnamed choice : OrderChoice) → names ≡ [] → share ≡ None → IsOrderWhere (are_picked names share) file word extend unnamed choice → IsChoice file word extend unnamed choice
-unpicked names share file word extend unnamed choice no_names no_share =
+unpicked : (names : List (List ℕ)) (share file word : Option (List ℕ)) (extend : Bool) (default_order choice : OrderChoice) → names ≡ [] → share ≡ None → IsOrderIfPicked (are_picked names share) file word extend default_order choice → IsChoice file word extend default_order choice
+unpicked names share file word extend default_order choice no_names no_share =
     let none : are_picked names share ≡ false = rw (no_names, no_share) refl in
-    subst (λ p. IsOrderWhere p file word extend unnamed choice → IsChoice file word extend unnamed choice) (sym none) (λ is. is)
+    subst (λ p. IsOrderIfPicked p file word extend default_order choice → IsChoice file word extend default_order choice) (sym none) (λ is. is)
 
 -- where no words are to be explained, nothing is
 no_words : (words : List (Bor (List ℕ))) → map (λ s. s.now) words ≡ [] → words ≡ []
@@ -136,14 +136,14 @@ no_words (w ∷ ws) none = cc
 
 -- where nothing is given, the order is auto
 choose : (choice : OrderChoice) (file word limit sizes print_order : Option (List ℕ)) (extend : Bool) → file ≡ None → word ≡ None → limit ≡ None → sizes ≡ Some (codes "false") → print_order ≡ Some (codes "false")
-    → IsChoice file word extend (unnamed_order limit (flag_of sizes) (flag_of print_order)) choice → choice ≡ Auto
+    → IsChoice file word extend (default_order_of limit (flag_of sizes) (flag_of print_order)) choice → choice ≡ Auto
 choose choice file word limit sizes print_order extend no_path no_word no_limit no_sizes no_print is =
-    let plain : unnamed_order limit (flag_of sizes) (flag_of print_order) ≡ Auto = rw (no_limit, no_sizes, no_print) refl in
-    subst (λ f. IsChoice f word extend (unnamed_order limit (flag_of sizes) (flag_of print_order)) choice → choice ≡ Auto) (sym no_path)
-    (subst (λ w. IsChoice None w extend (unnamed_order limit (flag_of sizes) (flag_of print_order)) choice → choice ≡ Auto) (sym no_word) (λ e. e ∙ plain)) is
+    let plain : default_order_of limit (flag_of sizes) (flag_of print_order) ≡ Auto = rw (no_limit, no_sizes, no_print) refl in
+    subst (λ f. IsChoice f word extend (default_order_of limit (flag_of sizes) (flag_of print_order)) choice → choice ≡ Auto) (sym no_path)
+    (subst (λ w. IsChoice None w extend (default_order_of limit (flag_of sizes) (flag_of print_order)) choice → choice ≡ Auto) (sym no_word) (λ e. e ∙ plain)) is
 
 pub defaults : (o : Options) → AskFor [] o → AreDefaults o
-defaults o (rows, found, agreed, are) =
+defaults o (rows, found, without_conflict, are) =
     let m = found.0 in
     let d = found.1 in
     let f = found.2 in

@@ -6,7 +6,7 @@ use Rattle.command_line.specs.declared.options.OrderChoice.{OrderChoice}
 use Rattle.command_line.specs.declared.options.OrderChoice.TheVariants.{Auto, Cones}
 use Rattle.command_line.specs.declared.options.Picks.{Picks}
 use Rattle.command_line.specs.declared.options.Picks.TheVariants.{All}
-use Rattle.command_line.specs.Words.{IsChoice, IsOrderWhere, IsOrderIn, IsFoundName, GiveTwoOrders, GiveTwoPicks, GiveFound, GiveFoundWith, GivePicksInOrder, GiveIdleMemory, GiveIdleExtend, GiveExplainBeside, GiveIdleVcd, GiveCausesBeside, AreAtOdds, ArePicks, are_picked, flag_of, names_in, share_in, unnamed_order}
+use Rattle.command_line.specs.Words.{IsChoice, IsOrderIfPicked, IsOrderIn, IsSearchName, GiveTwoOrders, GiveTwoPicks, GiveSearch, GiveSearchWith, GivePicksWithFixedOrder, GiveUnusedMemory, GiveUnusedExtend, GiveExplainConflict, GiveUnusedVcd, GiveCausesConflict, HaveConflict, ArePicks, are_picked, flag_of, names_in, share_in, default_order_of}
 
 -- ---- tests
 
@@ -20,37 +20,37 @@ fails b is test a =
     cc
 
 -- nothing is at odds where no test says so
-pub none_at_odds : (rows : List Row) → (GiveTwoOrders rows → ⊥) → (GiveTwoPicks rows → ⊥) → (GiveFoundWith (codes "sizes") rows → ⊥) → (GiveFoundWith (codes "print-order") rows → ⊥)
-    → (GivePicksInOrder rows → ⊥) → (GiveIdleMemory rows → ⊥) → (GiveIdleExtend rows → ⊥) → (GiveExplainBeside rows → ⊥) → (GiveIdleVcd rows → ⊥) → (GiveCausesBeside rows → ⊥) → AreAtOdds rows → ⊥
-none_at_odds rows a b c d e f g h i j (inl x) = a x
-none_at_odds rows a b c d e f g h i j (inr (inl x)) = b x
-none_at_odds rows a b c d e f g h i j (inr (inr (inl x))) = c x
-none_at_odds rows a b c d e f g h i j (inr (inr (inr (inl x)))) = d x
-none_at_odds rows a b c d e f g h i j (inr (inr (inr (inr (inl x))))) = e x
-none_at_odds rows a b c d e f g h i j (inr (inr (inr (inr (inr (inl x)))))) = f x
-none_at_odds rows a b c d e f g h i j (inr (inr (inr (inr (inr (inr (inl x))))))) = g x
-none_at_odds rows a b c d e f g h i j (inr (inr (inr (inr (inr (inr (inr (inl x)))))))) = h x
-none_at_odds rows a b c d e f g h i j (inr (inr (inr (inr (inr (inr (inr (inr (inl x))))))))) = i x
-none_at_odds rows a b c d e f g h i j (inr (inr (inr (inr (inr (inr (inr (inr (inr x))))))))) = j x
+pub no_conflict : (rows : List Row) → (GiveTwoOrders rows → ⊥) → (GiveTwoPicks rows → ⊥) → (GiveSearchWith (codes "sizes") rows → ⊥) → (GiveSearchWith (codes "print-order") rows → ⊥)
+    → (GivePicksWithFixedOrder rows → ⊥) → (GiveUnusedMemory rows → ⊥) → (GiveUnusedExtend rows → ⊥) → (GiveExplainConflict rows → ⊥) → (GiveUnusedVcd rows → ⊥) → (GiveCausesConflict rows → ⊥) → HaveConflict rows → ⊥
+no_conflict rows a b c d e f g h i j (inl x) = a x
+no_conflict rows a b c d e f g h i j (inr (inl x)) = b x
+no_conflict rows a b c d e f g h i j (inr (inr (inl x))) = c x
+no_conflict rows a b c d e f g h i j (inr (inr (inr (inl x)))) = d x
+no_conflict rows a b c d e f g h i j (inr (inr (inr (inr (inl x))))) = e x
+no_conflict rows a b c d e f g h i j (inr (inr (inr (inr (inr (inl x)))))) = f x
+no_conflict rows a b c d e f g h i j (inr (inr (inr (inr (inr (inr (inl x))))))) = g x
+no_conflict rows a b c d e f g h i j (inr (inr (inr (inr (inr (inr (inr (inl x)))))))) = h x
+no_conflict rows a b c d e f g h i j (inr (inr (inr (inr (inr (inr (inr (inr (inl x))))))))) = i x
+no_conflict rows a b c d e f g h i j (inr (inr (inr (inr (inr (inr (inr (inr (inr x))))))))) = j x
 
 -- ---- orders
 
 -- an order is to be found
-abbrev IsFound : OrderChoice → Type 0
-IsFound choice = (choice ≡ Auto) ⊎ (choice ≡ Cones)
+abbrev IsSearch : OrderChoice → Type 0
+IsSearch choice = (choice ≡ Auto) ⊎ (choice ≡ Cones)
 
 -- the words ask for such an order, or it is that of words that name none
-where_found : (picked : Bool) (file word : Option Text) (extend : Bool) (unnamed choice : OrderChoice) → IsOrderWhere picked file word extend unnamed choice → IsFound choice
-    → (IsSomeAnd word IsFoundName ⊎ (picked ≡ true)) ⊎ (unnamed ≡ choice)
-where_found true file word extend unnamed choice is found = inl (inr refl)
-where_found false (Some file) word extend unnamed choice is (inl auto) = absurd (subst (IsChoice (Some file) word extend unnamed) auto is)
-where_found false (Some file) word extend unnamed choice is (inr cones) = absurd (subst (IsChoice (Some file) word extend unnamed) cones is)
-where_found false None (Some word) extend unnamed choice is (inl auto) = inl (inl (inl (subst (IsChoice None (Some word) extend unnamed) auto is)))
-where_found false None (Some word) extend unnamed choice is (inr cones) = inl (inl (inr (subst (IsChoice None (Some word) extend unnamed) cones is)))
-where_found false None None extend unnamed choice is found = inr (sym is)
+where_found : (picked : Bool) (file word : Option Text) (extend : Bool) (default_order choice : OrderChoice) → IsOrderIfPicked picked file word extend default_order choice → IsSearch choice
+    → (IsSomeAnd word IsSearchName ⊎ (picked ≡ true)) ⊎ (default_order ≡ choice)
+where_found true file word extend default_order choice is found = inl (inr refl)
+where_found false (Some file) word extend default_order choice is (inl auto) = absurd (subst (IsChoice (Some file) word extend default_order) auto is)
+where_found false (Some file) word extend default_order choice is (inr cones) = absurd (subst (IsChoice (Some file) word extend default_order) cones is)
+where_found false None (Some word) extend default_order choice is (inl auto) = inl (inl (inl (subst (IsChoice None (Some word) extend default_order) auto is)))
+where_found false None (Some word) extend default_order choice is (inr cones) = inl (inl (inr (subst (IsChoice None (Some word) extend default_order) cones is)))
+where_found false None None extend default_order choice is found = inr (sym is)
 
 -- words that name none ask for no sizes and no order in print then
-plain : (limit : Option Text) (sizes print_order : Bool) (choice : OrderChoice) → unnamed_order limit sizes print_order ≡ choice → IsFound choice → (sizes ≡ false) × (print_order ≡ false)
+plain : (limit : Option Text) (sizes print_order : Bool) (choice : OrderChoice) → default_order_of limit sizes print_order ≡ choice → IsSearch choice → (sizes ≡ false) × (print_order ≡ false)
 plain (Some limit) sizes print_order choice is (inl auto) = cc
 plain (Some limit) sizes print_order choice is (inr cones) = cc
 plain None true print_order choice is (inl auto) = cc
@@ -64,15 +64,15 @@ unset true never = absurd (never refl)
 unset false never = refl
 
 -- neither sizes nor an order in print are asked for where an order is to be found
-pub no_flags : (rows : List Row) (choice : OrderChoice) → IsOrderIn rows choice → (AreAtOdds rows → ⊥) → (choice ≡ Auto) ⊎ (choice ≡ Cones)
+pub no_flags : (rows : List Row) (choice : OrderChoice) → IsOrderIn rows choice → (HaveConflict rows → ⊥) → (choice ≡ Auto) ⊎ (choice ≡ Cones)
     → (flag_of (first_of (codes "sizes") rows) ≡ false) × (flag_of (first_of (codes "print-order") rows) ≡ false)
-no_flags rows choice is agreed found =
+no_flags rows choice is without_conflict found =
     by (where_found (are_picked (names_in rows) (share_in rows)) (first_of (codes "order-file") rows) (first_of (codes "order") rows) (flag_of (first_of (codes "extend") rows)) _ choice is found)
   where
-    by : (GiveFound rows ⊎ (unnamed_order (first_of (codes "limit") rows) (flag_of (first_of (codes "sizes") rows)) (flag_of (first_of (codes "print-order") rows)) ≡ choice))
+    by : (GiveSearch rows ⊎ (default_order_of (first_of (codes "limit") rows) (flag_of (first_of (codes "sizes") rows)) (flag_of (first_of (codes "print-order") rows)) ≡ choice))
         → (flag_of (first_of (codes "sizes") rows) ≡ false) × (flag_of (first_of (codes "print-order") rows) ≡ false)
-    by (inl given) = (unset _ (λ e. agreed (inr (inr (inl (given, e))))), unset _ (λ e. agreed (inr (inr (inr (inl (given, e)))))))
-    by (inr unnamed) = plain (first_of (codes "limit") rows) (flag_of (first_of (codes "sizes") rows)) (flag_of (first_of (codes "print-order") rows)) choice unnamed found
+    by (inl given) = (unset _ (λ e. without_conflict (inr (inr (inl (given, e))))), unset _ (λ e. without_conflict (inr (inr (inr (inl (given, e)))))))
+    by (inr default_order) = plain (first_of (codes "limit") rows) (flag_of (first_of (codes "sizes") rows)) (flag_of (first_of (codes "print-order") rows)) choice default_order found
 
 -- ---- pairs that are picked
 
@@ -85,7 +85,7 @@ some_picked [] None picks are some = absurd (some are)
 pub picked_order : (rows : List Row) (picks : Picks) (choice : OrderChoice) → ArePicks (names_in rows) (share_in rows) picks → IsOrderIn rows choice → (picks ≡ All → ⊥) → choice ≡ Cones
 picked_order rows picks choice are is some = by (are_picked (names_in rows) (share_in rows)) (some_picked (names_in rows) (share_in rows) picks are some) is
   where
-    by : (picked : Bool) → picked ≡ true → IsOrderWhere picked (first_of (codes "order-file") rows) (first_of (codes "order") rows)
-        (flag_of (first_of (codes "extend") rows)) (unnamed_order (first_of (codes "limit") rows) (flag_of (first_of (codes "sizes") rows)) (flag_of (first_of (codes "print-order") rows))) choice → choice ≡ Cones
+    by : (picked : Bool) → picked ≡ true → IsOrderIfPicked picked (first_of (codes "order-file") rows) (first_of (codes "order") rows)
+        (flag_of (first_of (codes "extend") rows)) (default_order_of (first_of (codes "limit") rows) (flag_of (first_of (codes "sizes") rows)) (flag_of (first_of (codes "print-order") rows))) choice → choice ≡ Cones
     by true e o = o
     by false e o = cc

@@ -18,7 +18,7 @@ use Rattle.clap.proofs.WalkLemmas.{find_row, first_value-rows, raw_values-rows}
 use Rattle.command_line.specs.declared.reading.Refused.{Refused}
 use Rattle.command_line.specs.declared.reading.Refused.TheVariants.{Help, Mistake, OutOfMemory}
 use Rattle.command_line.specs.declared.options.OrderChoice.{OrderChoice}
-use Rattle.command_line.specs.Words.{tool_app, IsTool, IsNumberIn, usual_limit, IsLimit, AreFound, IsToldAs, IsRefusal}
+use Rattle.command_line.specs.Words.{tool_app, IsTool, IsNumberIn, default_limit, IsLimit, AreMatches, IsReportedAs, IsRefusal}
 
 tool_is_simple : (matching order format assignment : Option ValueParser) → is_simple (tool_app matching order format assignment) ≡ true
 unfolding clap_on_literals
@@ -32,20 +32,20 @@ tool_is_free matching order format assignment = refl
 pub is_free : (a : App) → IsTool a → is_simple_and_free a ≡ true
 is_free a t = ap is_simple_and_free t.8 ∙ tool_is_free t.0 t.1 t.2 t.3
 
-pub found : (a : App) (words : List (List ℕ)) (m : ArgMatches) → IsTool a → fault_of a words ≡ [] → HasMatchesOf a words m → AreFound words (rows_of (found_of m))
+pub found : (a : App) (words : List (List ℕ)) (m : ArgMatches) → IsTool a → fault_of a words ≡ [] → HasMatchesOf a words m → AreMatches words (rows_of (found_of m))
 found a words m t none h =
     (t.0, t.1, t.2, t.3, t.4, t.5, t.6, t.7, ap (λ x. fault_of x words) (sym t.8) ∙ none, (h (ap is_simple t.8 ∙ tool_is_simple t.0 t.1 t.2 t.3)).0 ∙ ap (λ x. matches_of x words) t.8)
 
 -- want of memory is told as such
-starved : (kind : ErrorKind) (r : Refused) → kind ≡ NoMemory → IsToldAs kind r → r ≡ OutOfMemory
+starved : (kind : ErrorKind) (r : Refused) → kind ≡ NoMemory → IsReportedAs kind r → r ≡ OutOfMemory
 starved kind (Help text) e (inl f) = cc
 starved kind (Help text) e (inr f) = let is = f.0 in cc
 starved kind (Mistake text) e t = absurd (t.2 e)
 starved kind OutOfMemory e t = refl
 
-pub refused : (a : App) (words : List (List ℕ)) (e : Error) (r : Refused) → IsTool a → HasKind (fault_of a words) e → IsToldAs (kind_of e) r → IsRefusal words r
-refused a words e r t (inl none) told = inr (inr (inr (starved (kind_of e) r none told)))
-refused a words e r t (inr among) told = inl (fault_of a words, kind_of e, (t.0, t.1, t.2, t.3, t.4, t.5, t.6, t.7, ap (λ x. fault_of x words) t.8), among, told)
+pub refused : (a : App) (words : List (List ℕ)) (e : Error) (r : Refused) → IsTool a → HasKind (fault_of a words) e → IsReportedAs (kind_of e) r → IsRefusal words r
+refused a words e r t (inl none) reported = inr (inr (inr (starved (kind_of e) r none reported)))
+refused a words e r t (inr among) reported = inl (fault_of a words, kind_of e, (t.0, t.1, t.2, t.3, t.4, t.5, t.6, t.7, ap (λ x. fault_of x words) t.8), among, reported)
 
 -- the number of a text is read, where it is in a range that fits
 pub number_read : {E : Type 0} (G : List ℕ → Result ℕ E → Type 0) (k low high : ℕ) (word : Option (List ℕ)) (r : Option ℕ) (d n : ℕ) → ((t : List ℕ) → word ≡ Some t → ReadsOne G t r) → ((u : List ℕ) (x : Result ℕ E) → G u x → ParsesUnsigned k 10 u x)
@@ -63,12 +63,12 @@ number_read {E} G k low high (Some t) r d n read only fits is = by r (read t ref
 
 -- the same of a limit, which is the usual one where no text stands
 pub limit_read : {E : Type 0} (G : List ℕ → Result ℕ E → Type 0) (choice : OrderChoice) (word : Option (List ℕ)) (r : Option ℕ) (d n : ℕ) → (word ≡ None → r ≡ None) → ((t : List ℕ) → word ≡ Some t → ReadsOne G t r)
-    → ((u : List ℕ) (x : Result ℕ E) → G u x → ParsesUnsigned 64 10 u x) → d ≡ usual_limit choice → 1 ≤ d → d ≤ 4294967295 → n ≡ max 1 (min (unwrap_or r d) 4294967295) → IsLimit word choice n
-limit_read {E} G choice (Some t) r d n none read only usual some few is = number_read G 64 1 4294967295 (Some t) r d n read only (omega arith) is
-limit_read {E} G choice None r d n none read only usual some few is =
+    → ((u : List ℕ) (x : Result ℕ E) → G u x → ParsesUnsigned 64 10 u x) → d ≡ default_limit choice → 1 ≤ d → d ≤ 4294967295 → n ≡ max 1 (min (unwrap_or r d) 4294967295) → IsLimit word choice n
+limit_read {E} G choice (Some t) r d n none read only is_default some few is = number_read G 64 1 4294967295 (Some t) r d n read only (omega arith) is
+limit_read {E} G choice None r d n none read only is_default some few is =
     let same : unwrap_or r d ≡ d = ap (λ o. unwrap_or o d) (none refl) in
     let n_is : n ≡ d = omega arith in
-    n_is ∙ usual
+    n_is ∙ is_default
 
 -- the source of an argument's row is that of its entry
 pub source_row : (f : Found) (id : List ℕ) → option_and_then (λ a. a.source) (matched_of f id) ≡ option_and_then (λ (r : Row). r.source) (find (λ r. bytes_eq r.id id) (rows_of f))

@@ -4,4 +4,4 @@ pub mod Defaulting
 pub mod Versioning
 pub mod Sharing
 pub mod Finding
-pub mod Asked
+pub mod FromMatches

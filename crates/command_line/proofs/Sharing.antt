@@ -5,8 +5,8 @@ use Rattle.std.specs.Prelude.{MatchOption}
 use Rattle.report_text.specs.declared.outcome.Share.{Share}
 use Rattle.command_line.specs.Words.{HasNoSlash, IsDecimal, IsInRange, IsShare}
 
-behind : (b : ℕ) (x : List ℕ) → HasNoSlash (b ∷ x) → HasNoSlash x
-behind b x none i lt = none (suc i) (omega (arith, lt))
+tail_has_none : (b : ℕ) (x : List ℕ) → HasNoSlash (b ∷ x) → HasNoSlash x
+tail_has_none b x none i lt = none (suc i) (omega (arith, lt))
 
 -- a text is cut at its first slash in one way
 pub one_cut : (x y u v : List ℕ) → HasNoSlash x → HasNoSlash y → x ++ 47 ∷ u ≡ y ++ 47 ∷ v → (x ≡ y) × (u ≡ v)
@@ -19,7 +19,7 @@ one_cut (a ∷ x) [] u v p q e =
     absurd (p 0 (omega arith) same)
 one_cut (a ∷ x) (b ∷ y) u v p q e =
     let rest : x ++ 47 ∷ u ≡ y ++ 47 ∷ v = cc in
-    let same = one_cut x y u v (behind a x p) (behind b y q) rest in
+    let same = one_cut x y u v (tail_has_none a x p) (tail_has_none b y q) rest in
     let first : a ≡ b = cc in
     (ap₂ (λ h t. h ∷ t) first same.0, same.1)
 
@@ -42,16 +42,16 @@ number_has_none (b ∷ text) is i lt e = go (b == 43) refl is i lt e
     go false plus num i lt e = digits (b ∷ text) num.1 i lt e
 
 -- a text with a slash has one
-pub slash_stands : (x u : List ℕ) → HasNoSlash (x ++ 47 ∷ u) → ⊥
-slash_stands [] u none = none 0 (omega arith) refl
-slash_stands (a ∷ x) u none = slash_stands x u (behind a (x ++ 47 ∷ u) none)
+pub has_slash : (x u : List ℕ) → HasNoSlash (x ++ 47 ∷ u) → ⊥
+has_slash [] u none = none 0 (omega arith) refl
+has_slash (a ∷ x) u none = has_slash x u (tail_has_none a (x ++ 47 ∷ u) none)
 
 pub unshared : (text : List ℕ) → HasNoSlash text → (s : Share) → IsShare text s → ⊥
-unshared text none s is = slash_stands is.number is.count (subst HasNoSlash is.parts none)
+unshared text none s is = has_slash is.number is.count (subst HasNoSlash is.parts none)
 
 -- the number and the count of a share stand before its slash and behind it
-pub of_halves : (text x u : List ℕ) (s : Share) → HasNoSlash x → text ≡ x ++ 47 ∷ u → IsShare text s → IsDecimal x s.number × IsDecimal u s.of
-of_halves text x u s none parts is =
+pub of_split : (text x u : List ℕ) (s : Share) → HasNoSlash x → text ≡ x ++ 47 ∷ u → IsShare text s → IsDecimal x s.number × IsDecimal u s.of
+of_split text x u s none parts is =
     let same = one_cut is.number x is.count u (number_has_none is.number is.is_number.0) none (sym is.parts ∙ parts) in
     (subst (λ t. IsDecimal t s.number) same.0 is.is_number, subst (λ t. IsDecimal t s.of) same.1 is.is_count)
 
@@ -61,15 +61,15 @@ module _ (text x u : List ℕ) (parts : text ≡ x ++ 47 ∷ u) (first : HasNoSl
   pub no_number : ((n : ℕ) → IsDecimal x n → n ≤ 1000000 → ⊥) → (s : Share) → IsShare text s → ⊥
   no_number none s is =
       let below = is.range in
-      none s.number (of_halves text x u s first parts is).0 (omega (arith, below.1, below.2))
+      none s.number (of_split text x u s first parts is).0 (omega (arith, below.1, below.2))
 
   pub no_count : ((n : ℕ) → IsDecimal u n → n ≤ 1000000 → ⊥) → (s : Share) → IsShare text s → ⊥
-  no_count none s is = none s.of (of_halves text x u s first parts is).1 is.range.2
+  no_count none s is = none s.of (of_split text x u s first parts is).1 is.range.2
 
   pub read : (n m : ℕ) → IsDecimal x n → IsDecimal u m → (r : Option Share) → MatchOption r (IsInRange n m → ⊥) (λ s. (s.number ≡ n) × (s.of ≡ m) × IsInRange n m)
       → MatchOption r ((s : Share) → IsShare text s → ⊥) (IsShare text)
   read n m a b None none = λ s is.
-      let h = of_halves text x u s first parts is in
+      let h = of_split text x u s first parts is in
       none (subst (λ k. IsInRange k m) (h.0.1 ∙ sym a.1) (subst (λ k. IsInRange s.number k) (h.1.1 ∙ sym b.1) is.range))
   read n m a b (Some s) made = record {
     number = x;

@@ -9,7 +9,7 @@ use Rattle.clap.proofs.OnLiterals.{clap_on_literals}
 use Rattle.command_line.specs.declared.options.Options.{Options}
 use Rattle.command_line.specs.declared.reading.Refused.{Refused}
 use Rattle.command_line.specs.declared.reading.Refused.TheVariants.{Help, Mistake, OutOfMemory}
-use Rattle.command_line.specs.Words.{tool_app, AskFor, IsRefusal, IsToldAs, TellsVersion}
+use Rattle.command_line.specs.Words.{tool_app, AskFor, IsRefusal, IsReportedAs, PrintsVersion}
 
 fault_found : (matching order format assignment : Option ValueParser) → fault_of (tool_app matching order format assignment) (codes "--version" ∷ []) ≡ DisplayVersion ∷ []
 unfolding clap_on_literals
@@ -22,21 +22,21 @@ one kind (inr none) = absurd none
 of_kind : (kinds : Kinds) (kind : ErrorKind) → kinds ≡ DisplayVersion ∷ [] → IsAmong kind kinds → kind ≡ DisplayVersion
 of_kind kinds kind is among = one kind (subst (λ k. IsAmong kind k) is among)
 
-told : (kind : ErrorKind) (r : Refused) → kind ≡ DisplayVersion → IsToldAs kind r → TellsVersion r
-told kind (Help text) is (inl help) = cc
-told kind (Help text) is (inr version) = version.1
-told kind (Mistake text) is t = absurd (t.1 is)
-told kind OutOfMemory is t = tt
+reported : (kind : ErrorKind) (r : Refused) → kind ≡ DisplayVersion → IsReportedAs kind r → PrintsVersion r
+reported kind (Help text) is (inl help) = cc
+reported kind (Help text) is (inr version) = version.1
+reported kind (Mistake text) is t = absurd (t.1 is)
+reported kind OutOfMemory is t = tt
 
 -- some fault is none
 found : (kinds : Kinds) → kinds ≡ DisplayVersion ∷ [] → kinds ≡ [] → ⊥
 found kinds some none = cc
 
-pub refused : (r : Refused) → IsRefusal (codes "--version" ∷ []) r → TellsVersion r
-refused r (inl f) = told f.1 r (of_kind f.0 f.1 (f.2.8 ∙ fault_found f.2.0 f.2.1 f.2.2 f.2.3) f.3) f.4
+pub refused : (r : Refused) → IsRefusal (codes "--version" ∷ []) r → PrintsVersion r
+refused r (inl f) = reported f.1 r (of_kind f.0 f.1 (f.2.8 ∙ fault_found f.2.0 f.2.1 f.2.2 f.2.3) f.3) f.4
 refused r (inr (inl f)) = absurd (found (fault_of (tool_app f.1.0 f.1.1 f.1.2 f.1.3) (codes "--version" ∷ [])) (fault_found f.1.0 f.1.1 f.1.2 f.1.3) f.1.8)
 refused r (inr (inr (inl f))) = absurd (found (fault_of (tool_app f.1.0 f.1.1 f.1.2 f.1.3) (codes "--version" ∷ [])) (fault_found f.1.0 f.1.1 f.1.2 f.1.3) f.1.8)
-refused r (inr (inr (inr none))) = subst TellsVersion (sym none) tt
+refused r (inr (inr (inr none))) = subst PrintsVersion (sym none) tt
 
-pub alone : (o : Options) → AskFor (codes "--version" ∷ []) o → ⊥
-alone o a = found (fault_of (tool_app a.1.0 a.1.1 a.1.2 a.1.3) (codes "--version" ∷ [])) (fault_found a.1.0 a.1.1 a.1.2 a.1.3) a.1.8
+pub no_options : (o : Options) → AskFor (codes "--version" ∷ []) o → ⊥
+no_options o a = found (fault_of (tool_app a.1.0 a.1.1 a.1.2 a.1.3) (codes "--version" ∷ [])) (fault_found a.1.0 a.1.1 a.1.2 a.1.3) a.1.8

@@ -154,39 +154,39 @@ flag_of None = false
 
 -- The order where the words name none: auto, but declared where they ask for what auto does not do or for what had declared order before
 -- it, a limit, the sizes of diagrams, or an order in print.
-abbrev pub unnamed_order : (limit : Option (List ℕ)) → (sizes print_order : Bool) → OrderChoice
-unnamed_order (Some limit) sizes print_order = Declared
-unnamed_order None true print_order = Declared
-unnamed_order None false true = Declared
-unnamed_order None false false = Auto
+abbrev pub default_order_of : (limit : Option (List ℕ)) → (sizes print_order : Bool) → OrderChoice
+default_order_of (Some limit) sizes print_order = Declared
+default_order_of None true print_order = Declared
+default_order_of None false true = Declared
+default_order_of None false false = Auto
 
 -- the file of the order where one is given, extended where that is asked for, else the order that the word names, and declared order for
 -- any other word; and where there is no word, the order of words that name none
-abbrev pub IsChoice : (file order : Option (List ℕ)) → (extend : Bool) → (unnamed : OrderChoice) → OrderChoice → Type 0
-IsChoice (Some path) word extend unnamed (File p) = (extend ≡ false) × (p.now ≡ path)
-IsChoice (Some path) word extend unnamed (Extended p) = (extend ≡ true) × (p.now ≡ path)
-IsChoice (Some path) word extend unnamed Declared = ⊥
-IsChoice (Some path) word extend unnamed Depth = ⊥
-IsChoice (Some path) word extend unnamed Interleave = ⊥
-IsChoice (Some path) word extend unnamed Index = ⊥
-IsChoice (Some path) word extend unnamed Force = ⊥
-IsChoice (Some path) word extend unnamed Best = ⊥
-IsChoice (Some path) word extend unnamed Auto = ⊥
-IsChoice (Some path) word extend unnamed Cones = ⊥
-IsChoice None (Some word) extend unnamed (File p) = ⊥
-IsChoice None (Some word) extend unnamed (Extended p) = ⊥
-IsChoice None (Some word) extend unnamed Depth = bytes_eq word (codes "depth") ≡ true
-IsChoice None (Some word) extend unnamed Interleave = bytes_eq word (codes "interleave") ≡ true
-IsChoice None (Some word) extend unnamed Index = bytes_eq word (codes "index") ≡ true
-IsChoice None (Some word) extend unnamed Force = bytes_eq word (codes "force") ≡ true
-IsChoice None (Some word) extend unnamed Best = bytes_eq word (codes "best") ≡ true
-IsChoice None (Some word) extend unnamed Auto = bytes_eq word (codes "auto") ≡ true
-IsChoice None (Some word) extend unnamed Cones = bytes_eq word (codes "cones") ≡ true
-IsChoice None (Some word) extend unnamed Declared =
+abbrev pub IsChoice : (file order : Option (List ℕ)) → (extend : Bool) → (default_order : OrderChoice) → OrderChoice → Type 0
+IsChoice (Some path) word extend default_order (File p) = (extend ≡ false) × (p.now ≡ path)
+IsChoice (Some path) word extend default_order (Extended p) = (extend ≡ true) × (p.now ≡ path)
+IsChoice (Some path) word extend default_order Declared = ⊥
+IsChoice (Some path) word extend default_order Depth = ⊥
+IsChoice (Some path) word extend default_order Interleave = ⊥
+IsChoice (Some path) word extend default_order Index = ⊥
+IsChoice (Some path) word extend default_order Force = ⊥
+IsChoice (Some path) word extend default_order Best = ⊥
+IsChoice (Some path) word extend default_order Auto = ⊥
+IsChoice (Some path) word extend default_order Cones = ⊥
+IsChoice None (Some word) extend default_order (File p) = ⊥
+IsChoice None (Some word) extend default_order (Extended p) = ⊥
+IsChoice None (Some word) extend default_order Depth = bytes_eq word (codes "depth") ≡ true
+IsChoice None (Some word) extend default_order Interleave = bytes_eq word (codes "interleave") ≡ true
+IsChoice None (Some word) extend default_order Index = bytes_eq word (codes "index") ≡ true
+IsChoice None (Some word) extend default_order Force = bytes_eq word (codes "force") ≡ true
+IsChoice None (Some word) extend default_order Best = bytes_eq word (codes "best") ≡ true
+IsChoice None (Some word) extend default_order Auto = bytes_eq word (codes "auto") ≡ true
+IsChoice None (Some word) extend default_order Cones = bytes_eq word (codes "cones") ≡ true
+IsChoice None (Some word) extend default_order Declared =
     (bytes_eq word (codes "depth") ≡ false) × (bytes_eq word (codes "interleave") ≡ false) × (bytes_eq word (codes "index") ≡ false)
     × (bytes_eq word (codes "force") ≡ false) × (bytes_eq word (codes "best") ≡ false) × (bytes_eq word (codes "auto") ≡ false)
     × (bytes_eq word (codes "cones") ≡ false)
-IsChoice None None extend unnamed choice = choice ≡ unnamed
+IsChoice None None extend default_order choice = choice ≡ default_order
 
 -- ---- pairs that are picked
 
@@ -240,15 +240,15 @@ ArePicks [] (Some text) All = ⊥
 ArePicks [] None picks = picks ≡ All
 
 -- the order that was found for the arguments, which is that of cones where pairs are picked
-abbrev pub IsOrderWhere : (picked : Bool) → (file order : Option (List ℕ)) → (extend : Bool) → (unnamed : OrderChoice) → OrderChoice
+abbrev pub IsOrderIfPicked : (picked : Bool) → (file order : Option (List ℕ)) → (extend : Bool) → (default_order : OrderChoice) → OrderChoice
     → Type 0
-IsOrderWhere true file word extend unnamed choice = choice ≡ Cones
-IsOrderWhere false file word extend unnamed choice = IsChoice file word extend unnamed choice
+IsOrderIfPicked true file word extend default_order choice = choice ≡ Cones
+IsOrderIfPicked false file word extend default_order choice = IsChoice file word extend default_order choice
 
 abbrev pub IsOrderIn : List Row → OrderChoice → Type 0
 IsOrderIn rows choice =
-    IsOrderWhere (are_picked (names_in rows) (share_in rows)) (first_of (codes "order-file") rows) (first_of (codes "order") rows)
-    (flag_of (first_of (codes "extend") rows)) (unnamed_order (first_of (codes "limit") rows) (flag_of (first_of (codes "sizes") rows))
+    IsOrderIfPicked (are_picked (names_in rows) (share_in rows)) (first_of (codes "order-file") rows) (first_of (codes "order") rows)
+    (flag_of (first_of (codes "extend") rows)) (default_order_of (first_of (codes "limit") rows) (flag_of (first_of (codes "sizes") rows))
     (flag_of (first_of (codes "print-order") rows))) choice
 
 -- the word for standard input in place of a file
@@ -293,22 +293,22 @@ abbrev pub IsNumberIn : ℕ → ℕ → Option Text → ℕ → Type 0
 IsNumberIn low high word n = IfSome word (λ text. IsUnsignedIn low high text → n ≡ digits_value 10 (without_leading_plus text))
 
 -- the limit of nodes where the words give none: of auto and cones what a store may have
-abbrev pub usual_limit : OrderChoice → ℕ
-usual_limit Auto = 4294967295
-usual_limit Cones = 4294967295
-usual_limit Declared = 67108864
-usual_limit Depth = 67108864
-usual_limit Interleave = 67108864
-usual_limit Index = 67108864
-usual_limit Force = 67108864
-usual_limit Best = 67108864
-usual_limit (File path) = 67108864
-usual_limit (Extended path) = 67108864
+abbrev pub default_limit : OrderChoice → ℕ
+default_limit Auto = 4294967295
+default_limit Cones = 4294967295
+default_limit Declared = 67108864
+default_limit Depth = 67108864
+default_limit Interleave = 67108864
+default_limit Index = 67108864
+default_limit Force = 67108864
+default_limit Best = 67108864
+default_limit (File path) = 67108864
+default_limit (Extended path) = 67108864
 
 -- the limit is that of the text, or the usual one where there is none
 abbrev pub IsLimit : Option Text → OrderChoice → ℕ → Type 0
 IsLimit (Some text) choice n = IsUnsignedIn 1 4294967295 text → n ≡ digits_value 10 (without_leading_plus text)
-IsLimit None choice n = n ≡ usual_limit choice
+IsLimit None choice n = n ≡ default_limit choice
 
 -- the unit of a size, and the bytes that it stands for
 abbrev pub IsUnit : Text → ℕ → Type 0
@@ -346,56 +346,56 @@ abbrev pub GiveTwoPicks : List Row → Type 0
 GiveTwoPicks rows = IsGiven (codes "only") rows × IsGiven (codes "share") rows
 
 -- a word names an order that is to be found, auto or cones
-abbrev pub IsFoundName : Text → Type 0
-IsFoundName word = (bytes_eq word (codes "auto") ≡ true) ⊎ (bytes_eq word (codes "cones") ≡ true)
+abbrev pub IsSearchName : Text → Type 0
+IsSearchName word = (bytes_eq word (codes "auto") ≡ true) ⊎ (bytes_eq word (codes "cones") ≡ true)
 
 -- the words give such an order by its name, or pick pairs
-abbrev pub GiveFound : List Row → Type 0
-GiveFound rows = IsSomeAnd (first_of (codes "order") rows) IsFoundName ⊎ (are_picked (names_in rows) (share_in rows) ≡ true)
+abbrev pub GiveSearch : List Row → Type 0
+GiveSearch rows = IsSomeAnd (first_of (codes "order") rows) IsSearchName ⊎ (are_picked (names_in rows) (share_in rows) ≡ true)
 
 -- the same, and this flag, which asks for what no such order does
-abbrev pub GiveFoundWith : Text → List Row → Type 0
-GiveFoundWith id rows = GiveFound rows × (flag_of (first_of id rows) ≡ true)
+abbrev pub GiveSearchWith : Text → List Row → Type 0
+GiveSearchWith id rows = GiveSearch rows × (flag_of (first_of id rows) ≡ true)
 
 -- the words give a file of an order, or another order by its name
-abbrev pub GiveOther : List Row → Type 0
-GiveOther rows = IsSome (first_of (codes "order-file") rows) ⊎ IsSomeAnd (first_of (codes "order") rows) (λ word. IsFoundName word → ⊥)
+abbrev pub GiveFixedOrder : List Row → Type 0
+GiveFixedOrder rows = IsSome (first_of (codes "order-file") rows) ⊎ IsSomeAnd (first_of (codes "order") rows) (λ word. IsSearchName word → ⊥)
 
 -- the words pick pairs, and give such an order, in which all pairs are compared
-abbrev pub GivePicksInOrder : List Row → Type 0
-GivePicksInOrder rows = (are_picked (names_in rows) (share_in rows) ≡ true) × GiveOther rows
+abbrev pub GivePicksWithFixedOrder : List Row → Type 0
+GivePicksWithFixedOrder rows = (are_picked (names_in rows) (share_in rows) ≡ true) × GiveFixedOrder rows
 
 -- the words give memory to an order other than auto and cones, which would have no use for it
-abbrev pub GiveIdleMemory : List Row → Type 0
-GiveIdleMemory rows = IsGiven (codes "memory") rows × (IsOrderIn rows Auto → ⊥) × (IsOrderIn rows Cones → ⊥)
+abbrev pub GiveUnusedMemory : List Row → Type 0
+GiveUnusedMemory rows = IsGiven (codes "memory") rows × (IsOrderIn rows Auto → ⊥) × (IsOrderIn rows Cones → ⊥)
 
 -- the words ask for the order of a file to be extended, and give no such file
-abbrev pub GiveIdleExtend : List Row → Type 0
-GiveIdleExtend rows = (flag_of (first_of (codes "extend") rows) ≡ true) × (first_of (codes "order-file") rows ≡ None)
+abbrev pub GiveUnusedExtend : List Row → Type 0
+GiveUnusedExtend rows = (flag_of (first_of (codes "extend") rows) ≡ true) × (first_of (codes "order-file") rows ≡ None)
 
 -- the words ask for a report as one JSON object
 abbrev pub AskForJson : List Row → Type 0
 AskForJson rows = IsSomeAnd (first_of (codes "format") rows) (λ word. bytes_eq word (codes "json") ≡ true)
 
 -- the words ask for explanations, which are lines behind a report of all pairs, and for an order in print, a share of the pairs, or JSON
-abbrev pub GiveExplainBeside : List Row → Type 0
-GiveExplainBeside rows = IsGiven (codes "explain") rows × ((flag_of (first_of (codes "print-order") rows) ≡ true)
+abbrev pub GiveExplainConflict : List Row → Type 0
+GiveExplainConflict rows = IsGiven (codes "explain") rows × ((flag_of (first_of (codes "print-order") rows) ≡ true)
     ⊎ IsGiven (codes "share") rows ⊎ AskForJson rows)
 
 -- the words give a file for the values of a pair that differs, and ask for an order in print, which compares none
-abbrev pub GiveIdleVcd : List Row → Type 0
-GiveIdleVcd rows = IsGiven (codes "vcd") rows × (flag_of (first_of (codes "print-order") rows) ≡ true)
+abbrev pub GiveUnusedVcd : List Row → Type 0
+GiveUnusedVcd rows = IsGiven (codes "vcd") rows × (flag_of (first_of (codes "print-order") rows) ≡ true)
 
 -- the words ask for causes, which a report of all pairs as JSON tells, and for an order in print, a share of the pairs, or another report
-abbrev pub GiveCausesBeside : List Row → Type 0
-GiveCausesBeside rows = (flag_of (first_of (codes "causes") rows) ≡ true)
+abbrev pub GiveCausesConflict : List Row → Type 0
+GiveCausesConflict rows = (flag_of (first_of (codes "causes") rows) ≡ true)
     × ((flag_of (first_of (codes "print-order") rows) ≡ true) ⊎ IsGiven (codes "share") rows ⊎ (AskForJson rows → ⊥))
 
 -- the words give two arguments that exclude each other
-abbrev pub AreAtOdds : List Row → Type 0
-AreAtOdds rows =
-    GiveTwoOrders rows ⊎ GiveTwoPicks rows ⊎ GiveFoundWith (codes "sizes") rows ⊎ GiveFoundWith (codes "print-order") rows
-    ⊎ GivePicksInOrder rows ⊎ GiveIdleMemory rows ⊎ GiveIdleExtend rows ⊎ GiveExplainBeside rows ⊎ GiveIdleVcd rows ⊎ GiveCausesBeside rows
+abbrev pub HaveConflict : List Row → Type 0
+HaveConflict rows =
+    GiveTwoOrders rows ⊎ GiveTwoPicks rows ⊎ GiveSearchWith (codes "sizes") rows ⊎ GiveSearchWith (codes "print-order") rows
+    ⊎ GivePicksWithFixedOrder rows ⊎ GiveUnusedMemory rows ⊎ GiveUnusedExtend rows ⊎ GiveExplainConflict rows ⊎ GiveUnusedVcd rows ⊎ GiveCausesConflict rows
 
 -- the words give a memory that is none, or out of its range
 abbrev pub GiveBadMemory : List Row → Type 0
@@ -435,8 +435,8 @@ AreFaults words kinds =
     × TakesAssignments assignment × (kinds ≡ fault_of (tool_app matching order format assignment) words)
 
 -- clap takes the words, and the rows are its matches of the command
-abbrev pub AreFound : List Text → List Row → Type 0
-AreFound words rows =
+abbrev pub AreMatches : List Text → List Row → Type 0
+AreMatches words rows =
     (matching order format assignment : Option ValueParser) × TakesMatches matching × TakesOrders order × TakesFormats format
     × TakesAssignments assignment
     × (fault_of (tool_app matching order format assignment) words ≡ [])
@@ -444,34 +444,34 @@ AreFound words rows =
 
 -- The words ask for these options, by clap's matches of the command. No two of them exclude each other.
 abbrev pub AskFor : List Text → Options → Type 0
-AskFor words o = (rows : List Row) × AreFound words rows × (AreAtOdds rows → ⊥) × AreOptions rows o
+AskFor words o = (rows : List Row) × AreMatches words rows × (HaveConflict rows → ⊥) × AreOptions rows o
 
 -- the version's line is told, or that there was no memory for it
-abbrev pub TellsVersion : Refused → Type 0
-TellsVersion (Help text) = string_bytes text ≡ codes "bddcheck 1.0.0\n"
-TellsVersion (Mistake text) = ⊥
-TellsVersion OutOfMemory = ⊤
+abbrev pub PrintsVersion : Refused → Type 0
+PrintsVersion (Help text) = string_bytes text ≡ codes "bddcheck 1.0.0\n"
+PrintsVersion (Mistake text) = ⊥
+PrintsVersion OutOfMemory = ⊤
 
 -- how a fault of this kind is told: help and the version as such, any other as a mistake; or that there was no memory for its text
-abbrev pub IsToldAs : ErrorKind → Refused → Type 0
-IsToldAs kind (Help text) = (kind ≡ DisplayHelp) ⊎ ((kind ≡ DisplayVersion) × TellsVersion (Help text))
-IsToldAs kind (Mistake text) = (kind ≢ DisplayHelp) × (kind ≢ DisplayVersion) × (kind ≢ NoMemory)
-IsToldAs kind OutOfMemory = ⊤
+abbrev pub IsReportedAs : ErrorKind → Refused → Type 0
+IsReportedAs kind (Help text) = (kind ≡ DisplayHelp) ⊎ ((kind ≡ DisplayVersion) × PrintsVersion (Help text))
+IsReportedAs kind (Mistake text) = (kind ≢ DisplayHelp) × (kind ≢ DisplayVersion) × (kind ≢ NoMemory)
+IsReportedAs kind OutOfMemory = ⊤
 
 -- Words that clap takes are refused for two arguments that exclude each other, or else for a memory or a share that is none, or for want of
 -- memory.
 abbrev pub IsRefusedFor : List Row → Refused → Type 0
 IsRefusedFor rows refused =
-    (AreAtOdds rows × IsToldAs ArgumentConflict refused)
-    ⊎ (((AreAtOdds rows → ⊥) × (GiveBadMemory rows ⊎ GiveBadShare rows) × IsToldAs ValueValidation refused)
+    (HaveConflict rows × IsReportedAs ArgumentConflict refused)
+    ⊎ (((HaveConflict rows → ⊥) × (GiveBadMemory rows ⊎ GiveBadShare rows) × IsReportedAs ValueValidation refused)
     ⊎ (refused ≡ OutOfMemory))
 
 -- The words are refused for the first fault that clap finds in them, or for two arguments that exclude each other, or else for a memory or
 -- a share that is none, or for want of memory.
 abbrev pub IsRefusal : List Text → Refused → Type 0
 IsRefusal words refused =
-    ((kinds : Kinds) × (kind : ErrorKind) × AreFaults words kinds × IsAmong kind kinds × IsToldAs kind refused)
-    ⊎ (((rows : List Row) × AreFound words rows × AreAtOdds rows × IsToldAs ArgumentConflict refused)
-    ⊎ (((rows : List Row) × AreFound words rows × (AreAtOdds rows → ⊥) × (GiveBadMemory rows ⊎ GiveBadShare rows)
-    × IsToldAs ValueValidation refused)
+    ((kinds : Kinds) × (kind : ErrorKind) × AreFaults words kinds × IsAmong kind kinds × IsReportedAs kind refused)
+    ⊎ (((rows : List Row) × AreMatches words rows × HaveConflict rows × IsReportedAs ArgumentConflict refused)
+    ⊎ (((rows : List Row) × AreMatches words rows × (HaveConflict rows → ⊥) × (GiveBadMemory rows ⊎ GiveBadShare rows)
+    × IsReportedAs ValueValidation refused)
     ⊎ (refused ≡ OutOfMemory)))

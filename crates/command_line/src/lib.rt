@@ -8,16 +8,16 @@
 //! **Only tests show** the texts of help and of mistakes (`tests/stored.txt`), and that help, the manual page and the
 //! completions have the same options (`tests/papers.py`).
 //!
-//! **Begin** with `specs/Words` and `Defaults`; then `command`, its `arguments`, `matched`, what their matches say by
-//! their `values`, and `odds`, what excludes what.
+//! **Begin** with `specs/Words` and `Defaults`; then `command`, its `arguments`, `from_matches`, what their matches say by
+//! their `values`, and `conflicts`, what excludes what.
 #![tactic(auto)]
 
 mod arguments;
 mod command;
+mod conflicts;
+mod from_matches;
 mod help;
 pub mod laws;
-mod matched;
-mod odds;
 mod options;
 mod reading;
 mod share;

@@ -2,13 +2,13 @@
 ghost use Rattle.std.specs.Prelude.{IfOk, IfErr, map, string_bytes};
 ghost use Rattle.clap.specs.Values.{kind_of};
 ghost use Rattle.clap.specs.Words.{app_of, found_of, rows_of};
-ghost use Rattle.command_line.specs.Words.{IsTool, AreFound, AreAtOdds, AreOptions, AskFor, TellsVersion, IsToldAs, IsRefusedFor};
+ghost use Rattle.command_line.specs.Words.{IsTool, AreMatches, HaveConflict, AreOptions, AskFor, PrintsVersion, IsReportedAs, IsRefusedFor};
 ghost use Rattle.command_line.specs.Words.{IsRefusal};
 
 use crate::command::command;
+use crate::conflicts::{Conflict, conflict_in};
+use crate::from_matches::{BadPicks, explained_in, memory_in, options_of, picks_in};
 use crate::help::HELP;
-use crate::matched::{BadPicks, explained_in, memory_in, options_of, picks_in};
-use crate::odds::{Odds, odds_in};
 use crate::options::Options;
 use crate::values::word_of;
 use clap::error::ErrorKind;
@@ -30,7 +30,7 @@ pub enum Refused {
 
 /// What `--version` prints.
 fn version(alloc: Global) -> Refused
-    ensures { TellsVersion result }
+    ensures { PrintsVersion result }
 {
     match String::from_str(alloc, VERSION_LINE) {
         Ok(line) => Refused::Help(line),
@@ -40,7 +40,7 @@ fn version(alloc: Global) -> Refused
 
 /// What `--help` prints.
 fn help(alloc: Global) -> Refused
-    ensures { IsToldAs ErrorKind.DisplayHelp result }
+    ensures { IsReportedAs ErrorKind.DisplayHelp result }
 {
     match String::from_str(alloc, HELP) {
         Ok(text) => Refused::Help(text),
@@ -50,7 +50,7 @@ fn help(alloc: Global) -> Refused
 
 /// What an error of the parser says.
 fn refusal(alloc: Global, error: &Error) -> Refused
-    ensures { IsToldAs (kind_of error.now) result }
+    ensures { IsReportedAs (kind_of error.now) result }
 {
     if error.kind() == ErrorKind::OutOfMemory {
         return Refused::OutOfMemory;
@@ -85,11 +85,11 @@ fn options_in<'a>(
     command: &mut Command<'_>,
     matches: &ArgMatches<'a>,
 ) -> Result<Options<'a>, Refused>
-    ensures options { let rows = rows_of (found_of matches.now) in IfOk result (λ o. (AreAtOdds rows → ⊥) × AreOptions rows o) }
+    ensures options { let rows = rows_of (found_of matches.now) in IfOk result (λ o. (HaveConflict rows → ⊥) × AreOptions rows o) }
     ensures refused { IfErr result (IsRefusedFor (rows_of (found_of matches.now))) }
 {
-    if let Some(odds) = odds_in(matches) {
-        return Err(conflict(alloc, command, odds));
+    if let Some(conflicting) = conflict_in(matches) {
+        return Err(refuse_conflict(alloc, command, conflicting));
     }
     let word = word_of(matches, "memory");
     let Some(memory) = memory_in(word) else {
@@ -115,7 +115,7 @@ fn parsed<'a>(
     words: &'a [String],
 ) -> Result<ArgMatches<'a>, Refused>
     requires { IsTool (app_of command.old) }
-    ensures found { IfOk result (λ m. AreFound (map string_bytes words.entry.now) (rows_of (found_of m))) }
+    ensures found { IfOk result (λ m. AreMatches (map string_bytes words.entry.now) (rows_of (found_of m))) }
     ensures refused { IfErr result (IsRefusal (map string_bytes words.entry.now)) }
 {
     match command.try_get_matches_from_mut(words) {
@@ -126,7 +126,7 @@ fn parsed<'a>(
 
 /// A mistake that the parser has not found, told as it tells its own.
 fn mistake(alloc: Global, command: &mut Command<'_>, kind: ErrorKind, message: &str) -> Refused
-    ensures { IsToldAs kind result }
+    ensures { IsReportedAs kind result }
 {
     match command.error(kind, message) {
         Ok(error) => refusal(alloc, &error),
@@ -135,10 +135,10 @@ fn mistake(alloc: Global, command: &mut Command<'_>, kind: ErrorKind, message: &
 }
 
 /// What is said of two arguments that exclude each other.
-fn conflict(alloc: Global, command: &mut Command<'_>, odds: Odds) -> Refused
-    ensures { IsToldAs ErrorKind.ArgumentConflict result }
+fn refuse_conflict(alloc: Global, command: &mut Command<'_>, conflicting: Conflict) -> Refused
+    ensures { IsReportedAs ErrorKind.ArgumentConflict result }
 {
-    let Odds { one, other } = odds;
+    let Conflict { one, other } = conflicting;
     match format!(in alloc; "the argument '{one}' cannot be used with {other}") {
         Ok(message) => mistake(
             alloc,
@@ -152,12 +152,12 @@ fn conflict(alloc: Global, command: &mut Command<'_>, odds: Odds) -> Refused
 
 /// What is said of a memory that is none, or out of its range.
 fn bad_memory(alloc: Global, command: &mut Command<'_>, text: &str) -> Refused
-    ensures { IsToldAs ErrorKind.ValueValidation result }
+    ensures { IsReportedAs ErrorKind.ValueValidation result }
 {
-    let told = format!(in alloc;
+    let reported = format!(in alloc;
         "invalid value '{text}' for '--memory <SIZE>': not a number of bytes from 16M on, as 536870912, 512M or 8G"
     );
-    match told {
+    match reported {
         Ok(message) => mistake(alloc, command, ErrorKind::ValueValidation, message.as_str()),
         Err(_) => Refused::OutOfMemory,
     }
@@ -165,12 +165,12 @@ fn bad_memory(alloc: Global, command: &mut Command<'_>, text: &str) -> Refused
 
 /// What is said of a share that is none.
 fn bad_share(alloc: Global, command: &mut Command<'_>, text: &str) -> Refused
-    ensures { IsToldAs ErrorKind.ValueValidation result }
+    ensures { IsReportedAs ErrorKind.ValueValidation result }
 {
-    let told = format!(in alloc;
+    let reported = format!(in alloc;
         "invalid value '{text}' for '--share <K/N>': not K of N shares, as 3/8, with K from 1 to N, and N up to 1000000"
     );
-    match told {
+    match reported {
         Ok(message) => mistake(alloc, command, ErrorKind::ValueValidation, message.as_str()),
         Err(_) => Refused::OutOfMemory,
     }

@@ -9,7 +9,7 @@ use report_text::Share;
 const MOST_SHARES: u32 = 1_000_000;
 
 /// The texts before the first slash and behind it.
-fn halves(text: &str) -> Option<(&str, &str)>
+fn split_at_slash(text: &str) -> Option<(&str, &str)>
     ensures { MatchOption result (HasNoSlash text.now) (λ r. (text.now ≡ r.0.now ++ 47 ∷ r.1.now) × HasNoSlash r.0.now) }
 {
     text.split_once('/')
@@ -37,7 +37,7 @@ fn share(number: u32, of: u32) -> Option<Share>
 pub(crate) fn share_of(text: &str) -> Option<Share>
     ensures { MatchOption result ((s : ShareValue) → IsShare text.now s → ⊥) (IsShare text.now) }
 {
-    let Some((number, count)) = halves(text) else {
+    let Some((number, count)) = split_at_slash(text) else {
         return None;
     };
     let Some(number) = decimal(number) else {

@@ -5,44 +5,44 @@ use Rattle.std.proofs.lemmas.Bool.{cases_eq, cases_lt}
 use Rattle.std.proofs.lemmas.List.{length-map, length-set, get_or-set_same, get_or-set_other, ext_get_or}
 use Rattle.dd_store.specs.Functions.{Agree, Before, IsLeastDifference}
 use Rattle.dd_store.specs.Functions.Before.{first, later}
-use Rattle.counter_walk.specs.Arranged.{IsOrder, arranged, by_declared, IsLeastDeclared}
+use Rattle.counter_walk.specs.DeclaredOrder.{IsOrder, assignment_by_level, by_declared, IsLeastDifferenceDeclared}
 
-pub length-arranged : (order : List ℕ) (x : List Bool) → length (arranged order x) ≡ length order
-length-arranged order x = length-map order (λ d. get_or x d false)
+pub length-assignment_by_level : (order : List ℕ) (x : List Bool) → length (assignment_by_level order x) ≡ length order
+length-assignment_by_level order x = length-map order (λ d. get_or x d false)
 
-pub get_or-arranged : (order : List ℕ) (x : List Bool) (v : ℕ) → v < length order
-    → get_or (arranged order x) v false ≡ get_or x (get_or order v 0) false
-get_or-arranged [] x v lt = absurd (omega arith)
-get_or-arranged (d ∷ ds) x zero lt = refl
-get_or-arranged (d ∷ ds) x (suc v) lt = get_or-arranged ds x v (omega arith)
+pub get_or-assignment_by_level : (order : List ℕ) (x : List Bool) (v : ℕ) → v < length order
+    → get_or (assignment_by_level order x) v false ≡ get_or x (get_or order v 0) false
+get_or-assignment_by_level [] x v lt = absurd (omega arith)
+get_or-assignment_by_level (d ∷ ds) x zero lt = refl
+get_or-assignment_by_level (d ∷ ds) x (suc v) lt = get_or-assignment_by_level ds x v (omega arith)
 
 -- the bit of a declared variable is that of its level
-pub arranged-set : (n : ℕ) (order : List ℕ) (x : List Bool) (v : ℕ) (b : Bool) → IsOrder n order → v < n → length x ≡ n
-    → arranged order (set x (get_or order v 0) b) ≡ set (arranged order x) v b
-arranged-set n order x v b o lt len =
+pub assignment_by_level-set : (n : ℕ) (order : List ℕ) (x : List Bool) (v : ℕ) (b : Bool) → IsOrder n order → v < n → length x ≡ n
+    → assignment_by_level order (set x (get_or order v 0) b) ≡ set (assignment_by_level order x) v b
+assignment_by_level-set n order x v b o lt len =
     let d : ℕ = get_or order v 0 in
-    ext_get_or false (arranged order (set x d b)) (set (arranged order x) v b)
-    (length-arranged order (set x d b) ∙ sym (length-arranged order x) ∙ sym (length-set (arranged order x) v b))
+    ext_get_or false (assignment_by_level order (set x d b)) (set (assignment_by_level order x) v b)
+    (length-assignment_by_level order (set x d b) ∙ sym (length-assignment_by_level order x) ∙ sym (length-set (assignment_by_level order x) v b))
     (λ i l.
-    let long : length (arranged order (set x d b)) ≡ length order = length-arranged order (set x d b) in
-    get_or-arranged order (set x d b) i (omega arith) ∙ at i (omega arith))
+    let long : length (assignment_by_level order (set x d b)) ≡ length order = length-assignment_by_level order (set x d b) in
+    get_or-assignment_by_level order (set x d b) i (omega arith) ∙ at i (omega arith))
   where
     at : (i : ℕ) → i < length order
-        → get_or (set x (get_or order v 0) b) (get_or order i 0) false ≡ get_or (set (arranged order x) v b) i false
+        → get_or (set x (get_or order v 0) b) (get_or order i 0) false ≡ get_or (set (assignment_by_level order x) v b) i false
     at i within =
         let full : length order ≡ n = o.each_level in
         let declared : get_or order v 0 < n = o.declared v lt in
-        let wide : length (arranged order x) ≡ length order = length-arranged order x in
+        let wide : length (assignment_by_level order x) ≡ length order = length-assignment_by_level order x in
         elim (cases_eq i v) [
           | inl same ↦
               ap (λ k. get_or (set x (get_or order v 0) b) (get_or order k 0) false) same
               ∙ get_or-set_same x (get_or order v 0) b false (omega arith)
-              ∙ sym (get_or-set_same (arranged order x) v b false (omega arith))
-              ∙ ap (λ k. get_or (set (arranged order x) v b) k false) (sym same)
+              ∙ sym (get_or-set_same (assignment_by_level order x) v b false (omega arith))
+              ∙ ap (λ k. get_or (set (assignment_by_level order x) v b) k false) (sym same)
           | inr other ↦
               get_or-set_other x (get_or order v 0) (get_or order i 0) b false (λ e. other (o.once i v (omega arith) lt e))
-              ∙ sym (get_or-arranged order x i within)
-              ∙ sym (get_or-set_other (arranged order x) v i b false other)
+              ∙ sym (get_or-assignment_by_level order x i within)
+              ∙ sym (get_or-set_other (assignment_by_level order x) v i b false other)
         ]
 
 -- ---- an assignment as declared for one by level
@@ -78,15 +78,15 @@ get_or-declared_of n order y o (suc k) u le lt =
     ]
 
 pub arranged_from : (n : ℕ) (order : List ℕ) (y : List Bool) → IsOrder n order → length y ≡ n
-    → (x : List Bool) × (length x ≡ n) × (arranged order x ≡ y)
+    → (x : List Bool) × (length x ≡ n) × (assignment_by_level order x ≡ y)
 arranged_from n order y o len =
     let x : List Bool = declared_of n order y n in
     let full : length order ≡ n = o.each_level in
-    let long : length (arranged order x) ≡ length order = length-arranged order x in (
+    let long : length (assignment_by_level order x) ≡ length order = length-assignment_by_level order x in (
       x,
       length-declared_of n order y n,
-      ext_get_or false (arranged order x) y (omega arith)
-          (λ i lt. get_or-arranged order x i (omega arith) ∙ get_or-declared_of n order y o n i (omega arith) (omega arith)),
+      ext_get_or false (assignment_by_level order x) y (omega arith)
+          (λ i lt. get_or-assignment_by_level order x i (omega arith) ∙ get_or-declared_of n order y o n i (omega arith) (omega arith)),
     )
 
 -- ---- the same assignment whatever the order of the levels
@@ -126,28 +126,28 @@ least_alike n f g f' g' x af ag k = record {
 -- so two orders of the levels give one assignment where the functions of the bits as declared are the same
 pub one_in_all_orders : (n : ℕ) (order order' : List ℕ) (f g f' g' : List Bool → Bool) (x y : List Bool)
     → Agree n (by_declared order f) (by_declared order' f')
-    → Agree n (by_declared order g) (by_declared order' g') → IsLeastDeclared n order f g x → IsLeastDeclared n order' f' g' y → x ≡ y
+    → Agree n (by_declared order g) (by_declared order' g') → IsLeastDifferenceDeclared n order f g x → IsLeastDifferenceDeclared n order' f' g' y → x ≡ y
 one_in_all_orders n order order' f g f' g' x y af ag k m =
     least_once n (by_declared order' f') (by_declared order' g') x y (least_alike n (by_declared order f) (by_declared order g) (by_declared order' f') (by_declared order' g') x af ag k) m
 
 -- ---- the order of the levels
 
 -- where each variable stands at its own level, an assignment is what it was
-pub arranged-same : (n : ℕ) (order : List ℕ) (x : List Bool) → length order ≡ n → ((v : ℕ) → v < n → get_or order v 0 ≡ v) → length x ≡ n
-    → arranged order x ≡ x
-arranged-same n order x full own len =
-    ext_get_or false (arranged order x) x (length-arranged order x ∙ full ∙ sym len)
-    (λ i lt. let long : length (arranged order x) ≡ length order = length-arranged order x in
-    get_or-arranged order x i (omega arith) ∙ ap (λ k. get_or x k false) (own i (omega arith)))
+pub assignment_by_level-same : (n : ℕ) (order : List ℕ) (x : List Bool) → length order ≡ n → ((v : ℕ) → v < n → get_or order v 0 ≡ v) → length x ≡ n
+    → assignment_by_level order x ≡ x
+assignment_by_level-same n order x full own len =
+    ext_get_or false (assignment_by_level order x) x (length-assignment_by_level order x ∙ full ∙ sym len)
+    (λ i lt. let long : length (assignment_by_level order x) ≡ length order = length-assignment_by_level order x in
+    get_or-assignment_by_level order x i (omega arith) ∙ ap (λ k. get_or x k false) (own i (omega arith)))
 
 -- and the least difference as declared is that in the order of the levels
 pub least_by_level : (n : ℕ) (order : List ℕ) (f g : List Bool → Bool) (bits : List Bool) → length order ≡ n
     → ((v : ℕ) → v < n → get_or order v 0 ≡ v)
-    → IsLeastDeclared n order f g bits ↔ IsLeastDifference n f g bits
+    → IsLeastDifferenceDeclared n order f g bits ↔ IsLeastDifference n f g bits
 least_by_level n order f g bits full own = (
   least_alike n (by_declared order f) (by_declared order g) f g bits (at f) (at g),
   least_alike n f g (by_declared order f) (by_declared order g) bits (λ y len. sym (at f y len)) (λ y len. sym (at g y len)),
 )
   where
     at : (h : List Bool → Bool) → Agree n (by_declared order h) h
-    at h y len = ap h (arranged-same n order y full own len)
+    at h y len = ap h (assignment_by_level-same n order y full own len)

@@ -5,7 +5,7 @@ use Rattle.std.proofs.lemmas.Bool.{cases_lt, cases_Bool, false_from_ne_true}
 use Rattle.std.proofs.lemmas.List.{length-set, get_or-set_same, get_or-set_other, get_or_append_left, get_or_push, length_push, ext_get_or}
 use Rattle.dd_store.specs.Functions.{Before, IsLeastDifference}
 use Rattle.dd_store.specs.Functions.Before.{first, later}
-use Rattle.counter_walk.specs.Lines.{unlike, IsFree}
+use Rattle.counter_walk.specs.Lines.{unlike, IsIndependentOf}
 
 -- a function can be 1 with its first variables fixed
 pub record Can (n : ℕ) (h : List Bool → Bool) (bits : List Bool) : Type 0 where
@@ -113,7 +113,7 @@ module _ (n : ℕ) (h : List Bool → Bool) where
       ]
 
   -- a variable on which the function does not depend is 0
-  pub fixed_free : (bits : List Bool) → length bits < n → IsFree n (length bits) h → IsFixed n h bits → IsFixed n h (bits ++ false ∷ [])
+  pub fixed_free : (bits : List Bool) → length bits < n → IsIndependentOf n (length bits) h → IsFixed n h bits → IsFixed n h (bits ++ false ∷ [])
   fixed_free bits lt f g =
       let z = g.can in
       let d : ℕ = length bits in

@@ -5,23 +5,23 @@ use Rattle.dd_store.specs.declared.reference.Ref.{Ref}
 use Rattle.dd_store.specs.declared.reference.Reference.TheVariants.{False, True, Node}
 use Rattle.dd_store.specs.Equal.{ref_same}
 use Rattle.dd_store.specs.Functions.{Agree, IsLeastDifference}
-use Rattle.dd_store.specs.Marks.{negate_of, mark_by, turned}
+use Rattle.dd_store.specs.Complements.{negate_of, complement_by, complemented}
 use Rattle.dd_store.specs.Nodes.{Nodes, node, den, cofactor_of, IsSound}
 use Rattle.dd_store.specs.View.{Has, top}
 use Rattle.dd_store.proofs.Canonical.{walk-set}
 use Rattle.dd_store.proofs.Laws.{den-cofactor, cofactor_ref}
-use Rattle.dd_store.proofs.Marks.{top-mark_by, IsRef-mark_by, den-negate, den-mark_by}
-use Rattle.counter_walk.specs.declared.least.Pair.{Pair}
-use Rattle.counter_walk.specs.contracts.least.PairPartialEq.TheImpl.{eq-value as pair_eq}
-use Rattle.counter_walk.specs.Arranged.{IsOrder, arranged}
-use Rattle.counter_walk.specs.Lines.{unlike, differs, IsPairOf, IsFree}
-use Rattle.counter_walk.proofs.Arranging.{get_or-arranged, arranged-set, arranged_from}
+use Rattle.dd_store.proofs.Complements.{top-complement_by, IsRef-complement_by, den-negate, den-complement_by}
+use Rattle.counter_walk.specs.declared.least.DiffPair.{DiffPair}
+use Rattle.counter_walk.specs.contracts.least.DiffPairPartialEq.TheImpl.{eq-value as pair_eq}
+use Rattle.counter_walk.specs.DeclaredOrder.{IsOrder, assignment_by_level}
+use Rattle.counter_walk.specs.Lines.{unlike, differs, IsDiffPairOf, IsIndependentOf}
+use Rattle.counter_walk.proofs.Arranging.{get_or-assignment_by_level, assignment_by_level-set, arranged_from}
 use Rattle.counter_walk.proofs.Choosing.{IsChoice}
 use Rattle.counter_walk.proofs.Fixing.{unlike_of_ne, unlike_same, IsFixed, fixed_start}
 use Rattle.counter_walk.proofs.Plain.{store_walk, least}
 
 -- pairs that compare as equal are equal
-pub pair_same : (x y : Pair) → pair_eq.it x y ≡ true → x ≡ y
+pub pair_same : (x y : DiffPair) → pair_eq.it x y ≡ true → x ≡ y
 pair_same x y e =
     let f : x.first ≡ y.first = ref_same x.first y.first (grind arith) in
     let g : x.second ≡ y.second = ref_same x.second y.second (grind arith) in
@@ -35,12 +35,12 @@ unlike_swapped true false = refl
 unlike_swapped false true = refl
 unlike_swapped false false = refl
 
-unlike_turned : (m a b : Bool) → unlike (turned m a) (turned m b) ≡ unlike a b
-unlike_turned false a b = refl
-unlike_turned true true true = refl
-unlike_turned true true false = refl
-unlike_turned true false true = refl
-unlike_turned true false false = refl
+unlike_complemented : (m a b : Bool) → unlike (complemented m a) (complemented m b) ≡ unlike a b
+unlike_complemented false a b = refl
+unlike_complemented true true true = refl
+unlike_complemented true true false = refl
+unlike_complemented true false true = refl
+unlike_complemented true false false = refl
 
 unlike_not : (a b : Bool) → a ≡ not b → unlike a b ≡ true
 unlike_not true true e = cc
@@ -61,7 +61,7 @@ den_opposite : (S : Nodes) (f g : Ref) → f ≡ negate_of g → (x : List Bool)
 den_opposite S f g e x = unlike_not (den S f x) (den S g x) (ap (λ z. den S z x) e ∙ den-negate S g x)
 
 pub pair_of_same : (S : Nodes) → IsSound S → (f g : Ref) → Has S f → Has S g → f ≡ g
-    → IsPairOf S f g (record { first = True; second = True })
+    → IsDiffPairOf S f g (record { first = True; second = True })
 pair_of_same S w f g hf hg e =
     let a : top S f ≤ S.levels = top_most S w f hf in
     record {
@@ -72,7 +72,7 @@ pair_of_same S w f g hf hg e =
     }
 
 pub pair_of_opposite : (S : Nodes) → IsSound S → (f g : Ref) → Has S f → Has S g → f ≡ negate_of g
-    → IsPairOf S f g (record { first = True; second = False })
+    → IsDiffPairOf S f g (record { first = True; second = False })
 pair_of_opposite S w f g hf hg e =
     let a : top S f ≤ S.levels = top_most S w f hf in
     record {
@@ -82,19 +82,19 @@ pair_of_opposite S w f g hf hg e =
       alike = λ x. den_opposite S True False refl x ∙ sym (den_opposite S f g e x);
     }
 
-pub pair_of_turned : (S : Nodes) (f g : Ref) (m : Bool) → Has S f → Has S g
-    → IsPairOf S f g (record { first = mark_by m f; second = mark_by m g })
-pair_of_turned S f g m hf hg =
-    let a : top S (mark_by m f) ≡ top S f = top-mark_by S.levels m f in
-    let b : top S (mark_by m g) ≡ top S g = top-mark_by S.levels m g in
+pub pair_of_complemented : (S : Nodes) (f g : Ref) (m : Bool) → Has S f → Has S g
+    → IsDiffPairOf S f g (record { first = complement_by m f; second = complement_by m g })
+pair_of_complemented S f g m hf hg =
+    let a : top S (complement_by m f) ≡ top S f = top-complement_by S.levels m f in
+    let b : top S (complement_by m g) ≡ top S g = top-complement_by S.levels m g in
     record {
-      first = IsRef-mark_by (node S) m f hf;
-      second = IsRef-mark_by (node S) m g hg;
+      first = IsRef-complement_by (node S) m f hf;
+      second = IsRef-complement_by (node S) m g hg;
       level = λ v le lg. (omega arith, omega arith);
-      alike = λ x. (λ i. unlike (den-mark_by S m f x i) (den-mark_by S m g x i)) ∙ unlike_turned m (den S f x) (den S g x);
+      alike = λ x. (λ i. unlike (den-complement_by S m f x i) (den-complement_by S m g x i)) ∙ unlike_complemented m (den S f x) (den S g x);
     }
 
-pub pair_of_swapped : (S : Nodes) (f g : Ref) (p : Pair) → IsPairOf S g f p → IsPairOf S f g p
+pub pair_of_swapped : (S : Nodes) (f g : Ref) (p : DiffPair) → IsDiffPairOf S g f p → IsDiffPairOf S f g p
 pair_of_swapped S f g p k = record {
   first = k.first;
   second = k.second;
@@ -105,14 +105,14 @@ pair_of_swapped S f g p k = record {
 -- ---- the function that tells where references differ
 
 pub differs_same : (S : Nodes) (order : List ℕ) (f g : Ref) → f ≡ g → Agree S.levels (differs S order f g) (λ x. false)
-differs_same S order f g e x len = den_same S f g e (arranged order x)
+differs_same S order f g e x len = den_same S f g e (assignment_by_level order x)
 
 pub differs_opposite : (S : Nodes) (order : List ℕ) (f g : Ref) → f ≡ negate_of g → Agree S.levels (differs S order f g) (λ x. true)
-differs_opposite S order f g e x len = den_opposite S f g e (arranged order x)
+differs_opposite S order f g e x len = den_opposite S f g e (assignment_by_level order x)
 
-pub differs_pair : (S : Nodes) (order : List ℕ) (f g : Ref) (p : Pair) → IsPairOf S f g p
+pub differs_pair : (S : Nodes) (order : List ℕ) (f g : Ref) (p : DiffPair) → IsDiffPairOf S f g p
     → Agree S.levels (differs S order f g) (differs S order p.first p.second)
-differs_pair S order f g p k x len = sym (k.alike (arranged order x))
+differs_pair S order f g p k x len = sym (k.alike (assignment_by_level order x))
 
 -- references that are neither equal nor complements are not both terminals
 pub below_levels : (S : Nodes) → IsSound S → (f g : Ref) → Has S f → Has S g → (f ≡ g → ⊥) → (f ≡ negate_of g → ⊥)
@@ -133,13 +133,13 @@ below S w r v b z h lt le e = subst (λ c. Has S c × (v < top S c)) (sym e) (co
 module _ (S : Nodes) (w : IsSound S) (order : List ℕ) (o : IsOrder S.levels order) where
   -- below a level its variable does not matter
   differs_free : (v : ℕ) → v < S.levels → (f g : Ref) → Has S f × (v < top S f) → Has S g × (v < top S g)
-      → IsFree S.levels (get_or order v 0) (differs S order f g)
+      → IsIndependentOf S.levels (get_or order v 0) (differs S order f g)
   differs_free v lt f g hf hg b x len =
       let d : ℕ = get_or order v 0 in
-      let y : List Bool = arranged order x in
-      let at : arranged order (set x d b) ≡ set y v b = arranged-set S.levels order x v b o lt len in
-      let one : den S f (arranged order (set x d b)) ≡ den S f y = ap (den S f) at ∙ walk-set S.levels (node S) w.reduced f y v b hf.0 hf.1 in
-      let two : den S g (arranged order (set x d b)) ≡ den S g y = ap (den S g) at ∙ walk-set S.levels (node S) w.reduced g y v b hg.0 hg.1 in
+      let y : List Bool = assignment_by_level order x in
+      let at : assignment_by_level order (set x d b) ≡ set y v b = assignment_by_level-set S.levels order x v b o lt len in
+      let one : den S f (assignment_by_level order (set x d b)) ≡ den S f y = ap (den S f) at ∙ walk-set S.levels (node S) w.reduced f y v b hf.0 hf.1 in
+      let two : den S g (assignment_by_level order (set x d b)) ≡ den S g y = ap (den S g) at ∙ walk-set S.levels (node S) w.reduced g y v b hg.0 hg.1 in
       λ i. unlike (one i) (two i)
 
   -- two references differ where their cofactors do
@@ -151,9 +151,9 @@ module _ (S : Nodes) (w : IsSound S) (order : List ℕ) (o : IsOrder S.levels or
     low = differs_free v lt f_low g_low (below S w f v false f_low hf lt le fl) (below S w g v false g_low hg lt lg gl);
     high = differs_free v lt f_high g_high (below S w f v true f_high hf lt le fh) (below S w g v true g_high hg lt lg gh);
     chosen = λ x len.
-        let y : List Bool = arranged order x in
+        let y : List Bool = assignment_by_level order x in
         let full : length order ≡ S.levels = o.each_level in
-        let bit : get_or y v false ≡ get_or x (get_or order v 0) false = get_or-arranged order x v (omega arith) in
+        let bit : get_or y v false ≡ get_or x (get_or order v 0) false = get_or-assignment_by_level order x v (omega arith) in
         (λ i. unlike (den-cofactor S f v y w hf lt i) (den-cofactor S g v y w hg lt i))
         ∙ ap (λ b. unlike (den S (cofactor_of S f v b) y) (den S (cofactor_of S g v b) y)) bit
         ∙ pick y (get_or x (get_or order v 0) false);
@@ -171,7 +171,7 @@ module _ (S : Nodes) (w : IsSound S) (order : List ℕ) (o : IsOrder S.levels or
       let k : IsLeastDifference S.levels (den S f) (den S g) y = least S w f g hf hg ne in
       let x = arranged_from S.levels order y o k.bits in
       fixed_start S.levels (differs S order f g) x.0 x.1
-      (unlike_of_ne (den S f (arranged order x.0)) (den S g (arranged order x.0)) (λ e. k.differ (ap (den S f) (sym x.2) ∙ e ∙ ap (den S g) x.2)))
+      (unlike_of_ne (den S f (assignment_by_level order x.0)) (den S g (assignment_by_level order x.0)) (λ e. k.differ (ap (den S f) (sym x.2) ∙ e ∙ ap (den S g) x.2)))
 
 -- the level of a pair that is neither equal nor complements
 pub level_here : (S : Nodes) → IsSound S → (f g : Ref) (a b v : ℕ) → Has S f → Has S g → (f ≡ g → ⊥) → (f ≡ negate_of g → ⊥)
@@ -181,7 +181,7 @@ level_here S w f g a b v hf hg ne other ea eb e =
     (omega arith, omega arith, omega arith)
 
 -- from two references to cofactors of their pair the levels that are left get fewer
-pub falls : (S : Nodes) (f g : Ref) (p : Pair) (v : ℕ) (x y : Ref) → IsPairOf S f g p → v < S.levels → v ≤ top S p.first → v ≤ top S p.second
+pub falls : (S : Nodes) (f g : Ref) (p : DiffPair) (v : ℕ) (x y : Ref) → IsDiffPairOf S f g p → v < S.levels → v ≤ top S p.first → v ≤ top S p.second
     → min (top S p.first) (top S p.second) ≤ v → v < top S x → v < top S y
     → S.levels - min (top S x) (top S y) < S.levels - min (top S f) (top S g)
 falls S f g p v x y k lt a b le c d =

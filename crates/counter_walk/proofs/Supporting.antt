@@ -9,15 +9,15 @@ use Rattle.dd_store.specs.declared.reference.Ref.{Ref}
 use Rattle.dd_store.specs.Equal.{ref_same}
 use Rattle.dd_store.specs.Functions.{DependsOn, IsFixedSomehow}
 use Rattle.dd_store.specs.Nodes.{Nodes, IsSound, den, cofactor_of}
-use Rattle.dd_store.specs.Parts.{Part, Met as IsMet, top_of, step_of}
+use Rattle.dd_store.specs.Parts.{Part, IsReachable, top_of, step_of}
 use Rattle.dd_store.specs.Parts.Part.{leaf, node}
-use Rattle.dd_store.specs.Parts.Met.{here, at_low, at_high}
+use Rattle.dd_store.specs.Parts.IsReachable.{here, at_low, at_high}
 use Rattle.dd_store.specs.View.{Has, part, top}
 use Rattle.dd_store.proofs.References.{node_below, node_for, NodeOf}
 use Rattle.dd_store.proofs.View.{parts, denotes, same_ref, top-part, cofactor-step}
 use Rattle.dd_store.specs.contracts.reference.ReferencePartialEq.TheImpl.{eq-value as ref_eq}
-use Rattle.counter_walk.specs.declared.support.Met.{Met}
-use Rattle.counter_walk.specs.Support.{AreMarkedBelow, IsMarked, IsMeeting, StandsBelow}
+use Rattle.counter_walk.specs.declared.support.SupportWalk.{SupportWalk}
+use Rattle.counter_walk.specs.Support.{AreMarkedBelow, IsMarked, IsSoundWalk, HasNodeBelow}
 
 -- ---- marks
 
@@ -57,13 +57,13 @@ module _ (S : Nodes) (w : IsSound S) where
     λ e. ne (i q (false ∷ r) hq hr ∙ e ∙ sym (i q (true ∷ r) hq hr)),
   )
 
-  pub depends : (r : Ref) (v : ℕ) → Has S r → StandsBelow S r v → DependsOn S.levels v (den S r)
+  pub depends : (r : Ref) (v : ℕ) → Has S r → HasNodeBelow S r v → DependsOn S.levels v (den S r)
   depends r v h (m, lo, hi, met, e) =
       let k = node_below Ref same_ref S.levels (part S) (Has S) (den S) (parts S w) (denotes S w) r m v lo hi h met e in
       of_fixed v (den S r) (den S m) k.0 k.1
 
   -- and where it depends on that bit, such a node stands there
-  pub stands : (r : Ref) (v : ℕ) → Has S r → DependsOn S.levels v (den S r) → StandsBelow S r v
+  pub stands : (r : Ref) (v : ℕ) → Has S r → DependsOn S.levels v (den S r) → HasNodeBelow S r v
   stands r v h (q, x, hq, hx, ne) =
       let g : List Bool → Bool = λ (y : List Bool). den S r (q ++ drop v y) in
       let fixed : IsFixedSomehow S.levels v (den S r) g = (q, hq, λ p y hp hy. ap (λ z. den S r (q ++ z)) (behind p y v hp)) in
@@ -83,30 +83,30 @@ module _ (S : Nodes) (w : IsSound S) where
 
   -- ---- below a node and below its children
 
-  pub at_once : (r lo hi : Ref) (v : ℕ) → part S r ≡ node v lo hi → StandsBelow S r v
+  pub at_once : (r lo hi : Ref) (v : ℕ) → part S r ≡ node v lo hi → HasNodeBelow S r v
   at_once r lo hi v e = (r, lo, hi, here, e)
 
-  through : (r s m : Ref) → IsMet (part S) r s → IsMet (part S) s m → IsMet (part S) r m
+  through : (r s m : Ref) → IsReachable (part S) r s → IsReachable (part S) s m → IsReachable (part S) r m
   through r s m i here = i
   through r s lo i (at_low {m = m} j e) = at_low (through r s m i j) e
   through r s hi i (at_high {m = m} j e) = at_high (through r s m i j) e
 
-  pub by_low : (r lo hi : Ref) (u v : ℕ) → part S r ≡ node u lo hi → StandsBelow S lo v → StandsBelow S r v
+  pub by_low : (r lo hi : Ref) (u v : ℕ) → part S r ≡ node u lo hi → HasNodeBelow S lo v → HasNodeBelow S r v
   by_low r lo hi u v e (m, a, b, met, f) = (m, a, b, through r lo m (at_low here e) met, f)
 
-  pub by_high : (r lo hi : Ref) (u v : ℕ) → part S r ≡ node u lo hi → StandsBelow S hi v → StandsBelow S r v
+  pub by_high : (r lo hi : Ref) (u v : ℕ) → part S r ≡ node u lo hi → HasNodeBelow S hi v → HasNodeBelow S r v
   by_high r lo hi u v e (m, a, b, met, f) = (m, a, b, through r hi m (at_high here e) met, f)
 
   -- what is met is r, or is met below one of its children
   Under : (lo hi r m : Ref) → Type 0
-  Under lo hi r m = (m ≡ r) ⊎ (IsMet (part S) lo m ⊎ IsMet (part S) hi m)
+  Under lo hi r m = (m ≡ r) ⊎ (IsReachable (part S) lo m ⊎ IsReachable (part S) hi m)
 
   on_low : (r lo hi m a b : Ref) (u v : ℕ) → part S r ≡ node u lo hi → part S m ≡ node v a b → Under lo hi r m → Under lo hi r a
   unfolding Under
   on_low r lo hi m a b u v e f (inl same) =
       let is : ◌≡◌ {A = Part Ref} (node u lo hi) (node v a b) = sym e ∙ ap (part S) (sym same) ∙ f in
       let child : lo ≡ a = cc in
-      inr (inl (subst (λ z. IsMet (part S) lo z) child here))
+      inr (inl (subst (λ z. IsReachable (part S) lo z) child here))
   on_low r lo hi m a b u v e f (inr (inl met)) = inr (inl (at_low met f))
   on_low r lo hi m a b u v e f (inr (inr met)) = inr (inr (at_low met f))
 
@@ -115,21 +115,21 @@ module _ (S : Nodes) (w : IsSound S) where
   on_high r lo hi m a b u v e f (inl same) =
       let is : ◌≡◌ {A = Part Ref} (node u lo hi) (node v a b) = sym e ∙ ap (part S) (sym same) ∙ f in
       let child : hi ≡ b = cc in
-      inr (inr (subst (λ z. IsMet (part S) hi z) child here))
+      inr (inr (subst (λ z. IsReachable (part S) hi z) child here))
   on_high r lo hi m a b u v e f (inr (inl met)) = inr (inl (at_high met f))
   on_high r lo hi m a b u v e f (inr (inr met)) = inr (inr (at_high met f))
 
-  under : (r lo hi m : Ref) (u : ℕ) → part S r ≡ node u lo hi → IsMet (part S) r m → Under lo hi r m
+  under : (r lo hi m : Ref) (u : ℕ) → part S r ≡ node u lo hi → IsReachable (part S) r m → Under lo hi r m
   unfolding Under
   under r lo hi _ u e here = inl refl
   under r lo hi a u e (at_low {m = m} {hi = b} {v = v} met f) = on_low r lo hi m a b u v e f (under r lo hi m u e met)
   under r lo hi b u e (at_high {m = m} {lo = a} {v = v} met f) = on_high r lo hi m a b u v e f (under r lo hi m u e met)
 
-  pub splits : (r lo hi : Ref) (u v : ℕ) → part S r ≡ node u lo hi → StandsBelow S r v → (u ≡ v) ⊎ (StandsBelow S lo v ⊎ StandsBelow S hi v)
+  pub splits : (r lo hi : Ref) (u v : ℕ) → part S r ≡ node u lo hi → HasNodeBelow S r v → (u ≡ v) ⊎ (HasNodeBelow S lo v ⊎ HasNodeBelow S hi v)
   unfolding Under
   splits r lo hi u v e (m, a, b, met, f) = by (under r lo hi m u e met)
     where
-      by : Under lo hi r m → (u ≡ v) ⊎ (StandsBelow S lo v ⊎ StandsBelow S hi v)
+      by : Under lo hi r m → (u ≡ v) ⊎ (HasNodeBelow S lo v ⊎ HasNodeBelow S hi v)
       by (inl same) =
           let is : ◌≡◌ {A = Part Ref} (node u lo hi) (node v a b) = sym e ∙ ap (part S) (sym same) ∙ f in
           let level : u ≡ v = cc in
@@ -138,7 +138,7 @@ module _ (S : Nodes) (w : IsSound S) where
       by (inr (inr i)) = inr (inr (m, a, b, i, f))
 
   -- nothing stands below a terminal
-  only_itself : (r m : Ref) (c : Bool) → part S r ≡ leaf c → IsMet (part S) r m → m ≡ r
+  only_itself : (r m : Ref) (c : Bool) → part S r ≡ leaf c → IsReachable (part S) r m → m ≡ r
   only_itself r _ c e here = refl
   only_itself r a c e (at_low {m = m} {hi = b} {v = v} met f) =
       let is : ◌≡◌ {A = Part Ref} (leaf c) (node v a b) = sym e ∙ ap (part S) (sym (only_itself r m c e met)) ∙ f in
@@ -149,7 +149,7 @@ module _ (S : Nodes) (w : IsSound S) where
 
   -- a reference is a terminal, or a node with its cofactors
   pub data Kind (r : Ref) : Type 0 where
-    terminal : S.levels ≤ top S r → ((v : ℕ) → StandsBelow S r v → ⊥) → Kind r
+    terminal : S.levels ≤ top S r → ((v : ℕ) → HasNodeBelow S r v → ⊥) → Kind r
     branch : (lo hi : Ref) → top S r < S.levels → part S r ≡ node (top S r) lo hi → Kind r
 
   pub kind : (r : Ref) → Has S r → Kind r
@@ -182,7 +182,7 @@ module _ (S : Nodes) (w : IsSound S) where
           is ∙ ap (λ z. node v z b) first ∙ ap (λ z. node v lo z) second
 
   -- a reference at the last level or below it has nothing below
-  pub nothing_below : (r : Ref) (v : ℕ) → Has S r → S.levels ≤ top S r → StandsBelow S r v → ⊥
+  pub nothing_below : (r : Ref) (v : ℕ) → Has S r → S.levels ≤ top S r → HasNodeBelow S r v → ⊥
   nothing_below r v h le s = by (kind r h)
     where
       by : Kind r → ⊥
@@ -192,7 +192,7 @@ module _ (S : Nodes) (w : IsSound S) where
   -- ---- a node and its children, one after the other
 
   -- all levels below are marked: its own, those below the first child, then those below the second
-  pub all_below : (r lo hi : Ref) (v : ℕ) (a b c : Met) → part S r ≡ node v lo hi → IsMarked a v → ((u : ℕ) → IsMarked a u → IsMarked b u) → AreMarkedBelow S b lo
+  pub all_below : (r lo hi : Ref) (v : ℕ) (a b c : SupportWalk) → part S r ≡ node v lo hi → IsMarked a v → ((u : ℕ) → IsMarked a u → IsMarked b u) → AreMarkedBelow S b lo
       → ((u : ℕ) → IsMarked b u → IsMarked c u) → AreMarkedBelow S c hi → AreMarkedBelow S c r
   all_below r lo hi v a b c is own first low second high u s = elim (splits r lo hi v u is s) [
     | inl same ↦ subst (λ k. IsMarked c k) same (second v (first v own))
@@ -201,14 +201,14 @@ module _ (S : Nodes) (w : IsSound S) where
   ]
 
   -- and no others
-  pub only_below : (r lo hi : Ref) (v : ℕ) (old a b c : Met) → part S r ≡ node v lo hi → ((u : ℕ) → IsMarked a u → IsMarked old u ⊎ (v ≡ u))
-      → ((u : ℕ) → IsMarked b u → IsMarked a u ⊎ StandsBelow S lo u) → ((u : ℕ) → IsMarked c u → IsMarked b u ⊎ StandsBelow S hi u)
-      → (u : ℕ) → IsMarked c u → IsMarked old u ⊎ StandsBelow S r u
+  pub only_below : (r lo hi : Ref) (v : ℕ) (old a b c : SupportWalk) → part S r ≡ node v lo hi → ((u : ℕ) → IsMarked a u → IsMarked old u ⊎ (v ≡ u))
+      → ((u : ℕ) → IsMarked b u → IsMarked a u ⊎ HasNodeBelow S lo u) → ((u : ℕ) → IsMarked c u → IsMarked b u ⊎ HasNodeBelow S hi u)
+      → (u : ℕ) → IsMarked c u → IsMarked old u ⊎ HasNodeBelow S r u
   only_below r lo hi v old a b c is own first second u m = elim (second u m) [
     | inl before ↦ elim (first u before) [
       | inl at_first ↦ elim (own u at_first) [
         | inl x ↦ inl x
-        | inr same ↦ inr (subst (λ k. StandsBelow S r k) same (at_once r lo hi v is))
+        | inr same ↦ inr (subst (λ k. HasNodeBelow S r k) same (at_once r lo hi v is))
       ]
       | inr below ↦ inr (by_low r lo hi v u is below)
     ]
@@ -216,7 +216,7 @@ module _ (S : Nodes) (w : IsSound S) where
   ]
 
 -- a reference more is seen, below which all is marked
-pub seen_more : (S : Nodes) (met new : Met) (r : Ref) → IsMeeting S met → new.levels ≡ met.levels → Updates ref_eq.it met.seen new.seen r true → AreMarkedBelow S new r → IsMeeting S new
+pub seen_more : (S : Nodes) (met new : SupportWalk) (r : Ref) → IsSoundWalk S met → new.levels ≡ met.levels → Updates ref_eq.it met.seen new.seen r true → AreMarkedBelow S new r → IsSoundWalk S new
 seen_more S met new r m same u all = record {
   each_level = ap (λ l. length l.items) same ∙ m.each_level;
   seen = λ q has. by q (ref_eq.it r q) refl (sym (u.0 q) ∙ has);
@@ -229,7 +229,7 @@ seen_more S met new r m same u all = record {
         ap (λ l. get_or l.items v false) same ∙ m.seen q before v s
 
 -- a level more is marked
-pub level_more : (S : Nodes) (met new : Met) (v : ℕ) → IsMeeting S met → v < S.levels → new.seen ≡ met.seen → new.levels.items ≡ set met.levels.items v true → IsMeeting S new
+pub level_more : (S : Nodes) (met new : SupportWalk) (v : ℕ) → IsSoundWalk S met → v < S.levels → new.seen ≡ met.seen → new.levels.items ≡ set met.levels.items v true → IsSoundWalk S new
 level_more S met new v m lt seen same =
     let full : length met.levels.items ≡ S.levels = m.each_level in
     record {

@@ -6,12 +6,12 @@ use Rattle.dd_store.specs.declared.reference.Ref.{Ref}
 use Rattle.dd_store.specs.Functions.{Agree}
 use Rattle.dd_store.specs.Nodes.{Nodes, den}
 use Rattle.dd_store.specs.View.{Has, top}
-use Rattle.counter_walk.specs.declared.least.Line.{Line}
-use Rattle.counter_walk.specs.declared.least.Line.TheVariants.{Terminal, Branch}
-use Rattle.counter_walk.specs.declared.least.Pair.{Pair}
-use Rattle.counter_walk.specs.declared.least.LineTable.{LineTable}
-use Rattle.counter_walk.specs.contracts.least.PairPartialEq.TheImpl.{eq-value as pair_eq}
-use Rattle.counter_walk.specs.Arranged.{arranged}
+use Rattle.counter_walk.specs.declared.least.DiffLine.{DiffLine}
+use Rattle.counter_walk.specs.declared.least.DiffLine.TheVariants.{Terminal, Branch}
+use Rattle.counter_walk.specs.declared.least.DiffPair.{DiffPair}
+use Rattle.counter_walk.specs.declared.least.DiffTable.{DiffTable}
+use Rattle.counter_walk.specs.contracts.least.DiffPairPartialEq.TheImpl.{eq-value as pair_eq}
+use Rattle.counter_walk.specs.DeclaredOrder.{assignment_by_level}
 
 -- whether two values differ
 abbrev pub unlike : Bool → Bool → Bool
@@ -19,41 +19,41 @@ unlike a b = cond a (not b) b
 
 -- whether two references differ at an assignment as declared
 abbrev pub differs : Nodes → List ℕ → Ref → Ref → List Bool → Bool
-differs S order f g x = unlike (den S f (arranged order x)) (den S g (arranged order x))
+differs S order f g x = unlike (den S f (assignment_by_level order x)) (den S g (assignment_by_level order x))
 
 -- a pair of references differs where f and g do, and stands no higher
-pub record IsPairOf (S : Nodes) (f g : Ref) (p : Pair) : Type 0 where
+pub record IsDiffPairOf (S : Nodes) (f g : Ref) (p : DiffPair) : Type 0 where
   pub first : Has S p.first
   pub second : Has S p.second
   pub level : (v : ℕ) → v ≤ top S f → v ≤ top S g → (v ≤ top S p.first) × (v ≤ top S p.second)
   pub alike : (x : List Bool) → unlike (den S p.first x) (den S p.second x) ≡ unlike (den S f x) (den S g x)
 
 -- a function of n bits does not depend on bit d
-abbrev pub IsFree : ℕ → ℕ → (List Bool → Bool) → Type 0
-IsFree n d h = (b : Bool) (x : List Bool) → length x ≡ n → h (slice_set x d b) ≡ h x
+abbrev pub IsIndependentOf : ℕ → ℕ → (List Bool → Bool) → Type 0
+IsIndependentOf n d h = (b : Bool) (x : List Bool) → length x ≡ n → h (slice_set x d b) ≡ h x
 
 -- the line at a place stands for a function of n bits: a constant, or what chooses by the bit of its variable one of two functions that do
 -- not depend on it, for which lines stand
-pub data Stands (n : ℕ) (lines : List Line) : ℕ → (List Bool → Bool) → Type 0 where
-  terminal : (p : ℕ) (h : List Bool → Bool) (b : Bool) → slice_get lines p ≡ Some (Terminal b) → Agree n h (λ x. b) → Stands n lines p h
+pub data LineDenotes (n : ℕ) (lines : List DiffLine) : ℕ → (List Bool → Bool) → Type 0 where
+  terminal : (p : ℕ) (h : List Bool → Bool) (b : Bool) → slice_get lines p ≡ Some (Terminal b) → Agree n h (λ x. b) → LineDenotes n lines p h
   branch : (p : ℕ) (h : List Bool → Bool) (d low high : ℕ) (lo hi : List Bool → Bool) → slice_get lines p ≡ Some (Branch d low high)
-      → Stands n lines low lo → Stands n lines high hi → IsFree n d lo → IsFree n d hi
-      → Agree n h (λ x. cond (slice_index_or x d false) (hi x) (lo x)) → Stands n lines p h
+      → LineDenotes n lines low lo → LineDenotes n lines high hi → IsIndependentOf n d lo → IsIndependentOf n d hi
+      → Agree n h (λ x. cond (slice_index_or x d false) (hi x) (lo x)) → LineDenotes n lines p h
 
 -- lines name lines before them
-abbrev pub AreInOrder : List Line → Type 0
+abbrev pub AreInOrder : List DiffLine → Type 0
 AreInOrder lines = (p d low high : ℕ) → slice_get lines p ≡ Some (Branch d low high) → (low < p) × (high < p)
 
 -- lines read n variables
-abbrev pub AreOf : ℕ → List Line → Type 0
-AreOf n lines = (p d low high : ℕ) → slice_get lines p ≡ Some (Branch d low high) → d < n
+abbrev pub ReadVariablesBelow : ℕ → List DiffLine → Type 0
+ReadVariablesBelow n lines = (p d low high : ℕ) → slice_get lines p ≡ Some (Branch d low high) → d < n
 
 -- a table of lines over a store, which finds the lines of pairs
-pub record IsTable (S : Nodes) (order : List ℕ) (t : LineTable) : Type 0 where
+pub record IsDiffTable (S : Nodes) (order : List ℕ) (t : DiffTable) : Type 0 where
   pub in_order : AreInOrder t.lines.items
-  pub variables : AreOf S.levels t.lines.items
-  pub found : (k : Pair) (p : ℕ) → get pair_eq.it t.places k ≡ Some p
-      → Stands S.levels t.lines.items p (differs S order k.first k.second)
+  pub variables : ReadVariablesBelow S.levels t.lines.items
+  pub found : (k : DiffPair) (p : ℕ) → get pair_eq.it t.places k ≡ Some p
+      → LineDenotes S.levels t.lines.items p (differs S order k.first k.second)
 
 -- a value that is fixed chooses one of two, and else both count
 abbrev pub either : Option Bool → Bool → Bool → Bool
@@ -61,14 +61,14 @@ either (Some b) low high = cond b high low
 either None low high = low || high
 
 -- whether what stands at a line can be 1 with the first variables fixed, by whether its children can
-abbrev pub line_can : List Bool → List Bool → Line → Bool
-line_can bits can (Terminal b) = b
-line_can bits can (Branch d low high) = either (slice_get bits d) (slice_index_or can low false) (slice_index_or can high false)
+abbrev pub line_satisfiable : List Bool → List Bool → DiffLine → Bool
+line_satisfiable bits can (Terminal b) = b
+line_satisfiable bits can (Branch d low high) = either (slice_get bits d) (slice_index_or can low false) (slice_index_or can high false)
 
 -- that, at each line
-abbrev pub AreAble : List Line → List Bool → List Bool → Type 0
-AreAble lines bits can = (p : ℕ) (l : Line) → slice_get lines p ≡ Some l → slice_index_or can p false ≡ line_can bits can l
+abbrev pub AreSatisfiable : List DiffLine → List Bool → List Bool → Type 0
+AreSatisfiable lines bits can = (p : ℕ) (l : DiffLine) → slice_get lines p ≡ Some l → slice_index_or can p false ≡ line_satisfiable bits can l
 
 -- the variables that lines read
-abbrev pub AreRead : List Line → List Bool → Type 0
+abbrev pub AreRead : List DiffLine → List Bool → Type 0
 AreRead lines reads = (p d low high : ℕ) → slice_get lines p ≡ Some (Branch d low high) → slice_index_or reads d false ≡ true

@@ -6,12 +6,12 @@ ghost use Rattle.std.specs.Prelude.{◌≡◌, ◌<◌, ◌++◌, ◌∷◌, [],
 ghost use Rattle.std.specs.Prelude.{IfOk, OnOk, MatchOption};
 ghost use Rattle.std.specs.HashMap.{Updates};
 ghost use Rattle.dd_store.specs.Functions.{Agree};
-ghost use Rattle.dd_store.specs.Marks.{is_marked, mark_by};
+ghost use Rattle.dd_store.specs.Complements.{is_complement, complement_by};
 ghost use Rattle.dd_store.specs.Nodes.{Nodes, IsSound, den};
 ghost use Rattle.dd_store.specs.View.{Has};
-ghost use Rattle.counter_walk.specs.Arranged.{IsOrder, arranged, IsLeastDeclared};
-ghost use Rattle.counter_walk.specs.Lines.{Stands, IsTable, IsPairOf, AreInOrder, AreOf, AreAble, AreRead, line_can, differs};
-ghost use Rattle.counter_walk.specs.contracts.least.PairPartialEq.TheImpl.{eq-value as pair_eq};
+ghost use Rattle.counter_walk.specs.DeclaredOrder.{IsOrder, assignment_by_level, IsLeastDifferenceDeclared};
+ghost use Rattle.counter_walk.specs.Lines.{LineDenotes, IsDiffTable, IsDiffPairOf, AreInOrder, ReadVariablesBelow, AreSatisfiable, AreRead, line_satisfiable, differs};
+ghost use Rattle.counter_walk.specs.contracts.least.DiffPairPartialEq.TheImpl.{eq-value as pair_eq};
 
 use crate::same;
 use dd_store::{Ref, Store};
@@ -20,7 +20,7 @@ use std::collections::HashMap;
 
 /// Two references, for the function that is 1 where they differ.
 #[derive(Clone, Copy, PartialEq, Eq, Hash)]
-struct Pair {
+struct DiffPair {
     first: Ref,
     second: Ref,
 }
@@ -28,53 +28,53 @@ struct Pair {
 /// What stands for a pair: a value, where the two are equal or complements of each other, or the declared variable of the upper of the two
 /// and the places of the pairs of their cofactors.
 #[derive(Clone, Copy, Drop)]
-enum Line {
+enum DiffLine {
     Terminal(bool),
     Branch { variable: u16, low: u32, high: u32 },
 }
 
 /// The lines of pairs, those of cofactors before those of their pairs, and the place of each pair.
 #[derive(Drop)]
-struct LineTable {
-    lines: Vec<Line>,
-    places: HashMap<Pair, u32>,
+struct DiffTable {
+    lines: Vec<DiffLine>,
+    places: HashMap<DiffPair, u32>,
 }
 
 /// Two references, both complemented where the first has a mark.
-fn turned(first: Ref, second: Ref) -> Pair
-    ensures { result ≡ record { first = mark_by (is_marked first) first; second = mark_by (is_marked first) second } }
+fn with_regular_first(first: Ref, second: Ref) -> DiffPair
+    ensures { result ≡ record { first = complement_by (is_complement first) first; second = complement_by (is_complement first) second } }
 {
-    let mark = first.is_marked();
-    Pair {
-        first: first.marked(mark),
-        second: second.marked(mark),
+    let complement = first.is_complement();
+    DiffPair {
+        first: first.complement_if(complement),
+        second: second.complement_if(complement),
     }
 }
 
 /// The pair whose line serves f and g, in either order, and both complemented; one pair serves all that are equal, and one all complements.
-fn normal(f: Ref, g: Ref) -> Pair
-    ensures { (S : Nodes) → IsSound S → Has S f → Has S g → IsPairOf S f g result }
+fn normal(f: Ref, g: Ref) -> DiffPair
+    ensures { (S : Nodes) → IsSound S → Has S f → Has S g → IsDiffPairOf S f g result }
 {
     if same(f, g) {
-        return Pair {
+        return DiffPair {
             first: Ref::TRUE,
             second: Ref::TRUE,
         };
     }
     if same(f, g.negate()) {
-        return Pair {
+        return DiffPair {
             first: Ref::TRUE,
             second: Ref::FALSE,
         };
     }
     if g < f {
-        return turned(g, f);
+        return with_regular_first(g, f);
     }
-    turned(f, g)
+    with_regular_first(f, g)
 }
 
 /// Puts the line of a pair at the end.
-fn add_line(table: &mut LineTable, pair: Pair, line: Line) -> Result<u32, AllocError>
+fn add_line(table: &mut DiffTable, pair: DiffPair, line: DiffLine) -> Result<u32, AllocError>
     ensures place { IfOk result (λ p. p ≡ length table.old.lines.items) }
     ensures lines { OnOk result (table.new.lines.items ≡ table.old.lines.items ++ line ∷ []) }
     ensures places { IfOk result (λ p. Updates pair_eq.it table.old.places table.new.places pair (Some p)) }
@@ -93,18 +93,18 @@ fn add_line(table: &mut LineTable, pair: Pair, line: Line) -> Result<u32, AllocE
 fn place_of(
     store: &Store,
     order: &[u16],
-    table: &mut LineTable,
+    table: &mut DiffTable,
     f: Ref,
     g: Ref,
 ) -> Result<u32, AllocError>
-    requires first_known { Has store.now f }
-    requires second_known { Has store.now g }
+    requires first_in_store { Has store.now f }
+    requires second_in_store { Has store.now g }
     requires order { IsOrder store.now.levels order.now }
-    requires table { IsTable store.now order.now table.old }
-    ensures table { OnOk result (IsTable store.now order.now table.new) }
-    ensures keeps { OnOk result ((p : ℕ) (h : List Bool → Bool) → Stands store.now.levels table.old.lines.items p h →
-        Stands store.now.levels table.new.lines.items p h) }
-    ensures place { IfOk result (λ p. Stands store.now.levels table.new.lines.items p (differs store.now order.now f g)) }
+    requires table { IsDiffTable store.now order.now table.old }
+    ensures table { OnOk result (IsDiffTable store.now order.now table.new) }
+    ensures keeps { OnOk result ((p : ℕ) (h : List Bool → Bool) → LineDenotes store.now.levels table.old.lines.items p h →
+        LineDenotes store.now.levels table.new.lines.items p h) }
+    ensures place { IfOk result (λ p. LineDenotes store.now.levels table.new.lines.items p (differs store.now order.now f g)) }
 {
     let _ = store.levels();
     let pair = normal(f, g);
@@ -112,14 +112,14 @@ fn place_of(
         return Ok(*place);
     }
     let line = if same(pair.first, pair.second) {
-        Line::Terminal(false)
+        DiffLine::Terminal(false)
     } else if same(pair.first, pair.second.negate()) {
-        Line::Terminal(true)
+        DiffLine::Terminal(true)
     } else {
         let level = store.top(pair.first).min(store.top(pair.second));
         let (f_low, f_high) = store.cofactors(pair.first, level);
         let (g_low, g_high) = store.cofactors(pair.second, level);
-        Line::Branch {
+        DiffLine::Branch {
             variable: order[level as usize],
             low: place_of(store, order, table, f_low, g_low)?,
             high: place_of(store, order, table, f_high, g_high)?,
@@ -129,14 +129,18 @@ fn place_of(
 }
 
 /// Whether each of the variables stands in a line.
-fn variables_read(alloc: Global, lines: &[Line], variables: u16) -> Result<Vec<bool>, AllocError>
-    requires { AreOf variables lines.now }
+fn variables_read(
+    alloc: Global,
+    lines: &[DiffLine],
+    variables: u16,
+) -> Result<Vec<bool>, AllocError>
+    requires { ReadVariablesBelow variables lines.now }
     ensures length { IfOk result (λ reads. length reads.items ≡ variables) }
     ensures read { IfOk result (λ reads. AreRead lines.now reads.items) }
 {
     let mut reads = vec![in alloc; false; variables as usize]?;
     for line in lines {
-        if let Line::Branch { variable, .. } = *line {
+        if let DiffLine::Branch { variable, .. } = *line {
             reads[variable as usize] = true;
         }
     }
@@ -144,18 +148,18 @@ fn variables_read(alloc: Global, lines: &[Line], variables: u16) -> Result<Vec<b
 }
 
 /// Whether what stands at a line can still be 1 where the first variables have these bits, by whether those at its two places can.
-fn is_able(line: Line, bits: &[bool], able: &[bool]) -> bool
-    requires { (d low high : ℕ) → line ≡ Line.Branch d low high → (low < length able.now) × (high < length able.now) }
-    ensures { result ≡ line_can bits.now able.now line }
+fn is_satisfiable(line: DiffLine, bits: &[bool], satisfiable: &[bool]) -> bool
+    requires { (d low high : ℕ) → line ≡ DiffLine.Branch d low high → (low < length satisfiable.now) × (high < length satisfiable.now) }
+    ensures { result ≡ line_satisfiable bits.now satisfiable.now line }
 {
     match line {
-        Line::Terminal(value) => value,
-        Line::Branch {
+        DiffLine::Terminal(value) => value,
+        DiffLine::Branch {
             variable,
             low,
             high,
         } => {
-            let (low, high) = (able[low as usize], able[high as usize]);
+            let (low, high) = (satisfiable[low as usize], satisfiable[high as usize]);
             match bits.get(variable as usize) {
                 Some(true) => high,
                 Some(false) => low,
@@ -166,13 +170,13 @@ fn is_able(line: Line, bits: &[bool], able: &[bool]) -> bool
 }
 
 /// Marks the lines that can still be 1 where the first variables have these bits, from the lowest level up.
-fn mark_able(lines: &[Line], bits: &[bool], able: &mut [bool])
+fn find_satisfiable(lines: &[DiffLine], bits: &[bool], satisfiable: &mut [bool])
     requires lines { AreInOrder lines.now }
-    requires each { length able.old ≡ length lines.now }
-    ensures { AreAble lines.now bits.now able.new }
+    requires one_per_line { length satisfiable.old ≡ length lines.now }
+    ensures { AreSatisfiable lines.now bits.now satisfiable.new }
 {
     for place in 0..lines.len() {
-        able[place] = is_able(lines[place], bits, able);
+        satisfiable[place] = is_satisfiable(lines[place], bits, satisfiable);
     }
 }
 
@@ -180,37 +184,37 @@ fn mark_able(lines: &[Line], bits: &[bool], able: &mut [bool])
 /// that is declared first first; None where they agree everywhere. For each level, the top one first, `order` has the place of its variable
 /// as declared. The assignment is the same in every order of the levels. Where both functions are conjoined with a condition before, it is
 /// the least that satisfies it.
-pub fn least_declared(
+pub fn least_difference_declared(
     alloc: Global,
     store: &Store,
     f: Ref,
     g: Ref,
     order: &[u16],
 ) -> Result<Option<Vec<bool>>, AllocError>
-    requires first_known { Has store.now f }
-    requires second_known { Has store.now g }
+    requires first_in_store { Has store.now f }
+    requires second_in_store { Has store.now g }
     requires order { IsOrder store.now.levels order.now }
     ensures least { IfOk result (λ found. MatchOption found (Agree store.now.levels (den store.now f) (den store.now g)) (λ bits.
-        IsLeastDeclared store.now.levels order.now (den store.now f) (den store.now g) bits.items)) }
+        IsLeastDifferenceDeclared store.now.levels order.now (den store.now f) (den store.now g) bits.items)) }
 {
     let variables = store.levels();
     if same(f, g) {
         return Ok(None);
     }
-    let mut table = LineTable {
+    let mut table = DiffTable {
         lines: Vec::new(alloc),
         places: HashMap::new(alloc),
     };
     let root = place_of(store, order, &mut table, f, g)?;
     let lines = table.lines.as_slice();
     let reads = variables_read(alloc, lines, variables)?;
-    let mut able = vec![in alloc; false; lines.len()]?;
+    let mut satisfiable = vec![in alloc; false; lines.len()]?;
     let mut bits = Vec::new(alloc);
     for variable in 0..variables {
         bits.push(false)?;
         if reads[variable as usize] {
-            mark_able(lines, bits.as_slice(), able.as_mut_slice());
-            if !able[root as usize] {
+            find_satisfiable(lines, bits.as_slice(), satisfiable.as_mut_slice());
+            if !satisfiable[root as usize] {
                 bits[variable as usize] = true;
             }
         }
@@ -221,7 +225,7 @@ pub fn least_declared(
 /// An assignment as declared as one by level, for `value`.
 pub fn by_level(alloc: Global, bits: &[bool], order: &[u16]) -> Result<Vec<bool>, AllocError>
     requires { IsOrder (length bits.now) order.now }
-    ensures { IfOk result (λ levels. levels.items ≡ arranged order.now bits.now) }
+    ensures { IfOk result (λ levels. levels.items ≡ assignment_by_level order.now bits.now) }
 {
     let mut levels = Vec::new(alloc);
     for level in 0..order.len() {

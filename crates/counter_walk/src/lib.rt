@@ -1,14 +1,14 @@
 //! Comparing two functions of a store: whether they are equal, and the least assignment at which they differ.
 //!
 //! **Promises.** `same` is equality of functions (`functions`) and of references (`references`), `value` the denotation
-//! (`value`). `least_difference` answers the least assignment by level at which two functions differ, `least_declared`
+//! (`value`). `least_difference` answers the least assignment by level at which two functions differ, `least_difference_declared`
 //! the least as declared, in any order of the levels, or none where they agree (`least`); `by_level` turns one into the
 //! other. `support_of` tells exactly the levels on whose bits one of two functions depends. No call makes nodes.
 //!
 //! **Only tests show** that ample memory suffices (`wave_tests`).
 //!
 //! **Begin** here: a walk down both diagrams at once, to 1 only where the children for 0 are equal; as declared in
-//! `least`, with `specs/Arranged`.
+//! `least`, with `specs/DeclaredOrder`.
 #![tactic(auto)]
 
 ghost use Rattle.std.specs.Prelude.{◌≡◌, ◌<◌, ◌≤◌, ◌↔◌, IsTrue, length, MatchOption, IfOk};
@@ -21,13 +21,13 @@ mod least;
 mod support;
 
 use dd_store::{Ref, Store};
-pub use least::{by_level, least_declared};
+pub use least::{by_level, least_difference_declared};
 use std::alloc::{AllocError, Global};
 pub use support::support_of;
 
 /// The reference below `r` for a bit of the level, or `r` itself where it stands below the level.
-fn stepped(store: &Store, r: Ref, level: u16, bit: bool) -> Ref
-    requires known { Has store.now r }
+fn step_down(store: &Store, r: Ref, level: u16, bit: bool) -> Ref
+    requires in_store { Has store.now r }
     requires level { level < store.now.levels }
     requires above { level ≤ top store.now r }
     ensures value { result ≡ step store.now level r bit }
@@ -46,13 +46,13 @@ pub fn same(f: Ref, g: Ref) -> bool
 
 /// The value of a reference under an assignment, which has a bit for each level, the top level's first.
 pub fn value(store: &Store, f: Ref, bits: &[bool]) -> bool
-    requires known { Has store.now f }
+    requires in_store { Has store.now f }
     requires one_bit_per_level { length bits.now ≡ store.now.levels }
     ensures value { result ≡ den store.now f bits.now }
 {
     let mut at = f;
     for level in 0..store.levels() {
-        at = stepped(store, at, level, bits[level as usize]);
+        at = step_down(store, at, level, bits[level as usize]);
     }
     same(at, Ref::TRUE)
 }
@@ -66,8 +66,8 @@ pub fn least_difference(
     f: Ref,
     g: Ref,
 ) -> Result<Option<Vec<bool>>, AllocError>
-    requires first_known { Has store.now f }
-    requires second_known { Has store.now g }
+    requires first_in_store { Has store.now f }
+    requires second_in_store { Has store.now g }
     ensures least { IfOk result (λ found. MatchOption found
         (Agree store.now.levels (den store.now f) (den store.now g))
         (λ bits. IsLeastDifference store.now.levels (den store.now f) (den store.now g) bits.items)) }
@@ -80,12 +80,12 @@ pub fn least_difference(
     let mut first = f;
     let mut second = g;
     for level in 0..levels {
-        let first_low = stepped(store, first, level, false);
-        let second_low = stepped(store, second, level, false);
+        let first_low = step_down(store, first, level, false);
+        let second_low = step_down(store, second, level, false);
         if same(first_low, second_low) {
             bits.push(true)?;
-            first = stepped(store, first, level, true);
-            second = stepped(store, second, level, true);
+            first = step_down(store, first, level, true);
+            second = step_down(store, second, level, true);
         } else {
             bits.push(false)?;
             first = first_low;

@@ -3,7 +3,7 @@
 ghost use Rattle.std.specs.Prelude.{◌⊎◌, ℕ, IfOk, OnOk};
 ghost use Rattle.dd_store.specs.Nodes.{den};
 ghost use Rattle.dd_store.specs.View.{Has};
-ghost use Rattle.counter_walk.specs.Support.{AreLevelsOf, AreMarkedBelow, IsMarked, IsMeeting, StandsBelow};
+ghost use Rattle.counter_walk.specs.Support.{IsSupportOf, AreMarkedBelow, IsMarked, IsSoundWalk, HasNodeBelow};
 
 use dd_store::{Ref, Store};
 use std::alloc::{AllocError, Global};
@@ -11,19 +11,19 @@ use std::collections::HashSet;
 
 /// The references whose nodes a walk has met, and whether a node was met at each level.
 #[derive(Drop)]
-struct Met {
+struct SupportWalk {
     seen: HashSet<Ref>,
     levels: Vec<bool>,
 }
 
 /// Marks the levels of the nodes below a reference.
-fn meet(store: &Store, met: &mut Met, r: Ref) -> Result<(), AllocError>
-    requires known { Has store.now r }
-    requires met { IsMeeting store.now met.old }
-    ensures met { OnOk result (IsMeeting store.now met.new) }
+fn visit(store: &Store, met: &mut SupportWalk, r: Ref) -> Result<(), AllocError>
+    requires in_store { Has store.now r }
+    requires met { IsSoundWalk store.now met.old }
+    ensures met { OnOk result (IsSoundWalk store.now met.new) }
     ensures keeps { OnOk result ((v : ℕ) → IsMarked met.old v → IsMarked met.new v) }
     ensures all { OnOk result (AreMarkedBelow store.now met.new r) }
-    ensures only { OnOk result ((v : ℕ) → IsMarked met.new v → IsMarked met.old v ⊎ StandsBelow store.now r v) }
+    ensures only { OnOk result ((v : ℕ) → IsMarked met.new v → IsMarked met.old v ⊎ HasNodeBelow store.now r v) }
 {
     let level = store.top(r);
     if level >= store.levels() || met.seen.contains(&r) {
@@ -31,8 +31,8 @@ fn meet(store: &Store, met: &mut Met, r: Ref) -> Result<(), AllocError>
     }
     met.levels[level as usize] = true;
     let (low, high) = store.cofactors(r, level);
-    meet(store, met, low)?;
-    meet(store, met, high)?;
+    visit(store, met, low)?;
+    visit(store, met, high)?;
     met.seen.insert(r)?;
     Ok(())
 }
@@ -40,16 +40,16 @@ fn meet(store: &Store, met: &mut Met, r: Ref) -> Result<(), AllocError>
 /// A bit for each level, which is 1 exactly where one of the two functions depends on the bit of the level. Time is linear in the nodes
 /// of the two diagrams.
 pub fn support_of(alloc: Global, store: &Store, f: Ref, g: Ref) -> Result<Vec<bool>, AllocError>
-    requires first_known { Has store.now f }
-    requires second_known { Has store.now g }
-    ensures { IfOk result (λ levels. AreLevelsOf store.now.levels (den store.now f) (den store.now g) levels.items) }
+    requires first_in_store { Has store.now f }
+    requires second_in_store { Has store.now g }
+    ensures { IfOk result (λ levels. IsSupportOf store.now.levels (den store.now f) (den store.now g) levels.items) }
 {
-    let mut met = Met {
+    let mut met = SupportWalk {
         seen: HashSet::new(alloc),
         levels: vec![in alloc; false; store.levels() as usize]?,
     };
-    meet(store, &mut met, f)?;
-    meet(store, &mut met, g)?;
-    let Met { seen: _, levels } = met;
+    visit(store, &mut met, f)?;
+    visit(store, &mut met, g)?;
+    let SupportWalk { seen: _, levels } = met;
     Ok(levels)
 }

@@ -14,10 +14,10 @@ use Rattle.dd_store.specs.declared.reference.Reference.{Reference}
 use Rattle.dd_store.specs.Graph.{Pair}
 use Rattle.dd_store.specs.Words.{word_of, reference_of, IsWord}
 use Rattle.dd_store.specs.WordLaws.{word_is, one_word}
-use Rattle.dd_store.specs.Narrow.{AreWords, AllWords, AreTheirs, pair_at}
+use Rattle.dd_store.specs.Narrow.{AreShortWords, AllShortWords, AreWordsOf, pair_at}
 use Rattle.dd_store.proofs.Places.{mapped, slice_get_cases-push}
 
-same_words : (m n : ℕ × ℕ) → AreWords m → AreWords n → pair_at m ≡ pair_at n → m ≡ n
+same_words : (m n : ℕ × ℕ) → AreShortWords m → AreShortWords n → pair_at m ≡ pair_at n → m ≡ n
 same_words m n j k e =
     let low : m.0 ≡ n.0 = one_word m.0 n.0 j.0.0 k.0.0 (ap (λ (p : Pair). p.0) e) in
     let high : m.1 ≡ n.1 = one_word m.1 n.1 j.1.0 k.1.0 (ap (λ (p : Pair). p.1) e) in
@@ -30,24 +30,24 @@ no_word w r is long n k e =
     let short = k.1 in
     absurd (omega arith)
 
-module _ (ns : List (ℕ × ℕ)) (all : AllWords ns) where
+module _ (ns : List (ℕ × ℕ)) (all : AllShortWords ns) where
   pub read : (i : ℕ) (m : ℕ × ℕ) → slice_get ns i ≡ Some m → slice_get (map pair_at ns) i ≡ Some (pair_at m)
   read i m e = slice_get-map pair_at ns i ∙ ap (option_map pair_at) e
 
   -- a pair that has no words is not there
-  pub absent : (p : Pair) → AreTheirs p None → IsIn (map pair_at ns) p → ⊥
+  pub absent : (p : Pair) → AreWordsOf p None → IsIn (map pair_at ns) p → ⊥
   absent p none at =
       let w = mapped pair_at ns at.0 p at.1 in
       none w.0 (all at.0 w.0 w.1) w.2
 
   -- words are there where their pair is
-  pub words_in : (p : Pair) (n : ℕ × ℕ) → AreTheirs p (Some n) → IsIn (map pair_at ns) p → IsIn ns n
+  pub words_in : (p : Pair) (n : ℕ × ℕ) → AreWordsOf p (Some n) → IsIn (map pair_at ns) p → IsIn ns n
   words_in p n their at =
       let w = mapped pair_at ns at.0 p at.1 in
       let same : w.0 ≡ n = same_words w.0 n (all at.0 w.0 w.1) their.0 (w.2 ∙ sym their.1) in
       (at.0, w.1 ∙ ap (λ z. Some z) same)
 
-  pub found : (p : Pair) (n : ℕ × ℕ) (r : Option ℕ) → AreTheirs p (Some n)
+  pub found : (p : Pair) (n : ℕ × ℕ) (r : Option ℕ) → AreWordsOf p (Some n)
       → MatchOption r (IsIn ns n → ⊥) (λ i. slice_get ns i ≡ Some n)
       → MatchOption r (IsIn (map pair_at ns) p → ⊥) (λ i. slice_get (map pair_at ns) i ≡ Some p)
   found p n None their none = λ at. none (words_in p n their at)
@@ -55,7 +55,7 @@ module _ (ns : List (ℕ × ℕ)) (all : AllWords ns) where
 
   -- what placing words leaves of the pairs
   pub placed : (room : ℕ) (p : Pair) (n : ℕ × ℕ) (r : Result Admission Refusal) (new : List (ℕ × ℕ))
-      → AreTheirs p (Some n) → IsPlaced room n ns r new → IsPlaced room p (map pair_at ns) r (map pair_at new)
+      → AreWordsOf p (Some n) → IsPlaced room n ns r new → IsPlaced room p (map pair_at ns) r (map pair_at new)
   placed room p n (Ok (Found i)) new their h = (read i n h.0 ∙ ap (λ z. Some z) their.1, ap (map pair_at) h.1)
   placed room p n (Ok (Added i)) new their h = (
     λ at. h.0 (words_in p n their at),
@@ -67,16 +67,16 @@ module _ (ns : List (ℕ × ℕ)) (all : AllWords ns) where
   placed room p n (Err OutOfMemory) new their h = (λ at. h.0 (words_in p n their at), h.1, ap (map pair_at) h.2)
 
   -- all are still words
-  pub kept : (room : ℕ) (n : ℕ × ℕ) (r : Result Admission Refusal) (new : List (ℕ × ℕ)) → AreWords n
-      → IsPlaced room n ns r new → AllWords new
-  kept room n (Ok (Found i)) new k h = subst AllWords (sym h.1) all
+  pub kept : (room : ℕ) (n : ℕ × ℕ) (r : Result Admission Refusal) (new : List (ℕ × ℕ)) → AreShortWords n
+      → IsPlaced room n ns r new → AllShortWords new
+  kept room n (Ok (Found i)) new k h = subst AllShortWords (sym h.1) all
   kept room n (Ok (Added i)) new k h =
-      subst AllWords (sym h.3) (λ j m e. elim (slice_get_cases-push ns n j m e) [
+      subst AllShortWords (sym h.3) (λ j m e. elim (slice_get_cases-push ns n j m e) [
         | inl there ↦ all j m there
-        | inr last ↦ subst AreWords (sym last.1) k
+        | inr last ↦ subst AreShortWords (sym last.1) k
       ])
-  kept room n (Err Full) new k h = subst AllWords (sym h.2) all
-  kept room n (Err OutOfMemory) new k h = subst AllWords (sym h.2) all
+  kept room n (Err Full) new k h = subst AllShortWords (sym h.2) all
+  kept room n (Err OutOfMemory) new k h = subst AllShortWords (sym h.2) all
 
   -- one pair more in sixteen bytes
   pub widened_more : IsOnce ns → (i : ℕ) (n : ℕ × ℕ) (wide new : List Pair) (a : Admission) → i < length ns

@@ -14,10 +14,10 @@ use Rattle.dd_store.specs.declared.StoreFault.TheVariants.{Full, OutOfMemory}
 use Rattle.dd_store.specs.declared.reference.Ref.{Ref}
 use Rattle.dd_store.specs.declared.reference.Reference.TheVariants.{Node}
 use Rattle.dd_store.specs.Graph.{Pair}
-use Rattle.dd_store.specs.Marks.{is_marked, plain_pair}
+use Rattle.dd_store.specs.Complements.{is_complement, regular_pair}
 use Rattle.slot_table.specs.Lists.{IsIn}
-use Rattle.dd_store.specs.Growing.{Grows, IsStopped}
-use Rattle.dd_store.specs.Levels.{list_at, all_at, plain_list, Names, IsHalted}
+use Rattle.dd_store.specs.Growing.{Grows, IsAddListFault}
+use Rattle.dd_store.specs.Levels.{list_at, all_at, regular_list, IsReferenceAt, IsMakeListFault}
 use Rattle.dd_store.proofs.Places.{slice_get-push}
 
 module _ {A B : Type 0} (R : A → B → Type 0) where
@@ -67,8 +67,8 @@ all_at-more parts k s part lt is =
     ∙ all_at-push (take k parts) part s
 
 -- a reference stays the name of its pair where pairs are added
-pub Names-kept : (v s : ℕ) (list old new : List Pair) → Grows list old new → (p : Pair) (r : Ref) → Names v s old p r → Names v s new p r
-Names-kept v s list old new g p r n = (n.0, n.1, g.kept n.0 (plain_pair p.0 p.1) n.2)
+pub IsReferenceAt-kept : (v s : ℕ) (list old new : List Pair) → Grows list old new → (p : Pair) (r : Ref) → IsReferenceAt v s old p r → IsReferenceAt v s new p r
+IsReferenceAt-kept v s list old new g p r n = (n.0, n.1, g.kept n.0 (regular_pair p.0 p.1) n.2)
 
 -- the place that a pair has found
 abbrev pub index_of : Admission → ℕ
@@ -80,26 +80,26 @@ placed_at room p old new (Found i) h = rw h.1 h.0
 placed_at room p old new (Added i) h = rw (h.3, h.2) (slice_get-push old p)
 
 -- the references of a list that is a pair longer
-pub noted_more : (v s n : ℕ) (list old new : List Pair) (refs : List Ref) (d p : Pair) (r : Admission) → Grows (plain_list list) old new → n < length list → p ≡ get_or list n d
-    → slice_get new (index_of r) ≡ Some (plain_pair p.0 p.1) → AllZip (Names v s old) (take n list) refs
-    → AllZip (Names v s new) (take (n + 1) list) (refs ++ Node (record { level = v; shard = s; index = index_of r }) (is_marked p.1) ∷ [])
+pub noted_more : (v s n : ℕ) (list old new : List Pair) (refs : List Ref) (d p : Pair) (r : Admission) → Grows (regular_list list) old new → n < length list → p ≡ get_or list n d
+    → slice_get new (index_of r) ≡ Some (regular_pair p.0 p.1) → AllZip (IsReferenceAt v s old) (take n list) refs
+    → AllZip (IsReferenceAt v s new) (take (n + 1) list) (refs ++ Node (record { level = v; shard = s; index = index_of r }) (is_complement p.1) ∷ [])
 noted_more v s n list old new refs d p r g lt is at h =
     let t : take (n + 1) list ≡ take n list ++ p ∷ [] = take_more list n d lt ∙ ap (λ z. take n list ++ z ∷ []) (sym is) in
-    let kept = zip_weaker (Names v s old) (Names v s new) (take n list) refs (λ i x y e w. Names-kept v s (plain_list list) old new g x y w) h in
-    rw t (zip_push (Names v s new) (take n list) refs p (Node (record { level = v; shard = s; index = index_of r }) (is_marked p.1)) kept (index_of r, refl, at))
+    let kept = zip_weaker (IsReferenceAt v s old) (IsReferenceAt v s new) (take n list) refs (λ i x y e w. IsReferenceAt-kept v s (regular_list list) old new g x y w) h in
+    rw t (zip_push (IsReferenceAt v s new) (take n list) refs p (Node (record { level = v; shard = s; index = index_of r }) (is_complement p.1)) kept (index_of r, refl, at))
 
 -- the references of all parts so far, and those of one more
-pub noted_part : (v s : ℕ) (list more old new : List Pair) (found refs : List Ref) → Grows (plain_list more) old new → AllZip (Names v s old) list found
-    → AllZip (Names v s new) more refs → AllZip (Names v s new) (list ++ more) (found ++ refs)
+pub noted_part : (v s : ℕ) (list more old new : List Pair) (found refs : List Ref) → Grows (regular_list more) old new → AllZip (IsReferenceAt v s old) list found
+    → AllZip (IsReferenceAt v s new) more refs → AllZip (IsReferenceAt v s new) (list ++ more) (found ++ refs)
 noted_part v s list more old new found refs g h k =
-    zip_append (Names v s new) list more found refs (zip_weaker (Names v s old) (Names v s new) list found (λ i x y e w. Names-kept v s (plain_list more) old new g x y w) h) k
+    zip_append (IsReferenceAt v s new) list more found refs (zip_weaker (IsReferenceAt v s old) (IsReferenceAt v s new) list found (λ i x y e w. IsReferenceAt-kept v s (regular_list more) old new g x y w) h) k
 
 -- a fault of one part is one of all
-pub IsHalted-wider : (limit : ℕ) (list more new : List Pair) (f : StoreFault) → ((p : Pair) → IsIn list p → IsIn more p) → IsHalted limit list new f
-    → IsHalted limit more new f
-IsHalted-wider limit list more new Full in_more h = (h.0, (h.1.0, in_more h.1.0 h.1.1, h.1.2))
-IsHalted-wider limit list more new OutOfMemory in_more h = h
+pub IsMakeListFault-wider : (limit : ℕ) (list more new : List Pair) (f : StoreFault) → ((p : Pair) → IsIn list p → IsIn more p) → IsMakeListFault limit list new f
+    → IsMakeListFault limit more new f
+IsMakeListFault-wider limit list more new Full in_more h = (h.0, (h.1.0, in_more h.1.0 h.1.1, h.1.2))
+IsMakeListFault-wider limit list more new OutOfMemory in_more h = h
 
-pub halted : (limit : ℕ) (list new : List Pair) (f : StoreFault) → IsStopped limit list new (Some f) → IsHalted limit list new f
+pub halted : (limit : ℕ) (list new : List Pair) (f : StoreFault) → IsAddListFault limit list new (Some f) → IsMakeListFault limit list new f
 halted limit list new Full h = h
 halted limit list new OutOfMemory h = tt

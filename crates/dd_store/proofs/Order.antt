@@ -38,14 +38,14 @@ node_cmp_same l m e =
 pub node_cmp_itself : (m : NodeId) → node_cmp m m ≡ Equal
 node_cmp_itself m = rw (tied_itself nat_cmp_total m.level, tied_itself nat_cmp_total m.shard, tied_itself nat_cmp_total m.index) refl
 
-mark_itself : (b : Bool) → bool_cmp b b ≡ Equal
-mark_itself true = refl
-mark_itself false = refl
+bit_itself : (b : Bool) → bool_cmp b b ≡ Equal
+bit_itself true = refl
+bit_itself false = refl
 
 pub ref_cmp_itself : (a : Ref) → ref_cmp a a ≡ Equal
 ref_cmp_itself False = refl
 ref_cmp_itself True = refl
-ref_cmp_itself (Node m b) = rw (nodes_cmp m m b b, node_cmp_itself m, mark_itself b) refl
+ref_cmp_itself (Node m b) = rw (nodes_cmp m m b b, node_cmp_itself m, bit_itself b) refl
 
 pub node_cmp_total : IsTotalOrder node_cmp
 node_cmp_total = total-law

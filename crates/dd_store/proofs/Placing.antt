@@ -9,10 +9,10 @@ use Rattle.slot_table.specs.declared.Refusal.TheVariants.{Full, OutOfMemory}
 use Rattle.slot_table.specs.Placing.{IsPlaced}
 use Rattle.dd_store.specs.Fault.{fault_of}
 use Rattle.dd_store.specs.Graph.{Pair}
-use Rattle.dd_store.specs.Codes.{shard_of_pair}
-use Rattle.dd_store.specs.Marks.{is_marked}
-use Rattle.dd_store.specs.Nodes.{Nodes, count_of, IsKept, IsNeeded, Makes, with_node}
-use Rattle.dd_store.proofs.Storing.{CanMake, small_shard, shard-le-count, found_in_shard, absent_in_shard, children-of, IsNew-plain, with_node-written, fresh-read, IsKept-with_node}
+use Rattle.dd_store.specs.Hashes.{shard_of_pair}
+use Rattle.dd_store.specs.Complements.{is_complement}
+use Rattle.dd_store.specs.Nodes.{Nodes, count_of, IsStore, IsNeeded, Makes, with_node}
+use Rattle.dd_store.proofs.Storing.{CanMake, small_shard, shard-le-count, found_in_shard, absent_in_shard, children-of, IsNew-regular, with_node-written, fresh-read, IsStore-with_node}
 
 -- a store with a shard written back as it was
 written_back : (S : Nodes) (j : ℕ) (ps new : List Pair) → ps ≡ get_or S.shards j ps → new ≡ ps
@@ -24,17 +24,17 @@ written_back S j ps new read same =
 
 -- a store, one of its shards, and what looking for a pair made of them
 pub record Placing (S T : Nodes) (count v : ℕ) (lo hi : Ref) (s : ℕ) (ps new : List Pair) (room : ℕ) : Type 0 where
-  pub kept : IsKept S count
+  pub kept : IsStore S count
   pub can : CanMake S v lo hi
   pub differ : lo ≡ hi → ⊥
-  pub plain : is_marked hi ≡ false
+  pub regular : is_complement hi ≡ false
   pub shard : s ≡ shard_of_pair lo hi
   pub read : ps ≡ get_or S.shards (16 * v + s) ps
   pub room_is : room ≡ S.limit - count
   pub written : ◌≡◌ {A = Nodes} T (record { levels = S.levels; limit = S.limit; shards = set S.shards (16 * v + s) new })
 
 -- with room, the numbers of places do not end
-pub placing_room : (S : Nodes) (count v : ℕ) (lo hi : Ref) (s : ℕ) (ps : List Pair) (room : ℕ) → IsKept S count → v < S.levels
+pub placing_room : (S : Nodes) (count v : ℕ) (lo hi : Ref) (s : ℕ) (ps : List Pair) (room : ℕ) → IsStore S count → v < S.levels
     → s ≡ shard_of_pair lo hi → ps ≡ get_or S.shards (16 * v + s) ps → room ≡ S.limit - count → 0 < room → length ps + room < 2 ^ 32
 placing_room S count v lo hi s ps room k lt is read by some =
     let small : s < 16 = rw is (small_shard lo hi) in
@@ -48,7 +48,7 @@ placing_room S count v lo hi s ps room k lt is read by some =
 
 module _ (S T : Nodes) (count v : ℕ) (lo hi : Ref) (s : ℕ) (ps new : List Pair) (room : ℕ) (w : Placing S T count v lo hi s ps new room) where
   needed : (((i : ℕ) × (slice_get ps i ≡ Some (lo, hi))) → ⊥) → IsNeeded S v lo hi
-  needed none = (w.differ, absent_in_shard S v lo hi ps s w.kept.sound w.can.level w.plain w.shard w.read (λ i e. none (i, e)))
+  needed none = (w.differ, absent_in_shard S v lo hi ps s w.kept.sound w.can.level w.regular w.shard w.read (λ i e. none (i, e)))
 
   same_store : new ≡ ps → T ≡ S
   same_store same = w.written ∙ written_back S (16 * v + s) ps new w.read same
@@ -73,21 +73,21 @@ module _ (S T : Nodes) (count v : ℕ) (lo hi : Ref) (s : ℕ) (ps new : List Pa
       let some : 0 < room = placed.1 in
       let by : room ≡ S.limit - count = w.room_is in
       let counted : count ≡ count_of S = w.kept.counted in
-      let made = IsNew-plain S T v lo hi _ w.plain (
+      let made = IsNew-regular S T v lo hi _ w.regular (
         fresh-read S v lo hi s i ps w.kept.sound w.can.level w.shard w.read placed.2,
         w.written ∙ with_node-written S v lo hi s ps new w.kept.sound w.can.level w.shard w.read placed.3,
       ) in
       inr (needed placed.0, omega arith, made.0, made.1)
 
-  pub IsKept-added : (i : ℕ) → IsPlaced room (lo, hi) ps (Ok (Added i)) new → IsKept T (count + 1)
-  IsKept-added i placed =
+  pub IsStore-added : (i : ℕ) → IsPlaced room (lo, hi) ps (Ok (Added i)) new → IsStore T (count + 1)
+  IsStore-added i placed =
       let some : 0 < room = placed.1 in
       let by : room ≡ S.limit - count = w.room_is in
       let counted : count ≡ count_of S = w.kept.counted in
       let t : T ≡ with_node S v lo hi =
       w.written ∙ with_node-written S v lo hi s ps new w.kept.sound w.can.level w.shard w.read placed.3 in
-      subst (λ (z : Nodes). IsKept z (count + 1)) (sym t)
-      (IsKept-with_node S count v lo hi w.kept w.can w.plain (needed placed.0) (omega arith))
+      subst (λ (z : Nodes). IsStore z (count + 1)) (sym t)
+      (IsStore-with_node S count v lo hi w.kept w.can w.regular (needed placed.0) (omega arith))
 
   pub Makes-refused : (refusal : Refusal) → IsPlaced room (lo, hi) ps (Err refusal) new → Makes S v lo hi (Err (fault_of refusal)) T
   Makes-refused Full placed =

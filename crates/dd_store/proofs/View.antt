@@ -8,7 +8,7 @@ use Rattle.dd_store.specs.declared.StoreFault.{StoreFault}
 use Rattle.dd_store.specs.declared.StoreFault.TheVariants.{Full, OutOfMemory}
 use Rattle.dd_store.specs.Graph.{Pair, bit}
 use Rattle.dd_store.specs.Graph as graph
-use Rattle.dd_store.specs.Marks.{is_marked, negate_of, mark_by, plain_pair}
+use Rattle.dd_store.specs.Complements.{is_complement, negate_of, complement_by, regular_pair}
 use Rattle.dd_store.specs.Functions.{Agree}
 use Rattle.dd_store.specs.Nodes.{Nodes, node as node_at, children, den, cofactor_of, IsNodeOf, IsSound, Extends, Makes, IsThere, with_node, fresh}
 use Rattle.dd_store.specs.Nodes as nodes
@@ -17,13 +17,13 @@ use Rattle.dd_store.specs.Parts.Part.{node}
 use Rattle.dd_store.specs.View.{part_of, part, Has, top, Keeps, IsAbsent, AreOpposite, IsOneNode, IsMade, IsFull}
 pub use Rattle.dd_store.proofs.Canonical.{same_ref}
 use Rattle.dd_store.proofs.Canonical.{graph_part-node, node_of_part, top-graph_part, graph_parts, graph_denotes, canonical}
-use Rattle.dd_store.proofs.Marks.{top-mark_by, IsRef-mark_by, den-negate}
+use Rattle.dd_store.proofs.Complements.{top-complement_by, IsRef-complement_by, den-negate}
 use Rattle.dd_store.proofs.Places.{none_some}
-use Rattle.dd_store.proofs.Storing.{IsRef-extends, CanMake, Makes-extends, Makes-there, Makes-here, adds-with_node, den-extends, children-of, IsNodeOf-marked, IsBranch-node}
+use Rattle.dd_store.proofs.Storing.{IsRef-extends, CanMake, Makes-extends, Makes-there, Makes-here, adds-with_node, den-extends, children-of, IsNodeOf-complement_if, IsBranch-node}
 
 -- the part of a node that is there
 part-node : (S : Nodes) (m : NodeId) (b : Bool) (p : Pair) → node_at S m ≡ Some p
-    → part S (Node m b) ≡ node m.level (mark_by b p.0) (mark_by b p.1)
+    → part S (Node m b) ≡ node m.level (complement_by b p.0) (complement_by b p.1)
 part-node S m b p e = graph_part-node (node_at S) m b p e
 
 -- the part of a node that has these children
@@ -122,17 +122,17 @@ absent S v lo hi a r h e = let m = of_part S r v lo hi h e in a (Node m.0 m.1) (
 
 -- the complement of a reference is there, at its level, and its part has the complements of the children
 pub has-negate : (S : Nodes) (r : Ref) → Has S r → Has S (negate_of r)
-has-negate S r h = IsRef-mark_by (node_at S) true r h
+has-negate S r h = IsRef-complement_by (node_at S) true r h
 
 pub top-negate : (S : Nodes) (r : Ref) → top S (negate_of r) ≡ top S r
-top-negate S r = top-mark_by S.levels true r
+top-negate S r = top-complement_by S.levels true r
 
 pub part-negate : (S : Nodes) (r : Ref) (v : ℕ) (lo hi : Ref) → Has S r → part S r ≡ node v lo hi
     → part S (negate_of r) ≡ node v (negate_of lo) (negate_of hi)
 part-negate S r v lo hi h e =
     let m = of_part S r v lo hi h e in
     ap (λ z. part S (negate_of z)) m.2
-    ∙ part-children S v (negate_of lo) (negate_of hi) (negate_of (Node m.0 m.1)) (IsNodeOf-marked S v true lo hi (Node m.0 m.1) (m.3, m.4))
+    ∙ part-children S v (negate_of lo) (negate_of hi) (negate_of (Node m.0 m.1)) (IsNodeOf-complement_if S v true lo hi (Node m.0 m.1) (m.3, m.4))
 
 pub opposite-negate : (S : Nodes) (r : Ref) → AreOpposite S (negate_of r) r
 opposite-negate S r x len = den-negate S r x
@@ -160,17 +160,17 @@ made S T v lo hi (Ok r) w c h = record {
     there (inr b) = inr (b.0, part-children T v lo hi r b.1)
 
     p : Pair
-    p = plain_pair lo hi
+    p = regular_pair lo hi
 
-    name : (m : NodeId) (b : Bool) → Has (with_node S v p.0 p.1) (Node m b) → r ≡ Node (fresh S v p.0 p.1) (is_marked hi) → Has S (Node m b) ⊎ IsOneNode T (Node m b) r
+    name : (m : NodeId) (b : Bool) → Has (with_node S v p.0 p.1) (Node m b) → r ≡ Node (fresh S v p.0 p.1) (is_complement hi) → Has S (Node m b) ⊎ IsOneNode T (Node m b) r
     name m b k e = elim ((adds-with_node S v p.0 p.1 w.shaped c.level).only m k.0 k.1) [
       | inl old ↦ inl (k.0, old)
       | inr new ↦ inr (
-          subst (λ (z : Ref). IsOneNode T (Node m b) z) (ap (λ z. Node z (is_marked hi)) new.0 ∙ sym e) (same_node T m b (is_marked hi))
+          subst (λ (z : Ref). IsOneNode T (Node m b) z) (ap (λ z. Node z (is_complement hi)) new.0 ∙ sym e) (same_node T m b (is_complement hi))
           )
     ]
 
-    fresh_or_old : (m : Ref) → Has (with_node S v p.0 p.1) m → r ≡ Node (fresh S v p.0 p.1) (is_marked hi) → Has S m ⊎ IsOneNode T m r
+    fresh_or_old : (m : Ref) → Has (with_node S v p.0 p.1) m → r ≡ Node (fresh S v p.0 p.1) (is_complement hi) → Has S m ⊎ IsOneNode T m r
     fresh_or_old False k e = inl tt
     fresh_or_old True k e = inl tt
     fresh_or_old (Node m b) k e = name m b k e
@@ -195,5 +195,5 @@ cofactor-step S False v b h = same_child (nat_eq S.levels v) b False
 cofactor-step S True v b h = same_child (nat_eq S.levels v) b True
 cofactor-step S (Node m c) v b h = named h.0 h.1 ∙ sym (ap (step_of v (Node m c) b) (part-node S m c h.0 h.1))
   where
-    named : (p : Pair) → node_at S m ≡ Some p → cofactor_of S (Node m c) v b ≡ cond (nat_eq m.level v) (cond b (mark_by c p.1) (mark_by c p.0)) (Node m c)
+    named : (p : Pair) → node_at S m ≡ Some p → cofactor_of S (Node m c) v b ≡ cond (nat_eq m.level v) (cond b (complement_by c p.1) (complement_by c p.0)) (Node m c)
     named p e = rw e refl

@@ -7,7 +7,7 @@ use Rattle.std.specs.Int.Bits.{bit_xor, bit_and}
 use Rattle.std.proofs.lemmas.Bool.{cases_eq}
 use Rattle.dd_store.specs.contracts.reference.ReferencePartialEq.TheImpl.{eq-value as ref_eq}
 use Rattle.dd_store.specs.Equal.{ref_same, ref_eq-itself}
-use Rattle.dd_store.specs.Marks.{mark_by, negate_of}
+use Rattle.dd_store.specs.Complements.{complement_by, negate_of}
 use Rattle.dd_store.specs.declared.reference.NodeId.{NodeId}
 use Rattle.dd_store.specs.declared.reference.Reference.TheVariants.{Node}
 use Rattle.dd_store.specs.Words.{is_near, is_far, near_word, far_word, long_word, node_word, near_node, far_node, long_node, word_of, node_of, reference_of, IsWord, IsNodeWord, IsLongWord}
@@ -94,8 +94,8 @@ unfolding IsLongWord
 long_kept w v m one big small = is_long_word v (long_node w) big small one m.2 m.3
 
 -- another word of the same kind: it differs in bit 0 alone
-pub other_mark : (w v : ℕ) → IsNodeWord w → v / 2 ≡ w / 2 → IsNodeWord v × (node_of v ≡ node_of w)
-other_mark w v h same = elim (kind_of w h) [
+pub other_complement_bit : (w v : ℕ) → IsNodeWord w → v / 2 ≡ w / 2 → IsNodeWord v × (node_of v ≡ node_of w)
+other_complement_bit w v h same = elim (kind_of w h) [
   | kind_near k l ↦ (
     is_near_word v (omega arith) (omega arith),
     named_near v (omega arith) ∙ named (near_node v) (near_node w) (omega arith) (omega arith) (omega arith) ∙ sym (named_near w l),
@@ -155,32 +155,32 @@ flipped w =
     let bit : w % 2 < 2 = omega arith in
     (omega arith, omega arith)
 
-turned_mark : (w v : ℕ) → v % 2 + w % 2 ≡ 1 → (v % 2 == 1) ≡ not (w % 2 == 1)
-turned_mark w v e = grind (arith, nat_tests)
+flipped_bit : (w v : ℕ) → v % 2 + w % 2 ≡ 1 → (v % 2 == 1) ≡ not (w % 2 == 1)
+flipped_bit w v e = grind (arith, nat_tests)
 
-turned_node : (w v : ℕ) → IsNodeWord w → v / 2 ≡ w / 2 → v % 2 + w % 2 ≡ 1 → IsWord v × (reference_of v ≡ negate_of (reference_of w))
-turned_node w v h half bit =
-    let other = other_mark w v h half in (
+complemented_node : (w v : ℕ) → IsNodeWord w → v / 2 ≡ w / 2 → v % 2 + w % 2 ≡ 1 → IsWord v × (reference_of v ≡ negate_of (reference_of w))
+complemented_node w v h half bit =
+    let other = other_complement_bit w v h half in (
       inr other.0,
       is_node v (past_terminals v other.0)
           ∙ ap (λ m. Node m (v % 2 == 1)) other.1
-          ∙ ap (λ b. Node (node_of w) b) (turned_mark w v bit)
+          ∙ ap (λ b. Node (node_of w) b) (flipped_bit w v bit)
           ∙ ap negate_of (sym (is_node w (past_terminals w h))),
     )
 
-turned_terminal : (w v : ℕ) → w < 2 → v / 2 ≡ w / 2 → v % 2 + w % 2 ≡ 1 → IsWord v × (reference_of v ≡ negate_of (reference_of w))
-turned_terminal w v small half bit = elim (cases_eq w 0) [
+complemented_terminal : (w v : ℕ) → w < 2 → v / 2 ≡ w / 2 → v % 2 + w % 2 ≡ 1 → IsWord v × (reference_of v ≡ negate_of (reference_of w))
+complemented_terminal w v small half bit = elim (cases_eq w 0) [
   | inl e ↦ let one : v ≡ 1 = omega arith in (inl (omega arith), ap reference_of one ∙ sym (ap (λ z. negate_of (reference_of z)) e))
   | inr n ↦ let e : w ≡ 1 = omega arith in let zero : v ≡ 0 = omega arith in
       (inl (omega arith), ap reference_of zero ∙ sym (ap (λ z. negate_of (reference_of z)) e))
 ]
 
 -- a word with a mark more
-pub marked_word : (w : ℕ) (b : Bool) → IsWord w
-    → IsWord (bit_xor w (bool_byte b)) × (reference_of (bit_xor w (bool_byte b)) ≡ mark_by b (reference_of w))
-marked_word w false h = (subst (λ (z : ℕ). IsWord z) (sym (xor_zero_r w)) h, ap reference_of (xor_zero_r w))
-marked_word w true (inl small) = let k = flipped w in turned_terminal w (bit_xor w 1) small k.0 k.1
-marked_word w true (inr h) = let k = flipped w in turned_node w (bit_xor w 1) h k.0 k.1
+pub complement_word : (w : ℕ) (b : Bool) → IsWord w
+    → IsWord (bit_xor w (bool_byte b)) × (reference_of (bit_xor w (bool_byte b)) ≡ complement_by b (reference_of w))
+complement_word w false h = (subst (λ (z : ℕ). IsWord z) (sym (xor_zero_r w)) h, ap reference_of (xor_zero_r w))
+complement_word w true (inl small) = let k = flipped w in complemented_terminal w (bit_xor w 1) small k.0 k.1
+complement_word w true (inr h) = let k = flipped w in complemented_node w (bit_xor w 1) h k.0 k.1
 
 -- two words are one where they refer to one thing
 pub same_words : (a b : ℕ) → IsWord a → IsWord b → nat_eq a b ≡ ref_eq.it (reference_of a) (reference_of b)

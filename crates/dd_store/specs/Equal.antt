@@ -21,8 +21,8 @@ ref_same False False e = refl
 ref_same True True e = refl
 ref_same (Node x b) (Node y c) e =
     let same : x ≡ y = node_same x y (grind arith) in
-    let mark : b ≡ c = grind arith in
-    λ i. Node (same i) (mark i)
+    let complement : b ≡ c = grind arith in
+    λ i. Node (same i) (complement i)
 ref_same x y e = absurd (true≢false (sym e))
 
 -- equal names compare as equal

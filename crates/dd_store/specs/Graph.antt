@@ -6,7 +6,7 @@ use Rattle.std.specs.Prelude.{◌≡◌, ℕ, suc, zero, ◌<◌, Bool, true, fa
 use Rattle.dd_store.specs.declared.reference.NodeId.{NodeId}
 use Rattle.dd_store.specs.declared.reference.Ref.{Ref}
 use Rattle.dd_store.specs.declared.reference.Reference.TheVariants.{False, True, Node}
-use Rattle.dd_store.specs.Marks.{is_marked, turned}
+use Rattle.dd_store.specs.Complements.{is_complement, complemented}
 
 -- the children of a node, low and high
 abbrev pub Pair : Type 0
@@ -38,7 +38,7 @@ walk k g False x = false
 walk k g True x = true
 walk zero g (Node m b) x = b
 walk (suc k) g (Node m b) x =
-    turned b (elim (g m) [ None ↦ false | Some p ↦ walk k g (cond (bit x m.level) p.1 p.0) x ])
+    complemented b (elim (g m) [ None ↦ false | Some p ↦ walk k g (cond (bit x m.level) p.1 p.0) x ])
 
 -- ordered and reduced, for n levels
 pub record IsReduced (n : ℕ) (g : Graph) : Type 0 where
@@ -51,6 +51,6 @@ pub record IsReduced (n : ℕ) (g : Graph) : Type 0 where
   -- no node has equal children
   pub proper : (m : NodeId) (p : Pair) → g m ≡ Some p → ¬ (p.0 ≡ p.1)
   -- no high edge has a mark
-  pub plain : (m : NodeId) (p : Pair) → g m ≡ Some p → is_marked p.1 ≡ false
+  pub regular : (m : NodeId) (p : Pair) → g m ≡ Some p → is_complement p.1 ≡ false
   -- no two nodes of a level have equal children
   pub unique : (l m : NodeId) (p : Pair) → g l ≡ Some p → g m ≡ Some p → l.level ≡ m.level → l ≡ m

@@ -3,14 +3,14 @@ use Rattle.std.specs.Prelude.{◌<◌, ◌+◌, ◌≡◌, ◌≤◌, ℕ, List,
 use Rattle.std.specs.List.{AllZip}
 use Rattle.std.specs.declared.vec.Vec.{Vec}
 use Rattle.std.specs.declared.alloc.Global.{Global}
-use Rattle.dd_store.specs.declared.level.Shard.{Shard}
+use Rattle.dd_store.specs.declared.level.ShardState.{ShardState}
 use Rattle.dd_store.specs.declared.StoreFault.{StoreFault}
 use Rattle.dd_store.specs.declared.StoreFault.TheVariants.{Full, OutOfMemory}
 use Rattle.dd_store.specs.declared.reference.Ref.{Ref}
 use Rattle.dd_store.specs.declared.reference.Reference.TheVariants.{Node}
 use Rattle.dd_store.specs.Graph.{Pair}
-use Rattle.dd_store.specs.Marks.{is_marked, plain_pair}
-use Rattle.dd_store.specs.Growing.{Grows, IsStopped, Lacks}
+use Rattle.dd_store.specs.Complements.{is_complement, regular_pair}
+use Rattle.dd_store.specs.Growing.{Grows, IsAddListFault, Lacks}
 
 -- the list for a shard
 abbrev pub list_at : List (Vec Pair Global) → ℕ → List Pair
@@ -22,62 +22,62 @@ all_at [] s = []
 all_at (part ∷ parts) s = list_at part.items s ++ all_at parts s
 
 -- the pairs of a list as nodes have them
-abbrev pub plain_list : List Pair → List Pair
-plain_list ps = map (λ (p : Pair). plain_pair p.0 p.1) ps
+abbrev pub regular_list : List Pair → List Pair
+regular_list ps = map (λ (p : Pair). regular_pair p.0 p.1) ps
 
 -- the same, of the list for each shard
-abbrev pub plain_lists : (ℕ → List Pair) → ℕ → List Pair
-plain_lists lists s = plain_list (lists s)
+abbrev pub regular_lists : (ℕ → List Pair) → ℕ → List Pair
+regular_lists lists s = regular_list (lists s)
 
 -- the references for a shard
 abbrev pub refs_at : List (Vec Ref Global) → ℕ → List Ref
 refs_at lists s = slice_index_or (map (λ (v : Vec Ref Global). v.items) lists) s []
 
 -- a shard has grown by pairs of a list, within the limit
-abbrev pub IsGrown : ℕ → List Pair → Shard → Shard → Type 0
-IsGrown limit list old new = Grows list old.shard new.shard × (length old.shard ≤ limit → length new.shard ≤ limit)
+abbrev pub IsGrown : ℕ → List Pair → ShardState → ShardState → Type 0
+IsGrown limit list old new = Grows list old.nodes new.nodes × (length old.nodes ≤ limit → length new.nodes ≤ limit)
 
 -- what adding a list leaves of a shard: its pairs are added as nodes have them
-abbrev pub IsAdded : ℕ → List Pair → Shard → Shard → Type 0
-IsAdded limit list old new = IsGrown limit (plain_list list) old new × IsStopped limit (plain_list list) new.shard new.fault
+abbrev pub IsAdded : ℕ → List Pair → ShardState → ShardState → Type 0
+IsAdded limit list old new = IsGrown limit (regular_list list) old new × IsAddListFault limit (regular_list list) new.nodes new.fault
 
 -- a reference is that of a pair's place in shard s of level v, where the pair stands as a node has it, with a mark where its second has one
-abbrev pub Names : ℕ → ℕ → List Pair → Pair → Ref → Type 0
-Names v s pairs p r =
-    (i : ℕ) × (r ≡ Node (record { level = v; shard = s; index = i }) (is_marked p.1)) × (slice_get pairs i ≡ Some (plain_pair p.0 p.1))
+abbrev pub IsReferenceAt : ℕ → ℕ → List Pair → Pair → Ref → Type 0
+IsReferenceAt v s pairs p r =
+    (i : ℕ) × (r ≡ Node (record { level = v; shard = s; index = i }) (is_complement p.1)) × (slice_get pairs i ≡ Some (regular_pair p.0 p.1))
 
 -- why not all pairs of a list have a reference; none may be for want of memory
-abbrev pub IsHalted : ℕ → List Pair → List Pair → StoreFault → Type 0
-IsHalted limit list new Full = (limit ≤ length new) × Lacks list new
-IsHalted limit list new OutOfMemory = Unit {0}
+abbrev pub IsMakeListFault : ℕ → List Pair → List Pair → StoreFault → Type 0
+IsMakeListFault limit list new Full = (limit ≤ length new) × Lacks list new
+IsMakeListFault limit list new OutOfMemory = Unit {0}
 
 -- the references of a list, or why there are none
 abbrev pub AreNoted : ℕ → ℕ → ℕ → List Pair → List Pair → List Ref → Option StoreFault → Type 0
-AreNoted limit v s list new found None = AllZip (Names v s new) list found
-AreNoted limit v s list new found (Some f) = IsHalted limit (plain_list list) new f
+AreNoted limit v s list new found None = AllZip (IsReferenceAt v s new) list found
+AreNoted limit v s list new found (Some f) = IsMakeListFault limit (regular_list list) new f
 
 -- what making a list leaves of a shard
-abbrev pub IsNoted : ℕ → ℕ → ℕ → List Pair → Shard → Shard → Type 0
-IsNoted limit v s list old new = IsGrown limit (plain_list list) old new × AreNoted limit v s list new.shard new.found.items new.fault
+abbrev pub IsNoted : ℕ → ℕ → ℕ → List Pair → ShardState → ShardState → Type 0
+IsNoted limit v s list old new = IsGrown limit (regular_list list) old new × AreNoted limit v s list new.nodes new.found.items new.fault
 
 -- what making the parts' lists leaves of neighbouring shards, of which `first` is the first
-abbrev pub AreMadeFrom : ℕ → ℕ → List (Vec (Vec Pair Global) Global) → ℕ → List Shard → List Shard → Type 0
-AreMadeFrom limit v parts first old new = (i : ℕ) (d : Shard) → i < length old
+abbrev pub AreMadeFrom : ℕ → ℕ → List (Vec (Vec Pair Global) Global) → ℕ → List ShardState → List ShardState → Type 0
+AreMadeFrom limit v parts first old new = (i : ℕ) (d : ShardState) → i < length old
     → IsNoted limit v (first + i) (all_at parts (first + i)) (slice_index_or old i d) (slice_index_or new i d)
 
 -- the pairs of each shard
-abbrev pub pairs_of : List Shard → List (List Pair)
-pairs_of shards = map (λ (c : Shard). c.shard) shards
+abbrev pub pairs_of : List ShardState → List (List Pair)
+pairs_of shards = map (λ (c : ShardState). c.nodes) shards
 
 -- each shard holds at most so many pairs
-abbrev pub AreWithin : ℕ → List Shard → Type 0
+abbrev pub AreWithin : ℕ → List ShardState → Type 0
 AreWithin limit shards = (i : ℕ) → length (slice_index_or (pairs_of shards) i []) ≤ limit
 
 -- the fault of a level: want of memory where a shard has it, else Full where a shard has it
-abbrev pub IsFault : List Shard → Option StoreFault → Type 0
-IsFault shards None = (i : ℕ) (c : Shard) → slice_get shards i ≡ Some c → c.fault ≡ None
-IsFault shards (Some f) = (i : ℕ) × (c : Shard) × (slice_get shards i ≡ Some c) × (c.fault ≡ Some f)
+abbrev pub IsFault : List ShardState → Option StoreFault → Type 0
+IsFault shards None = (i : ℕ) (c : ShardState) → slice_get shards i ≡ Some c → c.fault ≡ None
+IsFault shards (Some f) = (i : ℕ) × (c : ShardState) × (slice_get shards i ≡ Some c) × (c.fault ≡ Some f)
 
 -- no shard was refused memory
-abbrev pub HadMemory : List Shard → Type 0
-HadMemory shards = (i : ℕ) (c : Shard) → slice_get shards i ≡ Some c → c.fault ≡ Some OutOfMemory → ⊥
+abbrev pub HadMemory : List ShardState → Type 0
+HadMemory shards = (i : ℕ) (c : ShardState) → slice_get shards i ≡ Some c → c.fault ≡ Some OutOfMemory → ⊥

@@ -10,8 +10,8 @@ use Rattle.dd_store.specs.declared.reference.Reference.TheVariants.{False, True,
 use Rattle.dd_store.specs.declared.StoreFault.{StoreFault}
 use Rattle.dd_store.specs.declared.StoreFault.TheVariants.{Full, OutOfMemory}
 use Rattle.dd_store.specs.Graph.{Pair, Graph, bit, top, IsRef, walk, IsReduced}
-use Rattle.dd_store.specs.Codes.{shard_of_pair}
-use Rattle.dd_store.specs.Marks.{is_marked, mark_both, plain_pair}
+use Rattle.dd_store.specs.Hashes.{shard_of_pair}
+use Rattle.dd_store.specs.Complements.{is_complement, complement_both, regular_pair}
 use Rattle.dd_store.specs.Functions.{Agree}
 
 -- `shards` has the 16 shards of level 0, then those of level 1, and so on
@@ -58,7 +58,7 @@ pub record Extends (S T : Nodes) : Type 0 where
 abbrev pub children : Nodes → Ref → Option Pair
 children S False = None
 children S True = None
-children S (Node m b) = option_map (mark_both b) (node S m)
+children S (Node m b) = option_map (complement_both b) (node S m)
 
 -- the low child of a node; of a terminal, itself
 abbrev pub low_of : Nodes → Ref → Ref
@@ -130,12 +130,12 @@ with_node S v lo hi =
 abbrev pub Makes : Nodes → ℕ → Ref → Ref → Result Ref StoreFault → Nodes → Type 0
 Makes S v lo hi (Ok r) T =
     (IsThere S v lo hi r × (T ≡ S))
-    ⊎ (IsNeeded S v lo hi × (count_of S < S.limit) × (r ≡ Node (fresh S v (plain_pair lo hi).0 (plain_pair lo hi).1) (is_marked hi))
-    × (T ≡ with_node S v (plain_pair lo hi).0 (plain_pair lo hi).1))
+    ⊎ (IsNeeded S v lo hi × (count_of S < S.limit) × (r ≡ Node (fresh S v (regular_pair lo hi).0 (regular_pair lo hi).1) (is_complement hi))
+    × (T ≡ with_node S v (regular_pair lo hi).0 (regular_pair lo hi).1))
 Makes S v lo hi (Err Full) T = IsNeeded S v lo hi × (S.limit ≤ count_of S) × (T ≡ S)
 Makes S v lo hi (Err OutOfMemory) T = IsNeeded S v lo hi × (count_of S < S.limit) × (T ≡ S)
 
 -- what is true of a store's fields: the nodes are sound, and counted
-pub record IsKept (S : Nodes) (count : ℕ) : Type 0 where
+pub record IsStore (S : Nodes) (count : ℕ) : Type 0 where
   pub sound : IsSound S
   pub counted : count ≡ count_of S

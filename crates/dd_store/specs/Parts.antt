@@ -33,7 +33,7 @@ pub record IsDenotation {R : Type 0} (n : ℕ) (part : R → Part R) (Has : R �
       den r (q ++ b ∷ x) ≡ den (cond b hi lo) (q ++ b ∷ x)
 
 -- the references met on the way down from r
-pub data Met {R : Type 0} (part : R → Part R) (r : R) : R → Type 0 where
-  here : Met part r r
-  at_low : {m lo hi : R} {v : ℕ} → Met part r m → part m ≡ node v lo hi → Met part r lo
-  at_high : {m lo hi : R} {v : ℕ} → Met part r m → part m ≡ node v lo hi → Met part r hi
+pub data IsReachable {R : Type 0} (part : R → Part R) (r : R) : R → Type 0 where
+  here : IsReachable part r r
+  at_low : {m lo hi : R} {v : ℕ} → IsReachable part r m → part m ≡ node v lo hi → IsReachable part r lo
+  at_high : {m lo hi : R} {v : ℕ} → IsReachable part r m → part m ≡ node v lo hi → IsReachable part r hi

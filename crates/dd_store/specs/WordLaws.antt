@@ -135,15 +135,15 @@ one_word m n h k e = word_is m (reference_of n) h e ∙ word_of-reference_of n k
 -- ---- what has words of its own compares as its words do
 module _ {V : Type 0} (eq : V → V → Bool) (same : (x y : V) → eq x y ≡ true → x ≡ y) (word : V → ℕ) where
   -- what has different words is different
-  pub told_apart : (x y : V) (t : Bool) → eq x y ≡ t → (word x ≡ word y → ⊥) → t ≡ false
-  told_apart x y false e n = refl
-  told_apart x y true e n = absurd (n (ap word (same x y e)))
+  pub differ_if_words_differ : (x y : V) (t : Bool) → eq x y ≡ t → (word x ≡ word y → ⊥) → t ≡ false
+  differ_if_words_differ x y false e n = refl
+  differ_if_words_differ x y true e n = absurd (n (ap word (same x y e)))
 
   pub compared : (itself : (x : V) → eq x x ≡ true) (of : ℕ → V) (a b : ℕ) → word (of a) ≡ a → word (of b) ≡ b
       → nat_eq a b ≡ eq (of a) (of b)
   compared itself of a b f g = elim (cases_eq a b) [
     | inl e ↦ eq-eqb a b e ∙ sym (itself (of a)) ∙ ap (λ z. eq (of a) (of z)) e
-    | inr n ↦ ne_eqb a b n ∙ sym (told_apart (of a) (of b) (eq (of a) (of b)) refl (λ e. n (sym f ∙ e ∙ g)))
+    | inr n ↦ ne_eqb a b n ∙ sym (differ_if_words_differ (of a) (of b) (eq (of a) (of b)) refl (λ e. n (sym f ∙ e ∙ g)))
   ]
 
 -- references that compare as equal have one word

@@ -5,14 +5,14 @@ ghost use Rattle.std.specs.Prelude.{MatchResult};
 ghost use Rattle.std.specs.List.{sum_by, AllZip};
 ghost use Rattle.dd_store.specs.declared.reference.Ref.{Ref as RefValue};
 ghost use Rattle.dd_store.specs.Graph.{Pair};
-ghost use Rattle.dd_store.specs.Growing.{Grows, IsStopped};
-ghost use Rattle.dd_store.specs.Levels.{IsAdded, IsHalted, Names, list_at, all_at, plain_list, pairs_of, AreWithin, IsFault, HadMemory};
-ghost use Rattle.dd_store.specs.declared.level.Shard.{Shard as ShardValue};
+ghost use Rattle.dd_store.specs.Growing.{Grows, IsAddListFault};
+ghost use Rattle.dd_store.specs.Levels.{IsAdded, IsMakeListFault, IsReferenceAt, list_at, all_at, regular_list, pairs_of, AreWithin, IsFault, HadMemory};
+ghost use Rattle.dd_store.specs.declared.level.ShardState.{ShardState as ShardValue};
 ghost use Rattle.slot_table.specs.Placing.{IsPlaced};
 
 use crate::StoreFault;
 use crate::pairs::PairTable;
-use crate::reference::{NodeId, Ref, marked_pair};
+use crate::reference::{NodeId, Ref, complement_pair};
 use slot_table::{Admission, Refusal};
 use std::alloc::Global;
 use std::thread::Threads;
@@ -27,14 +27,14 @@ pub trait Watch {
 /// A shard, the children of its nodes by place, why the last list was not added whole, and the references that a thread has noted
 /// for its pairs, which are taken out before a call ends.
 #[derive(Drop)]
-pub(crate) struct Shard {
-    pub(crate) shard: PairTable,
+pub(crate) struct ShardState {
+    pub(crate) nodes: PairTable,
     pub(crate) fault: Option<StoreFault>,
     pub(crate) found: Vec<Ref>,
 }
 
 // A quarter of it is the list of references.
-const _: () = prove!(size_of::<Shard>() == 88);
+const _: () = prove!(size_of::<ShardState>() == 88);
 
 /// Finds a pair in a shard, or adds it where the shard alone holds fewer than `limit` pairs.
 fn place(shard: &mut PairTable, pair: (Ref, Ref), limit: u64) -> Result<Admission, Refusal>
@@ -45,19 +45,19 @@ fn place(shard: &mut PairTable, pair: (Ref, Ref), limit: u64) -> Result<Admissio
     shard.find_or_add(pair, room)
 }
 
-impl Shard {
+impl ShardState {
     /// Adds a node for each pair that has none, as long as the shard alone holds fewer than `limit` nodes. Where a pair's second has a
     /// mark, the node is that of both complements.
     pub(crate) fn add_list(&mut self, list: &[(Ref, Ref)], limit: u64)
         requires { limit < 2 ^ 32 }
-        ensures grows { Grows (plain_list list.now) self.old.shard self.new.shard }
-        ensures stopped { IsStopped limit (plain_list list.now) self.new.shard self.new.fault }
-        ensures within { length self.old.shard ≤ limit → length self.new.shard ≤ limit }
+        ensures grows { Grows (regular_list list.now) self.old.nodes self.new.nodes }
+        ensures stopped { IsAddListFault limit (regular_list list.now) self.new.nodes self.new.fault }
+        ensures within { length self.old.nodes ≤ limit → length self.new.nodes ≤ limit }
     {
         self.fault = None;
         for pair in list {
-            let children = marked_pair(*pair, pair.1.is_marked());
-            if let Err(refusal) = place(&mut self.shard, children, limit) {
+            let children = complement_pair(*pair, pair.1.is_complement());
+            if let Err(refusal) = place(&mut self.nodes, children, limit) {
                 self.fault = Some(StoreFault::from(refusal));
                 return;
             }
@@ -74,17 +74,17 @@ impl Shard {
         shard: u8,
     ) -> Result<(), StoreFault>
         requires { limit < 2 ^ 32 }
-        ensures grows { Grows (plain_list list.now) self.old.shard self.new.shard }
-        ensures within { length self.old.shard ≤ limit → length self.new.shard ≤ limit }
+        ensures grows { Grows (regular_list list.now) self.old.nodes self.new.nodes }
+        ensures within { length self.old.nodes ≤ limit → length self.new.nodes ≤ limit }
         ensures noted { MatchResult result (λ _. (refs : List RefValue) × (self.new.found.items ≡ self.old.found.items ++ refs)
-            × AllZip (Names level shard self.new.shard) list.now refs) (λ f. IsHalted limit (plain_list list.now) self.new.shard f) }
+            × AllZip (IsReferenceAt level shard self.new.nodes) list.now refs) (λ f. IsMakeListFault limit (regular_list list.now) self.new.nodes f) }
     {
         if self.found.reserve(list.len()).is_err() {
             return Err(StoreFault::OutOfMemory);
         }
         for pair in list {
-            let mark = pair.1.is_marked();
-            let placed = place(&mut self.shard, marked_pair(*pair, mark), limit)?;
+            let complement = pair.1.is_complement();
+            let placed = place(&mut self.nodes, complement_pair(*pair, complement), limit)?;
             let index = match placed {
                 Admission::Found(index) => index,
                 Admission::Added(index) => index,
@@ -94,7 +94,7 @@ impl Shard {
                 shard,
                 index,
             });
-            self.found.push_reserved(node.marked(mark));
+            self.found.push_reserved(node.complement_if(complement));
         }
         Ok(())
     }
@@ -110,10 +110,10 @@ impl Shard {
         requires limit { limit < 2 ^ 32 }
         requires lists { All (λ part. length part.items ≡ 16) parts.now }
         requires shard { shard < 16 }
-        ensures grows { Grows (plain_list (all_at parts.now shard)) self.old.shard self.new.shard }
-        ensures within { length self.old.shard ≤ limit → length self.new.shard ≤ limit }
-        ensures noted { MatchResult result (λ _. AllZip (Names level shard self.new.shard) (all_at parts.now shard) self.new.found.items)
-            (λ f. IsHalted limit (plain_list (all_at parts.now shard)) self.new.shard f) }
+        ensures grows { Grows (regular_list (all_at parts.now shard)) self.old.nodes self.new.nodes }
+        ensures within { length self.old.nodes ≤ limit → length self.new.nodes ≤ limit }
+        ensures noted { MatchResult result (λ _. AllZip (IsReferenceAt level shard self.new.nodes) (all_at parts.now shard) self.new.found.items)
+            (λ f. IsMakeListFault limit (regular_list (all_at parts.now shard)) self.new.nodes f) }
     {
         self.found.clear();
         for part in parts {
@@ -127,7 +127,7 @@ impl Shard {
 /// Adds list i to shard i, for the sixteen shards of a level. Four threads share the shards, four in a row for each.
 pub(crate) fn add_lists<R: Threads + Sync, H: Watch + Sync>(
     rt: &R,
-    shards: &mut [Shard],
+    shards: &mut [ShardState],
     level: u16,
     lists: &[Vec<(Ref, Ref)>],
     limit: u64,
@@ -139,18 +139,18 @@ pub(crate) fn add_lists<R: Threads + Sync, H: Watch + Sync>(
     ensures { (s : ℕ) (d : ShardValue) → s < 16 → IsAdded limit (list_at lists.now s) (slice_index_or shards.old s d)
         (slice_index_or shards.new s d) }
 {
-    let add = |shard: usize, held: &mut Shard|
+    let add = |shard: usize, shard_state: &mut ShardState|
         requires { (shard < 16) × (length lists.now ≡ 16) × (limit < 2 ^ 32) }
-        ensures { IsAdded limit (list_at lists.entry.now shard) held.entry.now held.exit.now }
+        ensures { IsAdded limit (list_at lists.entry.now shard) shard_state.entry.now shard_state.exit.now }
     {
         watch.at_shard(shard as u8, level);
-        held.add_list(lists[shard].as_slice(), limit);
+        shard_state.add_list(lists[shard].as_slice(), limit);
     };
     thread::for_each_mut(rt, shards, 4, &add);
 }
 
 /// Takes the references out of the shards.
-pub(crate) fn take_found(alloc: Global, shards: &mut [Shard], refs: &mut Vec<Vec<Ref>>)
+pub(crate) fn take_found(alloc: Global, shards: &mut [ShardState], refs: &mut Vec<Vec<Ref>>)
     requires empty { refs.old.items ≡ [] }
     requires room { length shards.old ≤ vec_capacity refs.old }
     ensures found { refs.new.items ≡ map (λ (c : ShardValue). c.found) shards.old }
@@ -163,27 +163,27 @@ pub(crate) fn take_found(alloc: Global, shards: &mut [Shard], refs: &mut Vec<Vec
 }
 
 /// How many nodes the shards of a level hold.
-pub(crate) fn level_count(shards: &[Shard], limit: u64) -> u64
+pub(crate) fn level_count(shards: &[ShardState], limit: u64) -> u64
     requires shards { length shards.now ≤ 16 }
     requires limit { limit < 2 ^ 32 }
     requires within { AreWithin limit shards.now }
     ensures { result ≡ sum_by (λ (ps : List Pair). length ps) (pairs_of shards.now) }
 {
     let mut total = 0;
-    for held in shards {
-        total += held.shard.len() as u64;
+    for shard_state in shards {
+        total += shard_state.nodes.len() as u64;
     }
     total
 }
 
 /// Why pairs of the last lists are missing; want of memory comes before the limit.
-pub(crate) fn level_fault(shards: &[Shard]) -> Option<StoreFault>
+pub(crate) fn level_fault(shards: &[ShardState]) -> Option<StoreFault>
     ensures fault { IsFault shards.now result }
     ensures memory { HadMemory shards.now ⊎ (result ≡ Some StoreFault.OutOfMemory) }
 {
     let mut worst = None;
-    for held in shards {
-        if let Some(fault) = held.fault {
+    for shard_state in shards {
+        if let Some(fault) = shard_state.fault {
             if fault == StoreFault::OutOfMemory {
                 return Some(fault);
             }

@@ -4,7 +4,7 @@
 //! **Promises.** Every store is ordered and reduced (`Store::levels`: `sound`), and references are equal exactly where
 //! they denote one function (`canonical`). `make` and `variable` answer the node or its cause of refusal (`makes`,
 //! `meaning`, `refused`, `full`) and keep all nodes (`extends`). `Ref::negate` is the complement, makes no node and
-//! undoes itself (`value`, `meaning`). By threads, `make_by` answers a level's references (`answers`), adds these nodes
+//! undoes itself (`value`, `meaning`). By threads, `make_all` answers a level's references (`answers`), adds these nodes
 //! and no others (`grows`) and says why not (`fault`), as one thread would; `add_all` adds nodes and answers none
 //! (`grows`, `answer`).
 //!
@@ -22,7 +22,7 @@ use slot_table::Refusal;
 use std::fmt;
 use thiserror::Error;
 
-mod codes;
+mod hashes;
 mod level;
 mod makers;
 mod pairs;
@@ -31,7 +31,7 @@ mod size;
 mod store;
 mod words;
 
-pub use codes::{code, shard_of};
+pub use hashes::{ref_hash, shard_of};
 pub use level::Watch;
 pub use makers::Makers;
 pub use reference::{NodeId, Ref, Reference, SHARDS};

@@ -1,10 +1,10 @@
 //! Threads that share the shards of a level, where each makes nodes in some neighbouring shards of its own.
 ghost use Rattle.std.specs.Prelude.{◌≡◌, ◌+◌, ◌^◌, ◌<◌, ◌≤◌, ℕ, length, slice_index_or, All};
 ghost use Rattle.std.specs.Thread.{IsSync};
-ghost use Rattle.dd_store.specs.declared.level.Shard.{Shard as ShardValue};
+ghost use Rattle.dd_store.specs.declared.level.ShardState.{ShardState as ShardValue};
 ghost use Rattle.dd_store.specs.Levels.{IsNoted, AreMadeFrom, all_at};
 
-use crate::level::{Shard, Watch};
+use crate::level::{ShardState, Watch};
 use crate::reference::{Ref, SHARDS};
 use std::thread::Threads;
 
@@ -29,19 +29,19 @@ struct Lists<'a, H> {
 }
 
 /// Adds list i of each part to shard i, and notes the references of its pairs.
-fn note_lists<H>(held: &mut Shard, lists: &Lists<'_, H>, shard: usize)
+fn note_lists<H>(shard_state: &mut ShardState, lists: &Lists<'_, H>, shard: usize)
     requires limit { lists.now.limit < 2 ^ 32 }
     requires lists { All (λ part. length part.items ≡ 16) lists.now.parts.now }
     requires shard { shard < 16 }
-    ensures { IsNoted lists.now.limit lists.now.level shard (all_at lists.now.parts.now shard) held.old held.new }
+    ensures { IsNoted lists.now.limit lists.now.level shard (all_at lists.now.parts.now shard) shard_state.old shard_state.new }
 {
-    held.fault = held
+    shard_state.fault = shard_state
         .make_lists(lists.parts, lists.limit, lists.level, shard as u8)
         .err();
 }
 
 /// Adds the lists of neighbouring shards, of which `first` is the first, to them, and notes the references of the pairs.
-fn make_shards<H: Watch>(shards: &mut [Shard], lists: &Lists<'_, H>, first: usize)
+fn make_shards<H: Watch>(shards: &mut [ShardState], lists: &Lists<'_, H>, first: usize)
     requires limit { lists.now.limit < 2 ^ 32 }
     requires lists { All (λ part. length part.items ≡ 16) lists.now.parts.now }
     requires shards { first + length shards.old ≤ 16 }
@@ -88,25 +88,25 @@ fn first_share(parts: &[Vec<Vec<(Ref, Ref)>>], first: usize, count: usize, threa
 {
     let wanted = pairs_from(parts, first, count) / threads;
     let most = count - (threads - 1);
-    let mut held = pairs_for(parts, first);
+    let mut assigned = pairs_for(parts, first);
     for share in 1..most {
         let next = pairs_for(parts, first + share);
-        if held.saturating_add(next / 2) > wanted {
+        if assigned.saturating_add(next / 2) > wanted {
             return share;
         }
-        held = held.saturating_add(next);
+        assigned = assigned.saturating_add(next);
     }
     most
 }
 
 /// Adds the lists of neighbouring shards by so many threads.
 #[cycle(forks)]
-fn make_apart<R: Threads + Sync, H: Watch + Sync>(
+fn make_in_parallel<R: Threads + Sync, H: Watch + Sync>(
     rt: &R,
     lists: &Lists<'_, H>,
     first: usize,
     threads: usize,
-    shards: &mut [Shard],
+    shards: &mut [ShardState],
 )
     requires limit { lists.now.limit < 2 ^ 32 }
     requires lists { All (λ part. length part.items ≡ 16) lists.now.parts.now }
@@ -132,8 +132,8 @@ fn share_and_rest<R: Threads + Sync, H: Watch + Sync>(
     lists: &Lists<'_, H>,
     threads: usize,
     first: usize,
-    own: &mut [Shard],
-    rest: &mut [Shard],
+    own: &mut [ShardState],
+    rest: &mut [ShardState],
 )
     requires limit { lists.now.limit < 2 ^ 32 }
     requires lists { All (λ part. length part.items ≡ 16) lists.now.parts.now }
@@ -152,14 +152,14 @@ fn share_and_rest<R: Threads + Sync, H: Watch + Sync>(
         requires { IsSync R.row × IsSync H.row × (lists.now.limit < 2 ^ 32) × All (λ part. length part.items ≡ 16) lists.now.parts.now
             × (next + length rest.now ≤ 16) × (threads ≤ length rest.now) }
         ensures { AreMadeFrom lists.entry.now.limit lists.entry.now.level lists.entry.now.parts.now next rest.entry.now rest.exit.now }
-    { make_apart(rt, lists, next, threads, rest) };
+    { make_in_parallel(rt, lists, next, threads, rest) };
     rayon::join_mut(rt, &mut front, &mut back);
 }
 
 /// Adds list i of each part to shard i, for the sixteen shards of a level, and notes the references of its pairs.
 pub(crate) fn make_level<R: Threads + Sync, H: Watch + Sync>(
     makers: &Makers<'_, R, H>,
-    shards: &mut [Shard],
+    shards: &mut [ShardState],
     parts: &[Vec<Vec<(Ref, Ref)>>],
     limit: u64,
     level: u16,
@@ -177,5 +177,5 @@ pub(crate) fn make_level<R: Threads + Sync, H: Watch + Sync>(
         watch: makers.watch,
     };
     let threads = SHARDS.min(makers.count as usize);
-    make_apart(makers.rt, &lists, 0, threads, shards);
+    make_in_parallel(makers.rt, &lists, 0, threads, shards);
 }

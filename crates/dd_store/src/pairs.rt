@@ -1,6 +1,6 @@
 //! The children of a shard's nodes, in eight bytes a node where the references fit in four each, else in sixteen.
 ghost use Rattle.std.specs.Prelude.{◌≡◌, ◌<◌, ◌+◌, ◌^◌, [], length, map, slice_get, Some, MatchOption, MatchResult};
-ghost use Rattle.dd_store.specs.Narrow.{AreWords, AllWords, AreTheirs, pair_at, pairs_in, AreHeld, AreFour, IsLeftOut};
+ghost use Rattle.dd_store.specs.Narrow.{AreShortWords, AllShortWords, AreWordsOf, pair_at, pairs_in, AreValid, IsNarrow, DoesNotFit};
 ghost use Rattle.slot_table.specs.Lists.{IsIn};
 ghost use Rattle.slot_table.specs.Placing.{IsPlaced};
 ghost use Rattle.slot_table.specs.Probes.{IsSlotCount};
@@ -21,7 +21,7 @@ const FOUR_BYTES: u64 = 1 << 32;
 /// The words of two references in four bytes each, if both fit.
 #[inline(always)]
 fn words(pair: (Ref, Ref)) -> Option<(u32, u32)>
-    ensures { AreTheirs pair result }
+    ensures { AreWordsOf pair result }
 {
     let low = pair.0.word();
     let high = pair.1.word();
@@ -34,7 +34,7 @@ fn words(pair: (Ref, Ref)) -> Option<(u32, u32)>
 /// Both references that have these words.
 #[inline(always)]
 fn references(words: (u32, u32)) -> (Ref, Ref)
-    requires { AreWords words }
+    requires { AreShortWords words }
     ensures { result ≡ pair_at words }
 {
     (Ref::of_word(words.0 as u64), Ref::of_word(words.1 as u64))
@@ -42,7 +42,7 @@ fn references(words: (u32, u32)) -> (Ref, Ref)
 
 /// The pairs of a table in sixteen bytes each.
 fn widened(alloc: Global, table: &SlotTable<(u32, u32)>) -> Result<SlotTable<(Ref, Ref)>, Refusal>
-    requires words { AllWords table.now }
+    requires words { AllShortWords table.now }
     requires few { length table.now + 1 < 2 ^ 32 }
     ensures { MatchResult result (λ wide. wide ≡ map pair_at table.now) (λ e. e ≡ Refusal.OutOfMemory) }
 {
@@ -79,10 +79,10 @@ impl Pairs {
     /// Finds a pair, or adds it at the end, where there is room for one more; none if it does not fit.
     #[inline(always)]
     fn place(&mut self, pair: (Ref, Ref), room: u64) -> Option<Result<Admission, Refusal>>
-        requires held { AreHeld self.old }
+        requires valid { AreValid self.old }
         requires room { 0 < room → length (pairs_in self.old) + room < 2 ^ 32 }
-        ensures held { AreHeld self.new }
-        ensures placed { MatchOption result (IsLeftOut pair self.old self.new)
+        ensures valid { AreValid self.new }
+        ensures placed { MatchOption result (DoesNotFit pair self.old self.new)
             (λ r. IsPlaced room pair (pairs_in self.old) r (pairs_in self.new)) }
     {
         match self {
@@ -102,11 +102,11 @@ impl Pairs {
         pair: (Ref, Ref),
         room: u64,
     ) -> Result<Admission, Refusal>
-        requires held { AreHeld self.old }
-        requires four { AreFour self.old }
+        requires valid { AreValid self.old }
+        requires four { IsNarrow self.old }
         requires absent { IsIn (pairs_in self.old) pair → ⊥ }
         requires room { 0 < room → length (pairs_in self.old) + room < 2 ^ 32 }
-        ensures held { AreHeld self.new }
+        ensures valid { AreValid self.new }
         ensures placed { IsPlaced room pair (pairs_in self.old) result (pairs_in self.new) }
     {
         if room == 0 {
@@ -135,11 +135,11 @@ impl Model for PairTable {
 
     ghost Value = { List Pair };
 
-    ghost use Rattle.dd_store.specs.Narrow.{pairs_in, AreHeld};
+    ghost use Rattle.dd_store.specs.Narrow.{pairs_in, AreValid};
 
     ghost view = { λ t. pairs_in t.pairs };
 
-    ghost invariant = { λ t. AreHeld t.pairs };
+    ghost invariant = { λ t. AreValid t.pairs };
 }
 
 impl PairTable {

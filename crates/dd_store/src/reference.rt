@@ -1,12 +1,12 @@
 //! References to nodes.
 ghost use Rattle.std.specs.Prelude.{◌≡◌, ◌^◌, ◌<◌, Bool, List, false, not};
-ghost use Rattle.dd_store.specs.Marks.{is_marked, mark_by, mark_both, negate_of};
+ghost use Rattle.dd_store.specs.Complements.{is_complement, complement_by, complement_both, negate_of};
 ghost use Rattle.dd_store.specs.Nodes.{Nodes, den};
 ghost use Rattle.dd_store.specs.Order.{ref_cmp};
 ghost use Rattle.dd_store.specs.Words.{word_of, reference_of, IsWord, is_terminal};
 
 use crate::words::{LONG, node_of, node_word};
-use slot_table::Spread;
+use slot_table::SlotHash;
 use std::cmp::Ordering;
 use std::fmt;
 use std::hash::{Hash, Hasher};
@@ -31,7 +31,7 @@ pub enum Reference {
     False,
     /// The terminal of the function that is 1 everywhere.
     True,
-    Node { id: NodeId, mark: bool },
+    Node { id: NodeId, complement: bool },
 }
 
 /// A terminal or a node of a store, perhaps with a mark, in eight bytes, of which four are enough for most. The order of references is
@@ -83,22 +83,22 @@ impl Ref {
         ensures value { result ≡ negate_of self }
         ensures meaning { (S : Nodes) (x : List Bool) → den S result x ≡ not (den S self x) }
     {
-        self.marked(true)
+        self.complement_if(true)
     }
 
     /// Whether it has a mark, as False has.
-    pub fn is_marked(self) -> bool
-        ensures { result ≡ is_marked self }
+    pub fn is_complement(self) -> bool
+        ensures { result ≡ is_complement self }
     {
         (self.word + self.is_terminal() as u64) % 2 == 1
     }
 
-    /// Its complement where `mark` is set.
-    pub fn marked(self, mark: bool) -> Ref
-        ensures { result ≡ mark_by mark self }
+    /// Its complement where `complement` is set.
+    pub fn complement_if(self, complement: bool) -> Ref
+        ensures { result ≡ complement_by complement self }
     {
         Ref {
-            word: self.word ^ mark as u64,
+            word: self.word ^ complement as u64,
         }
     }
 
@@ -111,7 +111,7 @@ impl Ref {
             1 => Reference::True,
             word => Reference::Node {
                 id: node_of(word),
-                mark: word % 2 == 1,
+                complement: word % 2 == 1,
             },
         }
     }
@@ -142,13 +142,13 @@ impl Ref {
     }
 }
 
-impl Spread for Ref {
+impl SlotHash for Ref {
     ghost use Rattle.dd_store.specs.Words.{word_of};
     ghost use Rattle.dd_store.specs.Equal.{ref_same};
 
-    ghost spread_of = { word_of };
+    ghost slot_hash_of = { word_of };
 
-    fn spread(&self) -> u64 {
+    fn slot_hash(&self) -> u64 {
         self.word
     }
 
@@ -239,9 +239,12 @@ impl Hash for Ref {
     }
 }
 
-/// Both references, complemented where `mark` is set.
-pub(crate) fn marked_pair(pair: (Ref, Ref), mark: bool) -> (Ref, Ref)
-    ensures { result ≡ mark_both mark pair }
+/// Both references, complemented where `complement` is set.
+pub(crate) fn complement_pair(pair: (Ref, Ref), complement: bool) -> (Ref, Ref)
+    ensures { result ≡ complement_both complement pair }
 {
-    (pair.0.marked(mark), pair.1.marked(mark))
+    (
+        pair.0.complement_if(complement),
+        pair.1.complement_if(complement),
+    )
 }

@@ -13,7 +13,7 @@ impl Store {
     /// How many nodes are reached from a reference, itself counted and terminals not. By Bryant (1986) it is a number of
     /// the function alone, the same in every store with the same order of variables.
     pub fn size(&self, reference: Ref) -> Result<u64, AllocError>
-        requires here { IsRef (node self.now) reference }
+        requires in_store { IsRef (node self.now) reference }
         ensures { IfOk result (λ k. HasSize self.now.levels (den self.now reference) k) }
     {
         let _ = self.levels();

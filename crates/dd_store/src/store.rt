@@ -2,7 +2,7 @@
 //! so that equal functions have equal references (Bryant 1986).
 ghost use Rattle.std.specs.Prelude.{◌≡◌, ◌<◌, ◌≤◌, ◌^◌, List, Bool, false, IfOk, IfErr, OnErr};
 ghost use Rattle.dd_store.specs.Graph.{top, bit, IsRef};
-ghost use Rattle.dd_store.specs.Marks.{is_marked};
+ghost use Rattle.dd_store.specs.Complements.{is_complement};
 ghost use Rattle.dd_store.specs.View.{IsMade, IsFull};
 ghost use Rattle.dd_store.specs.Nodes.{Nodes, node, count_of, IsSound, Extends, IsBranch, IsCanonical, Makes, empty_nodes, den};
 
@@ -10,10 +10,10 @@ mod by_threads;
 mod reading;
 
 use crate::StoreFault;
-use crate::codes::shard_of_plain;
-use crate::level::Shard;
+use crate::hashes::shard_of_regular;
+use crate::level::ShardState;
 use crate::pairs::PairTable;
-use crate::reference::{NodeId, Ref, Reference, SHARDS, marked_pair};
+use crate::reference::{NodeId, Ref, Reference, SHARDS, complement_pair};
 use slot_table::Admission;
 use std::alloc::{AllocError, Global};
 use std::marker::Model;
@@ -26,11 +26,11 @@ pub struct Store {
     levels: u16,
     limit: u64,
     count: u64,
-    shards: Vec<Shard>,
+    shards: Vec<ShardState>,
 }
 
 impl Model for Store {
-    ghost use Rattle.dd_store.specs.Nodes.{Nodes, IsKept};
+    ghost use Rattle.dd_store.specs.Nodes.{Nodes, IsStore};
 
     ghost Value = { Nodes };
 
@@ -38,7 +38,7 @@ impl Model for Store {
 
     ghost view = { λ s. record { levels = s.levels; limit = s.limit; shards = pairs_of s.shards.items } };
 
-    ghost invariant = { λ s. IsKept (record { levels = s.levels; limit = s.limit; shards = pairs_of s.shards.items }) s.count };
+    ghost invariant = { λ s. IsStore (record { levels = s.levels; limit = s.limit; shards = pairs_of s.shards.items }) s.count };
 }
 
 impl Store {
@@ -50,8 +50,8 @@ impl Store {
     {
         let mut shards = Vec::new(alloc);
         for _ in 0..SHARDS * levels as usize {
-            shards.push(Shard {
-                shard: PairTable::new(alloc),
+            shards.push(ShardState {
+                nodes: PairTable::new(alloc),
                 fault: None,
                 found: Vec::new(alloc),
             })?;
@@ -98,19 +98,19 @@ impl Store {
     #[inline(always)]
     fn find_or_add(&mut self, level: u16, lo: Ref, hi: Ref) -> Result<Ref, StoreFault>
         requires level { level < self.old.levels }
-        requires lo_here { IsRef (node self.old) lo }
-        requires hi_here { IsRef (node self.old) hi }
+        requires lo_in_store { IsRef (node self.old) lo }
+        requires hi_in_store { IsRef (node self.old) hi }
         requires above_lo { level < top self.old.levels lo }
         requires above_hi { level < top self.old.levels hi }
         requires differ { lo ≡ hi → ⊥ }
-        requires plain { is_marked hi ≡ false }
+        requires regular { is_complement hi ≡ false }
         ensures { Makes self.old level lo hi result self.new }
     {
-        let shard = shard_of_plain(lo, hi);
+        let shard = shard_of_regular(lo, hi);
         let place = SHARDS * level as usize + shard as usize;
         let room = self.limit.saturating_sub(self.count);
-        let held = &mut self.shards[place];
-        let placed = held.shard.find_or_add((lo, hi), room)?;
+        let shard_state = &mut self.shards[place];
+        let placed = shard_state.nodes.find_or_add((lo, hi), room)?;
         let index = match placed {
             Admission::Found(index) => index,
             Admission::Added(index) => {
@@ -132,14 +132,14 @@ impl Store {
     #[inline(always)]
     pub fn make(&mut self, level: u16, lo: Ref, hi: Ref) -> Result<Ref, StoreFault>
         requires level { level < self.old.levels }
-        requires lo_here { IsRef (node self.old) lo }
-        requires hi_here { IsRef (node self.old) hi }
+        requires lo_in_store { IsRef (node self.old) lo }
+        requires hi_in_store { IsRef (node self.old) hi }
         requires above_lo { level < top self.old.levels lo }
         requires above_hi { level < top self.old.levels hi }
         ensures makes { Makes self.old level lo hi result self.new }
         ensures sound { IsSound self.new }
         ensures extends { Extends self.old self.new }
-        ensures here { IfOk result (λ r. IsRef (node self.new) r) }
+        ensures in_store { IfOk result (λ r. IsRef (node self.new) r) }
         ensures meaning { IfOk result (λ r. IsBranch self.new level lo hi r) }
         ensures made { IfOk result (λ r. IsMade self.old self.new level lo hi r) }
         ensures refused { OnErr result (self.new ≡ self.old) }
@@ -149,10 +149,10 @@ impl Store {
         if lo == hi {
             return Ok(lo);
         }
-        let mark = hi.is_marked();
-        let pair = marked_pair((lo, hi), mark);
+        let complement = hi.is_complement();
+        let pair = complement_pair((lo, hi), complement);
         let made = self.find_or_add(level, pair.0, pair.1)?;
-        Ok(made.marked(mark))
+        Ok(made.complement_if(complement))
     }
 
     /// The reference whose function is the bit of a level.
@@ -161,7 +161,7 @@ impl Store {
         ensures makes { Makes self.old level Reference.False Reference.True result self.new }
         ensures sound { IsSound self.new }
         ensures extends { Extends self.old self.new }
-        ensures here { IfOk result (λ r. IsRef (node self.new) r) }
+        ensures in_store { IfOk result (λ r. IsRef (node self.new) r) }
         ensures meaning { IfOk result (λ r. (x : List Bool) → den self.new r x ≡ bit x level) }
         ensures made { IfOk result (λ r. IsMade self.old self.new level Reference.False Reference.True r) }
         ensures refused { OnErr result (self.new ≡ self.old) }

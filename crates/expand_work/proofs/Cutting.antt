@@ -5,8 +5,8 @@ use Rattle.std.proofs.Math.Seq.{take-append_seam, drop-append_seam}
 use Rattle.std.specs.List.{flat_map}
 use Rattle.std.specs.Prelude.{MatchOption}
 use Rattle.req_table.specs.declared.Key.{Key}
-use Rattle.lane_queue.specs.declared.load.TheConstants.Bundle.{ROOM}
-use Rattle.expand_work.specs.Due.{in_hand, AreFull, IsBegun, IsCut}
+use Rattle.lane_queue.specs.declared.load.TheConstants.Bundle.{CAPACITY}
+use Rattle.expand_work.specs.Due.{in_partial, AreFull, IsBegun, IsCut}
 
 -- bundles behind a full one
 pub full_rest : (fs bs : List (List (ℕ × Key))) → bs ≡ drop 1 fs → AreFull fs → AreFull bs
@@ -14,11 +14,11 @@ full_rest [] bs is h = subst AreFull (sym is) h
 full_rest (f ∷ fs) bs is h = subst AreFull (sym is) (λ k d lt. h (suc k) d (omega (arith, lt)))
 
 -- a full one is the first
-pub cut_full : (b hand old : List (ℕ × Key)) (fs bs : List (List (ℕ × Key))) → fs ≡ b ∷ bs → AreFull fs → flat_map (λ x. x) fs ++ hand ≡ old → IsCut old b (flat_map (λ x. x) bs ++ hand)
-cut_full b hand old fs bs is full all =
-    let rest = flat_map (λ (x : List (ℕ × Key)). x) bs ++ hand in
-    let n : length b ≡ ROOM = subst AreFull is full 0 b (omega arith) in
-    let seam : b ++ rest ≡ old = sym (append_assoc b (flat_map (λ (x : List (ℕ × Key)). x) bs) hand) ∙ ap (λ xs. flat_map (λ (x : List (ℕ × Key)). x) xs ++ hand) (sym is) ∙ all in
+pub cut_full : (b partial old : List (ℕ × Key)) (fs bs : List (List (ℕ × Key))) → fs ≡ b ∷ bs → AreFull fs → flat_map (λ x. x) fs ++ partial ≡ old → IsCut old b (flat_map (λ x. x) bs ++ partial)
+cut_full b partial old fs bs is full all =
+    let rest = flat_map (λ (x : List (ℕ × Key)). x) bs ++ partial in
+    let n : length b ≡ CAPACITY = subst AreFull is full 0 b (omega arith) in
+    let seam : b ++ rest ≡ old = sym (append_assoc b (flat_map (λ (x : List (ℕ × Key)). x) bs) partial) ∙ ap (λ xs. flat_map (λ (x : List (ℕ × Key)). x) xs ++ partial) (sym is) ∙ all in
     record {
       some = let e = sym (length-append b rest) ∙ ap (λ (l : List (ℕ × Key)). length l) seam in omega (arith, e, n);
       first = sym (take-append_seam b rest) ∙ (λ i. take (n i) (seam i));
@@ -36,17 +36,17 @@ drop_all (suc n) [] lt = refl
 drop_all (suc n) (x ∷ xs) lt = drop_all n xs (omega (arith, lt))
 
 -- the one in hand is all
-pub cut_hand : (hand : Option (List (ℕ × Key))) (old left : List (ℕ × Key)) → IsBegun hand → in_hand hand ≡ old → left ≡ [] → MatchOption hand ((old ≡ []) × (left ≡ [])) (λ b. IsCut old b left)
-cut_hand None old left begun all none = (sym all, none)
-cut_hand (Some b) old left begun all none = subst (λ o. IsCut o b left) all (record {
+pub cut_partial : (partial : Option (List (ℕ × Key))) (old left : List (ℕ × Key)) → IsBegun partial → in_partial partial ≡ old → left ≡ [] → MatchOption partial ((old ≡ []) × (left ≡ [])) (λ b. IsCut old b left)
+cut_partial None old left begun all none = (sym all, none)
+cut_partial (Some b) old left begun all none = subst (λ o. IsCut o b left) all (record {
   some = begun.0;
-  first = sym (take_all ROOM b (let lt = begun.1 in omega (arith, lt)));
-  rest = none ∙ sym (drop_all ROOM b begun.1);
+  first = sym (take_all CAPACITY b (let lt = begun.1 in omega (arith, lt)));
+  rest = none ∙ sym (drop_all CAPACITY b begun.1);
 })
 
 -- nothing is lost
 pub cut_all : (asks bundle left : List (ℕ × Key)) → IsCut asks bundle left → bundle ++ left ≡ asks
-cut_all asks bundle left h = (λ i. h.first i ++ h.rest i) ∙ take-append-drop ROOM asks
+cut_all asks bundle left h = (λ i. h.first i ++ h.rest i) ∙ take-append-drop CAPACITY asks
 
-pub cut_less : (asks bundle left : List (ℕ × Key)) → IsCut asks bundle left → length left ≡ length asks - ROOM
-cut_less asks bundle left h = ap (λ (l : List (ℕ × Key)). length l) h.rest ∙ length-drop ROOM asks
+pub cut_less : (asks bundle left : List (ℕ × Key)) → IsCut asks bundle left → length left ≡ length asks - CAPACITY
+cut_less asks bundle left h = ap (λ (l : List (ℕ × Key)). length l) h.rest ∙ length-drop CAPACITY asks

@@ -14,28 +14,28 @@ use Rattle.req_table.specs.declared.Sizes.{Sizes}
 use Rattle.req_table.specs.Wave.{Wave, Scope}
 use Rattle.std.proofs.lemmas.List.Elements.{All-head, All-tail}
 use Rattle.req_table.specs.Keys.{level_of, wave_of}
-use Rattle.req_table.specs.Lanes.{from_of, sent_by, asks, IsFair, HasSenders}
+use Rattle.req_table.specs.Lanes.{sender_of, sent_by, asks, IsFair, HasSenders}
 use Rattle.req_table.specs.Sizes.{sizes_of}
-use Rattle.req_table.specs.Settled.{IsSettled, key_of, owed}
+use Rattle.req_table.specs.Settled.{IsSettled, key_of, asked_in_all}
 use Rattle.req_table.specs.Tables.{row_at}
 use Rattle.req_table.proofs.Fair.{sent_by-append}
-use Rattle.lane_queue.proofs.Lines.{item-open}
+use Rattle.lane_queue.proofs.Endpoints.{item-open}
 use Rattle.req_table.proofs.Sized.{fair_in_wave, law_in_wave}
 use Rattle.lane_queue.specs.PortView.{LanesView, PortView, sent_to, put_to}
 use Rattle.lane_queue.specs.Make.{new_port}
 use Rattle.lane_queue.specs.Joining.{ArePorts, AreRetired, LawOfAll, retired, sent_from, taken_by}
 use Rattle.expand_work.specs.declared.part.Part.{Part}
 use Rattle.expand_work.specs.Parts.{IsPart, sum_below, bundles_of, loads_of}
-use Rattle.expand_work.specs.Worked.{IsFresh, IsWorked}
+use Rattle.expand_work.specs.WorkerResult.{IsFresh, IsWorked}
 use Rattle.expand_work.specs.Team.{AreNew, AreWorked}
-use Rattle.expand_work.specs.Expanded.{put_by, bundles_between, row_of}
-use Rattle.expand_work.specs.Gathered.{AreParts, AreSettled, AreOpen, noted_of}
+use Rattle.expand_work.specs.WavePorts.{put_by, bundles_between, row_of}
+use Rattle.expand_work.specs.WaveParts.{AreParts, AreSettled, AreOpen, noted_of}
 use Rattle.expand_work.specs.Work.{at}
-use Rattle.expand_work.specs.Lean.{lean_row, records_of, recorded, AreLean}
-use Rattle.expand_work.specs.declared.space.Space.{Space}
-use Rattle.req_table.specs.declared.placed.Placed.{Placed}
-use Rattle.expand_work.specs.Spaces.{records_in, rows_in, without_rows, noted_in}
-use Rattle.expand_work.proofs.Leaning.{recorded-at, keys_of_records}
+use Rattle.expand_work.specs.OwnerRows.{row_by_owner, records_of, recorded, AreRowsByOwner}
+use Rattle.expand_work.specs.declared.space.WorkerMemory.{WorkerMemory}
+use Rattle.req_table.specs.declared.packed_child.PackedChild.{PackedChild}
+use Rattle.expand_work.specs.MemoryPool.{records_in, rows_in, without_rows, noted_in}
+use Rattle.expand_work.proofs.OwnerRows.{recorded-at, keys_of_records}
 use Rattle.expand_work.proofs.Parting.{parts_settle}
 use Rattle.expand_work.proofs.Counting.{sum_add, sum_const}
 use Rattle.expand_work.proofs.Chain.{lanes_close}
@@ -97,10 +97,10 @@ level_keys S tables u = ap (map key_of) (recorded-at S tables u) ∙ keys_of_rec
 open_from : (c : Scope) (before items : List Item) → ((s : ℕ) → s < c.workers → IsFair c (sent_by s (before ++ items))) → HasSenders c items → AreOpen c before items
 open_from c before [] fair senders = tt
 open_from c before (i ∷ items) fair senders =
-    let lt : from_of i < c.workers = All-head (λ j. from_of j < c.workers) i items senders in
+    let lt : sender_of i < c.workers = All-head (λ j. sender_of j < c.workers) i items senders in
     let one : before ++ i ∷ items ≡ (before ++ i ∷ []) ++ items = sym (append_assoc before (i ∷ []) items) in (
-      item-open c i before (sent_by (from_of i) (before ++ i ∷ items)) lt (fair (from_of i) lt) (sent_by (from_of i) items, ap (sent_by (from_of i)) one ∙ sent_by-append (from_of i) (before ++ i ∷ []) items),
-      open_from c (before ++ i ∷ []) items (λ s sb. subst (λ (xs : List Item). IsFair c (sent_by s xs)) one (fair s sb)) (All-tail (λ j. from_of j < c.workers) i items senders),
+      item-open c i before (sent_by (sender_of i) (before ++ i ∷ items)) lt (fair (sender_of i) lt) (sent_by (sender_of i) items, ap (sent_by (sender_of i)) one ∙ sent_by-append (sender_of i) (before ++ i ∷ []) items),
+      open_from c (before ++ i ∷ []) items (λ s sb. subst (λ (xs : List Item). IsFair c (sent_by s xs)) one (fair s sb)) (All-tail (λ j. sender_of j < c.workers) i items senders),
     )
 
 -- ---- the parts of all workers
@@ -125,11 +125,11 @@ abbrev pub part_records : Nodes → Part → List (List Record)
 part_records S p = records_in S p.space
 
 -- the records of all workers, told of the parts
-pub records_as : (S : Nodes) (parts : List Part) (spaces : List Space) → spaces ≡ map (λ (p : Part). without_rows p.space) parts → map (records_in S) spaces ≡ map (part_records S) parts
+pub records_as : (S : Nodes) (parts : List Part) (spaces : List WorkerMemory) → spaces ≡ map (λ (p : Part). without_rows p.space) parts → map (records_in S) spaces ≡ map (part_records S) parts
 records_as S parts spaces is = ap (map (records_in S)) is ∙ map-map (records_in S) (λ (p : Part). without_rows p.space) parts
 
 -- and the places that they noted
-pub noted_as : (parts : List Part) (spaces : List Space) → spaces ≡ map (λ (p : Part). without_rows p.space) parts → map noted_in spaces ≡ map (λ (p : Part). p.space.noted) parts
+pub noted_as : (parts : List Part) (spaces : List WorkerMemory) → spaces ≡ map (λ (p : Part). without_rows p.space) parts → map noted_in spaces ≡ map (λ (p : Part). p.space.noted) parts
 noted_as parts spaces is = ap (map noted_in) is ∙ map-map noted_in (λ (p : Part). without_rows p.space) parts
 
 -- two functions that are the same on the elements of a list
@@ -138,17 +138,17 @@ map_same f g [] h = refl
 map_same f g (x ∷ xs) h = λ j. h 0 x (omega arith) j ∷ map_same f g xs (λ i d b. h (suc i) d (omega (arith, b))) j
 
 -- the rows of all workers are the children of their records
-pub parts_lean : (S : Nodes) (l : LanesView) (roots : List Key) (parts : List Part) → AreWorked l S roots parts → (spaces : List Space) → spaces ≡ map (λ (p : Part). without_rows p.space) parts → (rows : List (List (List (Placed × Placed)))) → rows ≡ map (λ (p : Part). rows_in p.space) parts →
-    AreLean (map (records_in S) spaces) rows
-parts_lean S l roots parts worked spaces is rows rows-is =
+pub parts_by_owner : (S : Nodes) (l : LanesView) (roots : List Key) (parts : List Part) → AreWorked l S roots parts → (spaces : List WorkerMemory) → spaces ≡ map (λ (p : Part). without_rows p.space) parts → (rows : List (List (List (PackedChild × PackedChild)))) → rows ≡ map (λ (p : Part). rows_in p.space) parts →
+    AreRowsByOwner (map (records_in S) spaces) rows
+parts_by_owner S l roots parts worked spaces is rows rows-is =
     let n = length (map (records_in S) spaces) in
-    let wide : length l.lanes ≡ n = sym (length-map spaces (records_in S) ∙ ap (λ (xs : List Space). length xs) is ∙ length-map parts (λ (p : Part). without_rows p.space) ∙ worked.long) in
+    let wide : length l.lanes ≡ n = sym (length-map spaces (records_in S) ∙ ap (λ (xs : List WorkerMemory). length xs) is ∙ length-map parts (λ (p : Part). without_rows p.space) ∙ worked.long) in
     rows-is
-    ∙ map_same (λ (p : Part). p.space.rows) (λ (p : Part). map (lean_row n) (part_records S p)) parts (λ i d b. (worked.each i d (let k = worked.long in omega (arith, b, k))).lean ∙ ap (λ m. map (lean_row m) (part_records S (slice_index_or parts i d))) wide)
-    ∙ sym (map-map (map (lean_row n)) (part_records S) parts) ∙ ap (map (map (lean_row n))) (sym (records_as S parts spaces is))
+    ∙ map_same (λ (p : Part). p.space.rows) (λ (p : Part). map (row_by_owner n) (part_records S p)) parts (λ i d b. (worked.each i d (let k = worked.long in omega (arith, b, k))).by_owner ∙ ap (λ m. map (row_by_owner m) (part_records S (slice_index_or parts i d))) wide)
+    ∙ sym (map-map (map (row_by_owner n)) (part_records S) parts) ∙ ap (map (map (row_by_owner n))) (sym (records_as S parts spaces is))
 
 module _ (S : Nodes) (sound : IsSound S) (l : LanesView) (sizes : l.sizes ≡ sizes_of S) (some : 0 < length l.lanes) (roots : List Key) (parts : List Part) (worked : AreWorked l S roots parts)
-    (ports : List PortView) (gone : AreRetired (length l.lanes) (map (λ (p : Part). p.port) parts) ports) (left : List (List Load)) (law : LawOfAll (length l.lanes) l.sizes ports left) where
+    (ports : List PortView) (removed : AreRetired (length l.lanes) (map (λ (p : Part). p.port) parts) ports) (left : List (List Load)) (law : LawOfAll (length l.lanes) l.sizes ports left) where
   abbrev pub w : Wave
   w = wave_of S (length l.lanes)
 
@@ -163,17 +163,17 @@ module _ (S : Nodes) (sound : IsSound S) (l : LanesView) (sizes : l.sizes ≡ si
   part_at s b = slice_index_or parts s (first_of parts (let k = worked.long in omega (arith, b, k)))
 
   port_at : (s : ℕ) (b : s < length l.lanes) (d : PortView) → slice_index_or ports s d ≡ retired (part_at s b).port
-  port_at s b d = gone.1 s d b ∙ ap retired (get_or-map (λ (p : Part). p.port) parts s (first_of parts (let k = worked.long in omega (arith, b, k))) d (let k = worked.long in omega (arith, b, k)))
+  port_at s b d = removed.1 s d b ∙ ap retired (get_or-map (λ (p : Part). p.port) parts s (first_of parts (let k = worked.long in omega (arith, b, k))) d (let k = worked.long in omega (arith, b, k)))
 
   sends : (s : ℕ) (b : s < length l.lanes) (k : ℕ) → sent_to (part_at s b).port k ≡ sent_from ports k s
   sends s b k =
-      let m : s < length ports = (let n = gone.0 in omega (arith, b, n)) in
+      let m : s < length ports = (let n = removed.0 in omega (arith, b, n)) in
       let d = first_of ports (omega (arith, m)) in
       sym (get_or-map (λ (p : PortView). sent_to p k) ports s d [] m ∙ ap (λ (p : PortView). sent_to p k) (port_at s b d))
 
   takes : (s : ℕ) (b : s < length l.lanes) → (part_at s b).port.taken ≡ taken_by ports s
   takes s b =
-      let m : s < length ports = (let n = gone.0 in omega (arith, b, n)) in
+      let m : s < length ports = (let n = removed.0 in omega (arith, b, n)) in
       let d = first_of ports (omega (arith, m)) in
       sym (get_or-map (λ (p : PortView). p.taken) ports s d [] m ∙ ap (λ (p : PortView). p.taken) (port_at s b d))
 
@@ -200,7 +200,7 @@ module _ (S : Nodes) (sound : IsSound S) (l : LanesView) (sizes : l.sizes ≡ si
 
   puts_from : (s : ℕ) (d : PortView) → s < length ports → sum_by (λ (n : ℕ). n) (slice_index_or ports s d).put ≡ sum_below (length l.lanes) (λ k. cond (eqb s k) 0 (bundles_of S.levels (sent_from ports k s))) + length l.lanes * S.levels
   puts_from s d m =
-      let b : s < length l.lanes = (let n = gone.0 in omega (arith, m, n)) in
+      let b : s < length l.lanes = (let n = removed.0 in omega (arith, m, n)) in
       let p = (part_at s b).port in
       let long = (worked_at s b).lists in
       ap (λ (q : PortView). sum_by (λ (n : ℕ). n) q.put) (port_at s b d)
@@ -213,7 +213,7 @@ module _ (S : Nodes) (sound : IsSound S) (l : LanesView) (sizes : l.sizes ≡ si
   puts =
       let f : ℕ → ℕ = λ s. sum_below (length l.lanes) (λ k. cond (eqb s k) 0 (bundles_of S.levels (sent_from ports k s))) in
       sum_by_below (λ (p : PortView). sum_by (λ (n : ℕ). n) p.put) ports (λ s. f s + length l.lanes * S.levels) puts_from
-      ∙ ap (λ n. sum_below n (λ s. f s + length l.lanes * S.levels)) gone.0
+      ∙ ap (λ n. sum_below n (λ s. f s + length l.lanes * S.levels)) removed.0
       ∙ sum_add (length l.lanes) f (λ s. length l.lanes * S.levels)
       ∙ ap (λ n. sum_below (length l.lanes) f + n) (sum_const (length l.lanes) (length l.lanes * S.levels))
 
@@ -224,11 +224,11 @@ module _ (S : Nodes) (sound : IsSound S) (l : LanesView) (sizes : l.sizes ≡ si
   noted_at : (k : ℕ) (b : k < length l.lanes) → (part_at k b).space.noted ≡ slice_index_or notes k []
   noted_at k b = sym (get_or-map (λ (p : Part). p.space.noted) parts k (first_of parts (let n = worked.long in omega (arith, b, n))) [] (let n = worked.long in omega (arith, b, n)))
 
-  places_at : (s k : ℕ) → s < length l.lanes → k < length l.lanes → AllZip (λ x n. slice_get (map key_of (row_of rows k (level_of S x))) n ≡ Some x) (owed w roots (row_of rows s) s k) (noted_of notes k s)
+  places_at : (s k : ℕ) → s < length l.lanes → k < length l.lanes → AllZip (λ x n. slice_get (map key_of (row_of rows k (level_of S x))) n ≡ Some x) (asked_in_all w roots (row_of rows s) s k) (noted_of notes k s)
   places_at s k sb kb =
-      subst (λ (ns : List (List ℕ)). AllZip (λ x n. slice_get (map key_of (row_of rows k (level_of S x))) n ≡ Some x) (owed w roots (row_of rows s) s k) (at ns s)) (noted_at k kb)
-      (subst (λ (r : List (List Record)). AllZip (λ x n. slice_get (map key_of (row_at r (level_of S x))) n ≡ Some x) (owed w roots (row_of rows s) s k) (at (part_at k kb).space.noted s)) (records_at k kb)
-      (subst (λ (keys : ℕ → List Key). AllZip (λ x n. slice_get (keys (level_of S x)) n ≡ Some x) (owed w roots (row_of rows s) s k) (at (part_at k kb).space.noted s)) (λ i u. sym (level_keys S (part_at k kb).space.tables u) i)
+      subst (λ (ns : List (List ℕ)). AllZip (λ x n. slice_get (map key_of (row_of rows k (level_of S x))) n ≡ Some x) (asked_in_all w roots (row_of rows s) s k) (at ns s)) (noted_at k kb)
+      (subst (λ (r : List (List Record)). AllZip (λ x n. slice_get (map key_of (row_at r (level_of S x))) n ≡ Some x) (asked_in_all w roots (row_of rows s) s k) (at (part_at k kb).space.noted s)) (records_at k kb)
+      (subst (λ (keys : ℕ → List Key). AllZip (λ x n. slice_get (keys (level_of S x)) n ≡ Some x) (asked_in_all w roots (row_of rows s) s k) (at (part_at k kb).space.noted s)) (λ i u. sym (level_keys S (part_at k kb).space.tables u) i)
       (subst (λ (xs : List Key). AllZip (λ x n. slice_get (at (part_at k kb).space.tables (level_of S x)) n ≡ Some x) xs (at (part_at k kb).space.noted s))
       (ap (λ (t : List Item). asks (sent_by s t)) (takes k kb) ∙ ap asks (settles.all_taken s k sb kb) ∙ settles.all_sent s k sb kb)
       ((worked_at k kb).noted.each s sb))))
@@ -250,7 +250,7 @@ module _ (S : Nodes) (sound : IsSound S) (l : LanesView) (sizes : l.sizes ≡ si
 
   pub are_settled : (workers : ℕ) → length l.lanes ≡ workers → (rs : List (List (List Record))) (ns : List (List (List ℕ))) → rs ≡ map (part_records S) parts → AreSettled S workers roots (record { rows = rs; noted = ns }) ports
   are_settled workers wide rs ns rs-is = subst (λ (y : ℕ × List (List (List Record))). AreSettled S y.0 roots (record { rows = y.1; noted = ns }) ports) (λ i. (wide i, sym rs-is i)) (record {
-    numbered = record { long = gone.0; numbered = λ s d b. ap (λ (q : PortView). q.number) (port_at s b d) ∙ (worked_at s b).number };
+    numbered = record { long = removed.0; numbered = λ s d b. ap (λ (q : PortView). q.number) (port_at s b d) ∙ (worked_at s b).number };
     settled = settles;
     open_levels = opens;
     put = puts;

@@ -14,12 +14,12 @@ use Rattle.lane_queue.specs.Loads.{ask_of}
 use Rattle.lane_queue.specs.PortView.{LanesView, PortView, sent_to, has_kept, IsPortOf, lanes_scope, port_scope}
 use Rattle.lane_queue.proofs.Facts.{fair-more, load-mine, of-mine}
 use Rattle.lane_queue.proofs.Keeping.{sent-own, sent-other}
-use Rattle.expand_work.specs.Work.{MaySend, HasKept, Offered, IsHeard, StaysClosed}
+use Rattle.expand_work.specs.Work.{MaySend, HasKept, Offered, IsReceived, StaysClosed}
 use Rattle.lane_queue.proofs.Counts.{ends-asks}
-use Rattle.expand_work.proofs.Saying.{same_port, port_on, still_of}
-use Rattle.expand_work.proofs.Hearing.{closed_more, stays_on, stays_same}
+use Rattle.expand_work.proofs.Sending.{same_port, port_on, still_of}
+use Rattle.expand_work.proofs.Receiving.{closed_more, stays_on, stays_same}
 use Rattle.expand_work.specs.Due.{IsCut}
-use Rattle.expand_work.specs.Noted.{IsNoted, Notes}
+use Rattle.expand_work.specs.PlacesBySender.{IsNoted, NotesPlaces}
 use Rattle.expand_work.proofs.Cutting.{cut_all}
 use Rattle.expand_work.proofs.Taking.{hear_asks, asks_stay}
 use Rattle.expand_work.proofs.Noting.{asks_noted}
@@ -93,7 +93,7 @@ module _ (l : LanesView) (p : PortView) (asks : List (ℕ × Key)) (o : IsPortOf
   hold-levels ts many = all_of (λ (a : ℕ × Key). a.0 < length ts) asks (λ a has. let f = (each (λ a. MayFollow (lanes_scope l) (ends (sent_to p p.number)) (ask_of p.number a)) asks a may.follow has).1 in omega (arith, f, many))
 
   -- once all were kept and admitted
-  module _ (q : PortView) (ts us : List (List Key)) (clock : Counts) (within : p.number < length l.lanes) (taken : sent_by p.number p.taken ≡ sent_to p p.number) (heard : IsHeard (lanes_scope l) p.taken clock ts) (kept : HasKept p q (map (ask_of p.number) asks)) (off : Offered asks ts us) where
+  module _ (q : PortView) (ts us : List (List Key)) (clock : Counts) (within : p.number < length l.lanes) (taken : sent_by p.number p.taken ≡ sent_to p p.number) (received : IsReceived (lanes_scope l) p.taken clock ts) (kept : HasKept p q (map (ask_of p.number) asks)) (off : Offered asks ts us) where
     follow-all : All (MayFollow (lanes_scope l) (ends (sent_by p.number p.taken))) (map (ask_of p.number) asks)
     follow-all = subst (λ xs. All (MayFollow (lanes_scope l) (ends xs)) (map (ask_of p.number) asks)) (sym taken)
         (all_of (MayFollow (lanes_scope l) (ends (sent_to p p.number))) (map (ask_of p.number) asks) (λ y has.
@@ -102,33 +102,33 @@ module _ (l : LanesView) (p : PortView) (asks : List (ℕ × Key)) (o : IsPortOf
 
     fair-now : IsFair (lanes_scope l) (sent_by p.number (p.taken ++ map (ask_of p.number) asks))
     fair-now = subst (IsFair (lanes_scope l)) (sym (sent_by-append p.number p.taken (map (ask_of p.number) asks) ∙ ap (λ xs. sent_by p.number p.taken ++ xs) (load-mine p.number (Bundle p.number asks) refl)))
-        (fair-more (lanes_scope l) (sent_by p.number p.taken) (Bundle p.number asks) (heard.fair p.number within) follow-all)
+        (fair-more (lanes_scope l) (sent_by p.number p.taken) (Bundle p.number asks) (received.fair p.number within) follow-all)
 
-    pub hold-heard : IsHeard (lanes_scope l) q.taken clock us
-    hold-heard = subst (λ xs. IsHeard (lanes_scope l) xs clock us) (sym kept.taken)
-        (hear_asks (lanes_scope l) p.taken p.number asks (sent_by p.number (p.taken ++ map (ask_of p.number) asks)) [] clock ts us within fair-now (sym (append-nil (sent_by p.number (p.taken ++ map (ask_of p.number) asks)))) off heard)
+    pub hold-received : IsReceived (lanes_scope l) q.taken clock us
+    hold-received = subst (λ xs. IsReceived (lanes_scope l) xs clock us) (sym kept.taken)
+        (hear_asks (lanes_scope l) p.taken p.number asks (sent_by p.number (p.taken ++ map (ask_of p.number) asks)) [] clock ts us within fair-now (sym (append-nil (sent_by p.number (p.taken ++ map (ask_of p.number) asks)))) off received)
 
     pub hold-stays : StaysClosed (lanes_scope l) p.taken q.taken ts us
     hold-stays = subst (λ xs. StaysClosed (lanes_scope l) p.taken xs ts us) (sym kept.taken)
         (asks_stay (lanes_scope l) p.taken (map (ask_of p.number) asks) asks ts us (λ a has closed.
         let f = each (MayFollow (lanes_scope l) (ends (sent_by p.number p.taken))) (map (ask_of p.number) asks) (ask_of p.number a) follow-all (Has-map (ask_of p.number) asks a has) in
-        let past = counted_of_closed (lanes_scope l) a.0 p.taken heard.fair closed p.number within in
+        let past = counted_of_closed (lanes_scope l) a.0 p.taken received.fair closed p.number within in
         let low = f.0 in omega (arith, past, low)) off)
 
 -- ---- bundle after bundle
 -- Some of these requests were kept, and these are left.
 pub record Keeping (l : LanesView) (p q : PortView) (clock : Counts) (ts us : List (List Key)) (noted : List (List ℕ)) (asks left : List (ℕ × Key)) : Type 0 where
-  pub gone : List (ℕ × Key)
-  pub all : gone ++ left ≡ asks
-  pub kept : HasKept p q (map (ask_of p.number) gone)
+  pub removed : List (ℕ × Key)
+  pub all : removed ++ left ≡ asks
+  pub kept : HasKept p q (map (ask_of p.number) removed)
   pub mine : sent_by q.number q.taken ≡ sent_to q q.number
-  pub heard : IsHeard (lanes_scope l) q.taken clock us
+  pub received : IsReceived (lanes_scope l) q.taken clock us
   pub stays : StaysClosed (lanes_scope l) p.taken q.taken ts us
   pub places : IsNoted (length l.lanes) q.taken us noted
 
-pub keeping-none : (l : LanesView) (p : PortView) (clock : Counts) (ts : List (List Key)) (noted : List (List ℕ)) (asks : List (ℕ × Key)) → sent_by p.number p.taken ≡ sent_to p p.number → IsHeard (lanes_scope l) p.taken clock ts
+pub keeping-none : (l : LanesView) (p : PortView) (clock : Counts) (ts : List (List Key)) (noted : List (List ℕ)) (asks : List (ℕ × Key)) → sent_by p.number p.taken ≡ sent_to p p.number → IsReceived (lanes_scope l) p.taken clock ts
     → IsNoted (length l.lanes) p.taken ts noted → Keeping l p p clock ts ts noted asks asks
-keeping-none l p clock ts noted asks mine heard places = record { gone = []; all = refl; kept = kept-none p; mine = mine; heard = heard; stays = stays_same (lanes_scope l) p.taken ts; places = places }
+keeping-none l p clock ts noted asks mine received places = record { removed = []; all = refl; kept = kept-none p; mine = mine; received = received; stays = stays_same (lanes_scope l) p.taken ts; places = places }
 
 kept-on : (p q r : PortView) (xs ys : List (ℕ × Key)) → HasKept p q (map (ask_of p.number) xs) → HasKept q r (map (ask_of q.number) ys) → HasKept p r (map (ask_of p.number) (xs ++ ys))
 kept-on p q r xs ys a b =
@@ -145,31 +145,31 @@ kept-on p q r xs ys a b =
 
 module _ (l : LanesView) (p q : PortView) (clock : Counts) (ts us : List (List Key)) (noted : List (List ℕ)) (asks left bundle rest : List (ℕ × Key)) (may : MaySend l p p.number asks) (cut : IsCut left bundle rest) (h : Keeping l p q clock ts us noted asks left) where
   among : (a : ℕ × Key) → Has bundle a → Has asks a
-  among a has = subst (λ xs. Has xs a) (ap (λ xs. h.gone ++ xs) (cut_all left bundle rest cut) ∙ h.all) (Has-append_right h.gone (bundle ++ rest) a (Has-append_left bundle rest a has))
+  among a has = subst (λ xs. Has xs a) (ap (λ xs. h.removed ++ xs) (cut_all left bundle rest cut) ∙ h.all) (Has-append_right h.removed (bundle ++ rest) a (Has-append_left bundle rest a has))
 
   pub keeping-may : MaySend l q q.number bundle
   keeping-may =
-      let e = kept-ends p q h.gone h.kept in
+      let e = kept-ends p q h.removed h.kept in
       record {
         follow = all_of (λ a. MayFollow (lanes_scope l) (ends (sent_to q q.number)) (ask_of q.number a)) bundle (λ a has.
             subst (λ (u : ℕ × ℕ). MayFollow (lanes_scope l) u.0 (ask_of u.1 a)) (λ j. (sym e j, sym h.kept.port.0 j)) (each (λ x. MayFollow (lanes_scope l) (ends (sent_to p p.number)) (ask_of p.number x)) asks a may.follow (among a has)));
         leave = λ z. subst (λ (u : ℕ × List Item). IsClosed (lanes_scope l) (u.0 - 1) u.1) (λ j. (sym e j, sym h.kept.taken j))
-            (closed_more (lanes_scope l) (ends (sent_to p p.number) - 1) p.taken (map (ask_of p.number) h.gone) (may.leave (omega (arith, z, e))));
+            (closed_more (lanes_scope l) (ends (sent_to p p.number) - 1) p.taken (map (ask_of p.number) h.removed) (may.leave (omega (arith, z, e))));
       }
 
   pub keeping-more : IsPortOf l p → p.number < length l.lanes → (r : PortView) (vs : List (List Key)) (noted' : List (List ℕ)) → HasKept q r (map (ask_of q.number) bundle) → sent_by r.number r.taken ≡ sent_to r r.number
-      → Offered bundle us vs → Notes p.number bundle us vs noted noted' → Keeping l p r clock ts vs noted' asks rest
+      → Offered bundle us vs → NotesPlaces p.number bundle us vs noted noted' → Keeping l p r clock ts vs noted' asks rest
   keeping-more o within r vs noted' kept mine off notes =
       let o' = still_of l p q h.kept.port o in
       let n-is = h.kept.port.0 in
       let within' = subst (λ n. n < length l.lanes) (sym n-is) within in
       record {
-        gone = h.gone ++ bundle;
-        all = append_assoc h.gone bundle rest ∙ ap (λ xs. h.gone ++ xs) (cut_all left bundle rest cut) ∙ h.all;
-        kept = kept-on p q r h.gone bundle h.kept kept;
+        removed = h.removed ++ bundle;
+        all = append_assoc h.removed bundle rest ∙ ap (λ xs. h.removed ++ xs) (cut_all left bundle rest cut) ∙ h.all;
+        kept = kept-on p q r h.removed bundle h.kept kept;
         mine = mine;
-        heard = hold-heard l q bundle o' keeping-may r us vs clock within' h.mine h.heard kept off;
-        stays = stays_on (lanes_scope l) p.taken q.taken r.taken ts us vs h.stays (hold-stays l q bundle o' keeping-may r us vs clock within' h.mine h.heard kept off);
+        received = hold-received l q bundle o' keeping-may r us vs clock within' h.mine h.received kept off;
+        stays = stays_on (lanes_scope l) p.taken q.taken r.taken ts us vs h.stays (hold-stays l q bundle o' keeping-may r us vs clock within' h.mine h.received kept off);
         places = subst (λ xs. IsNoted (length l.lanes) xs vs noted') (sym kept.taken)
-            (asks_noted (length l.lanes) q.number bundle q.taken us vs noted noted' h.places (subst (λ n. Notes n bundle us vs noted noted') (sym n-is) notes));
+            (asks_noted (length l.lanes) q.number bundle q.taken us vs noted noted' h.places (subst (λ n. NotesPlaces n bundle us vs noted noted') (sym n-is) notes));
       }

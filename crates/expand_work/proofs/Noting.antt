@@ -18,7 +18,7 @@ use Rattle.lane_queue.specs.Loads.{ask_of}
 use Rattle.lane_queue.proofs.Facts.{load-mine, load-other}
 use Rattle.lane_queue.specs.PortView.{LanesView, PortView, IsPortOf}
 use Rattle.expand_work.specs.Work.{at}
-use Rattle.expand_work.specs.Noted.{EntersAt, StandsAt, leveled, IsNoted, Notes}
+use Rattle.expand_work.specs.PlacesBySender.{EntersAt, HasPlace, with_their_levels, IsNoted, NotesPlaces}
 use Rattle.dd_store.proofs.Noting.{zip_push, zip_append}
 use Rattle.expand_work.proofs.Zips.{zip_weaker}
 
@@ -28,7 +28,7 @@ admits_stands ys [] zs p x a e = subst (λ l. slice_get l p ≡ Some x) a e
 admits_stands ys (y ∷ xs) zs p x (inl h) e = admits_stands ys xs zs p x h.1 e
 admits_stands ys (y ∷ xs) zs p x (inr h) e = admits_stands (ys ++ y ∷ []) xs zs p x h.1 (slice_get-append ys (y ∷ []) p x e)
 
-set_stands : (ts : List (List Key)) (l : ℕ) (xs keys : List Key) (a : ℕ × Key) (p : ℕ) → l < length ts → Admits (at ts l) xs keys → StandsAt (at ts) a p → StandsAt (at (set ts l keys)) a p
+set_stands : (ts : List (List Key)) (l : ℕ) (xs keys : List Key) (a : ℕ × Key) (p : ℕ) → l < length ts → Admits (at ts l) xs keys → HasPlace (at ts) a p → HasPlace (at (set ts l keys)) a p
 set_stands ts l xs keys a p b ad h =
     dite (ℕ_discrete a.0 l)
     (λ e. subst (λ u. slice_get (at (set ts l keys) u) p ≡ Some a.1) (sym e)
@@ -37,21 +37,21 @@ set_stands ts l xs keys a p b ad h =
     (λ n. subst (λ ks. slice_get ks p ≡ Some a.1) (sym (get_or-set_other ts l a.0 keys [] n)) h)
 
 -- ---- requests of one sender, one after the other
-pub notes_start : (from : ℕ) (ts : List (List Key)) (noted : List (List ℕ)) → Notes from [] ts ts noted noted
-notes_start from ts noted = record { places = []; stand = tt; stay = λ a p h. h; long = refl; own = sym (append-nil (at noted from)); others = λ s n. refl }
+pub notes_start : (from : ℕ) (ts : List (List Key)) (noted : List (List ℕ)) → NotesPlaces from [] ts ts noted noted
+notes_start from ts noted = record { places = []; have_places = tt; stay = λ a p h. h; long = refl; own = sym (append-nil (at noted from)); others = λ s n. refl }
 
 module _ (from : ℕ) (requests : List (ℕ × Key)) (a : ℕ × Key) (first ts us : List (List Key)) (old mid new : List (List ℕ)) (p : ℕ)
-    (lb : a.0 < length ts) (fb : from < length old) (n : Notes from requests first ts old mid) (en : EntersAt ts a.0 a.1 p us) (is : new ≡ set mid from (at mid from ++ p ∷ [])) where
-  stays : (b : ℕ × Key) (q : ℕ) → StandsAt (at ts) b q → StandsAt (at us) b q
-  stays b q h = subst (λ (l : List (List Key)). StandsAt (at l) b q) (sym en.2) (set_stands ts a.0 (a.1 ∷ []) en.0 b q lb en.1.0 h)
+    (lb : a.0 < length ts) (fb : from < length old) (n : NotesPlaces from requests first ts old mid) (en : EntersAt ts a.0 a.1 p us) (is : new ≡ set mid from (at mid from ++ p ∷ [])) where
+  stays : (b : ℕ × Key) (q : ℕ) → HasPlace (at ts) b q → HasPlace (at us) b q
+  stays b q h = subst (λ (l : List (List Key)). HasPlace (at l) b q) (sym en.2) (set_stands ts a.0 (a.1 ∷ []) en.0 b q lb en.1.0 h)
 
-  here : StandsAt (at us) a p
+  here : HasPlace (at us) a p
   here = subst (λ (l : List (List Key)). slice_get (at l a.0) p ≡ Some a.1) (sym en.2) (subst (λ ks. slice_get ks p ≡ Some a.1) (sym (get_or-set_same ts a.0 en.0 [] lb)) en.1.1)
 
-  pub notes_more : Notes from (requests ++ a ∷ []) first us old new
+  pub notes_more : NotesPlaces from (requests ++ a ∷ []) first us old new
   notes_more = record {
     places = n.places ++ p ∷ [];
-    stand = zip_push (StandsAt (at us)) requests n.places a p (zip_weaker (StandsAt (at ts)) (StandsAt (at us)) stays requests n.places n.stand) here;
+    have_places = zip_push (HasPlace (at us)) requests n.places a p (zip_weaker (HasPlace (at ts)) (HasPlace (at us)) stays requests n.places n.have_places) here;
     stay = λ b q h. stays b q (n.stay b q h);
     long = ap (λ l. length l) is ∙ length-set mid from (at mid from ++ p ∷ []) ∙ n.long;
     own = ap (λ l. at l from) is ∙ get_or-set_same mid from (at mid from ++ p ∷ []) [] (let z = n.long in omega (arith, z, fb)) ∙ ap (λ l. l ++ p ∷ []) n.own ∙ append_assoc (at old from) n.places (p ∷ []);
@@ -59,59 +59,59 @@ module _ (from : ℕ) (requests : List (ℕ × Key)) (a : ℕ × Key) (first ts 
   }
 
 -- ---- what was taken
-leveled-append : (xs ys : List Item) → leveled (xs ++ ys) ≡ leveled xs ++ leveled ys
-leveled-append [] ys = refl
-leveled-append (Ask s l x ∷ xs) ys = ap (λ k. (l, x) ∷ k) (leveled-append xs ys)
-leveled-append (End s l ∷ xs) ys = leveled-append xs ys
+with_their_levels-append : (xs ys : List Item) → with_their_levels (xs ++ ys) ≡ with_their_levels xs ++ with_their_levels ys
+with_their_levels-append [] ys = refl
+with_their_levels-append (Ask s l x ∷ xs) ys = ap (λ k. (l, x) ∷ k) (with_their_levels-append xs ys)
+with_their_levels-append (End s l ∷ xs) ys = with_their_levels-append xs ys
 
-leveled-asks : (s : ℕ) (requests : List (ℕ × Key)) → leveled (map (ask_of s) requests) ≡ requests
-leveled-asks s [] = refl
-leveled-asks s (a ∷ more) = ap (λ k. a ∷ k) (leveled-asks s more)
+with_their_levels-asks : (s : ℕ) (requests : List (ℕ × Key)) → with_their_levels (map (ask_of s) requests) ≡ requests
+with_their_levels-asks s [] = refl
+with_their_levels-asks s (a ∷ more) = ap (λ k. a ∷ k) (with_their_levels-asks s more)
 
 -- requests of one sender
-pub asks_noted : (workers s : ℕ) (requests : List (ℕ × Key)) (taken : List Item) (ts us : List (List Key)) (old new : List (List ℕ)) → IsNoted workers taken ts old → Notes s requests ts us old new → IsNoted workers (taken ++ map (ask_of s) requests) us new
+pub asks_noted : (workers s : ℕ) (requests : List (ℕ × Key)) (taken : List Item) (ts us : List (List Key)) (old new : List (List ℕ)) → IsNoted workers taken ts old → NotesPlaces s requests ts us old new → IsNoted workers (taken ++ map (ask_of s) requests) us new
 asks_noted workers s requests taken ts us old new h n = record { long = n.long ∙ h.long; each = one }
   where
     xs : List Item
     xs = map (ask_of s) requests
 
-    before : (t : ℕ) → t < workers → AllZip (StandsAt (at us)) (leveled (sent_by t taken)) (at old t)
-    before t tb = zip_weaker (StandsAt (at ts)) (StandsAt (at us)) n.stay (leveled (sent_by t taken)) (at old t) (h.each t tb)
+    before : (t : ℕ) → t < workers → AllZip (HasPlace (at us)) (with_their_levels (sent_by t taken)) (at old t)
+    before t tb = zip_weaker (HasPlace (at ts)) (HasPlace (at us)) n.stay (with_their_levels (sent_by t taken)) (at old t) (h.each t tb)
 
-    mine : leveled (sent_by s (taken ++ xs)) ≡ leveled (sent_by s taken) ++ requests
-    mine = ap leveled (sent_by-append s taken xs ∙ ap (λ l. sent_by s taken ++ l) (load-mine s (Bundle s requests) refl)) ∙ leveled-append (sent_by s taken) xs ∙ ap (λ l. leveled (sent_by s taken) ++ l) (leveled-asks s requests)
+    mine : with_their_levels (sent_by s (taken ++ xs)) ≡ with_their_levels (sent_by s taken) ++ requests
+    mine = ap with_their_levels (sent_by-append s taken xs ∙ ap (λ l. sent_by s taken ++ l) (load-mine s (Bundle s requests) refl)) ∙ with_their_levels-append (sent_by s taken) xs ∙ ap (λ l. with_their_levels (sent_by s taken) ++ l) (with_their_levels-asks s requests)
 
-    own : s < workers → AllZip (StandsAt (at us)) (leveled (sent_by s (taken ++ xs))) (at new s)
-    own sb = subst (λ k. AllZip (StandsAt (at us)) k (at new s)) (sym mine) (subst (λ k. AllZip (StandsAt (at us)) (leveled (sent_by s taken) ++ requests) k) (sym n.own) (zip_append (StandsAt (at us)) (leveled (sent_by s taken)) requests (at old s) n.places (before s sb) n.stand))
+    own : s < workers → AllZip (HasPlace (at us)) (with_their_levels (sent_by s (taken ++ xs))) (at new s)
+    own sb = subst (λ k. AllZip (HasPlace (at us)) k (at new s)) (sym mine) (subst (λ k. AllZip (HasPlace (at us)) (with_their_levels (sent_by s taken) ++ requests) k) (sym n.own) (zip_append (HasPlace (at us)) (with_their_levels (sent_by s taken)) requests (at old s) n.places (before s sb) n.have_places))
 
-    theirs : (t : ℕ) → t ≢ s → leveled (sent_by t (taken ++ xs)) ≡ leveled (sent_by t taken)
-    theirs t m = ap leveled (sent_by-append t taken xs ∙ ap (λ l. sent_by t taken ++ l) (load-other t (Bundle s requests) (λ e. m (sym e))) ∙ append-nil (sent_by t taken))
+    theirs : (t : ℕ) → t ≢ s → with_their_levels (sent_by t (taken ++ xs)) ≡ with_their_levels (sent_by t taken)
+    theirs t m = ap with_their_levels (sent_by-append t taken xs ∙ ap (λ l. sent_by t taken ++ l) (load-other t (Bundle s requests) (λ e. m (sym e))) ∙ append-nil (sent_by t taken))
 
-    one : (t : ℕ) → t < workers → AllZip (StandsAt (at us)) (leveled (sent_by t (taken ++ xs))) (at new t)
+    one : (t : ℕ) → t < workers → AllZip (HasPlace (at us)) (with_their_levels (sent_by t (taken ++ xs))) (at new t)
     one t tb = dite (ℕ_discrete t s)
-        (λ e. subst (λ k. AllZip (StandsAt (at us)) (leveled (sent_by k (taken ++ xs))) (at new k)) (sym e) (own (subst (λ k. k < workers) e tb)))
-        (λ m. subst (λ k. AllZip (StandsAt (at us)) k (at new t)) (sym (theirs t m)) (subst (λ k. AllZip (StandsAt (at us)) (leveled (sent_by t taken)) k) (sym (n.others t m)) (before t tb)))
+        (λ e. subst (λ k. AllZip (HasPlace (at us)) (with_their_levels (sent_by k (taken ++ xs))) (at new k)) (sym e) (own (subst (λ k. k < workers) e tb)))
+        (λ m. subst (λ k. AllZip (HasPlace (at us)) k (at new t)) (sym (theirs t m)) (subst (λ k. AllZip (HasPlace (at us)) (with_their_levels (sent_by t taken)) k) (sym (n.others t m)) (before t tb)))
 
 -- an End
-leveled-end : (t s l : ℕ) → leveled (sent_by t (End s l ∷ [])) ≡ []
-leveled-end t s l = elim (eqb s t) as (λ b. leveled (cond b (End s l ∷ []) []) ≡ []) [ true ↦ refl | false ↦ refl ]
+with_their_levels-end : (t s l : ℕ) → with_their_levels (sent_by t (End s l ∷ [])) ≡ []
+with_their_levels-end t s l = elim (eqb s t) as (λ b. with_their_levels (cond b (End s l ∷ []) []) ≡ []) [ true ↦ refl | false ↦ refl ]
 
 pub end_noted : (workers s l : ℕ) (taken : List Item) (ts : List (List Key)) (noted : List (List ℕ)) → IsNoted workers taken ts noted → IsNoted workers (taken ++ End s l ∷ []) ts noted
 end_noted workers s l taken ts noted h = record {
   long = h.long;
-  each = λ t tb. subst (λ k. AllZip (StandsAt (at ts)) k (at noted t))
-      (sym (ap leveled (sent_by-append t taken (End s l ∷ [])) ∙ leveled-append (sent_by t taken) (sent_by t (End s l ∷ [])) ∙ ap (λ k. leveled (sent_by t taken) ++ k) (leveled-end t s l) ∙ append-nil (leveled (sent_by t taken)))) (h.each t tb);
+  each = λ t tb. subst (λ k. AllZip (HasPlace (at ts)) k (at noted t))
+      (sym (ap with_their_levels (sent_by-append t taken (End s l ∷ [])) ∙ with_their_levels-append (sent_by t taken) (sent_by t (End s l ∷ [])) ∙ ap (λ k. with_their_levels (sent_by t taken) ++ k) (with_their_levels-end t s l) ∙ append-nil (with_their_levels (sent_by t taken)))) (h.each t tb);
 }
 
 -- nothing
 pub none_noted : (workers : ℕ) (taken : List Item) (ts : List (List Key)) (noted : List (List ℕ)) → taken ≡ [] → noted ≡ replicate workers [] → IsNoted workers taken ts noted
 none_noted workers taken ts noted nothing is = record {
   long = ap (λ l. length l) is ∙ length-replicate workers [];
-  each = λ t tb. subst (λ xs. AllZip (StandsAt (at ts)) (leveled (sent_by t xs)) (at noted t)) (sym nothing) (subst (λ k. AllZip (StandsAt (at ts)) [] k) (sym (ap (λ l. get_or l t []) is ∙ get_or-replicate workers t [] [] tb)) tt);
+  each = λ t tb. subst (λ xs. AllZip (HasPlace (at ts)) (with_their_levels (sent_by t xs)) (at noted t)) (sym nothing) (subst (λ k. AllZip (HasPlace (at ts)) [] k) (sym (ap (λ l. get_or l t []) is ∙ get_or-replicate workers t [] [] tb)) tt);
 }
 
 -- ---- told of the rows
-pub fair_places : (c : Scope) (e : ℕ) (xs : List Item) (tables rows : ℕ → List Key) (ps : List ℕ) → IsFairFrom c e xs → ((u : ℕ) → u < c.levels → rows u ≡ tables u) → AllZip (StandsAt tables) (leveled xs) ps
+pub fair_places : (c : Scope) (e : ℕ) (xs : List Item) (tables rows : ℕ → List Key) (ps : List ℕ) → IsFairFrom c e xs → ((u : ℕ) → u < c.levels → rows u ≡ tables u) → AllZip (HasPlace tables) (with_their_levels xs) ps
     → AllZip (λ x p. slice_get (rows (c.level x)) p ≡ Some x) (asks xs) ps
 fair_places c e [] tables rows [] f same h = tt
 fair_places c e [] tables rows (p ∷ ps) f same h = absurd h

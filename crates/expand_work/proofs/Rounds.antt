@@ -14,24 +14,24 @@ use Rattle.req_table.specs.Sizes.{sizes_of, scope_of, IsKeyOf}
 use Rattle.req_table.proofs.Sized.{key_of_sizes}
 use Rattle.req_table.proofs.Lists.{Has, each, all_of, map_has}
 use Rattle.lane_queue.specs.Loads.{ask_of}
-use Rattle.lane_queue.specs.Lists.{Begins}
+use Rattle.lane_queue.specs.Lists.{IsPrefix}
 use Rattle.lane_queue.specs.PortView.{LanesView, PortView, sent_to, put_to, IsPortOf, lanes_scope}
 use Rattle.expand_work.specs.declared.worker.Worker.{Worker}
 use Rattle.expand_work.specs.Due.{IsLeft}
 use Rattle.expand_work.specs.Parts.{bundles, loads_of, IsAt, IsLevelDone}
-use Rattle.expand_work.specs.Work.{at, item_of, owned_by, lanes_wave, with_levels, keys_in, MaySend, SentToAll, HasKept, put_items, put_loads, IsHeard, StaysClosed}
-use Rattle.expand_work.specs.Working.{IsWorking}
-use Rattle.expand_work.specs.Noted.{IsNoted}
+use Rattle.expand_work.specs.Work.{at, item_of, owned_by, lanes_wave, with_levels, keys_in, MaySend, SentToAll, HasKept, put_items, put_loads, IsReceived, StaysClosed}
+use Rattle.expand_work.specs.WorkerState.{IsWorking}
+use Rattle.expand_work.specs.PlacesBySender.{IsNoted}
 use Rattle.expand_work.proofs.Levels.{key_held, advances, loads-more, all-own}
 use Rattle.expand_work.proofs.Waves.{lanes_laws}
 use Rattle.lane_queue.proofs.Counts.{ends-asks}
-use Rattle.expand_work.proofs.Saying.{still_of, may_still}
-use Rattle.expand_work.proofs.Owing.{keys_levels}
+use Rattle.expand_work.proofs.Sending.{still_of, may_still}
+use Rattle.expand_work.proofs.DueRequests.{keys_levels}
 use Rattle.expand_work.proofs.Parting.{ends_of_closed}
-use Rattle.expand_work.proofs.Hearing.{stays_on}
-use Rattle.expand_work.proofs.Leaning.{keys_of_records, split_records, recorded-at}
-use Rattle.expand_work.specs.Lean.{lean_row, records_of, recorded}
-use Rattle.req_table.specs.declared.placed.Placed.{Placed}
+use Rattle.expand_work.proofs.Receiving.{stays_on}
+use Rattle.expand_work.proofs.OwnerRows.{keys_of_records, split_records, recorded-at}
+use Rattle.expand_work.specs.OwnerRows.{row_by_owner, records_of, recorded}
+use Rattle.req_table.specs.declared.packed_child.PackedChild.{PackedChild}
 use mathlib.Core.Logic.{dite}
 use native.Mathlib.Decide.{ℕ_discrete}
 use Rattle.std.specs.Prelude.{slice_index_or}
@@ -50,7 +50,7 @@ due_may l s roots v w h k kb =
     let keys = keys_in (at w.due k) in
     record {
       follow = all_of (λ a. MayFollow (lanes_scope l) (ends (sent_to w.port k)) (ask_of w.port.number a)) (at w.due k) (λ a i.
-          let t = map_has (λ (x : Key). (level_of s x, x)) keys a (subst (λ xs. Has xs a) (h.told k kb) i) in
+          let t = map_has (λ (x : Key). (level_of s x, x)) keys a (subst (λ xs. Has xs a) (h.levels_match k kb) i) in
           let x = t.0 in
           let d = each (λ y. IsKeyOf (sizes_of s) y × (v ≤ level_of s y)) keys x (h.level.due_held k kb) t.1 in
           subst (λ b. MayFollow (lanes_scope l) (ends (sent_to w.port k)) (ask_of w.port.number b)) t.2
@@ -60,10 +60,10 @@ due_may l s roots v w h k kb =
     }
 
 -- the keys of a level's table are keys of the store
-pub keys_held : (l : LanesView) (s : Nodes) (v : ℕ) (taken : List Item) (clock : Counts) (tables : List (List Key)) → l.sizes ≡ sizes_of s → v < s.levels → IsHeard (lanes_scope l) taken clock tables → All (IsKey s) (at tables v)
+pub keys_held : (l : LanesView) (s : Nodes) (v : ℕ) (taken : List Item) (clock : Counts) (tables : List (List Key)) → l.sizes ≡ sizes_of s → v < s.levels → IsReceived (lanes_scope l) taken clock tables → All (IsKey s) (at tables v)
 keys_held l s v taken clock tables sizes vb h =
-    let i = subst (λ z. IsHeard (scope_of (length l.lanes) z) taken clock tables) sizes h in
-    all_of (IsKey s) (at tables v) (λ x m. key_of_sizes s x (key_held (scope_of (length l.lanes) (sizes_of s)) v taken (at tables v) i.fair i.senders (i.tabled v vb) x m).0)
+    let i = subst (λ z. IsReceived (scope_of (length l.lanes) z) taken clock tables) sizes h in
+    all_of (IsKey s) (at tables v) (λ x m. key_of_sizes s x (key_held (scope_of (length l.lanes) (sizes_of s)) v taken (at tables v) i.fair i.senders (i.tables_match v vb) x m).0)
 
 -- ---- what is due was put on the lanes of others, and then the worker's own was kept
 module _ (l : LanesView) (s : Nodes) (roots : List Key) (v : ℕ) (w : Worker) (h : IsWorking l s roots v w) (p : PortView) (left : List (List (ℕ × Key)))
@@ -85,7 +85,7 @@ module _ (l : LanesView) (s : Nodes) (roots : List Key) (v : ℕ) (w : Worker) (
   own_may = subst (λ (y : ℕ × List (ℕ × Key)). MaySend l p y.0 y.1) (λ j. (sym own-is j, sym own_due j)) (may_still l w.port p w.port.number (at w.due w.port.number) own-is s1.taken own_same (due_may l s roots v w h w.port.number h.within))
 
   -- all of its own was taken: the level before is closed, and behind its End nothing was sent
-  pub own_taken : Begins (sent_by p.number p.taken) (sent_to p p.number) → sent_by p.number p.taken ≡ sent_to p p.number
+  pub own_taken : IsPrefix (sent_by p.number p.taken) (sent_to p p.number) → sent_by p.number p.taken ≡ sent_to p p.number
   own_taken b =
       let c = lanes_wave s (length l.lanes) in let m = w.port.number in
       let f : IsFair c.scope (sent_by m w.port.taken) = h.level.fair m h.within in
@@ -116,14 +116,14 @@ module _ (l : LanesView) (s : Nodes) (roots : List Key) (v : ℕ) (w : Worker) (
         ∙ (let a = h.level.ended k kb in let z = ends-asks w.port.number (at w.due k) in omega (arith, a, z))
 
     -- ---- the level's Ends were sent, and it was closed
-    module _ (p2 p3 : PortView) (clock : Counts) (heldt tables : List (List Key)) (row : List (Placed × Placed)) (due : List (List (ℕ × Key))) (taken rows : List (List (Placed × Placed)))
+    module _ (p2 p3 : PortView) (clock : Counts) (heldt tables : List (List Key)) (row : List (PackedChild × PackedChild)) (due : List (List (ℕ × Key))) (taken rows : List (List (PackedChild × PackedChild)))
         (vb : v < s.levels) (stay1 : StaysClosed (lanes_scope l) p.taken q.taken w.tables heldt)
         (s2 : SentToAll q p2 (length l.lanes) (λ k. End q.number v ∷ []) (λ k. 1))
         (s3 : p3 ≡ record p2 { popped = p3.popped; taken = p3.taken })
-        (heard : IsHeard (lanes_scope l) p3.taken clock tables) (stay2 : StaysClosed (lanes_scope l) p2.taken p3.taken heldt tables)
+        (received : IsReceived (lanes_scope l) p3.taken clock tables) (stay2 : StaysClosed (lanes_scope l) p2.taken p3.taken heldt tables)
         (closed : IsClosed (lanes_scope l) v p3.taken)
-        (row-is : row ≡ lean_row (length l.lanes) (records_of s (at tables v))) (many : length due ≡ length l.lanes)
-        (owed : (k : ℕ) → k < length l.lanes → at due k ≡ with_levels s (filter (owned_by (length l.lanes) k) (asked_by (records_of s (at tables v))))) (taken-is : taken ≡ set w.rows v []) (rows-is : rows ≡ set taken v row) (noted : List (List ℕ)) (noting : IsNoted (length l.lanes) p3.taken tables noted) where
+        (row-is : row ≡ row_by_owner (length l.lanes) (records_of s (at tables v))) (many : length due ≡ length l.lanes)
+        (asked_in_all : (k : ℕ) → k < length l.lanes → at due k ≡ with_levels s (filter (owned_by (length l.lanes) k) (asked_by (records_of s (at tables v))))) (taken-is : taken ≡ set w.rows v []) (rows-is : rows ≡ set taken v row) (noted : List (List ℕ)) (noting : IsNoted (length l.lanes) p3.taken tables noted) where
       pub number_same : p3.number ≡ w.port.number
       number_same = ap (λ (q : PortView). q.number) s3 ∙ s2.port.0 ∙ number_kept
 
@@ -139,8 +139,8 @@ module _ (l : LanesView) (s : Nodes) (roots : List Key) (v : ℕ) (w : Worker) (
       row_other : (u : ℕ) → u ≢ v → at rows u ≡ at w.rows u
       row_other u m = ap (λ n. get_or n u []) rows-is ∙ get_or-set_other taken v u row [] m ∙ ap (λ n. get_or n u []) taken-is ∙ get_or-set_other w.rows v u [] [] m
 
-      heard' : IsHeard (scope_of (length l.lanes) (sizes_of s)) p3.taken clock tables
-      heard' = subst (λ z. IsHeard (scope_of (length l.lanes) z) p3.taken clock tables) h.sizes heard
+      received' : IsReceived (scope_of (length l.lanes) (sizes_of s)) p3.taken clock tables
+      received' = subst (λ z. IsReceived (scope_of (length l.lanes) z) p3.taken clock tables) h.sizes received
 
       was_closed : (u : ℕ) → u < v → IsClosed (lanes_scope l) u w.port.taken
       was_closed u ub = subst (λ z. IsClosed (scope_of (length l.lanes) z) u w.port.taken) (sym h.sizes) (h.level.closed u ub)
@@ -155,35 +155,35 @@ module _ (l : LanesView) (s : Nodes) (roots : List Key) (v : ℕ) (w : Worker) (
       sends : (k : ℕ) → k < length l.lanes → sent_to p3 k ≡ (sent_to w.port k ++ map (item_of s w.port.number) (was k)) ++ End w.port.number v ∷ []
       sends k kb =
           ap (λ (q : PortView). sent_to q k) s3 ∙ s2.sent k kb ∙ (λ j. sent_all k kb j ++ End (number_kept j) v ∷ [])
-          ∙ ap (λ xs. (sent_to w.port k ++ xs) ++ End w.port.number v ∷ []) (ap (map (ask_of w.port.number)) (h.told k kb) ∙ levels-items s w.port.number (was k))
+          ∙ ap (λ xs. (sent_to w.port k ++ xs) ++ End w.port.number v ∷ []) (ap (map (ask_of w.port.number)) (h.levels_match k kb) ∙ levels-items s w.port.number (was k))
 
-      owes : (k : ℕ) → k < length l.lanes → now k ≡ filter (owned_by (length l.lanes) k) (asked_by (records_of s (at tables v)))
-      owes k kb = ap keys_in (owed k kb) ∙ keys_levels s (filter (owned_by (length l.lanes) k) (asked_by (records_of s (at tables v))))
+      becomes_due : (k : ℕ) → k < length l.lanes → now k ≡ filter (owned_by (length l.lanes) k) (asked_by (records_of s (at tables v)))
+      becomes_due k kb = ap keys_in (asked_in_all k kb) ∙ keys_levels s (filter (owned_by (length l.lanes) k) (asked_by (records_of s (at tables v))))
 
-      told_next : (k : ℕ) → k < length l.lanes → at due k ≡ with_levels s (now k)
-      told_next k kb = owed k kb ∙ ap (with_levels s) (sym (owes k kb))
+      levels_match_next : (k : ℕ) → k < length l.lanes → at due k ≡ with_levels s (now k)
+      levels_match_next k kb = asked_in_all k kb ∙ ap (with_levels s) (sym (becomes_due k kb))
 
       done : IsLevelDone (lanes_wave s (length l.lanes)) w.port.number v (sent_to w.port) w.port.taken was (at w.tables) (at (recorded s w.tables)) (sent_to p3) p3.taken now (at tables) (at (recorded s tables))
       done = record {
         sends = sends;
-        fair = heard'.fair;
-        senders = heard'.senders;
+        fair = received'.fair;
+        senders = received'.senders;
         closed = λ u ub. elim (eqb u v) as (λ b. eqb u v ≡ b → IsClosed (scope_of (length l.lanes) (sizes_of s)) u p3.taken) [
           | true ↦ λ t. subst (λ m. IsClosed (scope_of (length l.lanes) (sizes_of s)) m p3.taken) (sym (eqb-true u v t)) closed
           | false ↦ λ t. stays.closed u (was_closed u (grind (arith, ub, t)))
         ] refl;
-        tabled = heard'.tabled;
+        tables_match = received'.tables_match;
         tables_stay = λ u ub. stays.same u (was_closed u ub);
         rows_stay = λ u ub. recorded-at s tables u ∙ ap (records_of s) (stays.same u (was_closed u ub)) ∙ sym (recorded-at s w.tables u);
-        rowed = ap (map key_of) (recorded-at s tables v) ∙ keys_of_records s (at tables v);
+        rows_match = ap (map key_of) (recorded-at s tables v) ∙ keys_of_records s (at tables v);
         split = subst (All (IsSplit (lanes_wave s (length l.lanes)))) (sym (recorded-at s tables v)) (split_records s (length l.lanes) (at tables v));
-        dues = λ k kb. owes k kb ∙ ap (λ rs. filter (owned_by (length l.lanes) k) (asked_by rs)) (sym (recorded-at s tables v));
+        dues = λ k kb. becomes_due k kb ∙ ap (λ rs. filter (owned_by (length l.lanes) k) (asked_by rs)) (sym (recorded-at s tables v));
       }
 
-      lean_next : (u : ℕ) → u < v + 1 → at rows u ≡ lean_row (length l.lanes) (records_of s (at tables u))
-      lean_next u ub = dite (ℕ_discrete u v)
-          (λ e. subst (λ m. at rows m ≡ lean_row (length l.lanes) (records_of s (at tables m))) (sym e) (row_here ∙ row-is))
-          (λ m. (let less : u < v = omega (arith, ub, m) in row_other u m ∙ h.lean u less ∙ ap (λ ks. lean_row (length l.lanes) (records_of s ks)) (sym (stays.same u (was_closed u less)))))
+      by_owner_next : (u : ℕ) → u < v + 1 → at rows u ≡ row_by_owner (length l.lanes) (records_of s (at tables u))
+      by_owner_next u ub = dite (ℕ_discrete u v)
+          (λ e. subst (λ m. at rows m ≡ row_by_owner (length l.lanes) (records_of s (at tables m))) (sym e) (row_here ∙ row-is))
+          (λ m. (let less : u < v = omega (arith, ub, m) in row_other u m ∙ h.by_owner u less ∙ ap (λ ks. row_by_owner (length l.lanes) (records_of s ks)) (sym (stays.same u (was_closed u less)))))
 
       puts : (k : ℕ) → k < length l.lanes → put_to p3 k ≡ loads_of (v + 1) p3.number k (sent_to p3 k)
       puts k kb =
@@ -203,12 +203,12 @@ module _ (l : LanesView) (s : Nodes) (roots : List Key) (v : ℕ) (w : Worker) (
             within = subst (λ n. n < length l.lanes) (sym number_same) h.within;
             sizes = h.sizes;
             sound = h.sound;
-            heard = heard;
+            received = received;
             noted = noting;
             many_rows = ap (λ m. length m) rows-is ∙ length-set taken v row ∙ many_taken ∙ h.many_rows;
-            lean = lean_next;
+            by_owner = by_owner_next;
             many_due = many;
-            told = told_next;
+            levels_match = levels_match_next;
             level = subst (λ n. IsAt (lanes_wave s (length l.lanes)) roots n (v + 1) (sent_to p3) p3.taken now (at tables) (at (recorded s tables))) (sym number_same)
                 (subst (λ n. IsAt (lanes_wave s (length l.lanes)) roots w.port.number n (sent_to p3) p3.taken now (at tables) (at (recorded s tables))) up next);
             put = puts;

@@ -16,19 +16,19 @@ use Rattle.lane_queue.specs.declared.load.Load.{Load}
 use Rattle.lane_queue.specs.declared.load.Load.TheVariants.{Bundle, End as LoadEnd}
 use Rattle.lane_queue.specs.Loads.{load_from, ask_of, items_in}
 use Rattle.lane_queue.specs.PortView.{LanesView, PortView, IsPortOf, IsTaken, IsOpen, has_taken, lanes_scope}
-use Rattle.expand_work.specs.Work.{at, Offered, IsHeard, StaysClosed}
-use Rattle.expand_work.proofs.Hearing.{fair_item, closed_more, hear_end, hear_ask, end_stays}
+use Rattle.expand_work.specs.Work.{at, Offered, IsReceived, StaysClosed}
+use Rattle.expand_work.proofs.Receiving.{fair_item, closed_more, hear_end, hear_ask, end_stays}
 
 -- in terms of the lanes
-pub record Told (l : LanesView) (taken : List Item) (x : Load) : Type 0 where
+pub record LoadFacts (l : LanesView) (taken : List Item) (x : Load) : Type 0 where
   pub sent : List Item
   pub back : List Item
   pub sender : load_from x < length l.lanes
   pub fair : IsFair (lanes_scope l) sent
   pub begins : sent ≡ sent_by (load_from x) (taken ++ items_in x) ++ back
 
-pub told : (l : LanesView) (p : PortView) (x : Load) → IsPortOf l p → IsTaken p x → Told l p.taken x
-told l p x o t =
+pub load_facts : (l : LanesView) (p : PortView) (x : Load) → IsPortOf l p → IsTaken p x → LoadFacts l p.taken x
+load_facts l p x o t =
     let n : length p.lanes ≡ length l.lanes = ap (λ q. length q) o.0 ∙ length-map l.lanes (λ q. Some q) in
     record {
       sent = t.0;
@@ -63,15 +63,15 @@ asks_stay c taken more asks ts us n o = record {
 }
 
 pub hear_asks : (c : Scope) (taken : List Item) (s : ℕ) (asks : List (ℕ × Key)) (sent back : List Item) (clock : Counts) (ts us : List (List Key)) → s < c.workers → IsFair c sent → sent ≡ sent_by s (taken ++ map (ask_of s) asks) ++ back
-    → Offered asks ts us → IsHeard c taken clock ts → IsHeard c (taken ++ map (ask_of s) asks) clock us
-hear_asks c taken s [] sent back clock ts us sb f e o h = subst (λ (y : List Item × List (List Key)). IsHeard c y.0 clock y.1) (λ j. (sym (append-nil taken) j, sym o j)) h
+    → Offered asks ts us → IsReceived c taken clock ts → IsReceived c (taken ++ map (ask_of s) asks) clock us
+hear_asks c taken s [] sent back clock ts us sb f e o h = subst (λ (y : List Item × List (List Key)). IsReceived c y.0 clock y.1) (λ j. (sym (append-nil taken) j, sym o j)) h
 hear_asks c taken s (a ∷ more) sent back clock ts us sb f e (keys, ad, o) h =
     let x = ask_of s a in let xs = map (ask_of s) more in
     let split : taken ++ x ∷ xs ≡ (taken ++ x ∷ []) ++ xs = sym (append_assoc taken (x ∷ []) xs) in
     let first : sent ≡ sent_by s (taken ++ x ∷ []) ++ (sent_by s xs ++ back) =
     e ∙ ap (λ l. sent_by s l ++ back) split ∙ ap (λ l. l ++ back) (sent_by-append s (taken ++ x ∷ []) xs) ∙ append_assoc (sent_by s (taken ++ x ∷ [])) (sent_by s xs) back in
     let g = hear_ask c taken s a.0 a.1 sent (sent_by s xs ++ back) clock ts keys sb f first ad h in
-    subst (λ l. IsHeard c l clock us) (sym split) (hear_asks c (taken ++ x ∷ []) s more sent back clock (set ts a.0 keys) us sb f (e ∙ ap (λ l. sent_by s l ++ back) split) o g)
+    subst (λ l. IsReceived c l clock us) (sym split) (hear_asks c (taken ++ x ∷ []) s more sent back clock (set ts a.0 keys) us sb f (e ∙ ap (λ l. sent_by s l ++ back) split) o g)
 
 -- the level of a taken request is one of the store's
 pub asks_level : (c : Scope) (taken : List Item) (s : ℕ) (asks : List (ℕ × Key)) (sent back : List Item) → IsFair c sent → sent ≡ sent_by s (taken ++ map (ask_of s) asks) ++ back → (a : ℕ × Key) → Has asks a → a.0 < c.levels
@@ -79,18 +79,18 @@ asks_level c taken s asks sent back f e a h =
     let front = fair_front c 0 (sent_by s (taken ++ map (ask_of s) asks)) back (subst (IsFair c) e f) in
     (fair_ask c 0 (sent_by s (taken ++ map (ask_of s) asks)) s a.0 a.1 front (sent_by_of s (taken ++ map (ask_of s) asks) (ask_of s a) (Has-append_right taken (map (ask_of s) asks) (ask_of s a) (Has-map (ask_of s) asks a h)) refl)).0
 
-module _ (l : LanesView) (p : PortView) (clock : Counts) (tables : List (List Key)) (o : IsPortOf l p) (h : IsHeard (lanes_scope l) p.taken clock tables) where
+module _ (l : LanesView) (p : PortView) (clock : Counts) (tables : List (List Key)) (o : IsPortOf l p) (h : IsReceived (lanes_scope l) p.taken clock tables) where
   module _ (s v : ℕ) (q : PortView) (t : Takes p q (LoadEnd s v)) where
     pub end_next : (s < length clock.ended) × (v ≡ get_or clock.ended s 0) × (v < clock.levels)
     end_next =
-        let d = told l p (LoadEnd s v) o t.1 in
+        let d = load_facts l p (LoadEnd s v) o t.1 in
         let i = fair_item (lanes_scope l) p.taken (End s v) d.sent d.back d.sender d.fair d.begins in
         (subst (λ n. s < n) (sym h.long) d.sender, i.0.0 ∙ sym (h.counted s d.sender), subst (λ n. v < n) (sym h.levels) i.0.1)
 
-    pub end_heard : IsHeard (lanes_scope l) q.taken (record clock { ended = set clock.ended s (v + 1) }) tables
-    end_heard =
-        let d = told l p (LoadEnd s v) o t.1 in
-        subst (λ xs. IsHeard (lanes_scope l) xs (record clock { ended = set clock.ended s (v + 1) }) tables) (sym (ap (λ r. r.taken) t.0))
+    pub end_received : IsReceived (lanes_scope l) q.taken (record clock { ended = set clock.ended s (v + 1) }) tables
+    end_received =
+        let d = load_facts l p (LoadEnd s v) o t.1 in
+        subst (λ xs. IsReceived (lanes_scope l) xs (record clock { ended = set clock.ended s (v + 1) }) tables) (sym (ap (λ r. r.taken) t.0))
         (hear_end (lanes_scope l) p.taken s v d.sent d.back clock tables d.sender d.fair d.begins h)
 
     pub end_stays' : StaysClosed (lanes_scope l) p.taken q.taken tables tables
@@ -99,13 +99,13 @@ module _ (l : LanesView) (p : PortView) (clock : Counts) (tables : List (List Ke
   module _ (s : ℕ) (asks : List (ℕ × Key)) (q : PortView) (t : Takes p q (Bundle s asks)) where
     pub bundle_levels : All (λ (a : ℕ × Key). a.0 < length tables) asks
     bundle_levels =
-        let d = told l p (Bundle s asks) o t.1 in
+        let d = load_facts l p (Bundle s asks) o t.1 in
         all_of (λ (a : ℕ × Key). a.0 < length tables) asks (λ a i. subst (λ n. a.0 < n) (sym h.many) (asks_level (lanes_scope l) p.taken s asks d.sent d.back d.fair d.begins a i))
 
-    pub bundle_heard : (tables' : List (List Key)) → Offered asks tables tables' → IsHeard (lanes_scope l) q.taken clock tables'
-    bundle_heard tables' off =
-        let d = told l p (Bundle s asks) o t.1 in
-        subst (λ xs. IsHeard (lanes_scope l) xs clock tables') (sym (ap (λ r. r.taken) t.0))
+    pub bundle_received : (tables' : List (List Key)) → Offered asks tables tables' → IsReceived (lanes_scope l) q.taken clock tables'
+    bundle_received tables' off =
+        let d = load_facts l p (Bundle s asks) o t.1 in
+        subst (λ xs. IsReceived (lanes_scope l) xs clock tables') (sym (ap (λ r. r.taken) t.0))
         (hear_asks (lanes_scope l) p.taken s asks d.sent d.back clock tables tables' d.sender d.fair d.begins off h)
 
     pub bundle_stays : (tables' : List (List Key)) → All (IsOpen (lanes_scope l) p.taken) (map (ask_of s) asks) → Offered asks tables tables' → StaysClosed (lanes_scope l) p.taken q.taken tables tables'

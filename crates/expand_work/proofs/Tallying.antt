@@ -17,8 +17,8 @@ use Rattle.req_table.specs.Settled.{IsClosure, key_of, level_of_rows}
 use Rattle.req_table.proofs.Lists.{Has, has_of, contains_of, each, map_has, Has-append_left, Has-append_right, Has-append_cases}
 use Rattle.expand_work.specs.Bounds.{AreFew}
 use Rattle.expand_work.specs.Parts.{sum_below}
-use Rattle.expand_work.specs.Expanded.{row_of}
-use Rattle.expand_work.specs.Gathered.{PartsView, AreParts, HaveExpanded, count_in}
+use Rattle.expand_work.specs.WavePorts.{row_of}
+use Rattle.expand_work.specs.WaveParts.{PartsView, AreParts, HaveExpanded, count_in}
 use Rattle.expand_work.proofs.Counting.{sum_same, sum_add, sum_const}
 use Rattle.expand_work.proofs.Expanding.{sum_by_below}
 use Rattle.expand_work.proofs.Once.{once_append}

@@ -14,13 +14,13 @@ use Rattle.expand_work.specs.declared.part.Part.{Part}
 use Rattle.expand_work.specs.declared.fault.WorkFault.{WorkFault}
 use Rattle.expand_work.specs.declared.fault.WaveFault.{WaveFault}
 use Rattle.expand_work.specs.declared.fault.WaveFault.TheVariants.{NoWorker}
-use Rattle.expand_work.specs.declared.team.PartOf.{PartOf}
-use Rattle.expand_work.specs.Worked.{IsWorked}
+use Rattle.expand_work.specs.declared.team.PartPromise.{PartPromise}
+use Rattle.expand_work.specs.WorkerResult.{IsWorked}
 use Rattle.expand_work.specs.Team.{AreNew, AreStarted, AreWorked, IsPromised, WorksFor}
 use Rattle.expand_work.proofs.Zips.{zip_at, zip_long}
 
 -- the part of the thread that works for port i
-part_of : (l : LanesView) (s : Nodes) (roots : List Key) (i : ℕ) (h : PromisedHandle (Result Part WorkFault) PartOf) (q : PortView) (p : Part) → q.number ≡ i → WorksFor l s roots h q → IsPromised h p → IsWorked l s roots i p
+part_of : (l : LanesView) (s : Nodes) (roots : List Key) (i : ℕ) (h : PromisedHandle (Result Part WorkFault) PartPromise) (q : PortView) (p : Part) → q.number ≡ i → WorksFor l s roots h q → IsPromised h p → IsWorked l s roots i p
 part_of l s roots i h q p at w k =
     subst (λ (n : ℕ). IsWorked l s roots n p) (w.number ∙ at)
     (subst (λ (r : List Key). IsWorked l s r h.promise.number p) w.keys
@@ -37,7 +37,7 @@ no_more [] e = refl
 no_more (x ∷ xs) e = absurd (omega (arith, e))
 
 -- threads that were started for the first of the ports: no more than there are ports, and where there are as many each port has its own
-module _ (l : LanesView) (s : Nodes) (roots : List Key) (children : List (PromisedHandle (Result Part WorkFault) PartOf)) (ports : List PortView) (t : AreStarted l s roots children ports) where
+module _ (l : LanesView) (s : Nodes) (roots : List Key) (children : List (PromisedHandle (Result Part WorkFault) PartPromise)) (ports : List PortView) (t : AreStarted l s roots children ports) where
   many : length children + length t.rest ≡ length ports
   many = let n = zip_long (WorksFor l s roots) children t.first t.works in let a = length-append t.first t.rest in let b = ap (λ xs. length xs) t.all in omega (arith, n, a, b)
 
@@ -61,7 +61,7 @@ module _ (l : LanesView) (ports rest : List PortView) (own : PortView) (new : Ar
   last d = ap (λ (z : List PortView). slice_index_or z (length rest) d) is ∙ get_or-append_seam rest own [] d
 
   -- where each of them has its thread, and each thread its part, these parts and the last one's are all workers' by number
-  pub all_worked : (s : Nodes) (roots : List Key) (children : List (PromisedHandle (Result Part WorkFault) PartOf)) (parts all : List Part) (part : Part)
+  pub all_worked : (s : Nodes) (roots : List Key) (children : List (PromisedHandle (Result Part WorkFault) PartPromise)) (parts all : List Part) (part : Part)
       → AllZip (WorksFor l s roots) children rest → AllZip IsPromised children parts → IsWorked l s roots own.number part → all ≡ parts ++ part ∷ [] → AreWorked l s roots all
   all_worked s roots children parts all part works kept own-part all-is =
       let n = zip_long (WorksFor l s roots) children rest works in

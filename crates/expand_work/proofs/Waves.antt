@@ -16,10 +16,10 @@ pub lanes_laws : (S : Nodes) → IsSound S → (workers : ℕ) → 0 < workers �
 lanes_laws S sound workers some =
     let laws = is_wave S sound workers some in
     record {
-      served = some;
+      has_worker = some;
       bounded = λ x h. laws.bounded x (key_of_sizes S x h);
       owned = λ x. laws.owned x;
-      told = λ x y b l m h e. laws.told x y b l m (key_of_sizes S x h) e;
+      child_level = λ x y b l m h e. laws.child_level x y b l m (key_of_sizes S x h) e;
       deeper = λ x y b l m h e. laws.deeper x y b l m (key_of_sizes S x h) e;
       held = λ x y b l m h e. sizes_of_key S y (laws.held x y b l m (key_of_sizes S x h) e);
     }

@@ -3,31 +3,31 @@ use Rattle.std.specs.Prelude.{◌≡◌, ◌≢◌, ℕ, ◌<◌, Bool, List, []
 use Rattle.req_table.specs.declared.Key.{Key}
 use Rattle.req_table.specs.declared.Child.{Child}
 use Rattle.req_table.specs.declared.Child.TheVariants.{Done, Ask}
-use Rattle.req_table.specs.declared.placed.Placed.{Placed}
-use Rattle.lane_queue.specs.declared.load.TheConstants.Bundle.{ROOM}
-use Rattle.expand_work.specs.declared.expand.ByOwner.{ByOwner}
-use Rattle.expand_work.specs.Lean.{lean}
+use Rattle.req_table.specs.declared.packed_child.PackedChild.{PackedChild}
+use Rattle.lane_queue.specs.declared.load.TheConstants.Bundle.{CAPACITY}
+use Rattle.expand_work.specs.declared.expand.DueByOwner.{DueByOwner}
+use Rattle.expand_work.specs.OwnerRows.{by_owner}
 use Rattle.expand_work.specs.Work.{at, owned_by}
 
 -- the requests of the bundle in hand, of which there may be none
-abbrev pub in_hand : Option (List (ℕ × Key)) → List (ℕ × Key)
-in_hand None = []
-in_hand (Some b) = b
+abbrev pub in_partial : Option (List (ℕ × Key)) → List (ℕ × Key)
+in_partial None = []
+in_partial (Some b) = b
 
 -- each of the bundles is full
 abbrev pub AreFull : List (List (ℕ × Key)) → Type 0
-AreFull bundles = All (λ b. length b ≡ ROOM) bundles
+AreFull bundles = All (λ b. length b ≡ CAPACITY) bundles
 
 -- the bundle in hand has a request, and room for one more
 abbrev pub IsBegun : Option (List (ℕ × Key)) → Type 0
 IsBegun None = Unit {0}
-IsBegun (Some b) = (0 < length b) × (length b < ROOM)
+IsBegun (Some b) = (0 < length b) × (length b < CAPACITY)
 
 -- The bundle has the first of these requests, as many as it has room for, and these are left.
 pub record IsCut (asks bundle left : List (ℕ × Key)) : Type 0 where
   pub some : 0 < length asks
-  pub first : bundle ≡ take ROOM asks
-  pub rest : left ≡ drop ROOM asks
+  pub first : bundle ≡ take CAPACITY asks
+  pub rest : left ≡ drop CAPACITY asks
 
 -- of so many workers, k owns what is asked for
 abbrev pub asked_of : ℕ → ℕ → ℕ × Key → Bool
@@ -45,8 +45,8 @@ pub record IsLeft (s : ℕ) (due left : List (List (ℕ × Key))) : Type 0 where
   pub others : (k : ℕ) → k ≢ s → at left k ≡ []
 
 -- The child became due from the worker that owns it, which tells it, behind what was due from that worker; else nothing changed.
-pub record Owes (a : ByOwner) (c : Child) (d : Placed) (b : ByOwner) : Type 0 where
-  pub told : d ≡ lean a.workers c
+pub record BecomesDue (a : DueByOwner) (c : Child) (d : PackedChild) (b : DueByOwner) : Type 0 where
+  pub is_placed : d ≡ by_owner a.workers c
   pub workers : b.workers ≡ a.workers
   pub long : length b.due ≡ a.workers
   pub grown : (k : ℕ) → k < a.workers → at b.due k ≡ at a.due k ++ filter (asked_of a.workers k) (due_by c)

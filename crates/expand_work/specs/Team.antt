@@ -11,8 +11,8 @@ use Rattle.std.specs.declared.result.Result.{Result}
 use Rattle.expand_work.specs.declared.part.Part.{Part}
 use Rattle.expand_work.specs.declared.fault.WorkFault.{WorkFault}
 use Rattle.expand_work.specs.declared.fault.WaveFault.{WaveFault}
-use Rattle.expand_work.specs.declared.team.PartOf.{PartOf}
-use Rattle.expand_work.specs.Worked.{IsFresh, IsWorked}
+use Rattle.expand_work.specs.declared.team.PartPromise.{PartPromise}
+use Rattle.expand_work.specs.WorkerResult.{IsFresh, IsWorked}
 
 -- One new port for each lane, by number.
 pub record AreNew (l : LanesView) (ports : List PortView) : Type 0 where
@@ -27,11 +27,11 @@ pub record AreWorked (l : LanesView) (s : Nodes) (roots : List Key) (parts : Lis
   pub each : (i : ℕ) (d : Part) → i < length l.lanes → IsWorked l s roots i (slice_index_or parts i d)
 
 -- The thread of a handle promised this part.
-abbrev pub IsPromised : PromisedHandle (Result Part WorkFault) PartOf → Part → Type 0
+abbrev pub IsPromised : PromisedHandle (Result Part WorkFault) PartPromise → Part → Type 0
 IsPromised h p = IsWorked h.promise.lanes.now h.promise.store.now h.promise.roots.now h.promise.number p
 
 -- The handle is of the thread that works for this port, on these lanes, store and roots.
-pub record WorksFor (l : LanesView) (s : Nodes) (roots : List Key) (h : PromisedHandle (Result Part WorkFault) PartOf)
+pub record WorksFor (l : LanesView) (s : Nodes) (roots : List Key) (h : PromisedHandle (Result Part WorkFault) PartPromise)
     (p : PortView) : Type 0 where
   pub lanes : h.promise.lanes.now ≡ l
   pub store : h.promise.store.now ≡ s
@@ -39,7 +39,7 @@ pub record WorksFor (l : LanesView) (s : Nodes) (roots : List Key) (h : Promised
   pub number : h.promise.number ≡ p.number
 
 -- The threads work for the first of these ports, one for each.
-pub record AreStarted (l : LanesView) (s : Nodes) (roots : List Key) (children : List (PromisedHandle (Result Part WorkFault) PartOf))
+pub record AreStarted (l : LanesView) (s : Nodes) (roots : List Key) (children : List (PromisedHandle (Result Part WorkFault) PartPromise))
     (ports : List PortView) : Type 0 where
   pub first : List PortView
   pub rest : List PortView

@@ -86,14 +86,14 @@ pub record MaySend (l : LanesView) (p : PortView) (to : ℕ) (asks : List (ℕ �
   pub leave : 0 < ends (sent_to p to) → IsClosed (lanes_scope l) (ends (sent_to p to) - 1) p.taken
 
 -- What a worker knows of what it took: it is fair from each sender, counted by the clock, and admitted to the tables.
-pub record IsHeard (c : Scope) (taken : List Item) (clock : Counts) (tables : List (List Key)) : Type 0 where
+pub record IsReceived (c : Scope) (taken : List Item) (clock : Counts) (tables : List (List Key)) : Type 0 where
   pub fair : (t : ℕ) → t < c.workers → IsFair c (sent_by t taken)
   pub senders : HasSenders c taken
   pub long : length clock.ended ≡ c.workers
   pub levels : clock.levels ≡ c.levels
   pub many : length tables ≡ c.levels
   pub counted : (t : ℕ) → t < c.workers → slice_index clock.ended t ≡ ends (sent_by t taken)
-  pub tabled : (u : ℕ) → u < c.levels → IsDistinctOf (asks_at u taken) (at tables u)
+  pub tables_match : (u : ℕ) → u < c.levels → IsDistinctOf (asks_at u taken) (at tables u)
 
 -- Closed levels stay closed, and their tables stay.
 pub record StaysClosed (c : Scope) (taken taken' : List Item) (tables tables' : List (List Key)) : Type 0 where

@@ -47,11 +47,11 @@ pub struct Crew<'a, R, G> {
 impl<'a, R, G: Monitor> Crew<'a, R, G> {
     /// The most requests that a level may have before the workers are called in, if so many are expected of the whole wave. A single worker
     /// is called in for a whole wave or never.
-    pub fn most_alone(&self, expected: usize) -> usize
+    pub fn caller_level_limit(&self, expected: usize) -> usize
         ensures one { self.now.workers.count ≡ 1 → (result ≡ 0) ⊎ (result ≡ 2 ^ 64 - 1) }
     {
         let workers = self.workers.count();
-        let most = self.monitor.most_alone(workers, expected);
+        let most = self.monitor.caller_level_limit(workers, expected);
         if workers == 1 && most > 0 {
             usize::MAX
         } else {

@@ -3,7 +3,7 @@ ghost use Rattle.std.specs.Prelude.{◌≡◌, ◌<◌, [], ◌∷◌, ◌++◌,
 ghost use Rattle.expand_work.specs.Due.{IsCut};
 ghost use Rattle.req_table.specs.Places.{row as at};
 
-use crate::Spare;
+use crate::BundlePool;
 use lane_queue::Bundle;
 use req_table::Key;
 use std::alloc::{AllocError, Global};
@@ -17,7 +17,7 @@ const _: () = prove!(size_of::<(u16, Key)>() == 24);
 #[derive(Drop)]
 struct Asks {
     full: VecDeque<Bundle>,
-    hand: Option<Bundle>,
+    partial: Option<Bundle>,
 }
 
 impl Model for Asks {
@@ -27,11 +27,11 @@ impl Model for Asks {
 
     ghost Value = { List (ℕ × Key) };
 
-    ghost use Rattle.expand_work.specs.Due.{in_hand, AreFull, IsBegun};
+    ghost use Rattle.expand_work.specs.Due.{in_partial, AreFull, IsBegun};
 
-    ghost view = { λ a. flat_map (λ b. b) a.full.items ++ in_hand a.hand };
+    ghost view = { λ a. flat_map (λ b. b) a.full.items ++ in_partial a.partial };
 
-    ghost invariant = { λ a. AreFull a.full.items × IsBegun a.hand };
+    ghost invariant = { λ a. AreFull a.full.items × IsBegun a.partial };
 }
 
 impl Asks {
@@ -41,26 +41,26 @@ impl Asks {
     {
         Asks {
             full: VecDeque::new(alloc),
-            hand: None,
+            partial: None,
         }
     }
 
     // Puts a request at the end, into the bundle in hand.
-    fn push(&mut self, spare: &mut Spare, level: u16, key: Key) -> Result<(), AllocError>
+    fn push(&mut self, spare: &mut BundlePool, level: u16, key: Key) -> Result<(), AllocError>
         ensures { OnOk result (self.new ≡ self.old ++ (level, key) ∷ []) }
     {
-        let Some(hand) = &mut self.hand else {
-            let mut hand = spare.take()?;
-            hand.add(level, key);
-            self.hand = Some(hand);
+        let Some(partial) = &mut self.partial else {
+            let mut partial = spare.take()?;
+            partial.add(level, key);
+            self.partial = Some(partial);
             return Ok(());
         };
-        hand.add(level, key);
-        if hand.len() < Bundle::ROOM {
+        partial.add(level, key);
+        if partial.len() < Bundle::CAPACITY {
             return Ok(());
         }
-        if let Some(hand) = self.hand.take() {
-            self.full.push_back(hand)?;
+        if let Some(partial) = self.partial.take() {
+            self.full.push_back(partial)?;
         }
         Ok(())
     }
@@ -71,7 +71,7 @@ impl Asks {
     {
         match self.full.pop_front() {
             Some(bundle) => Some(bundle),
-            None => self.hand.take(),
+            None => self.partial.take(),
         }
     }
 }
@@ -106,7 +106,7 @@ impl Due {
     /// The request becomes due from the worker, behind what is due from it already.
     pub fn push(
         &mut self,
-        spare: &mut Spare,
+        spare: &mut BundlePool,
         from: u32,
         level: u16,
         key: Key,

@@ -3,23 +3,23 @@
 ghost use Rattle.std.specs.Prelude.{◌≡◌, ℕ, ◌<◌, ◌+◌, ◌%◌, ◌^◌, [], ◌∷◌, ◌++◌, length, filter, replicate, All, IfOk, OnOk};
 ghost use Rattle.dd_store.specs.Nodes.{Nodes};
 ghost use Rattle.req_table.specs.declared.Child.{Child as ChildValue};
-ghost use Rattle.req_table.specs.declared.placed.Placed.{Placed as PlacedValue};
+ghost use Rattle.req_table.specs.declared.packed_child.PackedChild.{PackedChild as PlacedValue};
 ghost use Rattle.req_table.specs.Keys.{IsKey, IsChildIn, owner as owner_spec};
-ghost use Rattle.req_table.specs.Places.{row as at, IsPlaced, Admits};
-ghost use Rattle.req_table.specs.Settled.{dealt_from};
-ghost use Rattle.expand_work.specs.Due.{asked_of, Owes};
-ghost use Rattle.expand_work.specs.Taken.{AreTaken};
+ghost use Rattle.req_table.specs.Places.{row as at, IsPlaced, AdmitsChild};
+ghost use Rattle.req_table.specs.Settled.{round_robin_from};
+ghost use Rattle.expand_work.specs.Due.{asked_of, BecomesDue};
+ghost use Rattle.expand_work.specs.TakenChildren.{AreTaken};
 ghost use Rattle.expand_work.specs.Work.{owned_by, with_levels};
 
 use crate::due::Due;
-use crate::{Spare, Splits};
+use crate::{BundlePool, Splits};
 use dd_store::Store;
 use req_table::requests::{level_of, owner};
-use req_table::{Child, Key, Placed, Row, Table, Waiting};
+use req_table::{Child, Key, PackedChild, Row, Table, Waiting};
 use std::alloc::AllocError;
 
 /// Where the children of requests go that are expanded.
-pub trait Asking {
+pub trait ChildSink {
     // It can take the children of this store's requests.
     ghost accepts: { Self → Nodes → Type 0 };
 
@@ -27,27 +27,31 @@ pub trait Asking {
     ghost takes: { Self → ChildValue → PlacedValue → Self → Type 0 };
 
     /// Takes a child. The answer tells it in its request's row.
-    fn ask(&mut self, store: &Store, asked: Child) -> Result<Placed, AllocError>
+    fn ask(&mut self, store: &Store, asked: Child) -> Result<PackedChild, AllocError>
         requires accepts { accepts self.old store.now }
-        requires stands { IsChildIn store.now asked }
+        requires in_store { IsChildIn store.now asked }
         ensures accepts { OnOk result (accepts self.new store.now) }
         ensures takes { IfOk result (λ p. takes self.old asked p self.new) };
 }
 
 /// Requests that wait: a child is admitted to the table of its level, and told by its place.
-impl Asking for Waiting {
+impl ChildSink for Waiting {
     ghost accepts = { λ w s. length w ≡ s.levels };
 
-    ghost takes = { λ w c p u. IsPlaced u p c × Admits w c u };
+    ghost takes = { λ w c p u. IsPlaced u p c × AdmitsChild w c u };
 
     #[inline(always)]
-    fn ask(&mut self, store: &Store, asked: Child) -> Result<Placed, AllocError> {
+    fn ask(&mut self, store: &Store, asked: Child) -> Result<PackedChild, AllocError> {
         let _ = store.levels();
         match asked {
-            Child::Done(answer) => Ok(Placed::done(answer)),
-            Child::Ask { level, key, mark } => {
+            Child::Done(answer) => Ok(PackedChild::done(answer)),
+            Child::Ask {
+                level,
+                key,
+                complement,
+            } => {
                 let place = self.admit(level, key)?;
-                Ok(Placed::ask(level, place, mark))
+                Ok(PackedChild::ask(level, place, complement))
             }
         }
     }
@@ -55,13 +59,13 @@ impl Asking for Waiting {
 
 /// What is due from each of so many workers, and the bundles that it is put into.
 #[derive(Drop)]
-pub struct ByOwner {
+pub struct DueByOwner {
     pub due: Due,
-    pub spare: Spare,
+    pub spare: BundlePool,
     pub workers: u32,
 }
 
-impl ByOwner {
+impl DueByOwner {
     // The request becomes due from the key's owner, which is answered.
     #[inline(always)]
     fn push(&mut self, level: u16, key: Key) -> Result<u32, AllocError>
@@ -80,25 +84,29 @@ impl ByOwner {
 }
 
 /// What is due from workers: a child becomes due from the worker that owns it, by whose number it is told.
-impl Asking for ByOwner {
+impl ChildSink for DueByOwner {
     ghost accepts = { λ a _. (length a.due ≡ a.workers) × (0 < a.workers) };
 
-    ghost takes = { Owes };
+    ghost takes = { BecomesDue };
 
     #[inline(always)]
-    fn ask(&mut self, _store: &Store, asked: Child) -> Result<Placed, AllocError> {
+    fn ask(&mut self, _store: &Store, asked: Child) -> Result<PackedChild, AllocError> {
         match asked {
-            Child::Done(answer) => Ok(Placed::done(answer)),
-            Child::Ask { level, key, mark } => {
+            Child::Done(answer) => Ok(PackedChild::done(answer)),
+            Child::Ask {
+                level,
+                key,
+                complement,
+            } => {
                 let owner = self.push(level, key)?;
-                Ok(Placed::ask(level, owner, mark))
+                Ok(PackedChild::ask(level, owner, complement))
             }
         }
     }
 }
 
 /// Expands requests: splits each and asks for its children, the low one before the high one, which its row then tells.
-pub fn expand_row<A: Asking>(
+pub fn expand_row<A: ChildSink>(
     store: &Store,
     keys: &Table,
     asks: &mut A,
@@ -127,14 +135,14 @@ pub fn deal_roots(
     store: &Store,
     roots: &[Key],
     number: u32,
-    asks: &mut ByOwner,
+    asks: &mut DueByOwner,
 ) -> Result<(), AllocError>
     requires number { number < asks.old.workers }
     requires none { asks.old.due ≡ replicate asks.old.workers [] }
     ensures long { OnOk result (length asks.new.due ≡ asks.old.workers) }
     ensures due { OnOk result ((k : ℕ) → k < asks.old.workers
         → at asks.new.due k ≡ with_levels store.now (filter (owned_by asks.old.workers k)
-        (dealt_from asks.old.workers number 0 roots.now))) }
+        (round_robin_from asks.old.workers number 0 roots.now))) }
 {
     for (place, key) in roots.iter().enumerate() {
         if place % asks.workers as usize == number as usize {

@@ -5,8 +5,8 @@
 //! (`parts`); what their ports sent and took is a settled wave, nothing of it was taken of a closed level, and no load
 //! was put in vain (`settled`); exactly so many requests were expanded, modulo 2^64 (`expanded`), and no more than it may
 //! (`few`). It is never refused for nodes (`fault`), and more requests than it may expand are reported as NoWorker
-//! (`unbounded`), since the workers only stop and have not counted them. `expand_row` splits a level's requests, each once (`split`), and
-//! takes their children one after the other (`taken`), for a worker and for the caller's thread; an `Asking` says where
+//! (`never_too_many_requests`), since the workers only stop and have not counted them. `expand_row` splits a level's requests, each once (`split`), and
+//! takes their children one after the other (`taken`), for a worker and for the caller's thread; a `ChildSink` says where
 //! they go.
 //!
 //! **Only tests show** that two workers are in one level at once, that the stop flag is read where a level begins and
@@ -17,34 +17,34 @@
 //! split (`expand`); then `team` and `parts`, and with `specs/Parts` and `Gathered`.
 #![tactic(auto)]
 
+mod bundle_pool;
+mod context;
 mod crew;
 mod due;
 mod expand;
 mod fault;
-mod listen;
 mod lists;
 mod monitor;
 mod part;
 mod parts;
-mod say;
-mod site;
+mod receive;
+mod send;
 mod space;
-mod spare;
 mod splits;
 mod tables;
 mod team;
 mod worker;
 
+pub use bundle_pool::BundlePool;
+pub use context::WaveContext;
 pub use crew::{Crew, Workers};
-pub use expand::{Asking, expand_row};
+pub use expand::{ChildSink, expand_row};
 pub use fault::{WaveFault, WorkFault};
-pub use lists::Noted;
-pub use monitor::{AttemptEnd, Free, Monitor};
+pub use lists::PlacesBySender;
+pub use monitor::{AttemptEnd, Monitor, NoMonitor};
 pub use part::Part;
-pub use parts::{Notes, Parts, expand_parts};
-pub use site::Site;
-pub use space::{Space, Spaces};
-pub use spare::Spare;
+pub use parts::{Parts, WorkerNotes, expand_parts};
+pub use space::{MemoryPool, WorkerMemory};
 pub use splits::Splits;
 pub use tables::Tables;
 pub use worker::work;

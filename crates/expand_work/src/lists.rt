@@ -16,11 +16,11 @@ fn clear_all<T: Copy>(lists: &mut Vec<Vec<T>>)
 
 /// One list of places for each worker.
 #[derive(Drop)]
-pub struct Noted {
+pub struct PlacesBySender {
     lists: Vec<Vec<u32>>,
 }
 
-impl Model for Noted {
+impl Model for PlacesBySender {
     ghost use Rattle.std.specs.Prelude.{ℕ, List, map};
 
     ghost Value = { List (List ℕ) };
@@ -28,28 +28,28 @@ impl Model for Noted {
     ghost view = { λ n. map (λ v. v.items) n.lists.items };
 }
 
-impl Noted {
+impl PlacesBySender {
     /// So many empty lists.
-    pub fn new(alloc: Global, count: u32) -> Result<Noted, AllocError>
+    pub fn new(alloc: Global, count: u32) -> Result<PlacesBySender, AllocError>
         ensures { IfOk result (λ n. n ≡ replicate count []) }
     {
         let mut lists = Vec::new(alloc);
         for made in 0..count {
             lists.push(Vec::new(alloc))?;
         }
-        Ok(Noted { lists })
+        Ok(PlacesBySender { lists })
     }
 
     /// So many empty lists, in the memory of these where there are as many.
-    pub fn emptied(self, alloc: Global, count: u32) -> Result<Noted, AllocError>
+    pub fn emptied(self, alloc: Global, count: u32) -> Result<PlacesBySender, AllocError>
         ensures { IfOk result (λ l. l ≡ replicate count []) }
     {
         let mut lists = self.lists;
         if lists.len() != count as usize {
-            return Noted::new(alloc, count);
+            return PlacesBySender::new(alloc, count);
         }
         clear_all(&mut lists);
-        Ok(Noted { lists })
+        Ok(PlacesBySender { lists })
     }
 
     /// Puts the place at the end of the worker's list.

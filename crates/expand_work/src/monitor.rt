@@ -27,7 +27,7 @@ pub trait Monitor: Watch + Sync {
 
     /// The most requests that a level may have before a wave that began on the caller's thread calls in so many workers, where so many
     /// requests are expected of the whole wave. 0, where a monitor does not say, leaves the whole wave to the workers.
-    fn most_alone(&self, _workers: u32, _expected: usize) -> usize {
+    fn caller_level_limit(&self, _workers: u32, _expected: usize) -> usize {
         0
     }
 
@@ -59,16 +59,16 @@ const WIDE: usize = 1 << 16;
 
 /// A monitor that does nothing. A wave is the caller's alone as long as that is known to be faster.
 #[derive(Clone, Copy, Drop, Debug, PartialEq, Eq)]
-pub struct Free;
+pub struct NoMonitor;
 
-impl Watch for Free {
+impl Watch for NoMonitor {
     fn at_shard(&self, _shard: u8, _level: u16) {}
 }
 
-impl Monitor for Free {
+impl Monitor for NoMonitor {
     fn at_level(&self, _worker: u32, _level: u16) {}
 
-    fn most_alone(&self, workers: u32, expected: usize) -> usize {
+    fn caller_level_limit(&self, workers: u32, expected: usize) -> usize {
         if workers <= 1 {
             usize::MAX
         } else if expected > LARGE {

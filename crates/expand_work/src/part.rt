@@ -1,6 +1,6 @@
 //! What a worker ends with.
 
-use crate::Space;
+use crate::WorkerMemory;
 use lane_queue::Port;
 
 /// What a worker ends with: its port, and what it filled, of which the tables stand in order of admission and the noted places in the
@@ -8,5 +8,5 @@ use lane_queue::Port;
 #[derive(Drop)]
 pub struct Part {
     pub port: Port,
-    pub space: Space,
+    pub space: WorkerMemory,
 }

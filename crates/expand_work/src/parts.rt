@@ -3,14 +3,14 @@ ghost use Rattle.std.specs.Prelude.{◌≡◌, ◌≢◌, ◌<◌, ◌≤◌, �
 ghost use Rattle.req_table.specs.Keys.{IsKey};
 ghost use Rattle.req_table.specs.Settled.{key_of};
 ghost use Rattle.expand_work.specs.declared.part.Part.{Part as PartValue};
-ghost use Rattle.expand_work.specs.Expanded.{row_of};
+ghost use Rattle.expand_work.specs.WavePorts.{row_of};
 ghost use Rattle.expand_work.specs.Bounds.{AreFew};
-ghost use Rattle.expand_work.specs.Gathered.{AreParts, AreSettled, HaveExpanded, count_in, noted_of};
-ghost use Rattle.expand_work.specs.Lean.{lean_row, AreLean};
-ghost use Rattle.expand_work.specs.Spaces.{rows_in, without_rows};
+ghost use Rattle.expand_work.specs.WaveParts.{AreParts, AreSettled, HaveExpanded, count_in, noted_of};
+ghost use Rattle.expand_work.specs.OwnerRows.{row_by_owner, AreRowsByOwner};
+ghost use Rattle.expand_work.specs.MemoryPool.{rows_in, without_rows};
 
-use crate::team::{Wave, run_workers};
-use crate::{Crew, Monitor, Part, Space, Spaces, WaveFault};
+use crate::team::{WaveInput, run_workers};
+use crate::{Crew, MemoryPool, Monitor, Part, WaveFault, WorkerMemory};
 use dd_store::Store;
 use lane_queue::{Lanes, Port};
 use req_table::{Key, Row, Rows, Table};
@@ -22,22 +22,22 @@ use std::thread::Threads;
 
 /// What the workers of a wave were asked for, and where each put what each other asked of it. The children stand apart, in rows.
 #[derive(Drop)]
-pub struct Notes {
-    spaces: Vec<Space>,
+pub struct WorkerNotes {
+    spaces: Vec<WorkerMemory>,
     store: Snapshot<Store>,
 }
 
-impl Model for Notes {
+impl Model for WorkerNotes {
     ghost use Rattle.std.specs.Prelude.{map};
-    ghost use Rattle.expand_work.specs.Gathered.{PartsView};
-    ghost use Rattle.expand_work.specs.Spaces.{records_in, noted_in};
+    ghost use Rattle.expand_work.specs.WaveParts.{PartsView};
+    ghost use Rattle.expand_work.specs.MemoryPool.{records_in, noted_in};
 
     ghost Value = { PartsView };
 
     ghost view = { λ n. record { rows = map (records_in n.store.value) n.spaces.items; noted = map noted_in n.spaces.items } };
 }
 
-impl Notes {
+impl WorkerNotes {
     /// The places at which a worker put the requests that a sender asked of it, in the order in which they were sent.
     pub fn noted(&self, worker: u32, sender: u32) -> &[u32]
         requires worker { worker < length self.now.noted }
@@ -57,7 +57,7 @@ impl Notes {
     }
 
     /// Leaves the memory of the workers for the next wave, with rows for them.
-    pub fn give_back(self, rows: Vec<Rows>, spaces: &mut Spaces)
+    pub fn give_back(self, rows: Vec<Rows>, spaces: &mut MemoryPool)
         ensures { spaces.new ≡ spaces.old }
     {
         let mut used = self.spaces;
@@ -72,19 +72,19 @@ impl Notes {
 #[derive(Drop)]
 pub struct Parts {
     rows: Vec<Rows>,
-    notes: Notes,
+    notes: WorkerNotes,
 }
 
 impl Model for Parts {
     ghost use Rattle.std.specs.Prelude.{map};
-    ghost use Rattle.expand_work.specs.Gathered.{PartsView};
-    ghost use Rattle.expand_work.specs.Lean.{AreLean};
+    ghost use Rattle.expand_work.specs.WaveParts.{PartsView};
+    ghost use Rattle.expand_work.specs.OwnerRows.{AreRowsByOwner};
 
     ghost Value = { PartsView };
 
     ghost view = { λ p. p.notes };
 
-    ghost invariant = { λ p. AreLean p.notes.rows p.rows.items };
+    ghost invariant = { λ p. AreRowsByOwner p.notes.rows p.rows.items };
 }
 
 impl Parts {
@@ -92,13 +92,13 @@ impl Parts {
     pub fn children(&self, worker: u32, level: u16) -> &Row
         requires worker { worker < length self.now.rows }
         requires level { level < length (slice_index_or self.now.rows worker []) }
-        ensures { result.now ≡ lean_row (length self.now.rows) (row_of self.now.rows worker level) }
+        ensures { result.now ≡ row_by_owner (length self.now.rows) (row_of self.now.rows worker level) }
     {
         self.rows[worker as usize].row(level)
     }
 
     /// What the workers were asked for, and what they noted.
-    pub fn notes(&self) -> &Notes
+    pub fn notes(&self) -> &WorkerNotes
         ensures { result.now ≡ self.now }
     {
         &self.notes
@@ -127,8 +127,8 @@ impl Parts {
     }
 
     /// The rows of all workers, whose children are told by their owners, and the rest.
-    pub fn open(self) -> (Vec<Rows>, Notes)
-        ensures rows { AreLean self.rows result.0.items }
+    pub fn open(self) -> (Vec<Rows>, WorkerNotes)
+        ensures rows { AreRowsByOwner self.rows result.0.items }
         ensures notes { result.1 ≡ self }
     {
         (self.rows, self.notes)
@@ -139,7 +139,7 @@ impl Parts {
 fn split_parts(
     alloc: Global,
     parts: Vec<Part>,
-) -> Result<(Vec<Port>, Vec<Rows>, Vec<Space>), AllocError>
+) -> Result<(Vec<Port>, Vec<Rows>, Vec<WorkerMemory>), AllocError>
     ensures ports { IfOk result (λ r. r.0.items ≡ map (λ (p : PartValue). p.port) parts.items) }
     ensures rows { IfOk result (λ r. r.1.items ≡ map (λ (p : PartValue). rows_in p.space) parts.items) }
     ensures spaces { IfOk result (λ r. r.2.items ≡ map (λ (p : PartValue). without_rows p.space) parts.items) }
@@ -173,7 +173,7 @@ pub fn expand_parts<R: Threads + Wait + Sync, G: Monitor>(
     store: &Store,
     roots: &[Key],
     most: usize,
-    spaces: &mut Spaces,
+    spaces: &mut MemoryPool,
 ) -> Result<(Parts, Vec<Port>), WaveFault>
     requires roots { All (IsKey store.now) roots.now }
     ensures parts { IfOk result (λ r. AreParts store.now crew.now.workers.count roots.now r.0) }
@@ -182,13 +182,13 @@ pub fn expand_parts<R: Threads + Wait + Sync, G: Monitor>(
     ensures refused { OnErr result (spaces.new ≡ spaces.old) }
     ensures few { most < 2 ^ 64 - 1 → OnOk result (AreFew store.now crew.now.workers.count roots.now most) }
     ensures fault { IfErr result (λ f. f ≢ WaveFault.Full) }
-    ensures unbounded { IfErr result (λ f. f ≢ WaveFault.TooManyRequests) }
+    ensures never_too_many_requests { IfErr result (λ f. f ≢ WaveFault.TooManyRequests) }
 {
     let _ = store.levels();
     let alloc = crew.alloc;
     let workers = crew.workers.count();
     let (lanes, ports) = Lanes::new(alloc, store, workers)?;
-    let wave = Wave {
+    let wave = WaveInput {
         alloc,
         lanes: &lanes,
         store,
@@ -199,7 +199,7 @@ pub fn expand_parts<R: Threads + Wait + Sync, G: Monitor>(
     let parts = run_workers(crew.rt, wave, ports, used, crew.monitor)?;
     let (ports, rows, filled) = split_parts(alloc, parts)?;
     let settled = lanes.settle(crew.rt, ports)?;
-    let notes = Notes {
+    let notes = WorkerNotes {
         spaces: filled,
         store: Snapshot::of(store),
     };

@@ -1,9 +1,9 @@
 //! The memory that the workers of a wave fill, which lasts from wave to wave.
-ghost use Rattle.expand_work.specs.Spaces.{IsEmptySpace, rows_in, without_rows};
+ghost use Rattle.expand_work.specs.MemoryPool.{IsEmptyMemory, rows_in, without_rows};
 ghost use Rattle.std.specs.Prelude.{◌≡◌, ◌+◌, ◌%◌, ◌^◌, [], replicate, IfOk};
 
-use crate::Spare;
-use crate::lists::Noted;
+use crate::BundlePool;
+use crate::lists::PlacesBySender;
 use crate::tables::Tables;
 use req_table::Rows;
 use std::alloc::{AllocError, Global};
@@ -13,11 +13,11 @@ use std::mem;
 /// What a worker fills: the requests that it is asked for, by level, the children of each, and by sender the places of what it took; and
 /// the bundles that it has read.
 #[derive(Drop)]
-pub struct Space {
+pub struct WorkerMemory {
     pub tables: Tables,
     pub rows: Rows,
-    pub noted: Noted,
-    pub spare: Spare,
+    pub noted: PlacesBySender,
+    pub spare: BundlePool,
 }
 
 /// So many levels without children. A worker keeps the memory of all its rows.
@@ -29,24 +29,24 @@ fn no_rows(alloc: Global, levels: u16) -> Result<Rows, AllocError>
     Ok(rows)
 }
 
-impl Space {
-    fn new(alloc: Global, levels: u16, workers: u32) -> Result<Space, AllocError>
-        ensures { IfOk result (IsEmptySpace levels workers) }
+impl WorkerMemory {
+    fn new(alloc: Global, levels: u16, workers: u32) -> Result<WorkerMemory, AllocError>
+        ensures { IfOk result (IsEmptyMemory levels workers) }
     {
-        Ok(Space {
+        Ok(WorkerMemory {
             tables: Tables::new(alloc, levels)?,
             rows: no_rows(alloc, levels)?,
-            noted: Noted::new(alloc, workers)?,
-            spare: Spare::new(alloc),
+            noted: PlacesBySender::new(alloc, workers)?,
+            spare: BundlePool::new(alloc),
         })
     }
 
-    fn emptied(self, alloc: Global, levels: u16, workers: u32) -> Result<Space, AllocError>
-        ensures { IfOk result (IsEmptySpace levels workers) }
+    fn emptied(self, alloc: Global, levels: u16, workers: u32) -> Result<WorkerMemory, AllocError>
+        ensures { IfOk result (IsEmptyMemory levels workers) }
     {
         let mut rows = self.rows;
         rows.restart(alloc, levels)?;
-        Ok(Space {
+        Ok(WorkerMemory {
             tables: self.tables.emptied(alloc, levels)?,
             rows,
             noted: self.noted.emptied(alloc, workers)?,
@@ -55,7 +55,7 @@ impl Space {
     }
 
     /// Its rows, and the rest of it.
-    pub(crate) fn split(self, alloc: Global) -> (Rows, Space)
+    pub(crate) fn split(self, alloc: Global) -> (Rows, WorkerMemory)
         ensures rows { result.0 ≡ rows_in self }
         ensures rest { result.1 ≡ without_rows self }
     {
@@ -67,15 +67,15 @@ impl Space {
     /// A space for so many levels and workers with nothing in it, in the memory of another, with its bundles, where there is one.
     pub fn open(
         alloc: Global,
-        used: Option<Space>,
+        used: Option<WorkerMemory>,
         levels: u16,
         workers: u32,
-    ) -> Result<Space, AllocError>
-        ensures { IfOk result (IsEmptySpace levels workers) }
+    ) -> Result<WorkerMemory, AllocError>
+        ensures { IfOk result (IsEmptyMemory levels workers) }
     {
         match used {
             Some(space) => space.emptied(alloc, levels, workers),
-            None => Space::new(alloc, levels, workers),
+            None => WorkerMemory::new(alloc, levels, workers),
         }
     }
 }
@@ -83,14 +83,14 @@ impl Space {
 /// The memory of workers between two waves, and how many requests were expanded in it, which contracts see modulo 2^64. They see
 /// nothing of the memory: a worker empties its space when it begins.
 #[derive(Drop)]
-pub struct Spaces {
-    used: Vec<Space>,
+pub struct MemoryPool {
+    used: Vec<WorkerMemory>,
     expanded: u64,
     /// Whether the table of a level stays with it once the level was expanded.
     keeps: bool,
 }
 
-impl Model for Spaces {
+impl Model for MemoryPool {
     ghost use Rattle.std.specs.Prelude.{ℕ};
 
     ghost Value = { ℕ };
@@ -98,12 +98,12 @@ impl Model for Spaces {
     ghost view = { λ s. s.expanded };
 }
 
-impl Spaces {
+impl MemoryPool {
     /// No memory yet, and nothing was expanded. The table of a level that was expanded serves others.
-    pub fn new(alloc: Global) -> Spaces
+    pub fn new(alloc: Global) -> MemoryPool
         ensures { result ≡ 0 }
     {
-        Spaces {
+        MemoryPool {
             used: Vec::new(alloc),
             expanded: 0,
             keeps: false,
@@ -111,10 +111,10 @@ impl Spaces {
     }
 
     /// The same, for whoever reads a wave's keys: each table stays with its level.
-    pub fn keeping(alloc: Global) -> Spaces
+    pub fn keeping(alloc: Global) -> MemoryPool
         ensures { result ≡ 0 }
     {
-        Spaces {
+        MemoryPool {
             used: Vec::new(alloc),
             expanded: 0,
             keeps: true,
@@ -127,17 +127,17 @@ impl Spaces {
     }
 
     /// The memory of one worker, where there is some.
-    pub fn take(&mut self) -> Option<Space>
+    pub fn take(&mut self) -> Option<WorkerMemory>
         ensures { self.new ≡ self.old }
     {
         self.used.pop()
     }
 
     /// All of the memory.
-    pub(crate) fn take_all(&mut self, alloc: Global) -> Spaces
+    pub(crate) fn take_all(&mut self, alloc: Global) -> MemoryPool
         ensures { self.new ≡ self.old }
     {
-        Spaces {
+        MemoryPool {
             used: mem::replace(&mut self.used, Vec::new(alloc)),
             expanded: 0,
             keeps: self.keeps,
@@ -145,7 +145,7 @@ impl Spaces {
     }
 
     /// The memory is that of these spaces.
-    pub(crate) fn refill(&mut self, used: Vec<Space>)
+    pub(crate) fn refill(&mut self, used: Vec<WorkerMemory>)
         ensures { self.new ≡ self.old }
     {
         self.used = used;

@@ -30,7 +30,7 @@ impl Splits {
     }
 
     /// Sets the count to what it was before a wave that is done again, so that no request of it is counted twice.
-    pub fn back_to(&mut self, count: usize)
+    pub fn reset_to(&mut self, count: usize)
         ensures { self.new ≡ count }
     {
         self.count = count;
@@ -41,7 +41,7 @@ impl Splits {
     pub fn split(&mut self, store: &Store, key: Key) -> Record
         requires key { IsKey store.now key }
         ensures record { result ≡ record_of store.now key }
-        ensures stands { IsChildIn store.now result.low × IsChildIn store.now result.high }
+        ensures in_store { IsChildIn store.now result.low × IsChildIn store.now result.high }
         ensures count { self.new ≡ (self.old + 1) % 2 ^ 64 }
     {
         self.count = self.count.wrapping_add(1);

@@ -1,6 +1,6 @@
 //! What a worker is asked for, by level.
 ghost use Rattle.std.specs.Prelude.{◌≡◌, ◌<◌, [], length, replicate, IfOk, IfSome};
-ghost use Rattle.expand_work.specs.Noted.{Enters, EntersAt};
+ghost use Rattle.expand_work.specs.PlacesBySender.{Enters, EntersAt};
 ghost use Rattle.req_table.specs.Places.{row as at};
 
 use req_table::{Key, SpareTables, Table};
@@ -11,39 +11,39 @@ use std::snapshot::Snapshot;
 
 // Where the requests of a level are.
 #[derive(Drop)]
-enum Held {
+enum TableState {
     // There are none yet, and no memory for them.
-    Nowhere,
+    Empty,
     // In a table of the level.
-    Here(Table),
+    InUse(Table),
     // The level was expanded, and its table serves others. Only contracts still see its requests.
-    Gone(Snapshot<Table>),
+    Recycled(Snapshot<Table>),
 }
 
 // The requests of a level, each once.
 #[derive(Drop)]
-struct Level {
-    held: Held,
+struct LevelTable {
+    state: TableState,
 }
 
-impl Model for Level {
+impl Model for LevelTable {
     ghost use Rattle.std.specs.Prelude.{List};
     ghost use Rattle.req_table.specs.declared.Key.{Key};
 
     ghost Value = { List Key };
 
-    ghost use Rattle.expand_work.specs.Held.{in_level};
+    ghost use Rattle.expand_work.specs.TableState.{keys_of_state};
 
-    ghost view = { λ l. in_level l.held };
+    ghost view = { λ l. keys_of_state l.state };
 }
 
-impl Level {
+impl LevelTable {
     // No requests.
-    fn new() -> Level
+    fn new() -> LevelTable
         ensures { result ≡ [] }
     {
-        Level {
-            held: Held::Nowhere,
+        LevelTable {
+            state: TableState::Empty,
         }
     }
 
@@ -55,7 +55,7 @@ impl Level {
     {
         let mut table = spare.take();
         let (place, _) = table.admit(key)?;
-        self.held = Held::Here(table);
+        self.state = TableState::InUse(table);
         Ok(place)
     }
 
@@ -64,13 +64,13 @@ impl Level {
     fn admit(&mut self, spare: &mut SpareTables, key: Key) -> Result<u32, AllocError>
         ensures { IfOk result (λ p. Enters self.old key p self.new) }
     {
-        match &mut self.held {
-            Held::Here(table) => {
+        match &mut self.state {
+            TableState::InUse(table) => {
                 let (place, _) = table.admit(key)?;
                 Ok(place)
             }
-            Held::Nowhere => self.admit_first(spare, key),
-            Held::Gone(_) => Err(AllocError),
+            TableState::Empty => self.admit_first(spare, key),
+            TableState::Recycled(_) => Err(AllocError),
         }
     }
 
@@ -79,26 +79,26 @@ impl Level {
         ensures keys { IfSome result (λ t. t ≡ self.old) }
         ensures same { self.new ≡ self.old }
     {
-        let table = match mem::replace(&mut self.held, Held::Nowhere) {
-            Held::Nowhere => Table::new(alloc),
-            Held::Here(table) => table,
-            Held::Gone(told) => {
-                self.held = Held::Gone(told);
+        let table = match mem::replace(&mut self.state, TableState::Empty) {
+            TableState::Empty => Table::new(alloc),
+            TableState::InUse(table) => table,
+            TableState::Recycled(snapshot) => {
+                self.state = TableState::Recycled(snapshot);
                 return None;
             }
         };
-        self.held = Held::Gone(Snapshot::of(&table));
+        self.state = TableState::Recycled(Snapshot::of(&table));
         Some(table)
     }
 }
 
 // So many levels without requests.
-fn empty_levels(alloc: Global, count: u16) -> Result<Vec<Level>, AllocError>
+fn empty_levels(alloc: Global, count: u16) -> Result<Vec<LevelTable>, AllocError>
     ensures { IfOk result (λ levels. levels.items ≡ replicate count []) }
 {
     let mut levels = Vec::new(alloc);
     for made in 0..count {
-        levels.push(Level::new())?;
+        levels.push(LevelTable::new())?;
     }
     Ok(levels)
 }
@@ -107,7 +107,7 @@ fn empty_levels(alloc: Global, count: u16) -> Result<Vec<Level>, AllocError>
 /// there are as many tables as levels that wait at once, and their memory stays warm in caches. Contracts see the requests of all levels.
 #[derive(Drop)]
 pub struct Tables {
-    levels: Vec<Level>,
+    levels: Vec<LevelTable>,
     spare: SpareTables,
     /// The most requests that an expanded level had.
     most: usize,
@@ -162,8 +162,8 @@ impl Tables {
         requires { level < length self.now }
         ensures { IfSome result (λ t. t.now ≡ at self.now level) }
     {
-        match &self.levels[level as usize].held {
-            Held::Here(table) => Some(table),
+        match &self.levels[level as usize].state {
+            TableState::InUse(table) => Some(table),
             _ => None,
         }
     }
@@ -198,8 +198,8 @@ impl Tables {
         if !stays {
             return self.spare.put(keys);
         }
-        self.levels[level as usize] = Level {
-            held: Held::Here(keys),
+        self.levels[level as usize] = LevelTable {
+            state: TableState::InUse(keys),
         };
         Ok(())
     }

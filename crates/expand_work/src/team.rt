@@ -5,12 +5,12 @@ ghost use Rattle.std.specs.Thread.{IsSync};
 ghost use Rattle.req_table.specs.Keys.{IsKey};
 ghost use Rattle.req_table.specs.Sizes.{sizes_of};
 ghost use Rattle.lane_queue.specs.PortView.{IsPortOf};
-ghost use Rattle.expand_work.specs.Worked.{IsFresh, IsWorked};
+ghost use Rattle.expand_work.specs.WorkerResult.{IsFresh, IsWorked};
 ghost use Rattle.expand_work.specs.Team.{AreNew, AreStarted, AreWorked, AreJoined, IsPromised, WorksFor};
 
-use crate::site::Site;
+use crate::context::WaveContext;
 use crate::worker::work;
-use crate::{Monitor, Part, Space, Spaces, WaveFault, WorkFault};
+use crate::{MemoryPool, Monitor, Part, WaveFault, WorkFault, WorkerMemory};
 use dd_store::Store;
 use lane_queue::{Lanes, Port};
 use req_table::Key;
@@ -22,22 +22,22 @@ use std::thread::{Promise, PromisedHandle, Scope, Threads};
 
 /// What a worker's thread promises: the worker's part of the wave.
 #[derive(Clone, Copy)]
-pub struct PartOf<'a> {
+pub struct PartPromise<'a> {
     lanes: &'a Lanes,
     store: &'a Store,
     roots: &'a [Key],
     number: u32,
 }
 
-impl<'a> Promise<Result<Part, WorkFault>> for PartOf<'a> {
+impl<'a> Promise<Result<Part, WorkFault>> for PartPromise<'a> {
     ghost use Rattle.std.specs.Prelude.{IfOk};
-    ghost use Rattle.expand_work.specs.Worked.{IsWorked};
+    ghost use Rattle.expand_work.specs.WorkerResult.{IsWorked};
 
     ghost kept_by = { λ p r. IfOk r (λ part. IsWorked p.lanes.now p.store.now p.roots.now p.number part) };
 }
 
 // A worker's thread.
-type Child<'a> = PromisedHandle<Result<Part, WorkFault>, PartOf<'a>>;
+type Child<'a> = PromisedHandle<Result<Part, WorkFault>, PartPromise<'a>>;
 
 // Joins all these threads: their parts in order, if each answered one.
 fn join_all<'a, R: Threads>(
@@ -66,10 +66,10 @@ fn join_all<'a, R: Threads>(
 }
 
 // Whether the workers may have done the whole wave: each was started, and they found no more requests than they may expand.
-fn have_done(started: bool, site: Site<'_>) -> bool
+fn have_done(started: bool, context: WaveContext<'_>) -> bool
     ensures { result ≡ true → started ≡ true }
 {
-    started && !site.is_past_bound()
+    started && !context.is_past_bound()
 }
 
 // What the threads come to, once all of them were joined. That they have not done the whole wave is reported before any other fault.
@@ -106,19 +106,19 @@ fn with_last(
 fn start<'s, E, R: Wait + Sync, G: Monitor>(
     scope: &Scope<'s, E>,
     rt: &'s R,
-    site: Site<'s>,
+    context: WaveContext<'s>,
     port: Port,
-    space: Option<Space>,
+    space: Option<WorkerMemory>,
     monitor: &'s G,
 ) -> Result<Child<'s>, WaveFault>
-    requires port { IsPortOf site.lanes.now port }
+    requires port { IsPortOf context.lanes.now port }
     requires fresh { IsFresh port }
-    requires sizes { site.lanes.now.sizes ≡ sizes_of site.store.now }
-    requires roots { All (IsKey site.store.now) site.roots.now }
-    ensures works { IfOk result (λ h. WorksFor site.entry.lanes.now site.entry.store.now site.entry.roots.now h port) }
+    requires sizes { context.lanes.now.sizes ≡ sizes_of context.store.now }
+    requires roots { All (IsKey context.store.now) context.roots.now }
+    ensures works { IfOk result (λ h. WorksFor context.entry.lanes.now context.entry.store.now context.entry.roots.now h port) }
     ensures fault { IfErr result (λ f. f ≡ WaveFault.NoWorker) }
 {
-    let Site {
+    let WaveContext {
         alloc,
         lanes,
         store,
@@ -127,8 +127,8 @@ fn start<'s, E, R: Wait + Sync, G: Monitor>(
         found,
         most,
         keeps,
-    } = site;
-    let promise = PartOf {
+    } = context;
+    let promise = PartPromise {
         lanes,
         store,
         roots,
@@ -141,7 +141,7 @@ fn start<'s, E, R: Wait + Sync, G: Monitor>(
         requires roots { All (IsKey store.now) roots.now }
         ensures { IfOk result (λ p. IsWorked lanes.entry.now store.entry.now roots.entry.now port.number p) }
     {
-        let site = Site {
+        let context = WaveContext {
             alloc,
             lanes,
             store,
@@ -151,7 +151,7 @@ fn start<'s, E, R: Wait + Sync, G: Monitor>(
             most,
             keeps,
         };
-        work(rt, site, port, space, monitor)
+        work(rt, context, port, space, monitor)
     };
     match scope.spawn_with(promise, work) {
         Ok(child) => Ok(child),
@@ -163,24 +163,24 @@ fn start<'s, E, R: Wait + Sync, G: Monitor>(
 fn start_all<'s, E, R: Wait + Sync, G: Monitor>(
     scope: &Scope<'s, E>,
     rt: &'s R,
-    site: Site<'s>,
+    context: WaveContext<'s>,
     ports: Vec<Port>,
-    used: Spaces,
+    used: MemoryPool,
     monitor: &'s G,
 ) -> Result<Vec<Child<'s>>, AllocError>
-    requires ports { All (IsPortOf site.lanes.now) ports.items }
+    requires ports { All (IsPortOf context.lanes.now) ports.items }
     requires fresh { All IsFresh ports.items }
-    requires sizes { site.lanes.now.sizes ≡ sizes_of site.store.now }
-    requires roots { All (IsKey site.store.now) site.roots.now }
+    requires sizes { context.lanes.now.sizes ≡ sizes_of context.store.now }
+    requires roots { All (IsKey context.store.now) context.roots.now }
     ensures { IfOk result (λ v.
-        AreStarted site.entry.lanes.now site.entry.store.now site.entry.roots.now v.items ports.items) }
+        AreStarted context.entry.lanes.now context.entry.store.now context.entry.roots.now v.items ports.items) }
 {
     let mut used = used;
-    let mut children = Vec::with_capacity(site.alloc, ports.len())?;
+    let mut children = Vec::with_capacity(context.alloc, ports.len())?;
     for port in ports {
         let space = used.take();
-        let Ok(child) = start(scope, rt, site, port, space, monitor) else {
-            site.stop.store(true, Ordering::SeqCst);
+        let Ok(child) = start(scope, rt, context, port, space, monitor) else {
+            context.stop.store(true, Ordering::SeqCst);
             break;
         };
         children.push_reserved(child);
@@ -191,7 +191,7 @@ fn start_all<'s, E, R: Wait + Sync, G: Monitor>(
 /// What the workers of a wave are given: their lanes, the store, all roots, and the most requests that they may expand together, or the
 /// greatest number if there is no bound.
 #[derive(Clone, Copy)]
-pub struct Wave<'a> {
+pub struct WaveInput<'a> {
     pub alloc: Global,
     pub lanes: &'a Lanes,
     pub store: &'a Store,
@@ -204,19 +204,19 @@ pub struct Wave<'a> {
 fn work_all<'s, E, R: Threads + Wait + Sync, G: Monitor>(
     scope: &Scope<'s, E>,
     rt: &'s R,
-    site: Site<'s>,
+    context: WaveContext<'s>,
     ports: Vec<Port>,
-    used: Spaces,
+    used: MemoryPool,
     monitor: &'s G,
 ) -> Result<Vec<Part>, WaveFault>
-    requires ports { AreNew site.lanes.now ports.items }
-    requires sizes { site.lanes.now.sizes ≡ sizes_of site.store.now }
-    requires roots { All (IsKey site.store.now) site.roots.now }
-    ensures parts { IfOk result (λ v. AreWorked site.entry.lanes.now site.entry.store.now site.entry.roots.now v.items) }
+    requires ports { AreNew context.lanes.now ports.items }
+    requires sizes { context.lanes.now.sizes ≡ sizes_of context.store.now }
+    requires roots { All (IsKey context.store.now) context.roots.now }
+    ensures parts { IfOk result (λ v. AreWorked context.entry.lanes.now context.entry.store.now context.entry.roots.now v.items) }
     ensures fault { IfErr result (λ f. f ≢ WaveFault.Full) }
-    ensures unbounded { IfErr result (λ f. f ≢ WaveFault.TooManyRequests) }
+    ensures never_too_many_requests { IfErr result (λ f. f ≢ WaveFault.TooManyRequests) }
 {
-    let parts = Vec::with_capacity(site.alloc, ports.len())?;
+    let parts = Vec::with_capacity(context.alloc, ports.len())?;
     let mut ports = ports;
     let Some(own) = ports.pop() else {
         return Ok(parts);
@@ -224,21 +224,21 @@ fn work_all<'s, E, R: Threads + Wait + Sync, G: Monitor>(
     let mut used = used;
     let space = used.take();
     let count = ports.len();
-    let children = start_all(scope, rt, site, ports, used, monitor)?;
+    let children = start_all(scope, rt, context, ports, used, monitor)?;
     let started = children.len() == count;
-    let last = work(rt, site, own, space, monitor);
+    let last = work(rt, context, own, space, monitor);
     let others = join_all(rt, children, parts);
     let joined = with_last(others, last);
-    let done = have_done(started, site);
+    let done = have_done(started, context);
     outcome_of(done, joined)
 }
 
 /// The parts of all workers by number, once all threads have ended.
 pub fn run_workers<R: Threads + Wait + Sync, G: Monitor>(
     rt: &R,
-    wave: Wave<'_>,
+    wave: WaveInput<'_>,
     ports: Vec<Port>,
-    used: Spaces,
+    used: MemoryPool,
     monitor: &G,
 ) -> Result<Vec<Part>, WaveFault>
     requires ports { AreNew wave.lanes.now ports.items }
@@ -246,9 +246,9 @@ pub fn run_workers<R: Threads + Wait + Sync, G: Monitor>(
     requires roots { All (IsKey wave.store.now) wave.roots.now }
     ensures parts { IfOk result (λ v. AreWorked wave.entry.lanes.now wave.entry.store.now wave.entry.roots.now v.items) }
     ensures fault { IfErr result (λ f. f ≢ WaveFault.Full) }
-    ensures unbounded { IfErr result (λ f. f ≢ WaveFault.TooManyRequests) }
+    ensures never_too_many_requests { IfErr result (λ f. f ≢ WaveFault.TooManyRequests) }
 {
-    let Wave {
+    let WaveInput {
         alloc,
         lanes,
         store,
@@ -269,9 +269,9 @@ pub fn run_workers<R: Threads + Wait + Sync, G: Monitor>(
             requires roots { All (IsKey store.now) roots.now }
             ensures parts { IfOk result (λ v. AreWorked lanes.entry.now store.entry.now roots.entry.now v.items) }
             ensures fault { IfErr result (λ f. f ≢ WaveFault.Full) }
-            ensures unbounded { IfErr result (λ f. f ≢ WaveFault.TooManyRequests) }
+            ensures never_too_many_requests { IfErr result (λ f. f ≢ WaveFault.TooManyRequests) }
         {
-            let site = Site {
+            let context = WaveContext {
                 alloc,
                 lanes,
                 store,
@@ -281,7 +281,7 @@ pub fn run_workers<R: Threads + Wait + Sync, G: Monitor>(
                 most,
                 keeps,
             };
-            work_all(scope, rt, site, ports, used, monitor)
+            work_all(scope, rt, context, ports, used, monitor)
         },
     )
 }

@@ -3,22 +3,22 @@ ghost use Rattle.std.specs.Prelude.{◌≡◌, ◌+◌, ◌<◌, ◌%◌, ◌^�
 ghost use Rattle.req_table.specs.Keys.{IsKey};
 ghost use Rattle.req_table.specs.Sizes.{sizes_of};
 ghost use Rattle.lane_queue.specs.PortView.{IsPortOf};
-ghost use Rattle.expand_work.specs.Due.{Owes};
-ghost use Rattle.expand_work.specs.Taken.{AreTaken};
+ghost use Rattle.expand_work.specs.Due.{BecomesDue};
+ghost use Rattle.expand_work.specs.TakenChildren.{AreTaken};
 ghost use Rattle.req_table.specs.Places.{row as at};
-ghost use Rattle.expand_work.specs.Working.{IsWorking, HasSpoken, IsClosing};
-ghost use Rattle.expand_work.specs.Worked.{IsFresh, IsWorked};
+ghost use Rattle.expand_work.specs.WorkerState.{IsWorking, HasSentLevel, IsClosing};
+ghost use Rattle.expand_work.specs.WorkerResult.{IsFresh, IsWorked};
 
+use crate::context::WaveContext;
 use crate::due::Due;
-use crate::expand::{ByOwner, deal_roots, expand_row};
-use crate::listen::{Senders, keep_own, take_until_closed};
-use crate::say::{send_due, send_ends};
-use crate::site::Site;
+use crate::expand::{DueByOwner, deal_roots, expand_row};
+use crate::receive::{Senders, keep_own, take_until_closed};
+use crate::send::{send_due, send_ends};
 use crate::tables::Tables;
-use crate::{Monitor, Part, Space, Splits, WorkFault};
+use crate::{Monitor, Part, Splits, WorkFault, WorkerMemory};
 use dd_store::Store;
 use lane_queue::Port;
-use level_close::Clock;
+use level_close::EndCounts;
 use req_table::{Row, Rows};
 use std::alloc::{AllocError, Global};
 use std::sync::Wait;
@@ -36,10 +36,15 @@ pub struct Worker {
 }
 
 // Sends what is due, keeps what the worker owns itself, and ends the level on every lane.
-fn speak<R: Wait>(rt: &R, site: Site<'_>, worker: &mut Worker, level: u16) -> Result<(), AllocError>
-    requires level { level < site.store.now.levels }
-    requires working { IsWorking site.lanes.now site.store.now site.roots.now level worker.old }
-    ensures { OnOk result (HasSpoken site.entry.lanes.now level worker.old worker.new) }
+fn send_level<R: Wait>(
+    rt: &R,
+    context: WaveContext<'_>,
+    worker: &mut Worker,
+    level: u16,
+) -> Result<(), AllocError>
+    requires level { level < context.store.now.levels }
+    requires working { IsWorking context.lanes.now context.store.now context.roots.now level worker.old }
+    ensures { OnOk result (HasSentLevel context.entry.lanes.now level worker.old worker.new) }
 {
     let Worker {
         port,
@@ -48,26 +53,26 @@ fn speak<R: Wait>(rt: &R, site: Site<'_>, worker: &mut Worker, level: u16) -> Re
         due,
         ..
     } = worker;
-    send_due(rt, site.lanes, port, due)?;
+    send_due(rt, context.lanes, port, due)?;
     let _ = port.number();
-    keep_own(site.lanes, port, senders, tables, due)?;
-    send_ends(rt, site.lanes, port, level)
+    keep_own(context.lanes, port, senders, tables, due)?;
+    send_ends(rt, context.lanes, port, level)
 }
 
 // Expands the level's keys into the row, and leaves their table. How many were expanded.
 fn expand_keys(
-    site: Site<'_>,
+    context: WaveContext<'_>,
     tables: &mut Tables,
     level: u16,
-    asks: &mut ByOwner,
+    asks: &mut DueByOwner,
     row: &mut Row,
 ) -> Result<usize, AllocError>
     requires level { level < length tables.old }
-    requires keys { All (IsKey site.store.now) (at tables.old level) }
+    requires keys { All (IsKey context.store.now) (at tables.old level) }
     requires asks { (length asks.old.due ≡ asks.old.workers) × (0 < asks.old.workers) }
     requires empty { row.old ≡ [] }
     ensures tables { OnOk result (tables.new ≡ tables.old) }
-    ensures taken { OnOk result (AreTaken Owes site.entry.store.now asks.old (at tables.old level) row.new asks.new) }
+    ensures taken { OnOk result (AreTaken BecomesDue context.entry.store.now asks.old (at tables.old level) row.new asks.new) }
     ensures count { IfOk result (λ n. n ≡ length (at tables.old level) % 2 ^ 64) }
 {
     let Some(keys) = tables.take(level) else {
@@ -75,21 +80,21 @@ fn expand_keys(
         return Err(AllocError);
     };
     let mut splits = Splits::new();
-    expand_row(site.store, &keys, asks, row, &mut splits)?;
-    tables.leave(level, keys, site.keeps)?;
+    expand_row(context.store, &keys, asks, row, &mut splits)?;
+    tables.leave(level, keys, context.keeps)?;
     Ok(splits.count())
 }
 
 // Expands the level's keys, once it is closed, and tells the monitor how many.
 fn expand_level<G: Monitor>(
-    site: Site<'_>,
+    context: WaveContext<'_>,
     worker: Worker,
     level: u16,
     monitor: &G,
 ) -> Result<Worker, AllocError>
-    requires level { level < site.store.now.levels }
-    requires closing { IsClosing site.lanes.now site.store.now site.roots.now level worker }
-    ensures working { IfOk result (IsWorking site.entry.lanes.now site.entry.store.now site.entry.roots.now (level + 1)) }
+    requires level { level < context.store.now.levels }
+    requires closing { IsClosing context.lanes.now context.store.now context.roots.now level worker }
+    ensures working { IfOk result (IsWorking context.entry.lanes.now context.entry.store.now context.entry.roots.now (level + 1)) }
     ensures number { IfOk result (λ w. w.port.number ≡ worker.port.number) }
 {
     let Worker {
@@ -106,16 +111,16 @@ fn expand_level<G: Monitor>(
     } = senders;
     let mut row = rows.take(level);
     row.clear();
-    let workers = site.lanes.count();
-    let mut asks = ByOwner {
+    let workers = context.lanes.count();
+    let mut asks = DueByOwner {
         due,
         spare,
         workers,
     };
-    let count = expand_keys(site, &mut tables, level, &mut asks, &mut row)?;
+    let count = expand_keys(context, &mut tables, level, &mut asks, &mut row)?;
     monitor.at_requests(count);
     rows.put(level, row);
-    let ByOwner { due, spare, .. } = asks;
+    let DueByOwner { due, spare, .. } = asks;
     let senders = Senders {
         clock,
         noted,
@@ -134,66 +139,70 @@ fn expand_level<G: Monitor>(
 // expands the level's keys. If the workers have more requests with these than they may expand, it expands nothing and stops them all.
 fn do_level<R: Wait, G: Monitor>(
     rt: &R,
-    site: Site<'_>,
+    context: WaveContext<'_>,
     worker: Worker,
     level: u16,
     monitor: &G,
 ) -> Result<Worker, WorkFault>
-    requires level { level < site.store.now.levels }
-    requires working { IsWorking site.lanes.now site.store.now site.roots.now level worker }
-    ensures { IfOk result (λ w. IsWorking site.entry.lanes.now site.entry.store.now site.entry.roots.now (level + 1) w
+    requires level { level < context.store.now.levels }
+    requires working { IsWorking context.lanes.now context.store.now context.roots.now level worker }
+    ensures { IfOk result (λ w. IsWorking context.entry.lanes.now context.entry.store.now context.entry.roots.now (level + 1) w
         × (w.port.number ≡ worker.port.number)) }
 {
     let mut worker = worker;
-    speak(rt, site, &mut worker, level)?;
+    send_level(rt, context, &mut worker, level)?;
     let Worker {
         port,
         senders,
         tables,
         ..
     } = &mut worker;
-    take_until_closed(rt, site, port, senders, tables, level)?;
-    if !site.admits(tables.count(level)) {
-        site.stop.store(true, Ordering::SeqCst);
+    take_until_closed(rt, context, port, senders, tables, level)?;
+    if !context.admits(tables.count(level)) {
+        context.stop.store(true, Ordering::SeqCst);
         return Err(WorkFault::Stopped);
     }
     monitor.at_level(worker.port.number(), level);
-    Ok(expand_level(site, worker, level, monitor)?)
+    Ok(expand_level(context, worker, level, monitor)?)
 }
 
 // A worker before its first level, which has to ask for its roots.
-fn begin(site: Site<'_>, port: Port, used: Option<Space>) -> Result<Worker, AllocError>
-    requires port { IsPortOf site.lanes.now port }
+fn begin(
+    context: WaveContext<'_>,
+    port: Port,
+    used: Option<WorkerMemory>,
+) -> Result<Worker, AllocError>
+    requires port { IsPortOf context.lanes.now port }
     requires fresh { IsFresh port }
-    requires sizes { site.lanes.now.sizes ≡ sizes_of site.store.now }
-    requires roots { All (IsKey site.store.now) site.roots.now }
-    ensures { IfOk result (λ w. IsWorking site.entry.lanes.now site.entry.store.now site.entry.roots.now 0 w
+    requires sizes { context.lanes.now.sizes ≡ sizes_of context.store.now }
+    requires roots { All (IsKey context.store.now) context.roots.now }
+    ensures { IfOk result (λ w. IsWorking context.entry.lanes.now context.entry.store.now context.entry.roots.now 0 w
         × (w.port.number ≡ port.number)) }
 {
-    let Site {
+    let WaveContext {
         alloc,
         lanes,
         store,
         roots,
         ..
-    } = site;
+    } = context;
     let workers = lanes.count();
     let number = port.number();
     let levels = store.levels();
-    let clock = Clock::new(alloc, workers, levels)?;
-    let Space {
+    let clock = EndCounts::new(alloc, workers, levels)?;
+    let WorkerMemory {
         tables,
         rows,
         noted,
         spare,
-    } = Space::open(alloc, used, levels, workers)?;
-    let mut asks = ByOwner {
+    } = WorkerMemory::open(alloc, used, levels, workers)?;
+    let mut asks = DueByOwner {
         due: Due::new(alloc, workers)?,
         spare,
         workers,
     };
     deal_roots(store, roots, number, &mut asks)?;
-    let ByOwner { due, spare, .. } = asks;
+    let DueByOwner { due, spare, .. } = asks;
     Ok(Worker {
         port,
         senders: Senders {
@@ -210,23 +219,23 @@ fn begin(site: Site<'_>, port: Port, used: Option<Space>) -> Result<Worker, Allo
 // Goes through the levels.
 fn run_levels<R: Wait, G: Monitor>(
     rt: &R,
-    site: Site<'_>,
+    context: WaveContext<'_>,
     port: Port,
-    used: Option<Space>,
+    used: Option<WorkerMemory>,
     monitor: &G,
 ) -> Result<Part, WorkFault>
-    requires port { IsPortOf site.lanes.now port }
+    requires port { IsPortOf context.lanes.now port }
     requires fresh { IsFresh port }
-    requires sizes { site.lanes.now.sizes ≡ sizes_of site.store.now }
-    requires roots { All (IsKey site.store.now) site.roots.now }
-    ensures { IfOk result (λ p. IsWorked site.entry.lanes.now site.entry.store.now site.entry.roots.now port.number p) }
+    requires sizes { context.lanes.now.sizes ≡ sizes_of context.store.now }
+    requires roots { All (IsKey context.store.now) context.roots.now }
+    ensures { IfOk result (λ p. IsWorked context.entry.lanes.now context.entry.store.now context.entry.roots.now port.number p) }
 {
-    let mut worker = begin(site, port, used)?;
-    for level in 0..site.store.levels() {
-        if site.stop.load(Ordering::SeqCst) {
+    let mut worker = begin(context, port, used)?;
+    for level in 0..context.store.levels() {
+        if context.stop.load(Ordering::SeqCst) {
             return Err(WorkFault::Stopped);
         }
-        worker = do_level(rt, site, worker, level, monitor)?;
+        worker = do_level(rt, context, worker, level, monitor)?;
     }
     let own = worker.port.number();
     let Worker {
@@ -239,7 +248,7 @@ fn run_levels<R: Wait, G: Monitor>(
     let Senders { noted, spare, .. } = senders;
     Ok(Part {
         port,
-        space: Space {
+        space: WorkerMemory {
             tables,
             rows,
             noted,
@@ -258,20 +267,20 @@ fn run_levels<R: Wait, G: Monitor>(
 /// of an earlier wave as far as there is some. After a refusal the port and this memory are gone.
 pub fn work<R: Wait, G: Monitor>(
     rt: &R,
-    site: Site<'_>,
+    context: WaveContext<'_>,
     port: Port,
-    used: Option<Space>,
+    used: Option<WorkerMemory>,
     monitor: &G,
 ) -> Result<Part, WorkFault>
-    requires port { IsPortOf site.lanes.now port }
+    requires port { IsPortOf context.lanes.now port }
     requires fresh { IsFresh port }
-    requires sizes { site.lanes.now.sizes ≡ sizes_of site.store.now }
-    requires roots { All (IsKey site.store.now) site.roots.now }
-    ensures { IfOk result (λ p. IsWorked site.entry.lanes.now site.entry.store.now site.entry.roots.now port.number p) }
+    requires sizes { context.lanes.now.sizes ≡ sizes_of context.store.now }
+    requires roots { All (IsKey context.store.now) context.roots.now }
+    ensures { IfOk result (λ p. IsWorked context.entry.lanes.now context.entry.store.now context.entry.roots.now port.number p) }
 {
-    let result = run_levels(rt, site, port, used, monitor);
+    let result = run_levels(rt, context, port, used, monitor);
     if matches!(result, Err(WorkFault::OutOfMemory)) {
-        site.stop.store(true, Ordering::SeqCst);
+        context.stop.store(true, Ordering::SeqCst);
     }
     result
 }

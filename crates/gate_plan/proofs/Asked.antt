@@ -7,22 +7,22 @@ use Rattle.dd_store.specs.Nodes.{Nodes, IsSound, count_of}
 use Rattle.dd_store.specs.View.{Has}
 use Rattle.dd_store.proofs.View.{one_diagram}
 use Rattle.net_bench.specs.declared.netlist.GateLine.{GateLine}
-use Rattle.net_order.specs.Order.{Paired}
+use Rattle.net_order.specs.Order.{NamingModel}
 use Rattle.net_bench.specs.Circuit.{Circuit, Net, IsNet, circuit, greatest, rank_of}
 use Rattle.net_bench.specs.Labels.{bit_of}
 use Rattle.net_bench.proofs.Built.{has_labelling}
 use Rattle.req_table.specs.declared.Op.{Op}
 use Rattle.req_table.specs.TerminalCase.{terminal_of}
-use Rattle.req_table.specs.ComputedTables.{Held, IsRight}
-use Rattle.reduce_up.specs.Known.{unknown, IsKeptWave}
+use Rattle.req_table.specs.ComputedTables.{ComputedView, IsRight}
+use Rattle.reduce_up.specs.CacheProbe.{unknown, IsKeptWave}
 use Rattle.reduce_up.specs.Waves.{Entry, HasRequest, IsWithinLimit}
-use Rattle.reduce_up.proofs.Known.{request_unknown, kept_none, unknown_is}
+use Rattle.reduce_up.proofs.Probing.{request_unknown, kept_none, unknown_is}
 use Rattle.wave_engine.specs.Bounds.{ArePast}
 use Rattle.gate_plan.specs.declared.steps.Step.{Step}
 use Rattle.gate_plan.specs.Plans.{operand_at, folds_of, step_of, step_at, plan_steps, plan_folds, IsPlan}
-use Rattle.gate_plan.specs.Building.{Placed, input_level, reference_of, first_operand, entry_of, Denotes, value_after, AreFolded, AllFolded, ArePlaced, Levelled, levelled_of, asked}
+use Rattle.gate_plan.specs.Building.{PlannedNet, input_level, reference_of, first_operand, entry_of, Denotes, value_after, AreFolded, AllFolded, ArePlannedNets, Levelled, levelled_of, asked}
 use Rattle.gate_plan.specs.Needing.{IsStillWithin}
-use Rattle.gate_plan.specs.Asking.{first_taken, second_taken, IsAsked, Asks, AnyAsks, AnyAsksAt, AnyAsksIn, AnyAsksBelow, IsWithinOrUnasked, IsHeldWithin, IsEntryOf, IsEntryAt, IsPast}
+use Rattle.gate_plan.specs.Asking.{first_taken, second_taken, IsAsked, Asks, AnyAsks, AnyAsksAt, AnyAsksIn, AnyAsksBelow, IsWithinOrUnasked, IsRightAndWithinLimit, IsEntryOf, IsEntryAt, IsPast}
 use Rattle.gate_plan.proofs.Lists.{same_number}
 use Rattle.gate_plan.proofs.Together.{image, of_map, refs_there, asked_has, asked_holds}
 use Rattle.gate_plan.proofs.Ranks.{above_none, operand_lower, some_operand, operand_below, rank_top}
@@ -100,8 +100,8 @@ module _ (net : Net) (h : IsNet net) (level : ℕ → ℕ) where
       )
 
 -- a wave of the steps of all netlists that reaches more requests than the bound
-pub wave_past : (sides : List Placed) → ((one : Placed) → Contains sides one → IsPlan one.net one.plan) → (S : Nodes) → IsSound S → (built : List (List Ref)) (r j : ℕ) (entries : List Entry) →
-    AllFolded sides S built r j → entries ≡ asked sides built r j → (m : Held) (o : Option ℕ) → ArePast o S (unknown m entries) → IsPast o S.levels (map levelled_of sides)
+pub wave_past : (sides : List PlannedNet) → ((one : PlannedNet) → Contains sides one → IsPlan one.net one.plan) → (S : Nodes) → IsSound S → (built : List (List Ref)) (r j : ℕ) (entries : List Entry) →
+    AllFolded sides S built r j → entries ≡ asked sides built r j → (m : ComputedView) (o : Option ℕ) → ArePast o S (unknown m entries) → IsPast o S.levels (map levelled_of sides)
 wave_past sides plans S sound built r j entries h e m None past = past
 wave_past sides plans S sound built r j entries h e m (Some n) past = record {
   store = S;
@@ -124,8 +124,8 @@ wave_past sides plans S sound built r j entries h e m (Some n) past = record {
     )
 
 -- what a wave of the steps of all netlists leaves
-pub wave_unasked : (sides : List Placed) → ((one : Placed) → Contains sides one → IsPlan one.net one.plan) → (S T : Nodes) → IsSound S → (built : List (List Ref)) (r j : ℕ) (entries : List (Op × Ref × Ref)) →
-    AllFolded sides S built r j → entries ≡ asked sides built r j → (m : Held) → IsHeldWithin S m → IsWithinLimit S (unknown m entries) T → IsWithinOrUnasked (AnyAsksAt sides T r j) S T
+pub wave_unasked : (sides : List PlannedNet) → ((one : PlannedNet) → Contains sides one → IsPlan one.net one.plan) → (S T : Nodes) → IsSound S → (built : List (List Ref)) (r j : ℕ) (entries : List (Op × Ref × Ref)) →
+    AllFolded sides S built r j → entries ≡ asked sides built r j → (m : ComputedView) → IsRightAndWithinLimit S m → IsWithinLimit S (unknown m entries) T → IsWithinOrUnasked (AnyAsksAt sides T r j) S T
 wave_unasked sides plans S T sound built r j entries h e m held (inl le) = inl le
 wave_unasked sides plans S T sound built r j entries h e m held (inr (none, same)) =
     elim held.within [
@@ -141,7 +141,7 @@ wave_unasked sides plans S T sound built r j entries h e m held (inr (none, same
         (q.0, subst (λ xs. Contains xs q.0) (sym e) (asked_has r j sides built k one (get_or built k []) h.0 lt at there q.0 q.1), q.2)
 
 -- what is held after a wave is so still
-pub wave_held : (S T : Nodes) (m : Held) (entries : List (Op × Ref × Ref)) (answers : List Ref) (new : Held) → IsHeldWithin S m → IsWithinLimit S (unknown m entries) T → IsKeptWave m entries answers new → IsRight T new → IsHeldWithin T new
+pub wave_held : (S T : Nodes) (m : ComputedView) (entries : List (Op × Ref × Ref)) (answers : List Ref) (new : ComputedView) → IsRightAndWithinLimit S m → IsWithinLimit S (unknown m entries) T → IsKeptWave m entries answers new → IsRight T new → IsRightAndWithinLimit T new
 wave_held S T m entries answers new held (inl le) kept right = record { right = right; within = inr le }
 wave_held S T m entries answers new held (inr (none, same)) kept right = record {
   right = right;
@@ -181,7 +181,7 @@ later_unasked S T U asked (inl le) (inr (none, same)) = inl (subst (λ V. count_
 later_unasked S T U asked (inr was) (inr (none, same)) = inr (none, same ∙ was)
 
 -- the folds of a rank are all its steps
-pub rank_unasked : (sides : List Placed) (S T : Nodes) (r n : ℕ) → ((one : Placed) → Contains sides one → plan_folds one.net one.net.gates r ≤ n) →
+pub rank_unasked : (sides : List PlannedNet) (S T : Nodes) (r n : ℕ) → ((one : PlannedNet) → Contains sides one → plan_folds one.net one.net.gates r ≤ n) →
     IsWithinOrUnasked ((j : ℕ) × (j < n) × AnyAsksAt sides T r j) S T → IsWithinOrUnasked (AnyAsksIn sides T r) S T
 rank_unasked sides S T r n few w = less_unasked S T (AnyAsksIn sides T r) ((j : ℕ) × (j < n) × AnyAsksAt sides T r j) by w
   where
@@ -198,19 +198,19 @@ rank_unasked sides S T r n few w = less_unasked S T (AnyAsksIn sides T r) ((j : 
     )
 
 -- and the ranks are all gates
-pub all_unasked : (a b : Circuit) (given : Option Circuit) (p : Paired) (sides : List Placed) → ArePlaced a b given p sides → (S T : Nodes) (n : ℕ) →
-    ((one : Placed) → Contains sides one → greatest (map (rank_of one.net) one.net.gates) ≤ n) →
+pub all_unasked : (a b : Circuit) (given : Option Circuit) (p : NamingModel) (sides : List PlannedNet) → ArePlannedNets a b given p sides → (S T : Nodes) (n : ℕ) →
+    ((one : PlannedNet) → Contains sides one → greatest (map (rank_of one.net) one.net.gates) ≤ n) →
     IsWithinOrUnasked (AnyAsksBelow sides T n) S T → IsWithinOrUnasked (AnyAsks a b given p T) S T
 all_unasked a b given p sides placed S T n few w = less_unasked S T (AnyAsks a b given p T) (AnyAsksBelow sides T n) by w
   where
-    below : (one : Placed) → Contains sides one → (g : GateLine) → Contains one.net.gates g → (i : ℕ) × (i < n) × (rank_of one.net g ≡ i + 1)
+    below : (one : PlannedNet) → Contains sides one → (g : GateLine) → Contains one.net.gates g → (i : ℕ) × (i < n) × (rank_of one.net g ≡ i + 1)
     below one c g among =
         let low = above_none one.net (placed.plans one c).sound g among in
         let top = rank_top one.net g among in
         let most = few one c in
         (rank_of one.net g - 1, omega arith, omega arith)
 
-    of_one : (one : Placed) → Contains sides one → Asks (circuit one.net) (input_level one) T → AnyAsksBelow sides T n
+    of_one : (one : PlannedNet) → Contains sides one → Asks (circuit one.net) (input_level one) T → AnyAsksBelow sides T n
     of_one one c (g, among, (j, is_asked)) = let d = below one c g among in (d.0, d.1, (j, (one, c, (g, among, d.2, is_asked))))
 
     by : AnyAsks a b given p T → AnyAsksBelow sides T n

@@ -5,20 +5,20 @@ use Rattle.std.specs.Map.{lookup}
 use Rattle.std.specs.Option.{option_map}
 use Rattle.std.proofs.lemmas.List.{drop_more}
 use Rattle.dd_store.specs.declared.reference.Ref.{Ref}
-use Rattle.dd_store.specs.Marks.{mark_by}
+use Rattle.dd_store.specs.Complements.{complement_by}
 use Rattle.dd_store.specs.Nodes.{Nodes}
 use Rattle.dd_store.specs.View.{Has}
 use Rattle.req_table.specs.declared.Op.TheVariants.{And}
 use Rattle.req_table.specs.declared.Key.{Key}
 use Rattle.req_table.specs.Keys.{normal_of, wave_of}
-use Rattle.req_table.specs.ComputedTables.{Held, or_held}
+use Rattle.req_table.specs.ComputedTables.{ComputedView, or_computed}
 use Rattle.req_table.specs.Reached.{IsReached, root, child}
 use Rattle.req_table.specs.TerminalCase.{terminal_of}
 use Rattle.req_table.specs.Wave.{Wave}
 use Rattle.req_table.specs.contracts.KeyPartialEq.TheImpl.{eq-value}
-use Rattle.reduce_up.specs.Known.{known_entry, unless_known, unknown}
+use Rattle.reduce_up.specs.CacheProbe.{known_entry, unless_known, unknown}
 use Rattle.reduce_up.specs.Waves.{Entry, IsEntry, AnswersEach, request_of, requests_of}
-use Rattle.reduce_up.proofs.Known.{unknown_is}
+use Rattle.reduce_up.proofs.Probing.{unknown_is}
 use Rattle.reduce_up.proofs.Rooted.{of_entry, to_request}
 use Rattle.wave_engine.specs.Bounds.{AreAtMost, ArePast}
 use Rattle.gate_plan.specs.Conjoining.{conjunctions, AreConjoined}
@@ -49,7 +49,7 @@ entries_known S refs given entries h g e =
     by x m = rw (← m.2) (of_place S refs h m.0 m.1, g)
 
 -- the requests of the entries of which nothing is known are requests of all
-unknown_requests : (m : Held) (es : List Entry) (k : Key) → Contains (requests_of (unknown m es)) k → Contains (requests_of es) k
+unknown_requests : (m : ComputedView) (es : List Entry) (k : Key) → Contains (requests_of (unknown m es)) k → Contains (requests_of es) k
 unknown_requests m es k c =
     let e = of_entry (unknown m es) k c in
     subst (Contains (requests_of es)) (sym e.3) (to_request es e.0 (unknown_is m es e.0 e.1).0 e.2)
@@ -59,7 +59,7 @@ reached_more w few all more k (root c) = root (more k c)
 reached_more w few all more k (child b l m r asks) = child b l m (reached_more w few all more _ r) asks
 
 -- more requests than the bound are reached from all entries, where they are from those of which nothing is known
-pub past_all : (o : Option ℕ) (S : Nodes) (m : Held) (es : List Entry) → ArePast o S (unknown m es) → ArePast o S es
+pub past_all : (o : Option ℕ) (S : Nodes) (m : ComputedView) (es : List Entry) → ArePast o S (unknown m es) → ArePast o S es
 past_all None S m es past = past
 past_all (Some n) S m es past = record {
   requests = past.requests;
@@ -69,7 +69,7 @@ past_all (Some n) S m es past = record {
 }
 
 -- where nothing is held, the entries of which nothing is known have the requests of all
-requests_unknown : (m : Held) (es : List Entry) → m.pairs ≡ [] → requests_of (unknown m es) ≡ requests_of es
+requests_unknown : (m : ComputedView) (es : List Entry) → m.pairs ≡ [] → requests_of (unknown m es) ≡ requests_of es
 requests_unknown m [] empty = refl
 requests_unknown m (e ∷ es) empty = by (requests_unknown m es empty) (terminal_of e.0 e.1 e.2) refl
   where
@@ -78,12 +78,12 @@ requests_unknown m (e ∷ es) empty = by (requests_unknown m es empty) (terminal
 
     by : requests_of (unknown m es) ≡ requests_of es → (o : Option Ref) → terminal_of e.0 e.1 e.2 ≡ o → requests_of (unless_known (known_entry m e) e ++ unknown m es) ≡ request_of (terminal_of e.0 e.1 e.2) e ++ requests_of es
     by rest None h =
-        let none : known_entry m e ≡ None = ap (or_held m n) h ∙ ap (λ pairs. option_map (mark_by n.1) (lookup (eq-value.it n.0) pairs)) empty in
+        let none : known_entry m e ≡ None = ap (or_computed m n) h ∙ ap (λ pairs. option_map (complement_by n.1) (lookup (eq-value.it n.0) pairs)) empty in
         ap (λ o. requests_of (unless_known o e ++ unknown m es)) none ∙ ap (λ ks. request_of (terminal_of e.0 e.1 e.2) e ++ ks) rest
     by rest (Some r) h =
-        let some : known_entry m e ≡ Some r = ap (or_held m n) h in
+        let some : known_entry m e ≡ Some r = ap (or_computed m n) h in
         ap (λ o. requests_of (unless_known o e ++ unknown m es)) some ∙ rest ∙ sym (ap (λ o. request_of o e ++ requests_of es) h)
 
 -- so at most as many are reached from all
-pub at_most_all : (n : ℕ) (S : Nodes) (m : Held) (es : List Entry) → m.pairs ≡ [] → AreAtMost n S (unknown m es) → AreAtMost n S es
+pub at_most_all : (n : ℕ) (S : Nodes) (m : ComputedView) (es : List Entry) → m.pairs ≡ [] → AreAtMost n S (unknown m es) → AreAtMost n S es
 at_most_all n S m es empty few requests once reached = few requests once (λ k c. subst (λ ks. IsReached (wave_of S 1) ks k) (sym (requests_unknown m es empty)) (reached k c))

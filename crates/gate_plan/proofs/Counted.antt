@@ -11,7 +11,7 @@ use Rattle.dd_store.specs.declared.reference.Ref.{Ref}
 use Rattle.dd_store.specs.declared.reference.Reference.TheVariants.{False, True}
 use Rattle.dd_store.specs.Functions.{Agree, DependsOn, OfEither}
 use Rattle.dd_store.specs.Graph.{bit}
-use Rattle.dd_store.specs.Marks.{mark_both}
+use Rattle.dd_store.specs.Complements.{complement_both}
 use Rattle.dd_store.specs.Nodes.{Nodes, den, IsSound, count_of, shard_at, with_node, Makes, IsNeeded as IsMissing}
 use Rattle.dd_store.specs.Parts.{Part, top_of}
 use Rattle.dd_store.specs.Parts.Part.{node}
@@ -189,7 +189,7 @@ variable_fault S v store_faults.Full sound lt f = by (cases_lt S.limit (count_of
 pub no_node : (S : Nodes) → count_of S ≡ 0 → (m : Ref) (v : ℕ) (lo hi : Ref) → Has S m → part S m ≡ node v lo hi → ⊥
 no_node S none m v lo hi h e =
     let at = of_part S m v lo hi h e in
-    let pair : Ref × Ref = mark_both at.1 (lo, hi) in
+    let pair : Ref × Ref = complement_both at.1 (lo, hi) in
     let there = node_in_shard S at.0 pair (node-of S at.0 at.1 (lo, hi) at.4) in
     let few : length (get_or S.shards (16 * at.0.level + at.0.shard) []) ≤ count_of S = shard-le-count S (16 * at.0.level + at.0.shard) in
     let low : at.0.index < length (get_or S.shards (16 * at.0.level + at.0.shard) []) = slice_get_within (shard_at S at.0.level at.0.shard) at.0.index pair there.1 in

@@ -7,10 +7,10 @@ use Rattle.expand_work.specs.declared.fault.WaveFault.{WaveFault}
 use Rattle.net_bench.specs.Circuit.{greatest, rank_of}
 use Rattle.reduce_up.specs.Reducing.{AddsDescribed}
 use Rattle.gate_plan.specs.Asking.{AnyAsks, AnyAsksBelow, IsWithinOrUnasked, IsPast}
-use Rattle.gate_plan.specs.Building.{PairedCircuits, Placed, Levelled, levelled, levelled_of, ranks_of, AllRight, AreDiagrams, IsBeginning}
+use Rattle.gate_plan.specs.Building.{PairedCircuits, PlannedNet, Levelled, levelled, levelled_of, ranks_of, AllRight, AreDiagrams, IsBuildStart}
 use Rattle.gate_plan.specs.Folds.{IsVariable}
 use Rattle.gate_plan.specs.Need.{IsCounted}
-use Rattle.gate_plan.specs.Needing.{IsNeeded, IsNeededValue, IsPlacedValue, HasNeed, IsBuildFault, IsStillWithin}
+use Rattle.gate_plan.specs.Needing.{IsNeeded, IsNeededValue, IsPlannedValue, HasNeed, IsBuildFault, IsStillWithin}
 use Rattle.gate_plan.proofs.Asked.{all_unasked, later_unasked, still_within}
 use Rattle.gate_plan.proofs.Counted.{adds_more, adds_next, fault_next}
 use Rattle.gate_plan.proofs.Needed.{needed_adds, needed_fault, need_left, diagrams_at}
@@ -18,27 +18,27 @@ use Rattle.gate_plan.proofs.Ranks.{below_greatest}
 use Rattle.gate_plan.proofs.Running.{variables_kept}
 
 -- what is lent of a build's beginning is that beginning
-pub begun_lent : (c : PairedCircuits) (T : Nodes) (sides lent_sides : List Placed) (built lent_built : List (List Ref)) → lent_sides ≡ sides → lent_built ≡ built → IsBeginning c T sides built → IsBeginning c T lent_sides lent_built
-begun_lent c T sides lent_sides built lent_built e f begun = subst (λ (z : List Placed). IsBeginning c T z lent_built) (sym e) (subst (λ (z : List (List Ref)). IsBeginning c T sides z) (sym f) begun)
+pub begun_lent : (c : PairedCircuits) (T : Nodes) (sides lent_sides : List PlannedNet) (built lent_built : List (List Ref)) → lent_sides ≡ sides → lent_built ≡ built → IsBuildStart c T sides built → IsBuildStart c T lent_sides lent_built
+begun_lent c T sides lent_sides built lent_built e f begun = subst (λ (z : List PlannedNet). IsBuildStart c T z lent_built) (sym e) (subst (λ (z : List (List Ref)). IsBuildStart c T sides z) (sym f) begun)
 
 -- The store S before the build, T before the first rank, and U behind the last one that was done.
 module _ (c : PairedCircuits) (S T U : Nodes) (levels : S.levels ≡ length c.pairing.names) (sound : IsSound T) (variables : AddsDescribed S T (IsCounted S.levels (IsVariable S.levels)))
-    (sides : List Placed) (built : List (List Ref)) (begun : IsBeginning c T sides built) (adds : AddsDescribed T U (IsCounted T.levels (IsPlacedValue T.levels sides))) where
-  added : AddsDescribed S U (IsCounted S.levels (IsPlacedValue S.levels sides))
-  added = adds_next S T U (λ n. IsPlacedValue n sides) sound (adds_more S T S.levels (IsVariable S.levels) (IsPlacedValue S.levels sides) (λ f v. inl v) variables) adds
+    (sides : List PlannedNet) (built : List (List Ref)) (begun : IsBuildStart c T sides built) (adds : AddsDescribed T U (IsCounted T.levels (IsPlannedValue T.levels sides))) where
+  added : AddsDescribed S U (IsCounted S.levels (IsPlannedValue S.levels sides))
+  added = adds_next S T U (λ n. IsPlannedValue n sides) sound (adds_more S T S.levels (IsVariable S.levels) (IsPlannedValue S.levels sides) (λ f v. inl v) variables) adds
 
   pub ranks_needed : AddsDescribed S U (IsNeeded c.first c.second c.given c.pairing)
   ranks_needed = needed_adds c.first c.second c.given c.pairing sides begun.placed.netlists S.levels levels S U added
 
-  pub ranks_fault : (e : WaveFault) → IsBuildFault T.levels (IsPlacedValue T.levels sides) U e → IsBuildFault (length c.pairing.names) (IsNeededValue c.first c.second c.given c.pairing) U e
-  ranks_fault e f = needed_fault c.first c.second c.given c.pairing sides begun.placed.netlists S.levels levels U e (fault_next S T U (λ n. IsPlacedValue n sides) e variables.keeps f)
+  pub ranks_fault : (e : WaveFault) → IsBuildFault T.levels (IsPlannedValue T.levels sides) U e → IsBuildFault (length c.pairing.names) (IsNeededValue c.first c.second c.given c.pairing) U e
+  ranks_fault e f = needed_fault c.first c.second c.given c.pairing sides begun.placed.netlists S.levels levels U e (fault_next S T U (λ n. IsPlannedValue n sides) e variables.keeps f)
 
   pub ranks_past : (o : Option ℕ) → IsPast o T.levels (map levelled_of sides) → IsPast o (length c.pairing.names) (levelled c.first c.second c.given c.pairing)
   ranks_past o past =
       subst (λ n. IsPast o n (levelled c.first c.second c.given c.pairing)) (variables.keeps.levels ∙ levels) (subst (λ (z : List Levelled). IsPast o T.levels z) begun.placed.netlists past)
 
   -- each rank of a gate is one of those that were done
-  done : (one : Placed) → Contains sides one → greatest (map (rank_of one.net) one.net.gates) ≤ greatest (map ranks_of sides)
+  done : (one : PlannedNet) → Contains sides one → greatest (map (rank_of one.net) one.net.gates) ≤ greatest (map ranks_of sides)
   done one there = let ranks = (begun.placed.plans one there).ranks in let last = below_greatest ranks_of sides one there in omega arith
 
   pub ranks_within : IsStillWithin S T → IsWithinOrUnasked (AnyAsksBelow sides U (greatest (map ranks_of sides))) T U →
@@ -46,7 +46,7 @@ module _ (c : PairedCircuits) (S T U : Nodes) (levels : S.levels ≡ length c.pa
   ranks_within still within = all_unasked c.first c.second c.given c.pairing sides begun.placed S U (greatest (map ranks_of sides)) done (later_unasked S T U _ still within)
 
   module _ (after : List (List Ref)) (right : AllRight sides U after (greatest (map ranks_of sides) + 1)) where
-    past_done : (one : Placed) → Contains sides one → greatest (map (rank_of one.net) one.net.gates) < greatest (map ranks_of sides) + 1
+    past_done : (one : PlannedNet) → Contains sides one → greatest (map (rank_of one.net) one.net.gates) < greatest (map ranks_of sides) + 1
     past_done one there = let d = done one there in omega arith
 
     pub ranks_diagrams : (k : ℕ) (l : Levelled) → k < length (levelled c.first c.second c.given c.pairing) → get_or (levelled c.first c.second c.given c.pairing) k l ≡ l →

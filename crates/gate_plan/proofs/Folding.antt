@@ -2,7 +2,7 @@
 use Rattle.std.proofs.Common.{◌≡◌, ◌≢◌, ℕ, zero, suc, ◌+◌, ◌<◌, Bool, true, false, cond, not, ◌&&◌, ◌||◌, List, [], ◌∷◌, ◌++◌, length, get_or, take, refl, sym, ◌∙◌, ap, arith, add-one, inl, inr}
 use Rattle.std.proofs.lemmas.Bool.{eq-eqb, ne_eqb}
 use Rattle.std.proofs.lemmas.Bool.Decides.{eqb_tells}
-use Rattle.dd_store.specs.Marks.{turned}
+use Rattle.dd_store.specs.Complements.{complemented}
 use Rattle.net_bench.specs.declared.netlist.Kind.{Kind}
 use Rattle.net_bench.specs.Labels.{all_ones, some_one, odd, folded, is_complemented, value_of}
 use Rattle.net_bench.specs.declared.netlist.Kind.TheVariants.{And, Nand, Or, Nor, Xor, Xnor, Not, Buff, Dff}
@@ -109,7 +109,7 @@ fold_start kind bits h =
     one_bit Xnor b = refl
 
 -- with one operand a gate is its operand, or the complement
-pub one_operand : (kind : Kind) (b : Bool) → value_of kind (b ∷ []) ≡ turned (is_complemented kind) b
+pub one_operand : (kind : Kind) (b : Bool) → value_of kind (b ∷ []) ≡ complemented (is_complemented kind) b
 one_operand And true = refl
 one_operand And false = refl
 one_operand Nand true = refl

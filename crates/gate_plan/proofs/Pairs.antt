@@ -6,15 +6,15 @@ use Rattle.dd_store.specs.Nodes.{Nodes}
 use Rattle.net_bench.specs.Circuit.{Circuit, Net, circuit, variables_of}
 use Rattle.net_order.specs.declared.order.Match.{Match}
 use Rattle.net_order.specs.declared.order.Order.{Order}
-use Rattle.net_order.specs.Order.{Paired, IsPairing, first_level, second_level, given_level}
+use Rattle.net_order.specs.Order.{NamingModel, IsPairing, first_level, second_level, given_level}
 use Rattle.net_order.proofs.InputLevels.{first_below, second_below, given_below}
-use Rattle.gate_plan.specs.declared.inputs.Which.{Which}
-use Rattle.gate_plan.specs.declared.inputs.Which.TheVariants.{First, Second, Given}
+use Rattle.gate_plan.specs.declared.inputs.CircuitRole.{CircuitRole}
+use Rattle.gate_plan.specs.declared.inputs.CircuitRole.TheVariants.{First, Second, Given}
 use Rattle.gate_plan.specs.Plans.{IsPlan}
-use Rattle.gate_plan.specs.Building.{IsPaired, ArePlaced, Placed, Levelled, levelled, levelled_given, levelled_of, input_level, AreDiagrams}
+use Rattle.gate_plan.specs.Building.{IsPaired, ArePlannedNets, PlannedNet, Levelled, levelled, levelled_given, levelled_of, input_level, AreDiagrams}
 use Rattle.gate_plan.proofs.Together.{image}
 
-module _ (how : Match) (a b : Circuit) (order : Order) (p : Paired) (n : ℕ) (count : n ≡ length p.names) where
+module _ (how : Match) (a b : Circuit) (order : Order) (p : NamingModel) (n : ℕ) (count : n ≡ length p.names) where
   abbrev Fits : Levelled → Type 0
   Fits l = (s : ℕ) → Contains (variables_of l.netlist) s → l.level s < n
 
@@ -29,45 +29,45 @@ module _ (how : Match) (a b : Circuit) (order : Order) (p : Paired) (n : ℕ) (c
   each_fits given h l (suc (suc k), lt, at) = given_fits given h l (k, omega (arith, lt), at)
 
 -- the levels of each netlist that is built
-pub placed_fits : (a b : Circuit) (given : Option Circuit) (p : Paired) (n : ℕ) (sides : List Placed) → IsPaired a b given p → n ≡ length p.names → map levelled_of sides ≡ levelled a b given p →
-    (one : Placed) → Contains sides one → (s : ℕ) → Contains (variables_of (circuit one.net)) s → input_level one s < n
+pub placed_fits : (a b : Circuit) (given : Option Circuit) (p : NamingModel) (n : ℕ) (sides : List PlannedNet) → IsPaired a b given p → n ≡ length p.names → map levelled_of sides ≡ levelled a b given p →
+    (one : PlannedNet) → Contains sides one → (s : ℕ) → Contains (variables_of (circuit one.net)) s → input_level one s < n
 placed_fits a b given p n sides (how, order, paired) count placed one c s among =
     each_fits how a b order p n count given paired (levelled_of one) (subst (λ z. Contains z (levelled_of one)) placed (image levelled_of sides one c)) s among
 
 -- ---- the netlists with their plans
 
-placed_is : (net : Net) (which : Which) (p : Paired) (one : Placed) → one ≡ record { net = net; which = which; pairing = p; plan = one.plan } → IsPlan net one.plan → IsPlan one.net one.plan
-placed_is net which p one is plan = subst (λ (n : Net). IsPlan n one.plan) (sym (ap (λ (z : Placed). z.net) is)) plan
+placed_is : (net : Net) (which : CircuitRole) (p : NamingModel) (one : PlannedNet) → one ≡ record { net = net; which = which; pairing = p; plan = one.plan } → IsPlan net one.plan → IsPlan one.net one.plan
+placed_is net which p one is plan = subst (λ (n : Net). IsPlan n one.plan) (sym (ap (λ (z : PlannedNet). z.net) is)) plan
 
-module _ (a b : Net) (p : Paired) (one two : Placed) (is_one : one ≡ record { net = a; which = First; pairing = p; plan = one.plan }) (is_two : two ≡ record { net = b; which = Second; pairing = p; plan = two.plan })
+module _ (a b : Net) (p : NamingModel) (one two : PlannedNet) (is_one : one ≡ record { net = a; which = First; pairing = p; plan = one.plan }) (is_two : two ≡ record { net = b; which = Second; pairing = p; plan = two.plan })
     (plan_one : IsPlan a one.plan) (plan_two : IsPlan b two.plan) where
-  pub placed_two : (sides : List Placed) → sides ≡ one ∷ two ∷ [] → ArePlaced (circuit a) (circuit b) None p sides
-  placed_two sides e = subst (ArePlaced (circuit a) (circuit b) None p) (sym e) (record {
+  pub placed_two : (sides : List PlannedNet) → sides ≡ one ∷ two ∷ [] → ArePlannedNets (circuit a) (circuit b) None p sides
+  placed_two sides e = subst (ArePlannedNets (circuit a) (circuit b) None p) (sym e) (record {
     netlists = ap (λ x. x ∷ levelled_of two ∷ []) (ap levelled_of is_one) ∙ ap (λ x. record { netlist = circuit a; level = first_level p } ∷ x ∷ []) (ap levelled_of is_two);
     plans = plans;
   })
     where
-      plans : (o : Placed) → Contains (one ∷ two ∷ []) o → IsPlan o.net o.plan
-      plans o (zero, lt, at) = subst (λ (z : Placed). IsPlan z.net z.plan) at (placed_is a First p one is_one plan_one)
-      plans o (suc zero, lt, at) = subst (λ (z : Placed). IsPlan z.net z.plan) at (placed_is b Second p two is_two plan_two)
+      plans : (o : PlannedNet) → Contains (one ∷ two ∷ []) o → IsPlan o.net o.plan
+      plans o (zero, lt, at) = subst (λ (z : PlannedNet). IsPlan z.net z.plan) at (placed_is a First p one is_one plan_one)
+      plans o (suc zero, lt, at) = subst (λ (z : PlannedNet). IsPlan z.net z.plan) at (placed_is b Second p two is_two plan_two)
       plans o (suc (suc k), lt, at) = absurd (omega (arith, lt))
 
-  pub placed_three : (c : Net) (three : Placed) → three ≡ record { net = c; which = Given; pairing = p; plan = three.plan } → IsPlan c three.plan → (sides : List Placed) → sides ≡ one ∷ two ∷ three ∷ [] →
-      ArePlaced (circuit a) (circuit b) (Some (circuit c)) p sides
-  placed_three c three is_three plan_three sides e = subst (ArePlaced (circuit a) (circuit b) (Some (circuit c)) p) (sym e) (record {
+  pub placed_three : (c : Net) (three : PlannedNet) → three ≡ record { net = c; which = Given; pairing = p; plan = three.plan } → IsPlan c three.plan → (sides : List PlannedNet) → sides ≡ one ∷ two ∷ three ∷ [] →
+      ArePlannedNets (circuit a) (circuit b) (Some (circuit c)) p sides
+  placed_three c three is_three plan_three sides e = subst (ArePlannedNets (circuit a) (circuit b) (Some (circuit c)) p) (sym e) (record {
     netlists = ap (λ x. x ∷ levelled_of two ∷ levelled_of three ∷ []) (ap levelled_of is_one) ∙ ap (λ x. record { netlist = circuit a; level = first_level p } ∷ x ∷ levelled_of three ∷ []) (ap levelled_of is_two)
         ∙ ap (λ x. record { netlist = circuit a; level = first_level p } ∷ record { netlist = circuit b; level = second_level p } ∷ x ∷ []) (ap levelled_of is_three);
     plans = plans;
   })
     where
-      plans : (o : Placed) → Contains (one ∷ two ∷ three ∷ []) o → IsPlan o.net o.plan
-      plans o (zero, lt, at) = subst (λ (z : Placed). IsPlan z.net z.plan) at (placed_is a First p one is_one plan_one)
-      plans o (suc zero, lt, at) = subst (λ (z : Placed). IsPlan z.net z.plan) at (placed_is b Second p two is_two plan_two)
-      plans o (suc (suc zero), lt, at) = subst (λ (z : Placed). IsPlan z.net z.plan) at (placed_is c Given p three is_three plan_three)
+      plans : (o : PlannedNet) → Contains (one ∷ two ∷ three ∷ []) o → IsPlan o.net o.plan
+      plans o (zero, lt, at) = subst (λ (z : PlannedNet). IsPlan z.net z.plan) at (placed_is a First p one is_one plan_one)
+      plans o (suc zero, lt, at) = subst (λ (z : PlannedNet). IsPlan z.net z.plan) at (placed_is b Second p two is_two plan_two)
+      plans o (suc (suc zero), lt, at) = subst (λ (z : PlannedNet). IsPlan z.net z.plan) at (placed_is c Given p three is_three plan_three)
       plans o (suc (suc (suc k)), lt, at) = absurd (omega (arith, lt))
 
 -- the condition has its diagrams where there is one
-pub given_diagrams : (a b : Circuit) (given : Option Circuit) (p : Paired) (S : Nodes) (refs : List Ref) →
+pub given_diagrams : (a b : Circuit) (given : Option Circuit) (p : NamingModel) (S : Nodes) (refs : List Ref) →
     ((l : Levelled) → 2 < length (levelled a b given p) → get_or (levelled a b given p) 2 l ≡ l → AreDiagrams l.netlist l.level S refs) → IfSome given (λ c. AreDiagrams c (given_level p) S refs)
 given_diagrams a b None p S refs h = tt
 given_diagrams a b (Some c) p S refs h = h (record { netlist = c; level = given_level p }) (omega arith) refl

@@ -10,7 +10,7 @@ use Rattle.net_bench.specs.declared.netlist.GateLine.{GateLine}
 use Rattle.net_bench.specs.Circuit.{Net, IsNet, greatest, rank_of}
 use Rattle.net_bench.specs.Labels.{is_complemented}
 use Rattle.gate_plan.specs.declared.steps.Step.{Step}
-use Rattle.gate_plan.specs.declared.steps.Copied.{Copied}
+use Rattle.gate_plan.specs.declared.steps.CopyStep.{CopyStep}
 use Rattle.gate_plan.specs.Plans.{RankSteps, IsPlan, step_of, step_at, copy_of, folds_of, operand_at, plan_steps, plan_copies, plan_folds}
 use Rattle.gate_plan.specs.Building.{first_operand, IsStepBelow, IsCopyBelow}
 use Rattle.gate_plan.proofs.Lists.{same_number, lt_or_le}
@@ -126,10 +126,10 @@ pub no_step_of : (g : GateLine) (j : ℕ) → folds_of g ≤ j → step_of g j �
 no_step_of g j le = ap (λ b. cond b (Some (step_at g j)) None) (let t : nat_lt j (folds_of g) ≡ false = grind (arith, nat_tests) in t)
 
 -- the copy of a gate with one operand
-abbrev pub copied_of : GateLine → Copied
-copied_of g = record { out = g.out; of = operand_at g 0; mark = is_complemented g.kind }
+abbrev pub copied_of : GateLine → CopyStep
+copied_of g = record { out = g.out; of = operand_at g 0; complement = is_complemented g.kind }
 
-pub copy_is : (g : GateLine) (c : Copied) → copy_of g ≡ Some c → (length g.operands ≡ 1) × (c ≡ copied_of g)
+pub copy_is : (g : GateLine) (c : CopyStep) → copy_of g ≡ Some c → (length g.operands ≡ 1) × (c ≡ copied_of g)
 copy_is g c e = by (length g.operands == 1) refl
   where
     by : (b : Bool) → (length g.operands == 1) ≡ b → (length g.operands ≡ 1) × (c ≡ copied_of g)
@@ -148,7 +148,7 @@ module _ (net : Net) (h : IsNet net) where
   pub copies_below : (r : ℕ) → All (IsCopyBelow (length net.names)) (plan_copies net net.gates r)
   copies_below r = all_of (IsCopyBelow (length net.names)) (plan_copies net net.gates r) one
     where
-      one : (c : Copied) → Contains (plan_copies net net.gates r) c → IsCopyBelow (length net.names) c
+      one : (c : CopyStep) → Contains (plan_copies net net.gates r) c → IsCopyBelow (length net.names) c
       one c among =
           let p = in_picks net r copy_of net.gates c among in
           let q = copy_is p.0 c p.3 in

@@ -6,10 +6,10 @@ use Rattle.std.proofs.lemmas.Bool.{ne_eqb}
 use Rattle.dd_store.specs.declared.reference.Ref.{Ref}
 use Rattle.dd_store.specs.declared.reference.Reference.TheVariants.{False}
 use Rattle.dd_store.specs.Graph.{bit}
-use Rattle.dd_store.specs.Marks.{turned}
+use Rattle.dd_store.specs.Complements.{complemented}
 use Rattle.dd_store.specs.Nodes.{Nodes, node, den, IsSound, IsDiagram}
 use Rattle.dd_store.specs.View.{Has, Keeps}
-use Rattle.dd_store.proofs.Marks.{den-mark_by, IsRef-mark_by}
+use Rattle.dd_store.proofs.Complements.{den-complement_by, IsRef-complement_by}
 use Rattle.dd_store.proofs.View.{kept_den}
 use Rattle.net_bench.specs.declared.netlist.Kind.{Kind}
 use Rattle.net_bench.specs.declared.netlist.Kind.TheVariants.{And, Nand, Or, Nor, Xor, Xnor, Not, Buff, Dff}
@@ -22,11 +22,11 @@ use Rattle.req_table.specs.declared.Op.{Op}
 use Rattle.req_table.specs.TerminalCase.{op_value}
 use Rattle.reduce_up.specs.Waves.{entry_value, IsEntry, AnswersEach}
 use Rattle.gate_plan.specs.declared.steps.Step.{Step}
-use Rattle.gate_plan.specs.declared.steps.Copied.{Copied}
+use Rattle.gate_plan.specs.declared.steps.CopyStep.{CopyStep}
 use Rattle.gate_plan.specs.Folds.{IsFoldValue, plain_step, last_step, step_at as bit_step}
 use Rattle.gate_plan.specs.Plans.{plain_op, last_op, op_at, operand_at, folds_of, step_of, step_at, copy_of, plan_steps, plan_copies, plan_folds, IsPlan}
-use Rattle.gate_plan.specs.Building.{Placed, input_level, reference_of, first_operand, entry_of, copied_all, answered_all, Denotes, IsDenoted, value_after, AreRight, IsBegun, AreFolded, AreVariables, AreInputs, AreDiagrams, AllRight, AllFolded, AreCopied, IsCopyBelow, IsStepBelow, asked, levelled_of}
-use Rattle.gate_plan.specs.Needing.{IsPlacedValue}
+use Rattle.gate_plan.specs.Building.{PlannedNet, input_level, reference_of, first_operand, entry_of, copied_all, answered_all, Denotes, IsDenoted, value_after, AreRight, HasValueAfter, AreFolded, AreVariables, AreInputs, AreDiagrams, AllRight, AllFolded, AreCopied, IsCopyBelow, IsStepBelow, asked, levelled_of}
+use Rattle.gate_plan.specs.Needing.{IsPlannedValue}
 use Rattle.gate_plan.proofs.Folding.{fold_step, fold_start, one_operand, so_far_last}
 use Rattle.gate_plan.proofs.Lists.{same_number, lt_or_le, at_end, before_end}
 use Rattle.gate_plan.proofs.Ranks.{above_none, input_rank, operand_lower, some_operand, operand_below, one_gate, rank_top}
@@ -81,7 +81,7 @@ single (b ∷ []) e = refl
 single (b ∷ c ∷ bs) e = absurd (omega arith)
 
 -- of a gate with one operand, the value after it
-after_one : (g : GateLine) (bits : List Bool) → length g.operands ≡ 1 → value_after g 1 bits ≡ turned (is_complemented g.kind) (bit_of bits (operand_at g 0))
+after_one : (g : GateLine) (bits : List Bool) → length g.operands ≡ 1 → value_after g 1 bits ≡ complemented (is_complemented g.kind) (bit_of bits (operand_at g 0))
 after_one g bits e =
     let n : length (map (bit_of bits) g.operands) ≡ 1 = length-map g.operands (bit_of bits) ∙ e in
     so_far_last g.kind (map (bit_of bits) g.operands) 1 (sym n)
@@ -106,7 +106,7 @@ after_first g bits lt =
 
 module _ (net : Net) (h : IsNet net) (level : ℕ → ℕ) where
   -- no copy of a rank is of a gate of the rank
-  apart : (r : ℕ) (c d : Copied) → Contains (plan_copies net net.gates r) c → Contains (plan_copies net net.gates r) d → c.of ≢ d.out
+  apart : (r : ℕ) (c d : CopyStep) → Contains (plan_copies net net.gates r) c → Contains (plan_copies net net.gates r) d → c.of ≢ d.out
   apart r c d a b same =
       let p = in_picks net r copy_of net.gates c a in
       let q = in_picks net r copy_of net.gates d b in
@@ -130,14 +130,14 @@ module _ (net : Net) (h : IsNet net) (level : ℕ → ℕ) where
     values = λ g among rank begun i pos le. values g among rank begun i pos le;
   }
     where
-      cs : List Copied
+      cs : List CopyStep
       cs = plan_copies net net.gates r
 
       at : (s : ℕ) → IsCopiedTo refs cs s (reference_of (copied_all refs cs) s) ⊎ (IsNotCopied cs s × (reference_of (copied_all refs cs) s ≡ reference_of refs s))
       at s = copied_at refs cs s (subst (λ n. All (IsCopyBelow n) cs) (sym w.each) (copies_below net h r)) (apart r)
 
       known : (s : ℕ) → IsCopiedTo refs cs s (reference_of (copied_all refs cs) s) ⊎ (IsNotCopied cs s × (reference_of (copied_all refs cs) s ≡ reference_of refs s)) → Has S (reference_of (copied_all refs cs) s)
-      known s (inl u) = subst (Has S) (sym u.value) (IsRef-mark_by (node S) u.copied.mark (reference_of refs u.copied.of) (w.known u.copied.of))
+      known s (inl u) = subst (Has S) (sym u.value) (IsRef-complement_by (node S) u.copied.complement (reference_of refs u.copied.of) (w.known u.copied.of))
       known s (inr u) = subst (Has S) (sym u.1) (w.known s)
 
       below : (s : ℕ) → s < length net.names → slice_index net.ranks s < r →
@@ -149,7 +149,7 @@ module _ (net : Net) (h : IsNet net) (level : ℕ → ℕ) where
           let e : rank_of net p.0 ≡ slice_index net.ranks s = ap (slice_index net.ranks) (ap (λ z. z.out) (sym q.1) ∙ u.out) in
           let f = p.2 in absurd (omega arith)
 
-      here : (g : GateLine) → Contains net.gates g → rank_of net g ≡ r → IsBegun g 0 → Denotes (circuit net) level S (reference_of (copied_all refs cs) g.out) (value_after g (min (0 + 1) (length g.operands)))
+      here : (g : GateLine) → Contains net.gates g → rank_of net g ≡ r → HasValueAfter g 0 → Denotes (circuit net) level S (reference_of (copied_all refs cs) g.out) (value_after g (min (0 + 1) (length g.operands)))
       here g among rank (inl lt) = absurd (omega arith)
       here g among rank (inr one) = by (at g.out)
         where
@@ -164,17 +164,17 @@ module _ (net : Net) (h : IsNet net) (level : ℕ → ℕ) where
               let q = copy_is p.0 u.copied p.3 in
               let same : p.0 ≡ g = one_gate net h p.0 g p.1 among (ap (λ z. z.out) (sym q.1) ∙ u.out) in
               let of : u.copied.of ≡ operand_at g 0 = ap (λ z. z.of) q.1 ∙ ap (λ z. operand_at z 0) same in
-              let mark : u.copied.mark ≡ is_complemented g.kind = ap (λ z. z.mark) q.1 ∙ ap (λ z. is_complemented z.kind) same in
+              let complement : u.copied.complement ≡ is_complemented g.kind = ap (λ z. z.complement) q.1 ∙ ap (λ z. is_complemented z.kind) same in
               let lower : slice_index net.ranks (operand_at g 0) < rank_of net g = operand_lower net h g (operand_at g 0) among (among_operands g 0 (some_operand net h g among)) in
               ap (λ z. den S z x) u.value
-              ∙ den-mark_by S u.copied.mark (reference_of refs u.copied.of) x
-              ∙ ap (λ b. turned b (den S (reference_of refs u.copied.of) x)) mark
-              ∙ ap (λ s. turned (is_complemented g.kind) (den S (reference_of refs s) x)) of
-              ∙ ap (turned (is_complemented g.kind)) (w.below (operand_at g 0) (operand_below net h g (operand_at g 0) among (among_operands g 0 (some_operand net h g among))) (omega arith) x bits hx l)
+              ∙ den-complement_by S u.copied.complement (reference_of refs u.copied.of) x
+              ∙ ap (λ b. complemented b (den S (reference_of refs u.copied.of) x)) complement
+              ∙ ap (λ s. complemented (is_complemented g.kind) (den S (reference_of refs s) x)) of
+              ∙ ap (complemented (is_complemented g.kind)) (w.below (operand_at g 0) (operand_below net h g (operand_at g 0) among (among_operands g 0 (some_operand net h g among))) (omega arith) x bits hx l)
               ∙ sym (after_one g bits one)
               ∙ ap (λ k. value_after g k bits) (let k : 1 ≡ min (0 + 1) (length g.operands) = omega arith in k)
 
-      values : (g : GateLine) → Contains net.gates g → rank_of net g ≡ r → IsBegun g 0 → (i : ℕ) → 0 < i → i ≤ min (0 + 1) (length g.operands) → IsDenoted (circuit net) level S (value_after g i)
+      values : (g : GateLine) → Contains net.gates g → rank_of net g ≡ r → HasValueAfter g 0 → (i : ℕ) → 0 < i → i ≤ min (0 + 1) (length g.operands) → IsDenoted (circuit net) level S (value_after g i)
       values g among rank begun i pos le = (
         reference_of (copied_all refs cs) g.out,
         known g.out (at g.out),
@@ -206,10 +206,10 @@ module _ (net : Net) (h : IsNet net) (level : ℕ → ℕ) where
           ∙ w.here g among rank (inl (omega arith)) x bits hx l ∙ ap (λ k. value_after g k bits) (let k : min (j + 1) (length g.operands) ≡ j + 1 = omega arith in k)
 
   -- a gate whose folds are done has a value
-  begun_after : (g : GateLine) (j : ℕ) → 0 < length g.operands → folds_of g ≤ j → IsBegun g j
+  begun_after : (g : GateLine) (j : ℕ) → 0 < length g.operands → folds_of g ≤ j → HasValueAfter g j
   begun_after g j some le = by (same_number (length g.operands) 1)
     where
-      by : Dec (length g.operands ≡ 1) → IsBegun g j
+      by : Dec (length g.operands ≡ 1) → HasValueAfter g j
       by (yes e) = inr e
       by (no ne) = inl (omega arith)
 
@@ -413,10 +413,10 @@ module _ (net : Net) (h : IsNet net) (level : ℕ → ℕ) where
   pub steps_fit : (S : Nodes) (refs given : List Ref) (r j : ℕ) (steps : List Step) → AreFolded net level S refs r j → given ≡ refs → steps ≡ plan_steps net net.gates r j → All (IsStepBelow (length given)) steps
   steps_fit S refs given r j steps w e f = subst (λ ss. All (IsStepBelow (length given)) ss) (sym f) (subst (λ n. All (IsStepBelow n) (plan_steps net net.gates r j)) (sym (ap length e ∙ w.right.each)) (steps_below net h r j))
 
-  pub copies_fit : (S : Nodes) (refs given : List Ref) (r : ℕ) (cs : List Copied) → AreRight net level S refs r → given ≡ refs → cs ≡ plan_copies net net.gates r → All (IsCopyBelow (length given)) cs
+  pub copies_fit : (S : Nodes) (refs given : List Ref) (r : ℕ) (cs : List CopyStep) → AreRight net level S refs r → given ≡ refs → cs ≡ plan_copies net net.gates r → All (IsCopyBelow (length given)) cs
   copies_fit S refs given r cs w e f = subst (λ ss. All (IsCopyBelow (length given)) ss) (sym f) (subst (λ n. All (IsCopyBelow n) (plan_copies net net.gates r)) (sym (ap length e ∙ w.each)) (copies_below net h r))
 
-  pub copies_next : (S : Nodes) (refs given out : List Ref) (r : ℕ) (cs : List Copied) → AreRight net level S refs r → given ≡ refs → cs ≡ plan_copies net net.gates r → out ≡ copied_all given cs → AreFolded net level S out r 0
+  pub copies_next : (S : Nodes) (refs given out : List Ref) (r : ℕ) (cs : List CopyStep) → AreRight net level S refs r → given ≡ refs → cs ≡ plan_copies net net.gates r → out ≡ copied_all given cs → AreFolded net level S out r 0
   copies_next S refs given out r cs w e f o =
       subst (λ z. AreFolded net level S z r 0) (sym (o ∙ ap (λ z. copied_all z cs) e ∙ ap (copied_all refs) f)) (copies_right S refs r w)
 
@@ -427,7 +427,7 @@ module _ (net : Net) (h : IsNet net) (level : ℕ → ℕ) where
       (fold_right S T refs r j answers sound kept w (subst (λ y. AnswersEach S (map (entry_of refs) y) T answers) f z))
 
 -- the copies of a rank in all netlists
-pub all_copied : (sides : List Placed) → ((one : Placed) → Contains sides one → IsPlan one.net one.plan) → (S : Nodes) (built new : List (List Ref)) (r : ℕ) → AllRight sides S built r → AreCopied sides built new r → AllFolded sides S new r 0
+pub all_copied : (sides : List PlannedNet) → ((one : PlannedNet) → Contains sides one → IsPlan one.net one.plan) → (S : Nodes) (built new : List (List Ref)) (r : ℕ) → AllRight sides S built r → AreCopied sides built new r → AllFolded sides S new r 0
 all_copied sides plans S built new r right copied = (
   copied.0 ∙ right.0,
   λ k one refs lt at there.
@@ -447,16 +447,16 @@ known_entries S refs (s ∷ steps) known e (zero, lt, f) = subst (IsEntry S) f (
 known_entries S refs (s ∷ steps) known e (suc k, lt, f) = known_entries S refs steps known e (k, omega arith, f)
 
 -- what the steps of all netlists ask for is about references of the store
-pub all_entries : (sides : List Placed) (S : Nodes) (built : List (List Ref)) (r j : ℕ) (entries : List (Op × Ref × Ref)) → AllFolded sides S built r j → entries ≡ asked sides built r j → All (IsEntry S) entries
+pub all_entries : (sides : List PlannedNet) (S : Nodes) (built : List (List Ref)) (r j : ℕ) (entries : List (Op × Ref × Ref)) → AllFolded sides S built r j → entries ≡ asked sides built r j → All (IsEntry S) entries
 all_entries sides S built r j entries h e =
     all_of (IsEntry S) entries
     (λ x among. asked_holds (IsEntry S) r j sides built (h.0, λ k one refs lt a b. known_entries S refs (plan_steps one.net one.net.gates r j) (h.1 k one refs lt a b).right.known) x (subst (λ z. Contains z x) e among))
 
 -- and asks for values of the folds of one of them
-pub all_asked : (sides : List Placed) → ((one : Placed) → Contains sides one → IsPlan one.net one.plan) → (S : Nodes) (built : List (List Ref)) (r j : ℕ) (entries : List (Op × Ref × Ref)) →
-    AllFolded sides S built r j → entries ≡ asked sides built r j → (e : Op × Ref × Ref) → Contains entries e → IsPlacedValue S.levels sides (entry_value S e)
+pub all_asked : (sides : List PlannedNet) → ((one : PlannedNet) → Contains sides one → IsPlan one.net one.plan) → (S : Nodes) (built : List (List Ref)) (r j : ℕ) (entries : List (Op × Ref × Ref)) →
+    AllFolded sides S built r j → entries ≡ asked sides built r j → (e : Op × Ref × Ref) → Contains entries e → IsPlannedValue S.levels sides (entry_value S e)
 all_asked sides plans S built r j entries h e x among =
-    asked_holds (λ y. IsPlacedValue S.levels sides (entry_value S y)) r j sides built
+    asked_holds (λ y. IsPlannedValue S.levels sides (entry_value S y)) r j sides built
     (h.0, λ k one refs lt a b y c. inr (levelled_of one, image levelled_of sides one (k, lt, a), asked_value one.net (plans one (k, lt, a)).sound (input_level one) S refs r j (h.1 k one refs lt a b) y c))
     x (subst (λ z. Contains z x) e among)
 

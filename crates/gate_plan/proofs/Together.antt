@@ -11,7 +11,7 @@ use Rattle.dd_store.specs.Nodes.{Nodes, IsDiagram}
 use Rattle.reduce_up.specs.Waves.{Entry, entry_value, AnswersEach}
 use Rattle.gate_plan.specs.declared.steps.Step.{Step}
 use Rattle.gate_plan.specs.Plans.{plan_steps, plan_copies}
-use Rattle.gate_plan.specs.Building.{Placed, Levelled, levelled_of, Each, asked, entry_of, copied_all}
+use Rattle.gate_plan.specs.Building.{PlannedNet, Levelled, levelled_of, ForEachNetlist, asked, entry_of, copied_all}
 use Rattle.gate_plan.proofs.Lists.{lt_or_le, at_end, before_end}
 use Rattle.gate_plan.proofs.Writing.{zip_parts}
 
@@ -67,9 +67,9 @@ lent items new n e f =
 -- ---- one place after the other
 
 -- one more stands at the end
-pub pushed_each : (P : Placed → List Ref → Type 0) (sides : List Placed) (built new : List (List Ref)) (i : ℕ) (one : Placed) (refs : List Ref) → i < length sides → length built ≡ i → new ≡ built ++ refs ∷ [] → get_or sides i one ≡ one → P one refs →
-    ((k : ℕ) (o : Placed) (rs : List Ref) → k < i → get_or sides k o ≡ o → get_or built k rs ≡ rs → P o rs) →
-    (k : ℕ) (o : Placed) (rs : List Ref) → k < i + 1 → get_or sides k o ≡ o → get_or new k rs ≡ rs → P o rs
+pub pushed_each : (P : PlannedNet → List Ref → Type 0) (sides : List PlannedNet) (built new : List (List Ref)) (i : ℕ) (one : PlannedNet) (refs : List Ref) → i < length sides → length built ≡ i → new ≡ built ++ refs ∷ [] → get_or sides i one ≡ one → P one refs →
+    ((k : ℕ) (o : PlannedNet) (rs : List Ref) → k < i → get_or sides k o ≡ o → get_or built k rs ≡ rs → P o rs) →
+    (k : ℕ) (o : PlannedNet) (rs : List Ref) → k < i + 1 → get_or sides k o ≡ o → get_or new k rs ≡ rs → P o rs
 pushed_each P sides built new i one refs low n grown here holds earlier k o rs lt at there = by (lt_or_le k i)
   where
     by : (k < i) ⊎ (i ≤ k) → P o rs
@@ -83,9 +83,9 @@ pushed_each P sides built new i one refs low n grown here holds earlier k o rs l
 pub set_left : (built was : List (List Ref)) (i : ℕ) (v : List Ref) → ((k : ℕ) (refs : List Ref) → i ≤ k → get_or built k refs ≡ get_or was k refs) → (k : ℕ) (refs : List Ref) → i + 1 ≤ k → get_or (set built i v) k refs ≡ get_or was k refs
 set_left built was i v left k refs le = get_or-set_other built i k v refs (λ e. omega (arith, le, e)) ∙ left k refs (omega arith)
 
-pub set_each : (P : Placed → List Ref → Type 0) (sides : List Placed) (built : List (List Ref)) (i : ℕ) (one : Placed) (v : List Ref) → i < length sides → i < length built → get_or sides i one ≡ one → P one v →
-    ((k : ℕ) (o : Placed) (rs : List Ref) → k < i → get_or sides k o ≡ o → get_or built k rs ≡ rs → P o rs) →
-    (k : ℕ) (o : Placed) (rs : List Ref) → k < i + 1 → get_or sides k o ≡ o → get_or (set built i v) k rs ≡ rs → P o rs
+pub set_each : (P : PlannedNet → List Ref → Type 0) (sides : List PlannedNet) (built : List (List Ref)) (i : ℕ) (one : PlannedNet) (v : List Ref) → i < length sides → i < length built → get_or sides i one ≡ one → P one v →
+    ((k : ℕ) (o : PlannedNet) (rs : List Ref) → k < i → get_or sides k o ≡ o → get_or built k rs ≡ rs → P o rs) →
+    (k : ℕ) (o : PlannedNet) (rs : List Ref) → k < i + 1 → get_or sides k o ≡ o → get_or (set built i v) k rs ≡ rs → P o rs
 set_each P sides built i one v low lt' here holds earlier k o rs lt at there = by (lt_or_le k i)
   where
     by : (k < i) ⊎ (i ≤ k) → P o rs
@@ -96,10 +96,10 @@ set_each P sides built i one v low lt' here holds earlier k o rs lt at there = b
         subst (λ z. P o z) (sym is) (subst (λ z. P z v) (sym (same_at sides i k one o same low here at)) holds)
 
 -- one more has its copies
-pub set_copied : (sides : List Placed) (was built : List (List Ref)) (i r : ℕ) (one : Placed) (refs v : List Ref) → i < length sides → i < length built → i < length was → get_or sides i one ≡ one → get_or was i refs ≡ refs →
+pub set_copied : (sides : List PlannedNet) (was built : List (List Ref)) (i r : ℕ) (one : PlannedNet) (refs v : List Ref) → i < length sides → i < length built → i < length was → get_or sides i one ≡ one → get_or was i refs ≡ refs →
     v ≡ copied_all refs (plan_copies one.net one.net.gates r) →
-    ((k : ℕ) (o : Placed) (rs : List Ref) → k < i → get_or sides k o ≡ o → get_or was k rs ≡ rs → get_or built k [] ≡ copied_all rs (plan_copies o.net o.net.gates r)) →
-    (k : ℕ) (o : Placed) (rs : List Ref) → k < i + 1 → get_or sides k o ≡ o → get_or was k rs ≡ rs → get_or (set built i v) k [] ≡ copied_all rs (plan_copies o.net o.net.gates r)
+    ((k : ℕ) (o : PlannedNet) (rs : List Ref) → k < i → get_or sides k o ≡ o → get_or was k rs ≡ rs → get_or built k [] ≡ copied_all rs (plan_copies o.net o.net.gates r)) →
+    (k : ℕ) (o : PlannedNet) (rs : List Ref) → k < i + 1 → get_or sides k o ≡ o → get_or was k rs ≡ rs → get_or (set built i v) k [] ≡ copied_all rs (plan_copies o.net o.net.gates r)
 set_copied sides was built i r one refs v low lt' lt'' here is copied earlier k o rs lt at there = by (lt_or_le k i)
   where
     by : (k < i) ⊎ (i ≤ k) → get_or (set built i v) k [] ≡ copied_all rs (plan_copies o.net o.net.gates r)
@@ -108,7 +108,7 @@ set_copied sides was built i r one refs v low lt' lt'' here is copied earlier k 
         let same : k ≡ i = omega arith in
         ap (λ z. get_or (set built i v) z []) same ∙ get_or-set_same built i v [] lt' ∙ copied
         ∙ ap (λ z. copied_all z (plan_copies one.net one.net.gates r)) (sym (same_at was i k refs rs same lt'' is there))
-        ∙ ap (λ (z : Placed). copied_all rs (plan_copies z.net z.net.gates r)) (sym (same_at sides i k one o same low here at))
+        ∙ ap (λ (z : PlannedNet). copied_all rs (plan_copies z.net z.net.gates r)) (sym (same_at sides i k one o same low here at))
 
 -- what an index reads is there
 pub at_place : (xs : List Ref) (i : ℕ) (v : Ref) → i < length xs → v ≡ get_or xs i v → slice_get xs i ≡ Some v
@@ -118,14 +118,14 @@ at_place (x ∷ xs) (suc i) v lt e = at_place xs i v (omega arith) e
 
 -- ---- what is asked for
 
-abbrev pub own : Placed → List Ref → ℕ → ℕ → List Entry
+abbrev pub own : PlannedNet → List Ref → ℕ → ℕ → List Entry
 own one refs r j = map (entry_of refs) (plan_steps one.net one.net.gates r j)
 
-tail_each : (P : Placed → List Ref → Type 0) (one : Placed) (sides : List Placed) (refs : List Ref) (built : List (List Ref)) → Each P (one ∷ sides) (refs ∷ built) → Each P sides built
+tail_each : (P : PlannedNet → List Ref → Type 0) (one : PlannedNet) (sides : List PlannedNet) (refs : List Ref) (built : List (List Ref)) → ForEachNetlist P (one ∷ sides) (refs ∷ built) → ForEachNetlist P sides built
 tail_each P one sides refs built h = ((let n = h.0 in omega arith), λ k o rs lt a b. h.1 (suc k) o rs (omega arith) a b)
 
 -- what is true of what each netlist asks for is true of all
-pub asked_holds : (P : Entry → Type 0) (r j : ℕ) (sides : List Placed) (built : List (List Ref)) → Each (λ one refs. (e : Entry) → Contains (own one refs r j) e → P e) sides built → (e : Entry) → Contains (asked sides built r j) e → P e
+pub asked_holds : (P : Entry → Type 0) (r j : ℕ) (sides : List PlannedNet) (built : List (List Ref)) → ForEachNetlist (λ one refs. (e : Entry) → Contains (own one refs r j) e → P e) sides built → (e : Entry) → Contains (asked sides built r j) e → P e
 asked_holds P r j [] built h e (k, lt, at) = absurd (omega arith)
 asked_holds P r j (one ∷ sides) [] h e c = absurd (let n = h.0 in omega arith)
 asked_holds P r j (one ∷ sides) (refs ∷ built) h e c =
@@ -135,17 +135,17 @@ asked_holds P r j (one ∷ sides) (refs ∷ built) h e c =
     ]
 
 -- what one netlist asks for is among it
-pub asked_has : (r j : ℕ) (sides : List Placed) (built : List (List Ref)) (k : ℕ) (one : Placed) (refs : List Ref) → length built ≡ length sides → k < length sides → get_or sides k one ≡ one → get_or built k refs ≡ refs →
+pub asked_has : (r j : ℕ) (sides : List PlannedNet) (built : List (List Ref)) (k : ℕ) (one : PlannedNet) (refs : List Ref) → length built ≡ length sides → k < length sides → get_or sides k one ≡ one → get_or built k refs ≡ refs →
     (e : Entry) → Contains (own one refs r j) e → Contains (asked sides built r j) e
 asked_has r j [] built k one refs n lt at there e c = absurd (omega (arith, lt))
 asked_has r j (o ∷ sides) [] k one refs n lt at there e c = absurd (omega (arith, n))
 asked_has r j (o ∷ sides) (rs ∷ built) zero one refs n lt at there e c =
     Contains-append_left (own o rs r j) (asked sides built r j) e
-    (subst (λ (z : Placed). Contains (own z rs r j) e) (sym at) (subst (λ z. Contains (own one z r j) e) (sym there) c))
+    (subst (λ (z : PlannedNet). Contains (own z rs r j) e) (sym at) (subst (λ z. Contains (own one z r j) e) (sym there) c))
 asked_has r j (o ∷ sides) (rs ∷ built) (suc k) one refs n lt at there e c =
     Contains-append_right (own o rs r j) (asked sides built r j) e (asked_has r j sides built k one refs (omega (arith, n)) (omega (arith, lt)) at there e c)
 
-module _ (sides : List Placed) (built : List (List Ref)) (i : ℕ) (one : Placed) (refs : List Ref) (r j : ℕ) (lt : i < length sides) (lt' : i < length built) (here : get_or sides i one ≡ one) (there : get_or built i refs ≡ refs) where
+module _ (sides : List PlannedNet) (built : List (List Ref)) (i : ℕ) (one : PlannedNet) (refs : List Ref) (r j : ℕ) (lt : i < length sides) (lt' : i < length built) (here : get_or sides i one ≡ one) (there : get_or built i refs ≡ refs) where
   more : List Entry
   more = asked (drop (i + 1) sides) (drop (i + 1) built) r j
 
@@ -187,15 +187,15 @@ module _ (sides : List Placed) (built : List (List Ref)) (i : ℕ) (one : Placed
         (zip_parts (λ e r. IsDiagram T r (entry_value S e)) (own one refs r j) (asked (drop (i + 1) sides) (drop (i + 1) built) r j) rest split).1
 
 -- all have been asked
-pub entries_all : (sides : List Placed) (built : List (List Ref)) (i r j : ℕ) (entries whole : List Entry) → length sides ≤ i → entries ++ asked (drop i sides) (drop i built) r j ≡ whole → entries ≡ whole
+pub entries_all : (sides : List PlannedNet) (built : List (List Ref)) (i r j : ℕ) (entries whole : List Entry) → length sides ≤ i → entries ++ asked (drop i sides) (drop i built) r j ≡ whole → entries ≡ whole
 entries_all sides built i r j entries whole le done =
     sym (append-nil entries) ∙ ap (λ z. entries ++ z) (sym (ap (λ ss. asked ss (drop i built) r j) (drop_all sides i le))) ∙ done
 
 -- ---- with their levels
 
 -- a netlist with its levels stands at its place
-pub levelled_at : (sides : List Placed) (all : List Levelled) → map levelled_of sides ≡ all → (k : ℕ) (l : Levelled) → k < length all → get_or all k l ≡ l →
-    (one : Placed) × (k < length sides) × (get_or sides k one ≡ one) × (levelled_of one ≡ l)
+pub levelled_at : (sides : List PlannedNet) (all : List Levelled) → map levelled_of sides ≡ all → (k : ℕ) (l : Levelled) → k < length all → get_or all k l ≡ l →
+    (one : PlannedNet) × (k < length sides) × (get_or sides k one ≡ one) × (levelled_of one ≡ l)
 levelled_at sides all e k l lt at =
     let n : length sides ≡ length all = sym (length-map sides levelled_of) ∙ ap length e in
     let x = element sides k (omega arith) in

@@ -5,9 +5,9 @@ use Rattle.std.specs.List.{AllZip}
 use Rattle.std.proofs.lemmas.List.{get_or-set_same, get_or-set_other, length-set}
 use Rattle.dd_store.specs.declared.reference.Ref.{Ref}
 use Rattle.dd_store.specs.declared.reference.Reference.TheVariants.{False}
-use Rattle.dd_store.specs.Marks.{mark_by}
+use Rattle.dd_store.specs.Complements.{complement_by}
 use Rattle.gate_plan.specs.declared.steps.Step.{Step}
-use Rattle.gate_plan.specs.declared.steps.Copied.{Copied}
+use Rattle.gate_plan.specs.declared.steps.CopyStep.{CopyStep}
 use Rattle.gate_plan.specs.Building.{reference_of, copied_all, answered_all, IsStepBelow, IsCopyBelow}
 use Rattle.gate_plan.proofs.Lists.{same_number}
 
@@ -23,26 +23,26 @@ deeper y xs x (k, lt, e) = (suc k, omega arith, e)
 -- ---- copies
 
 -- some copy gives the signal its reference
-pub record IsCopiedTo (refs : List Ref) (cs : List Copied) (s : ℕ) (r : Ref) : Type 0 where
-  pub copied : Copied
+pub record IsCopiedTo (refs : List Ref) (cs : List CopyStep) (s : ℕ) (r : Ref) : Type 0 where
+  pub copied : CopyStep
   pub among : Contains cs copied
   pub out : copied.out ≡ s
-  pub value : r ≡ mark_by copied.mark (reference_of refs copied.of)
+  pub value : r ≡ complement_by copied.complement (reference_of refs copied.of)
 
 -- no copy is of the signal
-abbrev pub IsNotCopied : List Copied → ℕ → Type 0
-IsNotCopied cs s = (c : Copied) → Contains cs c → c.out ≢ s
+abbrev pub IsNotCopied : List CopyStep → ℕ → Type 0
+IsNotCopied cs s = (c : CopyStep) → Contains cs c → c.out ≢ s
 
-pub copied_at : (refs : List Ref) (cs : List Copied) (s : ℕ) → All (IsCopyBelow (length refs)) cs → ((c d : Copied) → Contains cs c → Contains cs d → c.of ≢ d.out) →
+pub copied_at : (refs : List Ref) (cs : List CopyStep) (s : ℕ) → All (IsCopyBelow (length refs)) cs → ((c d : CopyStep) → Contains cs c → Contains cs d → c.of ≢ d.out) →
     IsCopiedTo refs cs s (reference_of (copied_all refs cs) s) ⊎ (IsNotCopied cs s × (reference_of (copied_all refs cs) s ≡ reference_of refs s))
 copied_at refs [] s below apart = inr ((λ c among. absurd (let lt = among.1 in omega arith)), refl)
 copied_at refs (c ∷ cs) s below apart = by (copied_at next cs s below' (λ d e a b. apart d e (deeper c cs d a) (deeper c cs e b)))
   where
     moved : Ref
-    moved = mark_by c.mark (reference_of refs c.of)
+    moved = complement_by c.complement (reference_of refs c.of)
 
     next : List Ref
-    next = set refs c.out (mark_by c.mark (reference_of refs c.of))
+    next = set refs c.out (complement_by c.complement (reference_of refs c.of))
 
     here : IsCopyBelow (length refs) c
     here = first_of_all (IsCopyBelow (length refs)) c cs below
@@ -68,13 +68,13 @@ copied_at refs (c ∷ cs) s below apart = by (copied_at next cs s below' (λ d e
       copied = w.copied;
       among = deeper c cs w.copied w.among;
       out = w.out;
-      value = w.value ∙ ap (mark_by w.copied.mark) (get_or-set_other refs c.out w.copied.of moved False (apart w.copied c (deeper c cs w.copied w.among) front));
+      value = w.value ∙ ap (complement_by w.copied.complement) (get_or-set_other refs c.out w.copied.of moved False (apart w.copied c (deeper c cs w.copied w.among) front));
     })
     by (inr w) = at_last w.0 w.1 (same_number c.out s)
 
-pub length-copied_all : (refs : List Ref) (cs : List Copied) → length (copied_all refs cs) ≡ length refs
+pub length-copied_all : (refs : List Ref) (cs : List CopyStep) → length (copied_all refs cs) ≡ length refs
 length-copied_all refs [] = refl
-length-copied_all refs (c ∷ cs) = length-copied_all (set refs c.out (mark_by c.mark (reference_of refs c.of))) cs ∙ length-set refs c.out (mark_by c.mark (reference_of refs c.of))
+length-copied_all refs (c ∷ cs) = length-copied_all (set refs c.out (complement_by c.complement (reference_of refs c.of))) cs ∙ length-set refs c.out (complement_by c.complement (reference_of refs c.of))
 
 -- ---- answers
 

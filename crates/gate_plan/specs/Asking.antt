@@ -6,12 +6,12 @@ use Rattle.dd_store.specs.View.{Has}
 use Rattle.net_bench.specs.declared.netlist.GateLine.{GateLine}
 use Rattle.net_bench.specs.Circuit.{Circuit, circuit, AreRanks, rank_of}
 use Rattle.net_bench.specs.Labels.{bit_of}
-use Rattle.net_order.specs.Order.{Paired}
-use Rattle.req_table.specs.ComputedTables.{Held, IsRight}
+use Rattle.net_order.specs.Order.{NamingModel}
+use Rattle.req_table.specs.ComputedTables.{ComputedView, IsRight}
 use Rattle.req_table.specs.TerminalCase.{terminal_of}
 use Rattle.reduce_up.specs.Waves.{Entry}
 use Rattle.wave_engine.specs.Bounds.{AreMoreThan}
-use Rattle.gate_plan.specs.Building.{Placed, Levelled, levelled, input_level, Denotes, value_after}
+use Rattle.gate_plan.specs.Building.{PlannedNet, Levelled, levelled, input_level, Denotes, value_after}
 use Rattle.gate_plan.specs.Plans.{folds_of, step_at, operand_at}
 
 -- what step j of a gate's fold takes in first, by the labels: the first operand, or the value so far
@@ -38,23 +38,23 @@ abbrev pub Asks : Circuit → (ℕ → ℕ) → Nodes → Type 0
 Asks c level S = (g : GateLine) × Contains c.gates g × ((j : ℕ) × IsAsked c level S g j)
 
 -- some gate of one of the netlists that are built for a pairing has one
-abbrev pub AnyAsks : Circuit → Circuit → Option Circuit → Paired → Nodes → Type 0
+abbrev pub AnyAsks : Circuit → Circuit → Option Circuit → NamingModel → Nodes → Type 0
 AnyAsks a b given p S = (one : Levelled) × Contains (levelled a b given p) one × Asks one.netlist one.level S
 
 -- some gate of this rank has a step j without a terminal case
-abbrev pub AsksAt : Placed → Nodes → ℕ → ℕ → Type 0
+abbrev pub AsksAt : PlannedNet → Nodes → ℕ → ℕ → Type 0
 AsksAt one S r j = (g : GateLine) × Contains one.net.gates g × (rank_of one.net g ≡ r) × IsAsked (circuit one.net) (input_level one) S g j
 
 -- some gate of this rank of one of the netlists has one
-abbrev pub AnyAsksAt : List Placed → Nodes → ℕ → ℕ → Type 0
-AnyAsksAt sides S r j = (one : Placed) × Contains sides one × AsksAt one S r j
+abbrev pub AnyAsksAt : List PlannedNet → Nodes → ℕ → ℕ → Type 0
+AnyAsksAt sides S r j = (one : PlannedNet) × Contains sides one × AsksAt one S r j
 
 -- and so for some step of this rank
-abbrev pub AnyAsksIn : List Placed → Nodes → ℕ → Type 0
+abbrev pub AnyAsksIn : List PlannedNet → Nodes → ℕ → Type 0
 AnyAsksIn sides S r = (j : ℕ) × AnyAsksAt sides S r j
 
 -- and so for some step of the first n ranks
-abbrev pub AnyAsksBelow : List Placed → Nodes → ℕ → Type 0
+abbrev pub AnyAsksBelow : List PlannedNet → Nodes → ℕ → Type 0
 AnyAsksBelow sides S n = (k : ℕ) × (k < n) × AnyAsksIn sides S (k + 1)
 
 -- the store `new` is within its limit, or nothing was asked for and it is as it was
@@ -62,7 +62,7 @@ abbrev pub IsWithinOrUnasked : Type 0 → Nodes → Nodes → Type 0
 IsWithinOrUnasked asked old new = (count_of new ≤ new.limit) ⊎ ((asked → ⊥) × (new ≡ old))
 
 -- what is held is right for the store; and where something is held, the store is within its limit
-pub record IsHeldWithin (S : Nodes) (m : Held) : Type 0 where
+pub record IsRightAndWithinLimit (S : Nodes) (m : ComputedView) : Type 0 where
   pub right : IsRight S m
   pub within : (m.pairs ≡ []) ⊎ (count_of S ≤ S.limit)
 

@@ -16,13 +16,13 @@ use Rattle.net_bench.specs.Circuit.{Circuit, Net, circuit, variables_of, rank_of
 use Rattle.net_bench.specs.Labels.{bit_of, IsLabelling, IsFunctionOf}
 use Rattle.net_order.specs.declared.order.Match.{Match}
 use Rattle.net_order.specs.declared.order.Order.{Order}
-use Rattle.net_order.specs.Order.{Paired, IsPairing, condition, first_level, second_level, given_level}
+use Rattle.net_order.specs.Order.{NamingModel, IsPairing, condition, first_level, second_level, given_level}
 use Rattle.gate_plan.specs.declared.circuits.Circuits.{Circuits}
-use Rattle.gate_plan.specs.declared.inputs.Which.{Which}
-use Rattle.gate_plan.specs.declared.inputs.Which.TheVariants.{First, Second, Given}
+use Rattle.gate_plan.specs.declared.inputs.CircuitRole.{CircuitRole}
+use Rattle.gate_plan.specs.declared.inputs.CircuitRole.TheVariants.{First, Second, Given}
 use Rattle.gate_plan.specs.declared.steps.Step.{Step}
-use Rattle.gate_plan.specs.declared.steps.Copied.{Copied}
-use Rattle.dd_store.specs.Marks.{mark_by}
+use Rattle.gate_plan.specs.declared.steps.CopyStep.{CopyStep}
+use Rattle.dd_store.specs.Complements.{complement_by}
 use Rattle.gate_plan.specs.Folds.{value_so_far}
 use Rattle.gate_plan.specs.Plans.{plan_steps, plan_copies, plan_folds, IsPlan, RankSteps}
 
@@ -33,18 +33,18 @@ pub record References : Type 0 where
   pub given : List Ref
 
 -- one of the netlists of a pairing, with the plan of its gates
-pub record Placed : Type 0 where
+pub record PlannedNet : Type 0 where
   pub net : Net
-  pub which : Which
-  pub pairing : Paired
+  pub which : CircuitRole
+  pub pairing : NamingModel
   pub plan : List RankSteps
 
 -- how many ranks its gates have
-abbrev pub ranks_of : Placed → ℕ
+abbrev pub ranks_of : PlannedNet → ℕ
 ranks_of one = length one.plan
 
 -- how many folds its gates of a rank have
-abbrev pub folds_at : ℕ → Placed → ℕ
+abbrev pub folds_at : ℕ → PlannedNet → ℕ
 folds_at rank one = plan_folds one.net one.net.gates rank
 
 -- the netlists that are built together: two, and a condition where there is one, over the variables of a pairing
@@ -52,24 +52,24 @@ pub record PairedCircuits : Type 0 where
   pub first : Circuit
   pub second : Circuit
   pub given : Option Circuit
-  pub pairing : Paired
+  pub pairing : NamingModel
 
 -- these are what `Circuits` has
 abbrev pub circuits_of : Circuits → PairedCircuits
 circuits_of c = record { first = circuit c.first.now; second = circuit c.second.now; given = condition c.given; pairing = c.pairing.now }
 
 -- p is the pairing of the two netlists, with this condition or none, for some way of matching and some order
-abbrev pub IsPaired : Circuit → Circuit → Option Circuit → Paired → Type 0
+abbrev pub IsPaired : Circuit → Circuit → Option Circuit → NamingModel → Type 0
 IsPaired a b given p = (how : Match) × (order : Order) × IsPairing how a b given order p
 
 -- the level of an input of one of them
-abbrev pub level_in : Which → Paired → ℕ → ℕ
+abbrev pub level_in : CircuitRole → NamingModel → ℕ → ℕ
 level_in First p s = first_level p s
 level_in Second p s = second_level p s
 level_in Given p s = given_level p s
 
 -- the level of an input of a netlist of a pairing
-abbrev pub input_level : Placed → ℕ → ℕ
+abbrev pub input_level : PlannedNet → ℕ → ℕ
 input_level one s = level_in one.which one.pairing s
 
 -- a netlist with the levels of its variables
@@ -78,36 +78,36 @@ pub record Levelled : Type 0 where
   pub level : ℕ → ℕ
 
 -- the condition as a list, with its levels
-abbrev pub levelled_given : Option Circuit → Paired → List Levelled
+abbrev pub levelled_given : Option Circuit → NamingModel → List Levelled
 levelled_given None p = []
 levelled_given (Some c) p = record { netlist = c; level = given_level p } ∷ []
 
 -- the netlists that are built for a pairing: the first, the second, and the condition where there is one
-abbrev pub levelled : Circuit → Circuit → Option Circuit → Paired → List Levelled
+abbrev pub levelled : Circuit → Circuit → Option Circuit → NamingModel → List Levelled
 levelled a b given p = record { netlist = a; level = first_level p } ∷ record { netlist = b; level = second_level p }
     ∷ levelled_given given p
 
 -- a netlist of a pairing without its plan
-abbrev pub levelled_of : Placed → Levelled
+abbrev pub levelled_of : PlannedNet → Levelled
 levelled_of one = record { netlist = circuit one.net; level = input_level one }
 
 -- a netlist of a pairing is put at the end of a list, with its plan
-pub record AddsPlaced (old : List Placed) (net : Net) (which : Which) (p : Paired) (new : List Placed) : Type 0 where
-  pub one : Placed
+pub record AddsPlannedNet (old : List PlannedNet) (net : Net) (which : CircuitRole) (p : NamingModel) (new : List PlannedNet) : Type 0 where
+  pub one : PlannedNet
   pub added : new ≡ old ++ one ∷ []
   pub is : one ≡ record { net = net; which = which; pairing = p; plan = one.plan }
   pub plan : IsPlan net one.plan
 
 -- these are the netlists that are built for a pairing, each with its plan
-pub record ArePlaced (a b : Circuit) (given : Option Circuit) (p : Paired) (sides : List Placed) : Type 0 where
+pub record ArePlannedNets (a b : Circuit) (given : Option Circuit) (p : NamingModel) (sides : List PlannedNet) : Type 0 where
   pub netlists : map levelled_of sides ≡ levelled a b given p
-  pub plans : (one : Placed) → Contains sides one → IsPlan one.net one.plan
+  pub plans : (one : PlannedNet) → Contains sides one → IsPlan one.net one.plan
 
 -- this holds of each netlist of a list and its references
-abbrev pub Each : (Placed → List Ref → Type 0) → List Placed → List (List Ref) → Type 0
-Each P sides built =
+abbrev pub ForEachNetlist : (PlannedNet → List Ref → Type 0) → List PlannedNet → List (List Ref) → Type 0
+ForEachNetlist P sides built =
     (length built ≡ length sides) ×
-    ((k : ℕ) (one : Placed) (refs : List Ref) → k < length sides → slice_index_or sides k one ≡ one → slice_index_or built k refs ≡ refs
+    ((k : ℕ) (one : PlannedNet) (refs : List Ref) → k < length sides → slice_index_or sides k one ≡ one → slice_index_or built k refs ≡ refs
     → P one refs)
 
 -- the reference of a signal
@@ -137,13 +137,13 @@ entry_of refs s = (s.op, reference_of refs (first_operand s), reference_of refs 
 abbrev pub IsStepBelow : ℕ → Step → Type 0
 IsStepBelow n s = (s.out < n) × (first_operand s < n) × (s.second < n)
 
-abbrev pub IsCopyBelow : ℕ → Copied → Type 0
+abbrev pub IsCopyBelow : ℕ → CopyStep → Type 0
 IsCopyBelow n c = (c.out < n) × (c.of < n)
 
 -- the references after the copies, one after the other
-abbrev pub copied_all : List Ref → List Copied → List Ref
+abbrev pub copied_all : List Ref → List CopyStep → List Ref
 copied_all refs [] = refs
-copied_all refs (c ∷ cs) = copied_all (slice_set refs c.out (mark_by c.mark (reference_of refs c.of))) cs
+copied_all refs (c ∷ cs) = copied_all (slice_set refs c.out (complement_by c.complement (reference_of refs c.of))) cs
 
 -- the references after each step's gate has got the step's answer
 abbrev pub answered_all : List Ref → List Step → List Ref → List Ref
@@ -187,41 +187,41 @@ pub record AreRight (net : Net) (level : ℕ → ℕ) (S : Nodes) (refs : List R
       → IsDenoted (circuit net) level S (value_after g i)
 
 -- a gate has a value after so many folds: after none only if it is a copy
-abbrev pub IsBegun : GateLine → ℕ → Type 0
-IsBegun g fold = (0 < fold) ⊎ (length g.operands ≡ 1)
+abbrev pub HasValueAfter : GateLine → ℕ → Type 0
+HasValueAfter g fold = (0 < fold) ⊎ (length g.operands ≡ 1)
 
 -- and each gate of this rank denotes its value after so many folds, and the store has all values up to that one
 pub record AreFolded (net : Net) (level : ℕ → ℕ) (S : Nodes) (refs : List Ref) (rank fold : ℕ) : Type 0 where
   pub right : AreRight net level S refs rank
-  pub here : (g : GateLine) → Contains net.gates g → rank_of net g ≡ rank → IsBegun g fold →
+  pub here : (g : GateLine) → Contains net.gates g → rank_of net g ≡ rank → HasValueAfter g fold →
       Denotes (circuit net) level S (reference_of refs g.out) (value_after g (min (fold + 1) (length g.operands)))
-  pub values : (g : GateLine) → Contains net.gates g → rank_of net g ≡ rank → IsBegun g fold →
+  pub values : (g : GateLine) → Contains net.gates g → rank_of net g ≡ rank → HasValueAfter g fold →
       (i : ℕ) → 0 < i → i ≤ min (fold + 1) (length g.operands) → IsDenoted (circuit net) level S (value_after g i)
 
 -- ---- all netlists together
 
-abbrev pub AllRight : List Placed → Nodes → List (List Ref) → ℕ → Type 0
-AllRight sides S built rank = Each (λ one refs. AreRight one.net (input_level one) S refs rank) sides built
+abbrev pub AllRight : List PlannedNet → Nodes → List (List Ref) → ℕ → Type 0
+AllRight sides S built rank = ForEachNetlist (λ one refs. AreRight one.net (input_level one) S refs rank) sides built
 
-abbrev pub AllFolded : List Placed → Nodes → List (List Ref) → ℕ → ℕ → Type 0
-AllFolded sides S built rank fold = Each (λ one refs. AreFolded one.net (input_level one) S refs rank fold) sides built
+abbrev pub AllFolded : List PlannedNet → Nodes → List (List Ref) → ℕ → ℕ → Type 0
+AllFolded sides S built rank fold = ForEachNetlist (λ one refs. AreFolded one.net (input_level one) S refs rank fold) sides built
 
 -- what a build of these netlists begins with: each with its plan, and references for all signals, those of the first rank's operands right
-pub record IsBeginning (c : PairedCircuits) (S : Nodes) (sides : List Placed) (built : List (List Ref)) : Type 0 where
-  pub placed : ArePlaced c.first c.second c.given c.pairing sides
+pub record IsBuildStart (c : PairedCircuits) (S : Nodes) (sides : List PlannedNet) (built : List (List Ref)) : Type 0 where
+  pub placed : ArePlannedNets c.first c.second c.given c.pairing sides
   pub variables : (variables : List Ref) × AreVariables S variables
   pub right : AllRight sides S built 1
 
 -- what the steps of a rank and a fold number ask for, netlist after netlist
-abbrev pub asked : List Placed → List (List Ref) → ℕ → ℕ → List (Op × Ref × Ref)
+abbrev pub asked : List PlannedNet → List (List Ref) → ℕ → ℕ → List (Op × Ref × Ref)
 asked [] built rank fold = []
 asked (one ∷ sides) [] rank fold = []
 asked (one ∷ sides) (refs ∷ built) rank fold = map (entry_of refs) (plan_steps one.net one.net.gates rank fold)
     ++ asked sides built rank fold
 
 -- after the copies of a rank
-abbrev pub AreCopied : List Placed → List (List Ref) → List (List Ref) → ℕ → Type 0
+abbrev pub AreCopied : List PlannedNet → List (List Ref) → List (List Ref) → ℕ → Type 0
 AreCopied sides old new rank =
     (length new ≡ length old) ×
-    ((k : ℕ) (one : Placed) (refs : List Ref) → k < length sides → slice_index_or sides k one ≡ one → slice_index_or old k refs ≡ refs →
+    ((k : ℕ) (one : PlannedNet) (refs : List Ref) → k < length sides → slice_index_or sides k one ≡ one → slice_index_or old k refs ≡ refs →
     slice_index_or new k [] ≡ copied_all refs (plan_copies one.net one.net.gates rank))

@@ -9,8 +9,8 @@ use Rattle.dd_store.specs.View.{part, Has}
 use Rattle.expand_work.specs.declared.fault.WaveFault.{WaveFault}
 use Rattle.expand_work.specs.declared.fault.WaveFault.TheVariants as wave_faults
 use Rattle.net_bench.specs.Circuit.{Circuit}
-use Rattle.net_order.specs.Order.{Paired}
-use Rattle.gate_plan.specs.Building.{Placed, Levelled, levelled, levelled_of}
+use Rattle.net_order.specs.Order.{NamingModel}
+use Rattle.gate_plan.specs.Building.{PlannedNet, Levelled, levelled, levelled_of}
 use Rattle.gate_plan.specs.Folds.{IsVariable, IsFoldValue}
 use Rattle.gate_plan.specs.Need.{IsCounted, IsLean, IsComplete}
 
@@ -19,23 +19,23 @@ abbrev pub IsValueOf : ℕ → List Levelled → (List Bool → Bool) → Type 0
 IsValueOf n netlists f = IsVariable n f ⊎ ((one : Levelled) × Contains netlists one × IsFoldValue one.netlist one.level n f)
 
 -- the functions whose diagrams the building for a pairing needs
-abbrev pub IsNeededValue : Circuit → Circuit → Option Circuit → Paired → (List Bool → Bool) → Type 0
+abbrev pub IsNeededValue : Circuit → Circuit → Option Circuit → NamingModel → (List Bool → Bool) → Type 0
 IsNeededValue a b given p f = IsValueOf (length p.names) (levelled a b given p) f
 
 -- f is one of these functions with its first v bits fixed, and depends on bit v: a node of level v is needed for it
-abbrev pub IsNeeded : Circuit → Circuit → Option Circuit → Paired → ℕ → (List Bool → Bool) → Type 0
+abbrev pub IsNeeded : Circuit → Circuit → Option Circuit → NamingModel → ℕ → (List Bool → Bool) → Type 0
 IsNeeded a b given p v f = IsCounted (length p.names) (IsNeededValue a b given p) v f
 
 -- each node of the store is needed, for its function or for the complement
-abbrev pub IsLeanFor : Circuit → Circuit → Option Circuit → Paired → Nodes → Type 0
+abbrev pub IsLeanFor : Circuit → Circuit → Option Circuit → NamingModel → Nodes → Type 0
 IsLeanFor a b given p S = IsLean (length p.names) (IsNeededValue a b given p) (part S) (Has S) (den S)
 
 -- the store has each node that is needed
-abbrev pub IsCompleteFor : Circuit → Circuit → Option Circuit → Paired → Nodes → Type 0
+abbrev pub IsCompleteFor : Circuit → Circuit → Option Circuit → NamingModel → Nodes → Type 0
 IsCompleteFor a b given p S = IsComplete (length p.names) (IsNeededValue a b given p) (part S) (Has S) (den S)
 
 -- a store of the nodes that are needed, no others, and no more than its limit
-pub record HasNeed (a b : Circuit) (given : Option Circuit) (p : Paired) (S : Nodes) : Type 0 where
+pub record HasNeed (a b : Circuit) (given : Option Circuit) (p : NamingModel) (S : Nodes) : Type 0 where
   pub lean : IsLeanFor a b given p S
   pub complete : IsCompleteFor a b given p S
   pub within : count_of S ≤ S.limit
@@ -60,8 +60,8 @@ abbrev pub IsStillWithin : Nodes → Nodes → Type 0
 IsStillWithin old new = (count_of new ≤ new.limit) ⊎ (new ≡ old)
 
 -- the same functions, of netlists with their plans, by n levels
-abbrev pub IsPlacedValue : ℕ → List Placed → (List Bool → Bool) → Type 0
-IsPlacedValue n sides f = IsValueOf n (map levelled_of sides) f
+abbrev pub IsPlannedValue : ℕ → List PlannedNet → (List Bool → Bool) → Type 0
+IsPlannedValue n sides f = IsValueOf n (map levelled_of sides) f
 
 -- f is the bit of level v
 abbrev pub IsBitAt : ℕ → (List Bool → Bool) → Type 0

@@ -10,7 +10,7 @@ use Rattle.net_bench.specs.Labels.{is_complemented}
 use Rattle.req_table.specs.declared.Op.{Op}
 use Rattle.req_table.specs.declared.Op.TheVariants as ops
 use Rattle.gate_plan.specs.declared.steps.Step.{Step}
-use Rattle.gate_plan.specs.declared.steps.Copied.{Copied}
+use Rattle.gate_plan.specs.declared.steps.CopyStep.{CopyStep}
 
 -- the operation that a gate folds with
 abbrev pub plain_op : Kind → Op
@@ -44,8 +44,8 @@ abbrev pub operand_at : GateLine → ℕ → ℕ
 operand_at g i = slice_index g.operands i
 
 -- a gate of one operand is a copy of it, or of its complement
-abbrev pub copy_of : GateLine → Option Copied
-copy_of g = cond (length g.operands == 1) (Some (record { out = g.out; of = operand_at g 0; mark = is_complemented g.kind })) None
+abbrev pub copy_of : GateLine → Option CopyStep
+copy_of g = cond (length g.operands == 1) (Some (record { out = g.out; of = operand_at g 0; complement = is_complemented g.kind })) None
 
 -- how many steps a gate's fold has
 abbrev pub folds_of : GateLine → ℕ
@@ -65,14 +65,14 @@ step_at g j = record {
 abbrev pub step_of : GateLine → ℕ → Option Step
 step_of g j = cond (nat_lt j (folds_of g)) (Some (step_at g j)) None
 
-abbrev pub copies_of : GateLine → List Copied
+abbrev pub copies_of : GateLine → List CopyStep
 copies_of g = option_map_or (λ c. c ∷ []) (copy_of g) []
 
 abbrev pub steps_of : GateLine → ℕ → List Step
 steps_of g j = option_map_or (λ s. s ∷ []) (step_of g j) []
 
 -- the copies of a rank, in the order of the text
-abbrev pub plan_copies : Net → List GateLine → ℕ → List Copied
+abbrev pub plan_copies : Net → List GateLine → ℕ → List CopyStep
 plan_copies net gates r = flat_map (λ g. cond (rank_of net g == r) (copies_of g) []) gates
 
 -- the steps of a rank and a fold number, in the order of the text
@@ -85,7 +85,7 @@ plan_folds net gates r = greatest (map (λ g. cond (rank_of net g == r) (folds_o
 
 -- the copies of one rank, and its steps by fold number
 pub record RankSteps : Type 0 where
-  pub copies : List Copied
+  pub copies : List CopyStep
   pub folds : List (List Step)
 
 abbrev pub no_steps : RankSteps

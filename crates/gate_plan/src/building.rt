@@ -9,16 +9,17 @@ ghost use Rattle.expand_work.specs.Bounds.{most_of};
 ghost use Rattle.reduce_up.specs.Reducing.{AddsDescribed};
 ghost use Rattle.gate_plan.specs.Folds.{IsVariable};
 ghost use Rattle.gate_plan.specs.Need.{IsCounted};
-ghost use Rattle.gate_plan.specs.Needing.{IsNeeded, IsNeededValue, HasNeed, IsBuildFault, IsPlacedValue, IsStillWithin};
-ghost use Rattle.gate_plan.specs.Asking.{AnyAsks, AnyAsksAt, AnyAsksIn, AnyAsksBelow, IsWithinOrUnasked, IsHeldWithin, IsPast};
+ghost use Rattle.gate_plan.specs.Needing.{IsNeeded, IsNeededValue, HasNeed, IsBuildFault, IsPlannedValue, IsStillWithin};
+ghost use Rattle.gate_plan.specs.Asking.{AnyAsks, AnyAsksAt, AnyAsksIn, AnyAsksBelow, IsWithinOrUnasked, IsRightAndWithinLimit, IsPast};
 ghost use Rattle.gate_plan.specs.Plans.{IsPlan};
-ghost use Rattle.gate_plan.specs.Building.{Placed, IsPaired, AreDiagrams, AllRight, AllFolded, IsBeginning, circuits_of, levelled};
+ghost use Rattle.gate_plan.specs.Building.{PlannedNet, IsPaired, AreDiagrams, AllRight, AllFolded, IsBuildStart, circuits_of, levelled};
 ghost use Rattle.gate_plan.specs.Building.{levelled_of, ranks_of};
 
 use crate::circuits::Circuits;
 use crate::inputs::make_variables;
 use crate::sides::{
-    Diagrams, PlannedNetlist, copy_rank, entries_of, last_rank, most_folds, sides_of, start,
+    NetlistDiagrams, PlannedNetlist, copy_rank, entries_of, input_diagrams, last_rank, most_folds,
+    sides_of,
 };
 use dd_store::{Ref, Store};
 use expand_work::{Crew, Monitor, WaveFault};
@@ -31,11 +32,11 @@ use wave_engine::Engine;
 
 /// A reference for each signal of two netlists, and of a condition where there is one.
 #[derive(Drop)]
-pub struct Built {
-    list: Vec<Diagrams>,
+pub struct CircuitDiagrams {
+    list: Vec<NetlistDiagrams>,
 }
 
-impl Model for Built {
+impl Model for CircuitDiagrams {
     ghost use Rattle.std.specs.Prelude.{[], slice_index_or};
     ghost use Rattle.gate_plan.specs.Building.{References};
 
@@ -49,7 +50,7 @@ impl Model for Built {
 }
 
 /// The diagram of a signal of the netlist at this place.
-fn diagram_at(list: &[Diagrams], place: usize, signal: Signal) -> Ref
+fn diagram_at(list: &[NetlistDiagrams], place: usize, signal: Signal) -> Ref
     requires { signal < length (slice_index_or list.now place []) }
     ensures { slice_get (slice_index_or list.now place []) signal ≡ Some result }
 {
@@ -57,7 +58,7 @@ fn diagram_at(list: &[Diagrams], place: usize, signal: Signal) -> Ref
     diagrams.as_slice()[signal.number() as usize]
 }
 
-impl Built {
+impl CircuitDiagrams {
     /// The diagram of a signal of the first netlist.
     pub fn first(&self, signal: Signal) -> Ref
         requires { signal < length self.now.first }
@@ -88,23 +89,23 @@ fn build_fold<R: Threads + Wait + Sync, G: Monitor>(
     engine: &mut Engine<'_, R, G>,
     store: &mut Store,
     sides: &[PlannedNetlist<'_>],
-    built: &mut [Diagrams],
+    built: &mut [NetlistDiagrams],
     rank: usize,
     fold: usize,
 ) -> Result<(), WaveFault>
     requires rank { 1 ≤ rank }
-    requires plans { (one : Placed) → Contains sides.now one → IsPlan one.net one.plan }
-    requires held { IsHeldWithin store.old engine.old.held }
+    requires plans { (one : PlannedNet) → Contains sides.now one → IsPlan one.net one.plan }
+    requires held { IsRightAndWithinLimit store.old engine.old.held }
     requires folded { AllFolded sides.now store.old built.old rank fold }
     ensures sound { IsSound store.new }
-    ensures adds { AddsDescribed store.old store.new (IsCounted store.old.levels (IsPlacedValue store.old.levels sides.now)) }
-    ensures held { OnOk result (IsHeldWithin store.new engine.new.held) }
+    ensures adds { AddsDescribed store.old store.new (IsCounted store.old.levels (IsPlannedValue store.old.levels sides.now)) }
+    ensures held { OnOk result (IsRightAndWithinLimit store.new engine.new.held) }
     ensures bound { engine.new.bound ≡ engine.old.bound }
     ensures next { OnOk result (AllFolded sides.now store.new built.new rank (fold + 1)) }
     ensures within { OnOk result (IsWithinOrUnasked (AnyAsksAt sides.now store.new rank fold) store.old store.new) }
-    ensures fault { IfErr result (IsBuildFault store.old.levels (IsPlacedValue store.old.levels sides.now) store.new) }
+    ensures fault { IfErr result (IsBuildFault store.old.levels (IsPlannedValue store.old.levels sides.now) store.new) }
     ensures past { result ≡ Err WaveFault.TooManyRequests → IsPast engine.old.bound store.old.levels (map levelled_of sides.now) }
-    ensures alone { most_of engine.old.bound < 2 ^ 64 - 1 → result ≢ Err WaveFault.NoWorker }
+    ensures bounded_needs_no_worker { most_of engine.old.bound < 2 ^ 64 - 1 → result ≢ Err WaveFault.NoWorker }
     ensures memory { count_of store.old ≤ store.old.limit → result ≡ Err WaveFault.OutOfMemory → count_of store.new ≤ store.new.limit }
 {
     let _ = store.levels();
@@ -117,10 +118,10 @@ fn build_fold<R: Threads + Wait + Sync, G: Monitor>(
     for i in 0..sides.len() {
         let side = &sides[i];
         let steps = side.steps(rank, fold);
-        let (ours, behind) = rest.split_at(steps.len());
+        let (ours, remaining) = rest.split_at(steps.len());
         let diagrams = &mut built[i];
         diagrams.take(steps, ours);
-        rest = behind;
+        rest = remaining;
     }
     Ok(())
 }
@@ -130,22 +131,22 @@ fn build_rank<R: Threads + Wait + Sync, G: Monitor>(
     engine: &mut Engine<'_, R, G>,
     store: &mut Store,
     sides: &[PlannedNetlist<'_>],
-    built: &mut [Diagrams],
+    built: &mut [NetlistDiagrams],
     rank: usize,
 ) -> Result<(), WaveFault>
     requires rank { 1 ≤ rank }
-    requires plans { (one : Placed) → Contains sides.now one → IsPlan one.net one.plan }
-    requires held { IsHeldWithin store.old engine.old.held }
+    requires plans { (one : PlannedNet) → Contains sides.now one → IsPlan one.net one.plan }
+    requires held { IsRightAndWithinLimit store.old engine.old.held }
     requires right { AllRight sides.now store.old built.old rank }
     ensures sound { IsSound store.new }
-    ensures adds { AddsDescribed store.old store.new (IsCounted store.old.levels (IsPlacedValue store.old.levels sides.now)) }
-    ensures held { OnOk result (IsHeldWithin store.new engine.new.held) }
+    ensures adds { AddsDescribed store.old store.new (IsCounted store.old.levels (IsPlannedValue store.old.levels sides.now)) }
+    ensures held { OnOk result (IsRightAndWithinLimit store.new engine.new.held) }
     ensures bound { engine.new.bound ≡ engine.old.bound }
     ensures next { OnOk result (AllRight sides.now store.new built.new (rank + 1)) }
     ensures within { OnOk result (IsWithinOrUnasked (AnyAsksIn sides.now store.new rank) store.old store.new) }
-    ensures fault { IfErr result (IsBuildFault store.old.levels (IsPlacedValue store.old.levels sides.now) store.new) }
+    ensures fault { IfErr result (IsBuildFault store.old.levels (IsPlannedValue store.old.levels sides.now) store.new) }
     ensures past { result ≡ Err WaveFault.TooManyRequests → IsPast engine.old.bound store.old.levels (map levelled_of sides.now) }
-    ensures alone { most_of engine.old.bound < 2 ^ 64 - 1 → result ≢ Err WaveFault.NoWorker }
+    ensures bounded_needs_no_worker { most_of engine.old.bound < 2 ^ 64 - 1 → result ≢ Err WaveFault.NoWorker }
     ensures memory { count_of store.old ≤ store.old.limit → result ≡ Err WaveFault.OutOfMemory → count_of store.new ≤ store.new.limit }
 {
     let _ = store.levels();
@@ -157,7 +158,7 @@ fn build_rank<R: Threads + Wait + Sync, G: Monitor>(
 }
 
 /// A number as a monitor is told it: the greatest of a u32 stands for what is greater.
-fn told(number: usize) -> u32
+fn clamp_to_u32(number: usize) -> u32
     ensures { result ≡ min number (2 ^ 32 - 1) }
 {
     u32::try_from(number).unwrap_or(u32::MAX)
@@ -168,26 +169,26 @@ fn build_ranks<R: Threads + Wait + Sync, G: Monitor>(
     engine: &mut Engine<'_, R, G>,
     store: &mut Store,
     sides: &[PlannedNetlist<'_>],
-    built: &mut [Diagrams],
+    built: &mut [NetlistDiagrams],
     monitor: &G,
 ) -> Result<(), WaveFault>
-    requires plans { (one : Placed) → Contains sides.now one → IsPlan one.net one.plan }
-    requires held { IsHeldWithin store.old engine.old.held }
+    requires plans { (one : PlannedNet) → Contains sides.now one → IsPlan one.net one.plan }
+    requires held { IsRightAndWithinLimit store.old engine.old.held }
     requires right { AllRight sides.now store.old built.old 1 }
     ensures sound { IsSound store.new }
-    ensures adds { AddsDescribed store.old store.new (IsCounted store.old.levels (IsPlacedValue store.old.levels sides.now)) }
+    ensures adds { AddsDescribed store.old store.new (IsCounted store.old.levels (IsPlannedValue store.old.levels sides.now)) }
     ensures built { OnOk result (AllRight sides.now store.new built.new (greatest (map ranks_of sides.now) + 1)) }
     ensures within { OnOk result (IsWithinOrUnasked (AnyAsksBelow sides.now store.new
         (greatest (map ranks_of sides.now))) store.old store.new) }
-    ensures fault { IfErr result (IsBuildFault store.old.levels (IsPlacedValue store.old.levels sides.now) store.new) }
+    ensures fault { IfErr result (IsBuildFault store.old.levels (IsPlannedValue store.old.levels sides.now) store.new) }
     ensures past { result ≡ Err WaveFault.TooManyRequests → IsPast engine.old.bound store.old.levels (map levelled_of sides.now) }
-    ensures alone { most_of engine.old.bound < 2 ^ 64 - 1 → result ≢ Err WaveFault.NoWorker }
+    ensures bounded_needs_no_worker { most_of engine.old.bound < 2 ^ 64 - 1 → result ≢ Err WaveFault.NoWorker }
     ensures memory { count_of store.old ≤ store.old.limit → result ≡ Err WaveFault.OutOfMemory → count_of store.new ≤ store.new.limit }
 {
     let _ = store.levels();
     let ranks = last_rank(sides);
     for below in 0..ranks {
-        monitor.at_rank(told(below + 1), told(ranks), store.count());
+        monitor.at_rank(clamp_to_u32(below + 1), clamp_to_u32(ranks), store.count());
         build_rank(engine, store, sides, built, below + 1)?;
     }
     Ok(())
@@ -198,19 +199,19 @@ fn build_all<R: Threads + Wait + Sync, G: Monitor>(
     crew: &Crew<'_, R, G>,
     store: &mut Store,
     sides: &[PlannedNetlist<'_>],
-    built: &mut [Diagrams],
+    built: &mut [NetlistDiagrams],
 ) -> Result<(), WaveFault>
-    requires plans { (one : Placed) → Contains sides.now one → IsPlan one.net one.plan }
+    requires plans { (one : PlannedNet) → Contains sides.now one → IsPlan one.net one.plan }
     requires right { AllRight sides.now store.old built.old 1 }
     ensures sound { IsSound store.new }
-    ensures adds { AddsDescribed store.old store.new (IsCounted store.old.levels (IsPlacedValue store.old.levels sides.now)) }
+    ensures adds { AddsDescribed store.old store.new (IsCounted store.old.levels (IsPlannedValue store.old.levels sides.now)) }
     ensures built { OnOk result (AllRight sides.now store.new built.new (greatest (map ranks_of sides.now) + 1)) }
     ensures within { OnOk result (IsWithinOrUnasked (AnyAsksBelow sides.now store.new
         (greatest (map ranks_of sides.now))) store.old store.new) }
-    ensures fault { IfErr result (IsBuildFault store.old.levels (IsPlacedValue store.old.levels sides.now) store.new) }
+    ensures fault { IfErr result (IsBuildFault store.old.levels (IsPlannedValue store.old.levels sides.now) store.new) }
     ensures past { result ≡ Err WaveFault.TooManyRequests → IsPast (G.bound crew.now.monitor.now) store.old.levels
         (map levelled_of sides.now) }
-    ensures alone { most_of (G.bound crew.now.monitor.now) < 2 ^ 64 - 1 → result ≢ Err WaveFault.NoWorker }
+    ensures bounded_needs_no_worker { most_of (G.bound crew.now.monitor.now) < 2 ^ 64 - 1 → result ≢ Err WaveFault.NoWorker }
     ensures memory { count_of store.old ≤ store.old.limit → result ≡ Err WaveFault.OutOfMemory → count_of store.new ≤ store.new.limit }
 {
     let _ = store.levels();
@@ -220,9 +221,9 @@ fn build_all<R: Threads + Wait + Sync, G: Monitor>(
 
 /// What is there before the first rank: the netlists with their plans, and the diagrams of their inputs and registers.
 #[derive(Drop)]
-struct Begun<'a> {
+struct BuildStart<'a> {
     sides: Vec<PlannedNetlist<'a>>,
-    built: Vec<Diagrams>,
+    built: Vec<NetlistDiagrams>,
 }
 
 /// Makes the variables, and what the first rank is built on.
@@ -230,21 +231,21 @@ fn begin<'a>(
     alloc: Global,
     store: &mut Store,
     circuits: &Circuits<'a>,
-) -> Result<Begun<'a>, WaveFault>
+) -> Result<BuildStart<'a>, WaveFault>
     requires paired { let c = circuits_of circuits.now in IsPaired c.first c.second c.given c.pairing }
     requires levels { let c = circuits_of circuits.now in store.old.levels ≡ length c.pairing.names }
     ensures sound { IsSound store.new }
     ensures adds { AddsDescribed store.old store.new (IsCounted store.old.levels (IsVariable store.old.levels)) }
-    ensures begun { IfOk result (λ b. IsBeginning (circuits_of circuits.now) store.new b.sides.items b.built.items) }
+    ensures begun { IfOk result (λ b. IsBuildStart (circuits_of circuits.now) store.new b.sides.items b.built.items) }
     ensures within { IsStillWithin store.old store.new }
     ensures fault { IfErr result (IsBuildFault store.old.levels (IsVariable store.old.levels) store.new) }
-    ensures served { IfErr result (λ e. e ≢ WaveFault.NoWorker) }
-    ensures unbounded { IfErr result (λ e. e ≢ WaveFault.TooManyRequests) }
+    ensures never_no_worker { IfErr result (λ e. e ≢ WaveFault.NoWorker) }
+    ensures never_too_many_requests { IfErr result (λ e. e ≢ WaveFault.TooManyRequests) }
 {
     let variables = make_variables(alloc, store)?;
     let sides = sides_of(alloc, circuits)?;
-    let built = start(alloc, sides.as_slice(), variables.as_slice())?;
-    Ok(Begun { sides, built })
+    let built = input_diagrams(alloc, sides.as_slice(), variables.as_slice())?;
+    Ok(BuildStart { sides, built })
 }
 
 /// Builds the diagrams of all signals of two netlists, and of a condition where there is one, over the variables of their pairing: all
@@ -255,7 +256,7 @@ pub fn build<R: Threads + Wait + Sync, G: Monitor>(
     crew: &Crew<'_, R, G>,
     store: &mut Store,
     circuits: &Circuits<'_>,
-) -> Result<Built, WaveFault>
+) -> Result<CircuitDiagrams, WaveFault>
     requires paired { let c = circuits_of circuits.now in IsPaired c.first c.second c.given c.pairing }
     requires levels { let c = circuits_of circuits.now in store.old.levels ≡ length c.pairing.names }
     ensures sound { IsSound store.new }
@@ -281,12 +282,12 @@ pub fn build<R: Threads + Wait + Sync, G: Monitor>(
     ensures past { let c = circuits_of circuits.now in result ≡ Err WaveFault.TooManyRequests
         → IsPast (G.bound crew.now.monitor.now) (length c.pairing.names) (levelled c.first c.second c.given c.pairing) }
     // Where the monitor sets a bound, no worker is wanted.
-    ensures alone { most_of (G.bound crew.now.monitor.now) < 2 ^ 64 - 1 → result ≢ Err WaveFault.NoWorker }
+    ensures bounded_needs_no_worker { most_of (G.bound crew.now.monitor.now) < 2 ^ 64 - 1 → result ≢ Err WaveFault.NoWorker }
     // Where memory is wanted, a store that was within its limit is so still: Full comes first.
     ensures memory { count_of store.old ≤ store.old.limit → result ≡ Err WaveFault.OutOfMemory → count_of store.new ≤ store.new.limit }
 {
     let begun = begin(crew.alloc, store, circuits)?;
-    let Begun { sides, mut built } = begun;
+    let BuildStart { sides, mut built } = begun;
     build_all(crew, store, sides.as_slice(), built.as_mut_slice())?;
-    Ok(Built { list: built })
+    Ok(CircuitDiagrams { list: built })
 }

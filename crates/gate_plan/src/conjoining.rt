@@ -56,7 +56,7 @@ pub fn conjoin<R: Threads + Wait + Sync, G: Monitor>(
     ensures within_bound { most_of (G.bound crew.now.monitor.now) < 2 ^ 64 - 1
         → OnOk result (AreAtMost (most_of (G.bound crew.now.monitor.now)) store.old (conjunctions references.now given)) }
     // If the monitor sets a bound, a thread that cannot be started refuses nothing: the caller's thread does the wave.
-    ensures alone { most_of (G.bound crew.now.monitor.now) < 2 ^ 64 - 1 → result ≢ Err WaveFault.NoWorker }
+    ensures bounded_needs_no_worker { most_of (G.bound crew.now.monitor.now) < 2 ^ 64 - 1 → result ≢ Err WaveFault.NoWorker }
     // Where memory is wanted, a store that was within its limit is so still: Full comes first.
     ensures memory { count_of store.old ≤ store.old.limit → result ≡ Err WaveFault.OutOfMemory → count_of store.new ≤ store.new.limit }
 {

@@ -2,19 +2,19 @@
 ghost use Rattle.std.specs.Prelude.{◌≡◌, ◌++◌, map, length, All, OnOk};
 ghost use Rattle.gate_plan.specs.Building.{entry_of, IsCopyBelow, IsStepBelow, copied_all, answered_all};
 
-use crate::steps::{Copied, Step};
+use crate::steps::{CopyStep, Step};
 use dd_store::Ref;
 use req_table::Op;
 use std::alloc::AllocError;
 
 /// Copies operands' references, or their complements, to their gates.
-pub fn copy_all(references: &mut Vec<Ref>, copies: &[Copied])
+pub fn copy_all(references: &mut Vec<Ref>, copies: &[CopyStep])
     requires { All (IsCopyBelow (length references.old.items)) copies.now }
     ensures { references.new.items ≡ copied_all references.old.items copies.now }
 {
     for copied in copies {
         let of = references[copied.of.number() as usize];
-        references[copied.out.number() as usize] = of.marked(copied.mark);
+        references[copied.out.number() as usize] = of.complement_if(copied.complement);
     }
 }
 
@@ -39,7 +39,7 @@ pub fn add_entries(
 /// Gives each step's gate the answer of its operation.
 pub fn take_answers(references: &mut Vec<Ref>, steps: &[Step], answers: &[Ref])
     requires below { All (IsStepBelow (length references.old.items)) steps.now }
-    requires each { length answers.now ≡ length steps.now }
+    requires one_answer_per_step { length answers.now ≡ length steps.now }
     ensures { references.new.items ≡ answered_all references.old.items steps.now answers.now }
 {
     for i in 0..steps.len() {

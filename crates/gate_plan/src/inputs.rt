@@ -16,7 +16,7 @@ use std::alloc::{AllocError, Global};
 
 /// Which of the netlists of a pairing is meant.
 #[derive(Clone, Copy, Debug, PartialEq, Eq)]
-pub enum Which {
+pub enum CircuitRole {
     First,
     Second,
     /// The condition.
@@ -24,13 +24,13 @@ pub enum Which {
 }
 
 /// The level of an input or register of one of the netlists.
-fn level_of(pairing: &Pairing, which: Which, input: Signal) -> u32
+fn level_of(pairing: &Pairing, which: CircuitRole, input: Signal) -> u32
     ensures { result ≡ level_in which pairing.now input }
 {
     match which {
-        Which::First => pairing.naming().first_level(input),
-        Which::Second => pairing.naming().second_level(input),
-        Which::Given => pairing.naming().given_level(input),
+        CircuitRole::First => pairing.naming().first_level(input),
+        CircuitRole::Second => pairing.naming().second_level(input),
+        CircuitRole::Given => pairing.naming().given_level(input),
     }
 }
 
@@ -50,8 +50,8 @@ pub fn make_variables(alloc: Global, store: &mut Store) -> Result<Vec<Ref>, Wave
     ensures made { IfOk result (λ v. AreVariables store.new v.items) }
     ensures within { IsStillWithin store.old store.new }
     ensures fault { IfErr result (IsBuildFault store.old.levels (IsVariable store.old.levels) store.new) }
-    ensures served { IfErr result (λ e. e ≢ WaveFault.NoWorker) }
-    ensures unbounded { IfErr result (λ e. e ≢ WaveFault.TooManyRequests) }
+    ensures never_no_worker { IfErr result (λ e. e ≢ WaveFault.NoWorker) }
+    ensures never_too_many_requests { IfErr result (λ e. e ≢ WaveFault.TooManyRequests) }
 {
     let mut variables = Vec::new(alloc);
     for level in 0..store.levels() {
@@ -71,7 +71,7 @@ pub fn input_references(
     alloc: Global,
     netlist: &Netlist,
     pairing: &Pairing,
-    which: Which,
+    which: CircuitRole,
     variables: &[Ref],
 ) -> Result<Vec<Ref>, AllocError>
     requires { (s : ℕ) → Contains (variables_of (circuit netlist.now)) s → level_in which pairing.now s < length variables.now }

@@ -4,7 +4,7 @@
 //! netlists and of a condition the diagram of its function (`first`, `second`, `given`), adds needed nodes alone
 //! (`adds`), leaves an empty store with exactly these, within its limit (`need`, `within`), and is Full only where it
 //! is over or lacks one (`fault`); its requests are too many only where one wave is past the monitor's bound (`past`,
-//! `alone`), and OutOfMemory leaves a store within its limit that was so (`memory`). `conjoin` takes references
+//! `bounded_needs_no_worker`), and OutOfMemory leaves a store within its limit that was so (`memory`). `conjoin` takes references
 //! together with a condition's (`conjoined`, `adds`, `within_bound`).
 //!
 //! **Only tests show** that ample memory suffices, and that what two netlists have at other ranks makes no request
@@ -22,7 +22,7 @@ mod inputs;
 mod sides;
 mod steps;
 
-pub use building::{Built, build};
+pub use building::{CircuitDiagrams, build};
 pub use circuits::Circuits;
 pub use conjoining::conjoin;
-pub use steps::{Copied, Plan, Step};
+pub use steps::{CopyStep, Plan, Step};

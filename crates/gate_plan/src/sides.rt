@@ -2,13 +2,13 @@
 ghost use Rattle.std.specs.Prelude.{◌≡◌, ◌<◌, ◌≤◌, ℕ, Contains, length, map, IfOk, OnOk, All};
 ghost use Rattle.net_bench.specs.Circuit.{circuit, greatest, variables_of};
 ghost use Rattle.gate_plan.specs.Plans.{IsPlan, plan_steps, plan_copies, plan_folds};
-ghost use Rattle.gate_plan.specs.Building.{Placed, circuits_of, ranks_of, folds_at, input_level, AddsPlaced, AreInputs, ArePlaced};
-ghost use Rattle.gate_plan.specs.Building.{AreCopied, Each, IsCopyBelow, IsStepBelow, answered_all, asked, copied_all};
+ghost use Rattle.gate_plan.specs.Building.{PlannedNet, circuits_of, ranks_of, folds_at, input_level, AddsPlannedNet, AreInputs, ArePlannedNets};
+ghost use Rattle.gate_plan.specs.Building.{AreCopied, ForEachNetlist, IsCopyBelow, IsStepBelow, answered_all, asked, copied_all};
 
 use crate::circuits::Circuits;
 use crate::folds::{add_entries, copy_all, take_answers};
-use crate::inputs::{Which, input_references};
-use crate::steps::{Copied, Plan, Step};
+use crate::inputs::{CircuitRole, input_references};
+use crate::steps::{CopyStep, Plan, Step};
 use dd_store::Ref;
 use net_bench::netlist::Netlist;
 use net_order::pairing::Pairing;
@@ -18,11 +18,11 @@ use std::marker::Model;
 
 /// A reference for each signal of a netlist.
 #[derive(Drop)]
-pub struct Diagrams {
+pub struct NetlistDiagrams {
     references: Vec<Ref>,
 }
 
-impl Model for Diagrams {
+impl Model for NetlistDiagrams {
     ghost use Rattle.std.specs.Prelude.{List};
     ghost use Rattle.dd_store.specs.declared.reference.Ref.{Ref};
 
@@ -31,7 +31,7 @@ impl Model for Diagrams {
     ghost view = { λ d. d.references.items };
 }
 
-impl Diagrams {
+impl NetlistDiagrams {
     /// The references by signal.
     pub fn as_slice(&self) -> &[Ref]
         ensures { result.now ≡ self.now }
@@ -40,7 +40,7 @@ impl Diagrams {
     }
 
     /// Copies operands' references to their gates.
-    fn copy(&mut self, copies: &[Copied])
+    fn copy(&mut self, copies: &[CopyStep])
         requires { All (IsCopyBelow (length self.old)) copies.now }
         ensures { self.new ≡ copied_all self.old copies.now }
     {
@@ -50,7 +50,7 @@ impl Diagrams {
     /// Gives each step's gate the answer of its operation.
     pub fn take(&mut self, steps: &[Step], answers: &[Ref])
         requires below { All (IsStepBelow (length self.old)) steps.now }
-        requires each { length answers.now ≡ length steps.now }
+        requires one_answer_per_step { length answers.now ≡ length steps.now }
         ensures { self.new ≡ answered_all self.old steps.now answers.now }
     {
         take_answers(&mut self.references, steps, answers);
@@ -62,14 +62,14 @@ impl Diagrams {
 pub struct PlannedNetlist<'a> {
     netlist: &'a Netlist,
     pairing: &'a Pairing,
-    which: Which,
+    which: CircuitRole,
     plan: Plan,
 }
 
 impl<'a> Model for PlannedNetlist<'a> {
-    ghost use Rattle.gate_plan.specs.Building.{Placed};
+    ghost use Rattle.gate_plan.specs.Building.{PlannedNet};
 
-    ghost Value = { Placed };
+    ghost Value = { PlannedNet };
 
     ghost view = { λ s. record { net = s.netlist.now; which = s.which; pairing = s.pairing.now; plan = s.plan } };
 }
@@ -80,10 +80,10 @@ impl<'a> PlannedNetlist<'a> {
         alloc: Global,
         netlist: &'a Netlist,
         pairing: &'a Pairing,
-        which: Which,
+        which: CircuitRole,
     ) -> Result<PlannedNetlist<'a>, AllocError>
         ensures plan { IfOk result (λ side. IsPlan netlist.entry.now side.plan) }
-        ensures is { IfOk result (λ side.
+        ensures fields { IfOk result (λ side.
             side ≡ record { net = netlist.entry.now; which = which; pairing = pairing.entry.now; plan = side.plan }) }
     {
         let plan = Plan::new(alloc, netlist)?;
@@ -111,7 +111,7 @@ impl<'a> PlannedNetlist<'a> {
     }
 
     /// The copies of a rank, none above the last rank.
-    fn copies(&self, rank: usize) -> &[Copied]
+    fn copies(&self, rank: usize) -> &[CopyStep]
         requires first { 1 ≤ rank }
         requires plan { IsPlan self.now.net self.now.plan }
         ensures { result.now ≡ plan_copies self.now.net self.now.net.gates rank }
@@ -156,9 +156,9 @@ fn add_side<'a>(
     sides: &mut Vec<PlannedNetlist<'a>>,
     netlist: &'a Netlist,
     pairing: &'a Pairing,
-    which: Which,
+    which: CircuitRole,
 ) -> Result<(), AllocError>
-    ensures { OnOk result (AddsPlaced sides.old.items netlist.entry.now which pairing.entry.now sides.new.items) }
+    ensures { OnOk result (AddsPlannedNet sides.old.items netlist.entry.now which pairing.entry.now sides.new.items) }
 {
     let side = PlannedNetlist::new(alloc, netlist, pairing, which)?;
     sides.push(side)?;
@@ -170,14 +170,26 @@ pub fn sides_of<'a>(
     alloc: Global,
     circuits: &Circuits<'a>,
 ) -> Result<Vec<PlannedNetlist<'a>>, AllocError>
-    ensures { let c = circuits_of circuits.now in IfOk result (λ sides. ArePlaced c.first c.second c.given c.pairing sides.items) }
+    ensures { let c = circuits_of circuits.now in IfOk result (λ sides. ArePlannedNets c.first c.second c.given c.pairing sides.items) }
 {
     let pairing = circuits.pairing;
     let mut sides = Vec::new(alloc);
-    add_side(alloc, &mut sides, circuits.first, pairing, Which::First)?;
-    add_side(alloc, &mut sides, circuits.second, pairing, Which::Second)?;
+    add_side(
+        alloc,
+        &mut sides,
+        circuits.first,
+        pairing,
+        CircuitRole::First,
+    )?;
+    add_side(
+        alloc,
+        &mut sides,
+        circuits.second,
+        pairing,
+        CircuitRole::Second,
+    )?;
     if let Some(given) = circuits.given {
-        add_side(alloc, &mut sides, given, pairing, Which::Given)?;
+        add_side(alloc, &mut sides, given, pairing, CircuitRole::Given)?;
     }
     Ok(sides)
 }
@@ -197,7 +209,7 @@ pub fn last_rank(sides: &[PlannedNetlist<'_>]) -> usize
 /// The greatest number of folds of a rank.
 pub fn most_folds(sides: &[PlannedNetlist<'_>], rank: usize) -> usize
     requires first { 1 ≤ rank }
-    requires plans { (one : Placed) → Contains sides.now one → IsPlan one.net one.plan }
+    requires plans { (one : PlannedNet) → Contains sides.now one → IsPlan one.net one.plan }
     ensures { result ≡ greatest (map (folds_at rank) sides.now) }
 {
     let mut most = 0;
@@ -209,29 +221,29 @@ pub fn most_folds(sides: &[PlannedNetlist<'_>], rank: usize) -> usize
 }
 
 /// The diagrams of the inputs and registers of all netlists.
-pub fn start(
+pub fn input_diagrams(
     alloc: Global,
     sides: &[PlannedNetlist<'_>],
     variables: &[Ref],
-) -> Result<Vec<Diagrams>, AllocError>
-    requires { (one : Placed) → Contains sides.now one → (s : ℕ) → Contains (variables_of (circuit one.net)) s
+) -> Result<Vec<NetlistDiagrams>, AllocError>
+    requires { (one : PlannedNet) → Contains sides.now one → (s : ℕ) → Contains (variables_of (circuit one.net)) s
         → input_level one s < length variables.now }
-    ensures { IfOk result (λ built. Each (λ one refs. AreInputs one.net (input_level one) variables.now refs) sides.now built.items) }
+    ensures { IfOk result (λ built. ForEachNetlist (λ one refs. AreInputs one.net (input_level one) variables.now refs) sides.now built.items) }
 {
     let mut built = Vec::new(alloc);
     for i in 0..sides.len() {
         let side = &sides[i];
         let references = side.inputs(alloc, variables)?;
-        built.push(Diagrams { references })?;
+        built.push(NetlistDiagrams { references })?;
     }
     Ok(built)
 }
 
 /// The copies of a rank in all netlists.
-pub fn copy_rank(sides: &[PlannedNetlist<'_>], built: &mut [Diagrams], rank: usize)
+pub fn copy_rank(sides: &[PlannedNetlist<'_>], built: &mut [NetlistDiagrams], rank: usize)
     requires first { 1 ≤ rank }
-    requires plans { (one : Placed) → Contains sides.now one → IsPlan one.net one.plan }
-    requires below { Each (λ one refs. All (IsCopyBelow (length refs)) (plan_copies one.net one.net.gates rank)) sides.now built.old }
+    requires plans { (one : PlannedNet) → Contains sides.now one → IsPlan one.net one.plan }
+    requires below { ForEachNetlist (λ one refs. All (IsCopyBelow (length refs)) (plan_copies one.net one.net.gates rank)) sides.now built.old }
     ensures { AreCopied sides.now built.old built.new rank }
 {
     for i in 0..sides.len() {
@@ -245,13 +257,13 @@ pub fn copy_rank(sides: &[PlannedNetlist<'_>], built: &mut [Diagrams], rank: usi
 pub fn entries_of(
     alloc: Global,
     sides: &[PlannedNetlist<'_>],
-    built: &[Diagrams],
+    built: &[NetlistDiagrams],
     rank: usize,
     fold: usize,
 ) -> Result<Vec<(Op, Ref, Ref)>, AllocError>
     requires first { 1 ≤ rank }
-    requires plans { (one : Placed) → Contains sides.now one → IsPlan one.net one.plan }
-    requires below { Each (λ one refs. All (IsStepBelow (length refs)) (plan_steps one.net one.net.gates rank fold)) sides.now built.now }
+    requires plans { (one : PlannedNet) → Contains sides.now one → IsPlan one.net one.plan }
+    requires below { ForEachNetlist (λ one refs. All (IsStepBelow (length refs)) (plan_steps one.net one.net.gates rank fold)) sides.now built.now }
     ensures { IfOk result (λ entries. entries.items ≡ asked sides.now built.now rank fold) }
 {
     let mut entries = Vec::new(alloc);

@@ -19,12 +19,12 @@ pub struct Step {
     pub second: Signal,
 }
 
-/// A gate whose value is that of its operand, or the complement where `mark` is set.
+/// A gate whose value is that of its operand, or the complement where `complement` is set.
 #[derive(Clone, Copy, Debug, PartialEq, Eq)]
-pub struct Copied {
+pub struct CopyStep {
     pub out: Signal,
     pub of: Signal,
-    pub mark: bool,
+    pub complement: bool,
 }
 
 /// The operation that a gate folds with.
@@ -59,16 +59,16 @@ fn is_complemented(kind: Kind) -> bool
 }
 
 /// The copy that a gate is, if it is one.
-fn copy_of(gate: &GateLine) -> Option<Copied>
+fn copy_of(gate: &GateLine) -> Option<CopyStep>
     requires { 0 < length gate.now.operands }
     ensures { result ≡ copy_of gate.now }
 {
     let operands = gate.operands.as_slice();
     if operands.len() == 1 {
-        Some(Copied {
+        Some(CopyStep {
             out: gate.out,
             of: operands[0],
-            mark: is_complemented(gate.kind),
+            complement: is_complemented(gate.kind),
         })
     } else {
         None
@@ -141,7 +141,7 @@ fn add_steps(alloc: Global, folds: &mut Vec<Vec<Step>>, gate: &GateLine) -> Resu
 /// The folds of the gates of one rank.
 #[derive(Drop)]
 struct RankPlan {
-    copies: Vec<Copied>,
+    copies: Vec<CopyStep>,
     folds: Vec<Vec<Step>>,
 }
 
@@ -242,7 +242,7 @@ impl Plan {
     }
 
     /// The copies of a rank, in the order of the text.
-    pub fn copies(&self, rank: usize) -> &[Copied]
+    pub fn copies(&self, rank: usize) -> &[CopyStep]
         requires first { 1 ≤ rank }
         requires last { rank ≤ length self.now }
         ensures { result.now ≡ (rank_at self.now rank).copies }

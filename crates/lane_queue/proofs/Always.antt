@@ -17,7 +17,7 @@ lawful : (loads : List Load) (views : List View) (r : Ruled (flat loads) views) 
 lawful loads views r = let items = flat loads in (
   r.owned,
   (λ i p v at has. let f = r.fits i v p at has in (f.terms, f.within)),
-  (λ p lt. let h = r.present p lt in (_, (r.seat p, h.0, h.1, h.2, refl))),
+  (λ p lt. let h = r.present p lt in (_, (r.pass_index p, h.0, h.1, h.2, refl))),
   λ sent i o all at has.
       let t = (r.fits i o r.c.owner at has).takes refl in
       let same : (p : ℕ) → p < r.c.workers → sent p ≡ r.sent p = λ p lt. let h = all p lt in h.4 ∙ (r.fits h.0 h.1 p h.2 h.3).sends in

@@ -6,13 +6,13 @@ use Rattle.req_table.specs.declared.Item.{Item}
 use Rattle.req_table.specs.declared.Item.TheVariants.{End}
 use Rattle.req_table.specs.declared.Key.{Key}
 use Rattle.req_table.specs.Wave.{Scope}
-use Rattle.req_table.specs.Lanes.{from_of, sent_by, ends, MayFollow, IsFairFrom, IsFair, HasSenders, LaneLaw}
+use Rattle.req_table.specs.Lanes.{sender_of, sent_by, ends, MayFollow, IsFairFrom, IsFair, HasSenders, LaneLaw}
 use Rattle.lane_queue.specs.declared.load.Load.{Load}
 use Rattle.lane_queue.specs.declared.load.Load.TheVariants.{Bundle, End as load_end}
-use Rattle.lane_queue.specs.Loads.{load_from, ask_of, items_in, flat, Carries, MayFollowAll}
+use Rattle.lane_queue.specs.Loads.{load_from, ask_of, items_in, flat, IsNonEmpty, MayFollowAll}
 use Rattle.req_table.proofs.Lists.{all_of, map_has}
 use Rattle.req_table.proofs.Fair.{fair_join, fair_front}
-use Rattle.lane_queue.specs.Lists.{Begins}
+use Rattle.lane_queue.specs.Lists.{IsPrefix}
 
 -- ---- All
 pub all-one : {X : Type 0} (P : X → Type 0) (x : X) → P x → All P (x ∷ [])
@@ -43,11 +43,11 @@ pub fair-more : (w : Scope) (xs : List Item) (x : Load) → IsFair w xs → MayF
 fair-more w xs x h m = let z : 0 + ends xs ≡ ends xs = omega arith in fair_join w 0 xs (items_in x) h (subst (λ n. IsFairFrom w n (items_in x)) (sym z) (fair-load w (ends xs) x m))
 
 -- ---- lists of one sender
-pub of-mine : (s : ℕ) (x : Item) (xs : List Item) → from_of x ≡ s → sent_by s (x ∷ xs) ≡ x ∷ sent_by s xs
-of-mine s x xs e = ap (λ b. cond b (x ∷ sent_by s xs) (sent_by s xs)) (eq-eqb (from_of x) s e)
+pub of-mine : (s : ℕ) (x : Item) (xs : List Item) → sender_of x ≡ s → sent_by s (x ∷ xs) ≡ x ∷ sent_by s xs
+of-mine s x xs e = ap (λ b. cond b (x ∷ sent_by s xs) (sent_by s xs)) (eq-eqb (sender_of x) s e)
 
-pub of-other : (s : ℕ) (x : Item) (xs : List Item) → from_of x ≢ s → sent_by s (x ∷ xs) ≡ sent_by s xs
-of-other s x xs n = ap (λ b. cond b (x ∷ sent_by s xs) (sent_by s xs)) (ne_eqb (from_of x) s n)
+pub of-other : (s : ℕ) (x : Item) (xs : List Item) → sender_of x ≢ s → sent_by s (x ∷ xs) ≡ sent_by s xs
+of-other s x xs n = ap (λ b. cond b (x ∷ sent_by s xs) (sent_by s xs)) (ne_eqb (sender_of x) s n)
 
 -- ---- what a load carries is its sender's
 mine-asks : (s from : ℕ) (asks : List (ℕ × Key)) → from ≡ s → sent_by s (map (ask_of from) asks) ≡ map (ask_of from) asks
@@ -66,11 +66,11 @@ pub load-other : (s : ℕ) (x : Load) → load_from x ≢ s → sent_by s (items
 load-other s (Bundle from asks) n = other-asks s from asks n
 load-other s (load_end from level) n = of-other s (End from level) [] n
 
-pub from-load : (n : ℕ) (x : Load) → load_from x < n → All (λ y. from_of y < n) (items_in x)
-from-load n (Bundle from asks) lt = all_of (λ y. from_of y < n) (map (ask_of from) asks) (λ y h. let t = map_has (ask_of from) asks y h in subst (λ z. from_of z < n) t.2 lt)
-from-load n (load_end from level) lt = all-one (λ y. from_of y < n) (End from level) lt
+pub from-load : (n : ℕ) (x : Load) → load_from x < n → All (λ y. sender_of y < n) (items_in x)
+from-load n (Bundle from asks) lt = all_of (λ y. sender_of y < n) (map (ask_of from) asks) (λ y h. let t = map_has (ask_of from) asks y h in subst (λ z. sender_of z < n) t.2 lt)
+from-load n (load_end from level) lt = all-one (λ y. sender_of y < n) (End from level) lt
 
-pub load-from : (n : ℕ) (x : Load) → Carries x → All (λ y. from_of y < n) (items_in x) → load_from x < n
+pub load-from : (n : ℕ) (x : Load) → IsNonEmpty x → All (λ y. sender_of y < n) (items_in x) → load_from x < n
 load-from n (Bundle from []) c h = absurd (omega (arith, c))
 load-from n (Bundle from (a ∷ more)) c h = h 0 (ask_of from a) (omega arith)
 load-from n (load_end from level) c h = h 0 (End from level) (omega arith)
@@ -84,12 +84,12 @@ pub flat-push : (xs : List Load) (x : Load) → flat (xs ++ x ∷ []) ≡ flat x
 flat-push xs x = flat-append xs (x ∷ []) ∙ ap (λ l. flat xs ++ l) (append-nil (items_in x))
 
 -- a load is never empty, so neither are loads
-pub flat-none : (xs : List Load) → All Carries xs → flat xs ≡ [] → xs ≡ []
+pub flat-none : (xs : List Load) → All IsNonEmpty xs → flat xs ≡ [] → xs ≡ []
 flat-none [] h e = refl
 flat-none (x ∷ xs) h e = absurd (let c = h 0 x (omega arith) in let n = ap (λ l. length l) e in let m = length-append (items_in x) (flat xs) in omega (arith, c, n, m))
 
 -- a beginning of a fair list is fair
-pub fair-begins : (w : Scope) (xs ys : List Item) → Begins xs ys → IsFair w ys → IsFair w xs
+pub fair-begins : (w : Scope) (xs ys : List Item) → IsPrefix xs ys → IsFair w ys → IsFair w xs
 fair-begins w xs ys b h = fair_front w 0 xs b.0 (subst (IsFair w) b.1 h)
 
 -- ---- the law

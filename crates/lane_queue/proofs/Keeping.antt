@@ -7,21 +7,21 @@ use Rattle.req_table.specs.declared.Key.{Key}
 use Rattle.req_table.specs.declared.Item.{Item}
 use Rattle.req_table.specs.declared.Item.TheVariants.{Ask}
 use Rattle.req_table.specs.Wave.{Scope}
-use Rattle.req_table.specs.Lanes.{from_of, sent_by, ends, MayFollow, IsFair, LaneLaw}
+use Rattle.req_table.specs.Lanes.{sender_of, sent_by, ends, MayFollow, IsFair, LaneLaw}
 use Rattle.req_table.proofs.Lists.{Has, each, all_of}
 use Rattle.req_table.proofs.Items.{sent_by_has, sent_by_of}
 use Rattle.req_table.proofs.Fair.{ends-append, sent_by-append}
 use Rattle.lane_queue.specs.declared.load.Load.{Load}
-use Rattle.lane_queue.specs.Loads.{load_from, items_in, flat, Carries, MayFollowAll}
-use Rattle.lane_queue.specs.Lists.{Begins, FairLane}
+use Rattle.lane_queue.specs.Loads.{load_from, items_in, flat, IsNonEmpty, MayFollowAll}
+use Rattle.lane_queue.specs.Lists.{IsPrefix, FairLane}
 use Rattle.crossbeam_queue.specs.SegTies.{SegId}
 use Rattle.std.specs.declared.alloc.Global.{Global}
 use Rattle.req_table.specs.Sizes.{scope_of}
-use Rattle.lane_queue.specs.Joining.{retired, ArePorts, AreKept, AreRetired, LawOfLanes, passed_from, popped_by, sent_from, taken_by}
+use Rattle.lane_queue.specs.Joining.{retired, ArePorts, AllAgreeWithOwnLane, AreRetired, LawOfLanes, passed_from, popped_by, sent_from, taken_by}
 use Rattle.req_table.specs.declared.Sizes.{Sizes}
 use Rattle.std.specs.Prelude.{slice_index_or, MatchResult, OnOk}
 use Rattle.lane_queue.proofs.Rounds.{element}
-use Rattle.lane_queue.specs.PortView.{PortView, sent_to, passed_to, put_to, port_scope, IsTaken, IsKept, has_put, has_taken, has_kept}
+use Rattle.lane_queue.specs.PortView.{PortView, sent_to, passed_to, put_to, port_scope, IsTaken, AgreesWithOwnLane, has_put, has_taken, has_kept}
 use Rattle.lane_queue.proofs.Facts.{fair-push, fair-more, load-other, of-mine, of-other}
 
 abbrev none_of : Option (SegId Global) → Option (SegId Global)
@@ -76,7 +76,7 @@ module _ {E : Type 0} (r : Result (Unit {0}) E) (refused : E → Type 0) (p q : 
   pub ok-others_put : OnOk r ((k : ℕ) → k ≢ to → put_to q k ≡ put_to p k)
   ok-others_put = on-put (λ u. (k : ℕ) → k ≢ to → put_to u k ≡ put_to p k) (put-counts_others p to x)
 
-module _ (p : PortView) (h : IsKept p) where
+module _ (p : PortView) (h : AgreesWithOwnLane p) where
   -- where all of its own was taken, nothing of its own is under way, and the other way round
   pub none-under : sent_by p.number p.taken ≡ p.own → h.under_way ≡ []
   none-under e = let q : p.own ++ [] ≡ p.own ++ h.under_way = append-nil p.own ∙ h.all ∙ ap (λ l. l ++ h.under_way) e in sym (append_cancel_left p.own [] h.under_way q)
@@ -89,11 +89,11 @@ module _ (p : PortView) (h : IsKept p) where
       sym (sent-own p ∙ h.all ∙ ap (λ l. sent_by p.number p.taken ++ l) u ∙ append-nil (sent_by p.number p.taken))
 
   -- what it took of its own is a beginning of what it sent to itself
-  pub own-prefix : Begins (sent_by p.number p.taken) (sent_to p p.number)
+  pub own-prefix : IsPrefix (sent_by p.number p.taken) (sent_to p p.number)
   own-prefix = (h.under_way, sent-own p ∙ h.all)
 
   -- a load is put on a lane
-  kept-put-own : (x : Load) → p.number < length p.passed → MayFollowAll (port_scope p) (ends (sent_to p p.number)) x → IsKept (has_put p p.number x)
+  kept-put-own : (x : Load) → p.number < length p.passed → MayFollowAll (port_scope p) (ends (sent_to p p.number)) x → AgreesWithOwnLane (has_put p p.number x)
   kept-put-own x lt may = let xs = items_in x in let q = has_put p p.number x in
       let o : q.own ≡ p.own ++ xs = ap (λ b. cond b (p.own ++ xs) p.own) (eq-eqb p.number p.number refl) in
       let s : passed_to q p.number ≡ passed_to p p.number ++ xs = get_or-set_same p.passed p.number (passed_to p p.number ++ xs) [] lt in
@@ -106,7 +106,7 @@ module _ (p : PortView) (h : IsKept p) where
         through = s ∙ ap (λ l. l ++ xs) h.through ∙ append_assoc (sent_by p.number p.popped) h.under_way xs;
       }
 
-  kept-put-other : (to : ℕ) (x : Load) → to ≢ p.number → IsKept (has_put p to x)
+  kept-put-other : (to : ℕ) (x : Load) → to ≢ p.number → AgreesWithOwnLane (has_put p to x)
   kept-put-other to x n = let xs = items_in x in let q = has_put p to x in
       let o : q.own ≡ p.own = ap (λ b. cond b (p.own ++ xs) p.own) (ne_eqb to p.number n) in
       let s : passed_to q p.number ≡ passed_to p p.number = get_or-set_other p.passed to p.number (passed_to p to ++ xs) [] (λ e. n (sym e)) in
@@ -119,14 +119,14 @@ module _ (p : PortView) (h : IsKept p) where
         through = s ∙ h.through;
       }
 
-  pub kept-put : (to : ℕ) (x : Load) → p.number < length p.passed → MayFollowAll (port_scope p) (ends (sent_to p to)) x → IsKept (has_put p to x)
+  pub kept-put : (to : ℕ) (x : Load) → p.number < length p.passed → MayFollowAll (port_scope p) (ends (sent_to p to)) x → AgreesWithOwnLane (has_put p to x)
   kept-put to x lt may = dite (ℕ_discrete to p.number)
-      (λ e. subst (λ n. IsKept (has_put p n x)) (sym e) (kept-put-own x lt (subst (λ n. MayFollowAll (port_scope p) (ends (sent_to p n)) x) e may)))
+      (λ e. subst (λ n. AgreesWithOwnLane (has_put p n x)) (sym e) (kept-put-own x lt (subst (λ n. MayFollowAll (port_scope p) (ends (sent_to p n)) x) e may)))
       (λ n. kept-put-other to x n)
 
   -- a load is taken
   -- what of its own is under way behind what it takes
-  own-begins : (x : Load) → load_from x ≡ p.number → (b : Begins (sent_by p.number (p.popped ++ items_in x)) (passed_to p p.number)) → p.own ≡ sent_by p.number (p.taken ++ items_in x) ++ b.0
+  own-begins : (x : Load) → load_from x ≡ p.number → (b : IsPrefix (sent_by p.number (p.popped ++ items_in x)) (passed_to p p.number)) → p.own ≡ sent_by p.number (p.taken ++ items_in x) ++ b.0
   own-begins x from b = let n = p.number in let xs = items_in x in let ys = sent_by n xs in
       let e : sent_by n p.popped ++ h.under_way ≡ sent_by n p.popped ++ (ys ++ b.0) =
       sym h.through ∙ b.1 ∙ ap (λ l. l ++ b.0) (sent_by-append n p.popped xs) ∙ append_assoc (sent_by n p.popped) ys b.0 in
@@ -136,7 +136,7 @@ module _ (p : PortView) (h : IsKept p) where
   others-taken : (x : Load) (o : ℕ) → o ≢ p.number → sent_by o (p.taken ++ items_in x) ≡ sent_by o (p.popped ++ items_in x)
   others-taken x o n = sent_by-append o p.taken (items_in x) ∙ ap (λ l. l ++ sent_by o (items_in x)) (h.others o n) ∙ sym (sent_by-append o p.popped (items_in x))
 
-  pub kept-take : (x : Load) → (load_from x ≡ p.number → Begins (sent_by p.number (p.popped ++ items_in x)) (passed_to p p.number)) → IsKept (has_taken p x)
+  pub kept-take : (x : Load) → (load_from x ≡ p.number → IsPrefix (sent_by p.number (p.popped ++ items_in x)) (passed_to p p.number)) → AgreesWithOwnLane (has_taken p x)
   kept-take x b = let n = p.number in let xs = items_in x in dite (ℕ_discrete (load_from x) n)
       (λ e. let c = b e in record {
         fair = h.fair;
@@ -155,16 +155,16 @@ module _ (p : PortView) (h : IsKept p) where
         through = h.through ∙ ap (λ l. l ++ h.under_way) (sym (sent_by-append n p.popped xs ∙ ap (λ l. sent_by n p.popped ++ l) none ∙ append-nil (sent_by n p.popped)));
       })
 
-  pub taken-next : (x : Load) (sent : List Item) → Carries x → load_from x < length p.lanes → IsFair (port_scope p) sent → Begins (sent_by (load_from x) (p.popped ++ items_in x)) sent
+  pub taken-next : (x : Load) (sent : List Item) → IsNonEmpty x → load_from x < length p.lanes → IsFair (port_scope p) sent → IsPrefix (sent_by (load_from x) (p.popped ++ items_in x)) sent
       → (load_from x ≡ p.number → sent ≡ passed_to p p.number) → IsTaken p x
   taken-next x sent carries lt fair b own = dite (ℕ_discrete (load_from x) p.number)
       (λ e.
-      let c : Begins (sent_by p.number (p.popped ++ items_in x)) (passed_to p p.number) = subst (λ (y : ℕ × List Item). Begins (sent_by y.0 (p.popped ++ items_in x)) y.1) (λ j. (e j, own e j)) b in
-      (p.own, carries, lt, h.fair, subst (λ n. Begins (sent_by n (p.taken ++ items_in x)) p.own) (sym e) (c.0, own-begins x e c), λ q. sym (sent-own p)))
-      (λ m. (sent, carries, lt, fair, subst (λ l. Begins l sent) (sym (others-taken x (load_from x) m)) b, λ q. absurd (m q)))
+      let c : IsPrefix (sent_by p.number (p.popped ++ items_in x)) (passed_to p p.number) = subst (λ (y : ℕ × List Item). IsPrefix (sent_by y.0 (p.popped ++ items_in x)) y.1) (λ j. (e j, own e j)) b in
+      (p.own, carries, lt, h.fair, subst (λ n. IsPrefix (sent_by n (p.taken ++ items_in x)) p.own) (sym e) (c.0, own-begins x e c), λ q. sym (sent-own p)))
+      (λ m. (sent, carries, lt, fair, subst (λ l. IsPrefix l sent) (sym (others-taken x (load_from x) m)) b, λ q. absurd (m q)))
 
   -- a request is kept
-  pub kept-keep : (level : ℕ) (key : Key) → MayFollow (port_scope p) (ends (sent_to p p.number)) (Ask p.number level key) → sent_by p.number p.taken ≡ sent_to p p.number → IsKept (has_kept p (Ask p.number level key))
+  pub kept-keep : (level : ℕ) (key : Key) → MayFollow (port_scope p) (ends (sent_to p p.number)) (Ask p.number level key) → sent_by p.number p.taken ≡ sent_to p p.number → AgreesWithOwnLane (has_kept p (Ask p.number level key))
   kept-keep level key may taken = let n = p.number in let x = Ask n level key in
       let e : sent_by n p.taken ≡ p.own = taken ∙ sent-own p in
       record {
@@ -178,7 +178,7 @@ module _ (p : PortView) (h : IsKept p) where
 
   -- the law of what went through its lane is that of what it sent and took
   -- the port is joined
-  pub kept-retired : IsKept (retired p)
+  pub kept-retired : AgreesWithOwnLane (retired p)
   kept-retired = record {
     fair = subst (λ n. IsFair (scope_of n p.sizes) p.own) (sym (length-map p.lanes (λ (q : Option (SegId Global)). none_of q))) h.fair;
     ended = h.ended;
@@ -194,23 +194,23 @@ module _ (p : PortView) (h : IsKept p) where
     waits : sent_by p.number left ≡ h.under_way
     waits = append_cancel_left (sent_by p.number p.popped) (sent_by p.number left) h.under_way (sym (sent_by-append p.number p.popped left) ∙ law.in_order p.number lt ∙ mine ∙ h.through)
 
-    sender : (i : Item) → Has (p.taken ++ left) i → from_of i < w.workers
-    sender i has = dite (ℕ_discrete (from_of i) p.number)
+    sender : (i : Item) → Has (p.taken ++ left) i → sender_of i < w.workers
+    sender i has = dite (ℕ_discrete (sender_of i) p.number)
         (λ e. subst (λ n. n < w.workers) (sym e) lt)
-        (λ m. let a : Has (sent_by (from_of i) (p.taken ++ left)) i = sent_by_of (from_of i) (p.taken ++ left) i has refl in
-        let b : sent_by (from_of i) (p.taken ++ left) ≡ sent_by (from_of i) (p.popped ++ left) = sent_by-append (from_of i) p.taken left ∙ ap (λ l. l ++ sent_by (from_of i) left) (h.others (from_of i) m) ∙ sym (sent_by-append (from_of i) p.popped left) in
-        each (λ j. from_of j < w.workers) (p.popped ++ left) i law.senders (sent_by_has (from_of i) (p.popped ++ left) i (subst (λ l. Has l i) b a)).0)
+        (λ m. let a : Has (sent_by (sender_of i) (p.taken ++ left)) i = sent_by_of (sender_of i) (p.taken ++ left) i has refl in
+        let b : sent_by (sender_of i) (p.taken ++ left) ≡ sent_by (sender_of i) (p.popped ++ left) = sent_by-append (sender_of i) p.taken left ∙ ap (λ l. l ++ sent_by (sender_of i) left) (h.others (sender_of i) m) ∙ sym (sent_by-append (sender_of i) p.popped left) in
+        each (λ j. sender_of j < w.workers) (p.popped ++ left) i law.senders (sent_by_has (sender_of i) (p.popped ++ left) i (subst (λ l. Has l i) b a)).0)
 
     pub kept-law : LaneLaw w sent p.taken left
     kept-law = let n = p.number in record {
-      senders = all_of (λ i. from_of i < w.workers) (p.taken ++ left) sender;
+      senders = all_of (λ i. sender_of i < w.workers) (p.taken ++ left) sender;
       in_order = λ s sl. dite (ℕ_discrete s n)
           (λ e. subst (λ m. sent_by m (p.taken ++ left) ≡ sent m) (sym e) (sent_by-append n p.taken left ∙ ap (λ l. sent_by n p.taken ++ l) waits ∙ sym h.all ∙ sym own))
           (λ m. sent_by-append s p.taken left ∙ ap (λ l. l ++ sent_by s left) (h.others s m) ∙ sym (sent_by-append s p.popped left) ∙ law.in_order s sl ∙ sym (same s sl m));
     }
 
 -- with what is left, the law of what went through the lanes is that of what was sent and taken
-module _ (workers : ℕ) (sizes : Sizes) (ids : List (SegId Global)) (given ports : List PortView) (left : List (List Load)) (are : ArePorts workers sizes ids given) (kept : AreKept workers given) (gone : AreRetired workers given ports) (law : LawOfLanes workers sizes ports left)
+module _ (workers : ℕ) (sizes : Sizes) (ids : List (SegId Global)) (given ports : List PortView) (left : List (List Load)) (are : ArePorts workers sizes ids given) (kept : AllAgreeWithOwnLane workers given) (gone : AreRetired workers given ports) (law : LawOfLanes workers sizes ports left)
     (ids_long : length ids ≡ workers) (k : ℕ) (lt : k < workers) where
   port_k : PortView
   port_k = element given k (let z = are.0 in omega arith)
@@ -224,7 +224,7 @@ module _ (workers : ℕ) (sizes : Sizes) (ids : List (SegId Global)) (given port
   pub law-all : LaneLaw (scope_of workers sizes) (sent_from ports k) (taken_by ports k) (flat (slice_index_or left k [])) × FairLane (scope_of workers sizes) (sent_from ports k)
   law-all = let w = scope_of workers sizes in
       let p = get_or given k port_k in
-      let h : IsKept p = kept k port_k lt in
+      let h : AgreesWithOwnLane p = kept k port_k lt in
       let n : p.number ≡ k = at_given k lt port_k in
       let l = law k lt in
       let popped : popped_by ports k ≡ p.popped = listed (λ q. q.popped) [] k port_k lt in

@@ -7,72 +7,72 @@ use Rattle.req_table.specs.declared.Sizes.{Sizes}
 use Rattle.lane_queue.specs.declared.load.Load.{Load}
 use Rattle.lane_queue.specs.declared.rule.View.{View}
 use Rattle.lane_queue.specs.declared.rule.Lane.{Lane}
-use Rattle.lane_queue.specs.declared.make.Root.{Root}
-use Rattle.lane_queue.specs.declared.line.Line.{Line}
+use Rattle.lane_queue.specs.declared.make.RootPass.{RootPass}
+use Rattle.lane_queue.specs.declared.endpoint.Endpoint.{Endpoint}
 use Rattle.req_table.specs.Sizes.{scope_of}
 use Rattle.req_table.specs.Lanes.{LaneLaw}
 use Rattle.lane_queue.specs.Lists.{FairLane}
 use Rattle.lane_queue.specs.Rule.{own_sent, port, joined, IsJoined}
-use Rattle.lane_queue.specs.Line.{line_view, IsLine, IsLiveOn}
-use Rattle.lane_queue.specs.Ports.{terms_of, line_on}
+use Rattle.lane_queue.specs.Endpoint.{endpoint_view, IsEndpoint, IsLiveOn}
+use Rattle.lane_queue.specs.Ports.{terms_of, endpoint_queue}
 use Rattle.lane_queue.specs.Loads.{flat}
-use Rattle.lane_queue.specs.PortView.{PortView, sent_to, passed_to, IsKept}
+use Rattle.lane_queue.specs.PortView.{PortView, sent_to, passed_to, AgreesWithOwnLane}
 
 -- What the pass knows.
-abbrev pub root_view : Root → View
-root_view r = r.pass.me.view.client
+abbrev pub root_pass_view : RootPass → View
+root_pass_view r = r.pass.me.view.client
 
 -- The line gave its pass away, and remembers what it knew.
-abbrev pub Retired : Line → Line → Type 0
-Retired old new = (line_on new ≡ None) × (line_view new ≡ line_view old) × (new.ends ≡ old.ends) × (new.put ≡ old.put)
+abbrev pub Retired : Endpoint → Endpoint → Type 0
+Retired old new = (endpoint_queue new ≡ None) × (endpoint_view new ≡ endpoint_view old) × (new.ends ≡ old.ends) × (new.put ≡ old.put)
 
 -- The line's pass can join that of the ports below it.
-pub record MayJoin (lane : Lane) (root : Root) (line : Line) : Type 0 where
+pub record MayJoin (lane : Lane) (root : RootPass) (endpoint : Endpoint) : Type 0 where
   pub queue : IsSegPassOf lane.queue root.pass
-  pub live : IsLiveOn lane.queue line.hold
-  pub below : IsJoined (root_view root) × ((root_view root).left ≡ [])
-  pub one : IsLine line
-  pub terms : (line_view line).terms ≡ (root_view root).terms
-  pub low : (line_view line).low ≡ (root_view root).high
-  pub theirs : (root_view root).high ≢ (root_view root).terms.owner → (line_view line).taken ≡ []
-  pub mine : (¬ (root_view root).terms.owner < (root_view root).high) → (root_view root).taken ≡ []
+  pub live : IsLiveOn lane.queue endpoint.pass_state
+  pub below : IsJoined (root_pass_view root) × ((root_pass_view root).left ≡ [])
+  pub one : IsEndpoint endpoint
+  pub terms : (endpoint_view endpoint).terms ≡ (root_pass_view root).terms
+  pub low : (endpoint_view endpoint).low ≡ (root_pass_view root).high
+  pub next_took_nothing : (root_pass_view root).high ≢ (root_pass_view root).terms.owner → (endpoint_view endpoint).taken ≡ []
+  pub root_took_nothing : (¬ (root_pass_view root).terms.owner < (root_pass_view root).high) → (root_pass_view root).taken ≡ []
 
 -- What the pass of the ports below knows once it was joined by the next port's.
 abbrev pub JoinedTo : View → View → View
 JoinedTo v w = joined v.terms (v.high + 1) (v.sent ++ own_sent w ∷ []) (v.taken ++ w.taken) []
 
 -- The line's pass has joined, and the line is retired.
-abbrev pub HasJoined : Lane → Root → Root → Line → Line → Type 0
-HasJoined lane root root' line line' =
-    IsSegPassOf lane.queue root'.pass × (root_view root' ≡ JoinedTo (root_view root) (line_view line))
-    × Retired line line'
+abbrev pub HasJoined : Lane → RootPass → RootPass → Endpoint → Endpoint → Type 0
+HasJoined lane root root' endpoint endpoint' =
+    IsSegPassOf lane.queue root'.pass × (root_pass_view root' ≡ JoinedTo (root_pass_view root) (endpoint_view endpoint))
+    × Retired endpoint endpoint'
 
 -- Each of the n lines can join.
-abbrev pub MayJoinAll : ℕ → List Lane → List Root → List Line → Type 0
-MayJoinAll n lanes roots lines =
-    (i : ℕ) (d : Lane) (e : Root) (f : Line) → i < n
-    → MayJoin (slice_index_or lanes i d) (slice_index_or roots i e) (slice_index_or lines i f)
+abbrev pub MayJoinAll : ℕ → List Lane → List RootPass → List Endpoint → Type 0
+MayJoinAll n lanes roots endpoints =
+    (i : ℕ) (d : Lane) (e : RootPass) (f : Endpoint) → i < n
+    → MayJoin (slice_index_or lanes i d) (slice_index_or roots i e) (slice_index_or endpoints i f)
 
 -- Each of the n lines has joined.
-abbrev pub HaveJoined : ℕ → List Lane → List Root → List Root → List Line → List Line → Type 0
-HaveJoined n lanes roots roots' lines lines' =
-    (i : ℕ) (d : Lane) (e : Root) (f : Line) → i < n
+abbrev pub HaveJoined : ℕ → List Lane → List RootPass → List RootPass → List Endpoint → List Endpoint → Type 0
+HaveJoined n lanes roots roots' endpoints endpoints' =
+    (i : ℕ) (d : Lane) (e : RootPass) (f : Endpoint) → i < n
     → HasJoined (slice_index_or lanes i d) (slice_index_or roots i e) (slice_index_or roots' i e)
-    (slice_index_or lines i f) (slice_index_or lines' i f)
+    (slice_index_or endpoints i f) (slice_index_or endpoints' i f)
 
 -- The first port's passes begin the joined ones.
-abbrev pub HaveBegun : ℕ → List Lane → List Root → List Line → List Line → Type 0
-HaveBegun n lanes roots lines lines' =
-    (i : ℕ) (d : Lane) (e : Root) (f : Line) → i < n
+abbrev pub HaveBegun : ℕ → List Lane → List RootPass → List Endpoint → List Endpoint → Type 0
+HaveBegun n lanes roots endpoints endpoints' =
+    (i : ℕ) (d : Lane) (e : RootPass) (f : Endpoint) → i < n
     → IsSegPassOf (slice_index_or lanes i d).queue (slice_index_or roots i e).pass
-    × (root_view (slice_index_or roots i e) ≡ line_view (slice_index_or lines i f))
-    × Retired (slice_index_or lines i f) (slice_index_or lines' i f)
+    × (root_pass_view (slice_index_or roots i e) ≡ endpoint_view (slice_index_or endpoints i f))
+    × Retired (slice_index_or endpoints i f) (slice_index_or endpoints' i f)
 
 -- Each of the n lines has its pass.
-abbrev pub AllLive : ℕ → List Lane → List Line → Type 0
-AllLive n lanes lines =
-    (i : ℕ) (d : Lane) (f : Line) → i < n
-    → IsLiveOn (slice_index_or lanes i d).queue (slice_index_or lines i f).hold
+abbrev pub AllLive : ℕ → List Lane → List Endpoint → Type 0
+AllLive n lanes endpoints =
+    (i : ℕ) (d : Lane) (f : Endpoint) → i < n
+    → IsLiveOn (slice_index_or lanes i d).queue (slice_index_or endpoints i f).pass_state
 
 -- ---- told of ports
 -- What the port took from this lane.
@@ -88,11 +88,11 @@ abbrev pub retired : PortView → PortView
 retired p = record p { lanes = map (λ q. None) p.lanes }
 
 -- The passes of one port, by lane.
-abbrev pub RootsOf : ℕ → PortView → List Lane → List Root → Type 0
-RootsOf workers p lanes roots =
-    (i : ℕ) (d : Lane) (e : Root) → i < workers
+abbrev pub ArePassesOf : ℕ → PortView → List Lane → List RootPass → Type 0
+ArePassesOf workers p lanes roots =
+    (i : ℕ) (d : Lane) (e : RootPass) → i < workers
     → IsSegPassOf (slice_index_or lanes i d).queue (slice_index_or roots i e).pass
-    × (root_view (slice_index_or roots i e) ≡ pass_view workers p i)
+    × (root_pass_view (slice_index_or roots i e) ≡ pass_view workers p i)
 
 -- The joined pass of the lane i, of the ports below this one.
 abbrev pub IsBelow : ℕ → PortView → ℕ → View → Type 0
@@ -101,36 +101,36 @@ IsBelow workers p i v =
     × ((i < p.number → ⊥) → v.taken ≡ [])
 
 -- The joined passes of the ports below this one, by lane.
-abbrev pub RootsBelow : ℕ → PortView → List Lane → List Root → Type 0
-RootsBelow workers p lanes roots =
-    (i : ℕ) (d : Lane) (e : Root) → i < workers
+abbrev pub ArePassesBelow : ℕ → PortView → List Lane → List RootPass → Type 0
+ArePassesBelow workers p lanes roots =
+    (i : ℕ) (d : Lane) (e : RootPass) → i < workers
     → IsSegPassOf (slice_index_or lanes i d).queue (slice_index_or roots i e).pass
-    × IsBelow workers p i (root_view (slice_index_or roots i e))
+    × IsBelow workers p i (root_pass_view (slice_index_or roots i e))
 
 -- The joined passes once this port's were joined.
-abbrev pub RootsWith : ℕ → PortView → List Lane → List Root → List Root → Type 0
-RootsWith workers p lanes roots roots' =
-    (i : ℕ) (d : Lane) (e : Root) → i < workers
+abbrev pub ArePassesJoinedWith : ℕ → PortView → List Lane → List RootPass → List RootPass → Type 0
+ArePassesJoinedWith workers p lanes roots roots' =
+    (i : ℕ) (d : Lane) (e : RootPass) → i < workers
     → IsSegPassOf (slice_index_or lanes i d).queue (slice_index_or roots' i e).pass
-    × (root_view (slice_index_or roots' i e)
-    ≡ joined (root_view (slice_index_or roots i e)).terms ((root_view (slice_index_or roots i e)).high + 1)
-    ((root_view (slice_index_or roots i e)).sent ++ passed_to p i ∷ [])
-    ((root_view (slice_index_or roots i e)).taken ++ popped_on p i) [])
+    × (root_pass_view (slice_index_or roots' i e)
+    ≡ joined (root_pass_view (slice_index_or roots i e)).terms ((root_pass_view (slice_index_or roots i e)).high + 1)
+    ((root_pass_view (slice_index_or roots i e)).sent ++ passed_to p i ∷ [])
+    ((root_pass_view (slice_index_or roots i e)).taken ++ popped_on p i) [])
 
 -- ---- all ports
 -- What the pass of the lane i knows once all these ports were joined.
-abbrev pub whole_view : ℕ → Sizes → List PortView → ℕ → View
-whole_view workers sizes ports i =
+abbrev pub all_ports_view : ℕ → Sizes → List PortView → ℕ → View
+all_ports_view workers sizes ports i =
     joined (terms_of workers i sizes) (length ports) (map (λ p. passed_to p i) ports)
     (slice_index_or (map (λ (p : PortView). p.popped) ports) i []) []
 
 -- The passes once all these ports were joined, by lane.
-abbrev pub RootsHave : ℕ → Sizes → List PortView → List Lane → List Root → Type 0
-RootsHave workers sizes ports lanes roots =
+abbrev pub ArePassesOfAll : ℕ → Sizes → List PortView → List Lane → List RootPass → Type 0
+ArePassesOfAll workers sizes ports lanes roots =
     (length roots ≡ workers)
-    × ((i : ℕ) (d : Lane) (e : Root) → i < workers
+    × ((i : ℕ) (d : Lane) (e : RootPass) → i < workers
     → IsSegPassOf (slice_index_or lanes i d).queue (slice_index_or roots i e).pass
-    × (root_view (slice_index_or roots i e) ≡ whole_view workers sizes ports i))
+    × (root_pass_view (slice_index_or roots i e) ≡ all_ports_view workers sizes ports i))
 
 -- The ports of these lanes, by number, none of them joined.
 abbrev pub ArePorts : ℕ → Sizes → List (SegId Global) → List PortView → Type 0
@@ -147,8 +147,8 @@ AreRetired workers old new =
     × ((i : ℕ) (d : PortView) → i < workers → slice_index_or new i d ≡ retired (slice_index_or old i d))
 
 -- What each port sent to itself and took is what went through its lane, and what it kept.
-abbrev pub AreKept : ℕ → List PortView → Type 0
-AreKept workers ports = (i : ℕ) (d : PortView) → i < workers → IsKept (slice_index_or ports i d)
+abbrev pub AllAgreeWithOwnLane : ℕ → List PortView → Type 0
+AllAgreeWithOwnLane workers ports = (i : ℕ) (d : PortView) → i < workers → AgreesWithOwnLane (slice_index_or ports i d)
 
 -- What the port s put on the lane k.
 abbrev pub passed_from : List PortView → ℕ → ℕ → List Item

@@ -9,5 +9,5 @@ abbrev pub FairLane : Scope → (ℕ → List Item) → Type 0
 FairLane w sent = (s : ℕ) → s < w.workers → IsFair w (sent s)
 
 -- The first list is a beginning of the second.
-abbrev pub Begins : List Item → List Item → Type 0
-Begins front xs = (back : List Item) × (xs ≡ front ++ back)
+abbrev pub IsPrefix : List Item → List Item → Type 0
+IsPrefix front xs = (back : List Item) × (xs ≡ front ++ back)

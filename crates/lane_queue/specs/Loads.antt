@@ -28,8 +28,8 @@ flat [] = []
 flat (x ∷ xs) = items_in x ++ flat xs
 
 -- the load carries something
-abbrev pub Carries : Load → Type 0
-Carries x = 0 < length (items_in x)
+abbrev pub IsNonEmpty : Load → Type 0
+IsNonEmpty x = 0 < length (items_in x)
 
 -- each item of the load may stand behind e Ends
 abbrev pub MayFollowAll : Scope → ℕ → Load → Type 0

@@ -10,8 +10,8 @@ use Rattle.req_table.specs.Wave.{Scope}
 use Rattle.req_table.specs.Sizes.{scope_of}
 use Rattle.req_table.specs.Lanes.{sent_by, ends, IsFair, IsClosed}
 use Rattle.lane_queue.specs.declared.load.Load.{Load}
-use Rattle.lane_queue.specs.Loads.{load_from, items_in, Carries}
-use Rattle.lane_queue.specs.Lists.{Begins}
+use Rattle.lane_queue.specs.Loads.{load_from, items_in, IsNonEmpty}
+use Rattle.lane_queue.specs.Lists.{IsPrefix}
 
 -- The queues by worker, and what the lanes keep of their store.
 pub record LanesView : Type 0 where
@@ -57,15 +57,15 @@ port_scope p = scope_of (length p.lanes) p.sizes
 -- The load is the next of a list that is fair. Where the port is its own sender, this is what it sent to itself.
 abbrev pub IsTaken : PortView → Load → Type 0
 IsTaken p x =
-    (sent : List Item) × Carries x × (load_from x < length p.lanes) × IsFair (port_scope p) sent
-    × Begins (sent_by (load_from x) (p.taken ++ items_in x)) sent
+    (sent : List Item) × IsNonEmpty x × (load_from x < length p.lanes) × IsFair (port_scope p) sent
+    × IsPrefix (sent_by (load_from x) (p.taken ++ items_in x)) sent
     × (load_from x ≡ p.number → sent ≡ sent_to p p.number)
 
 -- The item may leave a worker who took these: behind e Ends, an Ask needs the level before e closed, so no child
 -- leaves before the level of its request is closed.
-abbrev pub MayLeave : Scope → List Item → ℕ → Item → Type 0
-MayLeave w taken e (Ask from level key) = 0 < e → IsClosed w (e - 1) taken
-MayLeave w taken e (End from level) = Unit {0}
+abbrev pub MayBeSent : Scope → List Item → ℕ → Item → Type 0
+MayBeSent w taken e (Ask from level key) = 0 < e → IsClosed w (e - 1) taken
+MayBeSent w taken e (End from level) = Unit {0}
 
 -- The item is no Ask of a level that is closed.
 abbrev pub IsOpen : Scope → List Item → Item → Type 0
@@ -92,7 +92,7 @@ has_kept p x = record p { own = p.own ++ x ∷ []; taken = p.taken ++ x ∷ [] }
 -- ---- what is kept, and what goes through the lane
 -- What a port sent to itself and took differs from what went through its own lane by the requests that it kept: these are
 -- no Ends, no other port's, and none of them was kept while something was under way.
-pub record IsKept (p : PortView) : Type 0 where
+pub record AgreesWithOwnLane (p : PortView) : Type 0 where
   pub fair : IsFair (port_scope p) p.own
   pub ended : ends p.own ≡ ends (passed_to p p.number)
   pub others : (o : ℕ) → o ≢ p.number → sent_by o p.taken ≡ sent_by o p.popped

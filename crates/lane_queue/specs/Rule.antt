@@ -9,8 +9,8 @@ use Rattle.lane_queue.specs.declared.rule.View.{View}
 use Rattle.req_table.specs.Wave.{Scope}
 use Rattle.req_table.specs.Sizes.{scope_of}
 use Rattle.req_table.specs.Lanes.{sent_by, IsFair, LaneLaw}
-use Rattle.lane_queue.specs.Lists.{FairLane, Begins}
-use Rattle.lane_queue.specs.Loads.{load_from, items_in, flat, Carries}
+use Rattle.lane_queue.specs.Lists.{FairLane, IsPrefix}
+use Rattle.lane_queue.specs.Loads.{load_from, items_in, flat, IsNonEmpty}
 
 -- The terms where there are none.
 abbrev pub no_terms : Terms
@@ -44,18 +44,18 @@ port c s sent taken =
     record { begun = true; terms = c; low = s; high = s + 1; sent = sent ∷ []; taken = taken; left = [] }
 
 -- The view stands for the port p.
-abbrev pub Has : View → ℕ → Type 0
-Has v p = (v.low ≤ p) × (p < v.high)
+abbrev pub CoversPort : View → ℕ → Type 0
+CoversPort v p = (v.low ≤ p) × (p < v.high)
 
 -- What the view says that the port p sent.
 abbrev pub sent_of : View → ℕ → List Item
 sent_of v p = slice_index_or v.sent (p - v.low) []
 
 -- The pass i, with the view v, is the one that stands for the port p, and says of it what the lists say.
-pub record Fits (c : Terms) (seat : ℕ → ℕ) (sent : ℕ → List Item) (taken left : List Item) (i : ℕ) (v : View) (p : ℕ) : Type 0 where
+pub record Fits (c : Terms) (pass_index : ℕ → ℕ) (sent : ℕ → List Item) (taken left : List Item) (i : ℕ) (v : View) (p : ℕ) : Type 0 where
   pub terms : v.terms ≡ c
   pub within : p < c.workers
-  pub seated : seat p ≡ i
+  pub has_pass_index : pass_index p ≡ i
   pub sends : sent_of v p ≡ sent p
   pub takes : p ≡ c.owner → (v.taken ≡ taken) × (v.left ≡ left)
 
@@ -63,42 +63,42 @@ pub record Fits (c : Terms) (seat : ℕ → ℕ) (sent : ℕ → List Item) (tak
 -- fair.
 pub record Ruled (items : List Item) (views : List View) : Type 0 where
   pub c : Terms
-  pub seat : ℕ → ℕ
+  pub pass_index : ℕ → ℕ
   pub sent : ℕ → List Item
   pub taken : List Item
   pub left : List Item
   pub owned : c.owner < c.workers
   pub law : LaneLaw (scope c) sent taken (left ++ items)
   pub fair : FairLane (scope c) sent
-  pub present : (p : ℕ) → p < c.workers → (v : View) × (get_elem? views (seat p) ≡ some v) × Has v p
+  pub present : (p : ℕ) → p < c.workers → (v : View) × (get_elem? views (pass_index p) ≡ some v) × CoversPort v p
   pub begun : (i : ℕ) (v : View) → get_elem? views i ≡ some v → v.begun ≡ true
-  pub fits : (i : ℕ) (v : View) (p : ℕ) → get_elem? views i ≡ some v → Has v p
-      → Fits c seat sent taken left i v p
+  pub fits : (i : ℕ) (v : View) (p : ℕ) → get_elem? views i ≡ some v → CoversPort v p
+      → Fits c pass_index sent taken left i v p
 
 -- Nothing has begun, or the rule holds.
-abbrev pub Kept : List Item → List View → Type 0
-Kept items views = ((items ≡ []) × (views ≡ blank ∷ [])) ⊎ Ruled items views
+abbrev pub NotBegunOrRuled : List Item → List View → Type 0
+NotBegunOrRuled items views = ((items ≡ []) × (views ≡ blank ∷ [])) ⊎ Ruled items views
 
 -- The rule over loads: each carries something, and what they carry keeps the rule.
 abbrev pub Holds : List Load → List View → Type 0
-Holds loads views = All Carries loads × Kept (flat loads) views
+Holds loads views = All IsNonEmpty loads × NotBegunOrRuled (flat loads) views
 
 -- ---- what the steps tell
 -- The lists with these items at the end of the first.
-abbrev pub behind : List (List Item) → List Item → List (List Item)
-behind [] xs = []
-behind (l ∷ ls) xs = (l ++ xs) ∷ ls
+abbrev pub append_to_first : List (List Item) → List Item → List (List Item)
+append_to_first [] xs = []
+append_to_first (l ∷ ls) xs = (l ++ xs) ∷ ls
 
 -- The sender put what x carries at the end of its list.
 abbrev pub Sends : View → Load → View → Type 0
-Sends v x w = w ≡ record v { sent = behind v.sent (items_in x) }
+Sends v x w = w ≡ record v { sent = append_to_first v.sent (items_in x) }
 
 -- The load is the next of what its sender had sent by then, which is fair, and which is the port's own list if the port
 -- is the sender.
 abbrev pub IsNext : View → Load → Type 0
 IsNext v x =
-    (sent : List Item) × Carries x × (load_from x < v.terms.workers) × IsFair (scope v.terms) sent
-    × Begins (sent_by (load_from x) (v.taken ++ items_in x)) sent
+    (sent : List Item) × IsNonEmpty x × (load_from x < v.terms.workers) × IsFair (scope v.terms) sent
+    × IsPrefix (sent_by (load_from x) (v.taken ++ items_in x)) sent
     × (load_from x ≡ v.low → sent ≡ slice_index_or v.sent 0 [])
 
 -- The owner took x, the next of its sender.
@@ -106,16 +106,16 @@ abbrev pub Takes : View → Load → View → Type 0
 Takes v x w = (w ≡ record v { taken = v.taken ++ items_in x }) × IsNext v x
 
 -- What the owner sent to itself is what it took of that, and then what waits of it.
-abbrev pub Owns : View → List Load → Type 0
-Owns v loads = sent_by v.low (v.taken ++ flat loads) ≡ slice_index_or v.sent 0 []
+abbrev pub OwnSentInOrder : View → List Load → Type 0
+OwnSentInOrder v loads = sent_by v.low (v.taken ++ flat loads) ≡ slice_index_or v.sent 0 []
 
 -- The load was read out at the end.
 abbrev pub Reads : View → Load → View → Type 0
 Reads v x w = w ≡ record v { left = v.left ++ items_in x }
 
 -- All ports' lists by number obey the law with what was taken and what is left, and are fair.
-abbrev pub Whole : View → List Load → Type 0
-Whole v loads =
+abbrev pub AllPortsLawful : View → List Load → Type 0
+AllPortsLawful v loads =
     LaneLaw (scope v.terms) (λ s. slice_index_or v.sent s []) v.taken (v.left ++ flat loads)
     × FairLane (scope v.terms) (λ s. slice_index_or v.sent s [])
 
@@ -133,9 +133,9 @@ abbrev pub IsJoined : View → Type 0
 IsJoined v = (v ≡ joined v.terms v.high v.sent v.taken v.left) × (length v.sent ≡ v.high)
 
 -- The view is that of all ports, one of which takes from the lane.
-abbrev pub IsWhole : View → Type 0
-IsWhole v = (v ≡ joined v.terms v.terms.workers v.sent v.taken v.left) × (v.terms.owner < v.terms.workers)
+abbrev pub IsOfAllPorts : View → Type 0
+IsOfAllPorts v = (v ≡ joined v.terms v.terms.workers v.sent v.taken v.left) × (v.terms.owner < v.terms.workers)
 
 -- The next pass can be issued: the lane has no terms yet, or these, and its owner is one of the workers.
-abbrev pub IsReady : Terms → View → Type 0
-IsReady c v = ((v ≡ blank) ⊎ (v ≡ issuer c v.low)) × (v.low < c.workers) × (c.owner < c.workers)
+abbrev pub MayIssue : Terms → View → Type 0
+MayIssue c v = ((v ≡ blank) ⊎ (v ≡ issuer c v.low)) × (v.low < c.workers) × (c.owner < c.workers)

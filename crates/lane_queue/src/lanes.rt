@@ -2,8 +2,8 @@
 ghost use Rattle.std.specs.Prelude.{◌≡◌, ◌≢◌, ℕ, ◌+◌, ◌<◌, ◌≤◌, ◌++◌, length, map, slice_index_or, All, IfOk, OnOk, MatchResult};
 ghost use Rattle.std.specs.Prelude.{MatchOption, IfSome};
 ghost use Rattle.req_table.specs.Lanes.{sent_by, ends};
-ghost use Rattle.lane_queue.specs.Loads.{load_from, items_in, Carries, MayFollowAll};
-ghost use Rattle.lane_queue.specs.PortView.{PortView, sent_to, put_to, has_put, has_taken, IsPortOf, IsTaken, IsKept, MayLeave, IsOpen};
+ghost use Rattle.lane_queue.specs.Loads.{load_from, items_in, IsNonEmpty, MayFollowAll};
+ghost use Rattle.lane_queue.specs.PortView.{PortView, sent_to, put_to, has_put, has_taken, IsPortOf, IsTaken, AgreesWithOwnLane, MayBeSent, IsOpen};
 ghost use Rattle.lane_queue.specs.PortView.{lanes_scope};
 ghost use Rattle.req_table.specs.Sizes.{sizes_of};
 ghost use Rattle.lane_queue.specs.Make.{new_port};
@@ -43,7 +43,7 @@ impl Model for Lanes {
 
 /// How the lanes ended.
 #[derive(Drop)]
-pub struct Settled {
+pub struct SettledLanes {
     /// What was left in each lane, by worker, front first.
     pub left: Vec<Vec<Load>>,
     /// The ports by number.
@@ -72,8 +72,10 @@ impl Lanes {
         let (lanes, mut roots) = make::open_all(alloc, store, workers)?;
         let mut ports = Vec::new(alloc);
         for number in 0..workers {
-            let lines = make::issue_lines(alloc, &lanes, &mut roots, store, workers, number)?;
-            ports.push(Port::of_lines(number, lines, &lanes, store, workers))?;
+            let endpoints = make::issue_endpoints(
+                alloc, &lanes, &mut roots, store, workers, number,
+            )?;
+            ports.push(Port::of_endpoints(number, endpoints, &lanes, store, workers))?;
         }
         let store = Snapshot::of(store);
         Ok((Lanes { lanes, store }, ports))
@@ -85,10 +87,10 @@ impl Lanes {
     pub fn send<R: Wait>(&self, rt: &R, port: &mut Port, to: u32, load: Load) -> Result<(), Load>
         requires port { IsPortOf self.now port.old }
         requires to { to < length self.now.lanes }
-        requires some { Carries load }
+        requires some { IsNonEmpty load }
         requires from { load_from load ≡ port.old.number }
-        requires may { MayFollowAll (lanes_scope self.now) (ends (sent_to port.old to)) load }
-        requires leave { All (MayLeave (lanes_scope self.now) port.old.taken (ends (sent_to port.old to))) (items_in load) }
+        requires may_follow { MayFollowAll (lanes_scope self.now) (ends (sent_to port.old to)) load }
+        requires may_be_sent { All (MayBeSent (lanes_scope self.now) port.old.taken (ends (sent_to port.old to))) (items_in load) }
         ensures port { MatchResult result
             (λ _. port.new ≡ has_put port.old to load)
             (λ x. (x ≡ load) × (port.new ≡ port.old)) }
@@ -106,7 +108,7 @@ impl Lanes {
         requires owner { owner < length self.now.lanes }
         ensures queue { (q : SegId Global) → IsSegPassOf (slice_index_or self.now.lanes owner q) result.now }
         ensures knows { result.now.me.view.client ≡ pass_view (length self.now.lanes) port.now owner }
-        ensures kept { IsKept port.now }
+        ensures kept { AgreesWithOwnLane port.now }
     {
         let _queue: &Queue = &self.lanes[owner as usize].queue;
         port.pass_on(&self.lanes, self.lanes.len() as u32, owner)
@@ -128,7 +130,7 @@ impl Lanes {
 
     /// What was left in each lane, and the ports, which go with no lanes any more: they only tell their lists. After want
     /// of memory lanes and ports are gone.
-    pub fn settle<R: Wait>(self, rt: &R, ports: Vec<Port>) -> Result<Settled, AllocError>
+    pub fn settle<R: Wait>(self, rt: &R, ports: Vec<Port>) -> Result<SettledLanes, AllocError>
         requires { ArePorts (length self.lanes) self.sizes self.lanes ports.items }
         ensures ports { IfOk result (λ r. AreRetired (length self.lanes) ports.items r.ports.items) }
         ensures left { IfOk result (λ r. length r.left.items ≡ length self.lanes) }
@@ -141,6 +143,6 @@ impl Lanes {
         let workers = lanes.len() as u32;
         let roots = settle::join_all(alloc, &lanes, &store, &mut ports, workers)?;
         let left = settle::read_lanes(rt, &lanes, &store, &ports, roots, workers)?;
-        Ok(Settled { left, ports })
+        Ok(SettledLanes { left, ports })
     }
 }

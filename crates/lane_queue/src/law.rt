@@ -7,7 +7,7 @@ ghost use Rattle.crossbeam_queue.specs.SegTies.{SegId, IsSegPassOf};
 ghost use Rattle.lane_queue.specs.declared.load.Load.{Load};
 ghost use Rattle.lane_queue.specs.declared.rule.View.{View};
 ghost use Rattle.lane_queue.specs.Ports.{terms_of};
-ghost use Rattle.lane_queue.specs.PortView.{IsPortOf, IsKept};
+ghost use Rattle.lane_queue.specs.PortView.{IsPortOf, AgreesWithOwnLane};
 ghost use Rattle.lane_queue.specs.Joining.{pass_view};
 ghost use Rattle.lane_queue.specs.Between.{Lawful, Between};
 
@@ -27,7 +27,7 @@ pub fn between_steps<'a>(lanes: &Lanes, port: &'a Port, owner: u32) -> &'a LaneP
     requires owner { owner < length lanes.now.lanes }
     ensures queue { (q : SegId Global) → IsSegPassOf (slice_index_or lanes.now.lanes owner q) result.now }
     ensures knows { result.now.me.view.client ≡ pass_view (length lanes.now.lanes) port.now owner }
-    ensures kept { IsKept port.now }
+    ensures kept { AgreesWithOwnLane port.now }
     ensures always { (loads : List Load) (views : List View)
         → ⟦<Queue as HasRule>⟧.rule loads views → Between loads views }
     ensures lawful { (loads : List Load) (views : List View)

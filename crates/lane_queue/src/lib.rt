@@ -15,18 +15,18 @@
 //! then `lanes`.
 #![tactic(auto)]
 
+mod endpoint;
 mod join;
 mod lanes;
 pub mod law;
-mod line;
 mod load;
 mod make;
-mod own;
 mod port;
+mod port_history;
 mod rule;
 mod settle;
 mod steps;
 
-pub use lanes::{Lanes, Settled};
+pub use lanes::{Lanes, SettledLanes};
 pub use load::{Bundle, Load};
 pub use port::Port;

@@ -5,42 +5,42 @@ use req_table::Key;
 use std::alloc::{AllocError, Global};
 use std::marker::Model;
 
-/// Up to `ROOM` requests, each with its level, in the order in which they were added.
+/// Up to `CAPACITY` requests, each with its level, in the order in which they were added.
 #[derive(Drop)]
 pub struct Bundle {
     asks: Vec<(u16, Key)>,
 }
 
-const _: () = prove!(Bundle::ROOM == 64);
+const _: () = prove!(Bundle::CAPACITY == 64);
 
 impl Model for Bundle {
     ghost use Rattle.std.specs.Prelude.{ℕ, List, length, ◌≤◌};
     ghost use Rattle.std.specs.Vec.{vec_capacity};
     ghost use Rattle.req_table.specs.declared.Key.{Key};
-    ghost use Rattle.lane_queue.specs.declared.load.TheConstants.Bundle.{ROOM};
+    ghost use Rattle.lane_queue.specs.declared.load.TheConstants.Bundle.{CAPACITY};
 
     ghost Value = { List (ℕ × Key) };
 
     ghost view = { λ b. b.asks.items };
 
-    ghost invariant = { λ b. (length b.asks.items ≤ ROOM) × (ROOM ≤ vec_capacity b.asks) };
+    ghost invariant = { λ b. (length b.asks.items ≤ CAPACITY) × (CAPACITY ≤ vec_capacity b.asks) };
 }
 
 impl Bundle {
     /// How many requests a bundle has room for.
-    pub const ROOM: usize = 64;
+    pub const CAPACITY: usize = 64;
 
-    /// No requests, and room for `ROOM`.
+    /// No requests, and room for `CAPACITY`.
     pub fn new(alloc: Global) -> Result<Bundle, AllocError>
         ensures { IfOk result (λ b. b ≡ []) }
     {
-        let asks = Vec::with_capacity(alloc, Bundle::ROOM)?;
+        let asks = Vec::with_capacity(alloc, Bundle::CAPACITY)?;
         Ok(Bundle { asks })
     }
 
     /// Puts a request at the end. The level is the key's, as `Lanes::send` asks of each request.
     pub fn add(&mut self, level: u16, key: Key)
-        requires { length self.old < Self.ROOM }
+        requires { length self.old < Self.CAPACITY }
         ensures { self.new ≡ self.old ++ (level, key) ∷ [] }
     {
         self.asks.push_reserved((level, key));
@@ -56,7 +56,7 @@ impl Bundle {
     /// How many requests there are.
     pub fn len(&self) -> usize
         ensures count { result ≡ length self.now }
-        ensures few { length self.now ≤ Self.ROOM }
+        ensures few { length self.now ≤ Self.CAPACITY }
     {
         self.asks.len()
     }
@@ -64,7 +64,7 @@ impl Bundle {
     /// The requests.
     pub fn asks(&self) -> &[(u16, Key)]
         ensures value { result.now ≡ self.now }
-        ensures few { length self.now ≤ Self.ROOM }
+        ensures few { length self.now ≤ Self.CAPACITY }
     {
         self.asks.as_slice()
     }

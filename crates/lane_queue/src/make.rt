@@ -1,13 +1,13 @@
 //! How lanes and ports are made.
 ghost use Rattle.std.specs.Prelude.{◌≡◌, ◌<◌, ◌+◌, [], length, IfOk, OnOk};
 ghost use Rattle.crossbeam_queue.specs.SegTies.{IsSegPassOf};
-ghost use Rattle.lane_queue.specs.Rule.{issuer, port, IsReady};
+ghost use Rattle.lane_queue.specs.Rule.{issuer, port, MayIssue};
 ghost use Rattle.lane_queue.specs.Ports.{terms_of};
 ghost use Rattle.req_table.specs.Sizes.{sizes_of};
-ghost use Rattle.lane_queue.specs.Make.{RootsOk, NewLines};
+ghost use Rattle.lane_queue.specs.Make.{AreIssuers, AreNewEndpoints};
 
-use crate::line::{Hold, Line};
-use crate::rule::{Lane, LanePass, Naming};
+use crate::endpoint::{Endpoint, PassState};
+use crate::rule::{HasTerms, Lane, LanePass};
 use crate::steps;
 use dd_store::Store;
 use std::alloc::{AllocError, Global};
@@ -15,7 +15,7 @@ use std::marker::Brand;
 
 /// The pass that issues a lane's passes.
 #[derive(Drop)]
-pub struct Root {
+pub struct RootPass {
     pub pass: LanePass,
 }
 
@@ -24,22 +24,22 @@ pub fn open_all(
     alloc: Global,
     store: &Store,
     workers: u32,
-) -> Result<(Vec<Lane>, Vec<Root>), AllocError>
-    ensures long { IfOk result (λ r. length r.0.items ≡ workers) }
-    ensures roots { IfOk result (λ r. RootsOk workers (sizes_of store.now) 0 r.0.items r.1.items) }
+) -> Result<(Vec<Lane>, Vec<RootPass>), AllocError>
+    ensures lengths { IfOk result (λ r. length r.0.items ≡ workers) }
+    ensures roots { IfOk result (λ r. AreIssuers workers (sizes_of store.now) 0 r.0.items r.1.items) }
 {
     let mut lanes = Vec::new(alloc);
     let mut roots = Vec::new(alloc);
     for _ in 0..workers {
         let (lane, pass) = steps::open(alloc)?;
         lanes.push(lane)?;
-        roots.push(Root { pass })?;
+        roots.push(RootPass { pass })?;
     }
     Ok((lanes, roots))
 }
 
 // Issues a pass on the lane of the worker `owner`, whose terms are these.
-fn issue_for<J: Naming>(
+fn issue_for<J: HasTerms>(
     lane: &Lane,
     root: &mut LanePass,
     store: &Store,
@@ -48,7 +48,7 @@ fn issue_for<J: Naming>(
 ) -> LanePass
     requires terms { terms_of workers owner (sizes_of store.now) ≡ J.terms }
     requires queue { IsSegPassOf lane.now.queue root.old }
-    requires ready { IsReady (terms_of workers owner (sizes_of store.now)) root.old.me.view.client }
+    requires ready { MayIssue (terms_of workers owner (sizes_of store.now)) root.old.me.view.client }
     ensures queue { IsSegPassOf lane.now.queue root.new × IsSegPassOf lane.now.queue result }
     ensures root { root.new.me.view.client
         ≡ issuer (terms_of workers owner (sizes_of store.now)) (root.old.me.view.client.low + 1) }
@@ -59,29 +59,29 @@ fn issue_for<J: Naming>(
 }
 
 /// The lines of the next port, one on each lane.
-pub fn issue_lines(
+pub fn issue_endpoints(
     alloc: Global,
     lanes: &Vec<Lane>,
-    roots: &mut Vec<Root>,
+    roots: &mut Vec<RootPass>,
     store: &Store,
     workers: u32,
     number: u32,
-) -> Result<Vec<Line>, AllocError>
-    requires long { length lanes.now.items ≡ workers }
+) -> Result<Vec<Endpoint>, AllocError>
+    requires lengths { length lanes.now.items ≡ workers }
     requires number { number < workers }
-    requires roots { RootsOk workers (sizes_of store.now) number lanes.now.items roots.old.items }
-    ensures roots { OnOk result (RootsOk workers (sizes_of store.now) (number + 1) lanes.now.items roots.new.items) }
-    ensures lines { IfOk result (λ v. NewLines workers (sizes_of store.now) number lanes.now.items v.items) }
+    requires roots { AreIssuers workers (sizes_of store.now) number lanes.now.items roots.old.items }
+    ensures roots { OnOk result (AreIssuers workers (sizes_of store.now) (number + 1) lanes.now.items roots.new.items) }
+    ensures endpoints { IfOk result (λ v. AreNewEndpoints workers (sizes_of store.now) number lanes.now.items v.items) }
 {
-    let mut lines = Vec::new(alloc);
+    let mut endpoints = Vec::new(alloc);
     for owner in 0..workers {
         let at = owner as usize;
         let pass = issue_for::<Brand>(&lanes[at], &mut roots[at].pass, store, workers, owner);
-        lines.push(Line {
-            hold: Hold::Live(pass),
+        endpoints.push(Endpoint {
+            pass_state: PassState::Live(pass),
             ends: 0,
             put: 0,
         })?;
     }
-    Ok(lines)
+    Ok(endpoints)
 }

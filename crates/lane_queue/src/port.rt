@@ -2,21 +2,21 @@
 ghost use Rattle.std.specs.Prelude.{◌≡◌, ◌<◌, length, Some, None, OnOk, IfOk, MatchResult, MatchOption, slice_index_or, map};
 ghost use Rattle.req_table.specs.Lanes.{sent_by, ends, MayFollow};
 ghost use Rattle.req_table.specs.declared.Item.TheVariants.{Ask};
-ghost use Rattle.lane_queue.specs.Loads.{load_from, Carries, MayFollowAll};
+ghost use Rattle.lane_queue.specs.Loads.{load_from, IsNonEmpty, MayFollowAll};
 ghost use Rattle.crossbeam_queue.specs.SegTies.{IsSegPassOf};
-ghost use Rattle.lane_queue.specs.PortView.{sent_to, IsTaken, IsKept, IsOpen, MayLeave, has_put, has_taken, has_kept, port_scope};
+ghost use Rattle.lane_queue.specs.PortView.{sent_to, IsTaken, AgreesWithOwnLane, IsOpen, MayBeSent, has_put, has_taken, has_kept, port_scope};
 ghost use Rattle.req_table.specs.Sizes.{sizes_of};
 ghost use Rattle.std.specs.List.{sum_by};
 ghost use Rattle.lane_queue.specs.declared.rule.Lane.{Lane};
-ghost use Rattle.lane_queue.specs.Joining.{pass_view, retired, RootsOf, RootsBelow, RootsWith};
-ghost use Rattle.lane_queue.specs.Make.{NewLines, new_port};
-ghost use Rattle.lane_queue.specs.Lists.{Begins};
+ghost use Rattle.lane_queue.specs.Joining.{pass_view, retired, ArePassesOf, ArePassesBelow, ArePassesJoinedWith};
+ghost use Rattle.lane_queue.specs.Make.{AreNewEndpoints, new_port};
+ghost use Rattle.lane_queue.specs.Lists.{IsPrefix};
 
+use crate::endpoint::{Endpoint, count_loads};
 use crate::join;
-use crate::line::{Line, added};
 use crate::load::Load;
-use crate::make::Root;
-use crate::own::Own;
+use crate::make::RootPass;
+use crate::port_history::PortHistory;
 use crate::rule::{Lane, LanePass};
 use dd_store::Store;
 use req_table::{Item, Key};
@@ -30,36 +30,36 @@ use std::sync::Wait;
 #[derive(Drop)]
 pub struct Port {
     number: u32,
-    lines: Vec<Line>,
+    endpoints: Vec<Endpoint>,
     store: Snapshot<Store>,
-    own: Own,
+    own: PortHistory,
 }
 
 impl Model for Port {
-    ghost use Rattle.lane_queue.specs.PortView.{PortView, IsKept};
+    ghost use Rattle.lane_queue.specs.PortView.{PortView, AgreesWithOwnLane};
     ghost use Rattle.req_table.specs.Sizes.{sizes_of};
 
     ghost Value = { PortView };
 
-    ghost use Rattle.lane_queue.specs.Ports.{view_of, PortOk};
+    ghost use Rattle.lane_queue.specs.Ports.{view_of, IsValidPort};
 
-    ghost view = { λ p. view_of p.number (sizes_of p.store.value) p.lines.items p.own.sent p.own.taken };
+    ghost view = { λ p. view_of p.number (sizes_of p.store.value) p.endpoints.items p.own.sent p.own.taken };
 
-    ghost invariant = { λ p. PortOk p.number (sizes_of p.store.value) p.lines.items
-        × IsKept (view_of p.number (sizes_of p.store.value) p.lines.items p.own.sent p.own.taken) };
+    ghost invariant = { λ p. IsValidPort p.number (sizes_of p.store.value) p.endpoints.items
+        × AgreesWithOwnLane (view_of p.number (sizes_of p.store.value) p.endpoints.items p.own.sent p.own.taken) };
 }
 
 impl Port {
     /// The port of these lines.
-    pub(crate) fn of_lines(
+    pub(crate) fn of_endpoints(
         number: u32,
-        lines: Vec<Line>,
+        endpoints: Vec<Endpoint>,
         lanes: &Vec<Lane>,
         store: &Store,
         workers: u32,
     ) -> Port
-        requires long { length lanes.now.items ≡ workers }
-        requires lines { NewLines workers (sizes_of store.now) number lanes.now.items lines.items }
+        requires lengths { length lanes.now.items ≡ workers }
+        requires endpoints { AreNewEndpoints workers (sizes_of store.now) number lanes.now.items endpoints.items }
         requires number { number < workers }
         ensures { result ≡ new_port number (sizes_of store.now) (map (λ (x : Lane). x.queue) lanes.now.items) }
     {
@@ -67,10 +67,10 @@ impl Port {
         let _workers = workers;
         let _levels = store.levels();
         let store = Snapshot::of(store);
-        let own = Own::new();
+        let own = PortHistory::new();
         Port {
             number,
-            lines,
+            endpoints,
             store,
             own,
         }
@@ -82,7 +82,7 @@ impl Port {
         ensures number { result ≡ self.now.number }
         ensures within { self.now.number < length self.now.lanes }
         ensures lists { length self.now.put ≡ length self.now.lanes }
-        ensures own { let p = self.now in Begins (sent_by p.number p.taken) (sent_to p p.number) }
+        ensures own { let p = self.now in IsPrefix (sent_by p.number p.taken) (sent_to p p.number) }
     {
         self.number
     }
@@ -92,23 +92,23 @@ impl Port {
         requires { to < length self.now.lanes }
         ensures { result ≡ ends (sent_to self.now to) }
     {
-        self.lines[to as usize].ends
+        self.endpoints[to as usize].ends
     }
 
     /// How many loads it put on all lanes together.
     pub fn put(&self) -> u128
         ensures { result ≡ sum_by (λ n. n) self.now.put }
     {
-        added(&self.lines)
+        count_loads(&self.endpoints)
     }
 
     /// Keeps a request to itself: it counts as sent and taken at once, and no step is made on a lane. Nothing that the port
     /// sent to itself may be under way. As of what `Lanes::take` answers, its level is not closed.
     pub fn keep(&mut self, level: u16, key: Key)
-        requires may { let p = self.old in
+        requires may_follow { let p = self.old in
             MayFollow (port_scope p) (ends (sent_to p p.number)) (Ask p.number level key) }
-        requires leave { let p = self.old in
-            MayLeave (port_scope p) p.taken (ends (sent_to p p.number)) (Ask p.number level key) }
+        requires may_be_sent { let p = self.old in
+            MayBeSent (port_scope p) p.taken (ends (sent_to p p.number)) (Ask p.number level key) }
         requires taken { let p = self.old in sent_by p.number p.taken ≡ sent_to p p.number }
         ensures kept { self.new ≡ has_kept self.old (Ask self.old.number level key) }
         ensures open { let p = self.old in IsOpen (port_scope p) p.taken (Ask p.number level key) }
@@ -127,14 +127,14 @@ impl Port {
         load: Load,
     ) -> Result<(), Load>
         requires lane { (to < length self.old.lanes) × (slice_index_or self.old.lanes to None ≡ Some lane.now.queue) }
-        requires some { Carries load }
+        requires some { IsNonEmpty load }
         requires sender { load_from load ≡ self.old.number }
-        requires may { MayFollowAll (port_scope self.old) (ends (sent_to self.old to)) load }
+        requires may_follow { MayFollowAll (port_scope self.old) (ends (sent_to self.old to)) load }
         ensures port { MatchResult result (λ _. self.new ≡ has_put self.old to load) (λ x. (x ≡ load) × (self.new ≡ self.old)) }
         ensures wide { (length self.old.passed ≡ length self.old.lanes) × (length self.old.put ≡ length self.old.lanes) }
     {
         let note = Snapshot::of(&load);
-        if let Err(load) = self.lines[to].send(rt, lane, load) {
+        if let Err(load) = self.endpoints[to].send(rt, lane, load) {
             return Err(load);
         }
         if to == self.number as usize {
@@ -152,7 +152,7 @@ impl Port {
             (λ x. (self.new ≡ has_taken self.old x) × IsTaken self.old x) }
     {
         let own = self.number as usize;
-        let Some(load) = self.lines[own].take(rt, lane) else {
+        let Some(load) = self.endpoints[own].take(rt, lane) else {
             return None;
         };
         self.own.took(Snapshot::of(&load));
@@ -161,15 +161,15 @@ impl Port {
 
     /// The pass with which the port steps on the lane of the worker `owner`.
     pub(crate) fn pass_on(&self, lanes: &Vec<Lane>, workers: u32, owner: u32) -> &LanePass
-        requires long { length lanes.now.items ≡ workers }
+        requires lengths { length lanes.now.items ≡ workers }
         requires lanes { self.now.lanes ≡ map (λ q. Some q) (map (λ (x : Lane). x.queue) lanes.now.items) }
         requires owner { owner < workers }
         ensures queue { (d : Lane) → IsSegPassOf (slice_index_or lanes.now.items owner d).queue result.now }
         ensures knows { result.now.me.view.client ≡ pass_view workers self.now owner }
-        ensures kept { IsKept self.now }
+        ensures kept { AgreesWithOwnLane self.now }
     {
         let at = owner as usize;
-        self.lines[at].pass(&lanes[at])
+        self.endpoints[at].pass(&lanes[at])
     }
 
     /// Gives the passes of the first port away, to begin the joined ones.
@@ -178,26 +178,26 @@ impl Port {
         alloc: Global,
         lanes: &Vec<Lane>,
         workers: u32,
-    ) -> Result<Vec<Root>, AllocError>
-        requires long { length lanes.now.items ≡ workers }
+    ) -> Result<Vec<RootPass>, AllocError>
+        requires lengths { length lanes.now.items ≡ workers }
         requires lanes { self.old.lanes ≡ map (λ q. Some q) (map (λ (x : Lane). x.queue) lanes.now.items) }
         ensures port { OnOk result (self.new ≡ retired self.old) }
-        ensures kept { IsKept self.old }
-        ensures roots { IfOk result (λ r. (length r.items ≡ workers) × RootsOf workers self.old lanes.now.items r.items) }
+        ensures kept { AgreesWithOwnLane self.old }
+        ensures roots { IfOk result (λ r. (length r.items ≡ workers) × ArePassesOf workers self.old lanes.now.items r.items) }
     {
-        join::begin(alloc, lanes, &mut self.lines, workers)
+        join::begin(alloc, lanes, &mut self.endpoints, workers)
     }
 
     /// Joins the port's passes to those of the ports below it.
-    pub(crate) fn join_to(&mut self, lanes: &Vec<Lane>, roots: &mut Vec<Root>, workers: u32)
-        requires long { (length lanes.now.items ≡ workers) × (length roots.old.items ≡ workers) }
+    pub(crate) fn join_to(&mut self, lanes: &Vec<Lane>, roots: &mut Vec<RootPass>, workers: u32)
+        requires lengths { (length lanes.now.items ≡ workers) × (length roots.old.items ≡ workers) }
         requires lanes { self.old.lanes ≡ map (λ q. Some q) (map (λ (x : Lane). x.queue) lanes.now.items) }
-        requires below { RootsBelow workers self.old lanes.now.items roots.old.items }
+        requires below { ArePassesBelow workers self.old lanes.now.items roots.old.items }
         ensures port { self.new ≡ retired self.old }
-        ensures kept { IsKept self.old }
+        ensures kept { AgreesWithOwnLane self.old }
         ensures roots { (length roots.new.items ≡ workers)
-            × RootsWith workers self.old lanes.now.items roots.old.items roots.new.items }
+            × ArePassesJoinedWith workers self.old lanes.now.items roots.old.items roots.new.items }
     {
-        join::join_lines(lanes, roots, &mut self.lines, workers);
+        join::join_endpoints(lanes, roots, &mut self.endpoints, workers);
     }
 }

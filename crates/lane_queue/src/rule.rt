@@ -39,13 +39,13 @@ impl Protocol<Load, View> for LaneRule {
 }
 
 /// The terms of the lane whose passes are issued. Each call picks them.
-pub trait Naming {
+pub trait HasTerms {
     ghost use Rattle.lane_queue.specs.declared.rule.Terms.{Terms};
 
     ghost terms: { Terms };
 }
 
-impl Naming for Brand {
+impl HasTerms for Brand {
     ghost use Rattle.lane_queue.specs.Rule.{no_terms};
 
     ghost terms = { no_terms };
@@ -56,7 +56,7 @@ pub struct Issue<J> {
     of: PhantomData<J>,
 }
 
-impl<J: Naming> Split<View> for Issue<J> {
+impl<J: HasTerms> Split<View> for Issue<J> {
     ghost use Rattle.std.specs.Prelude.{◌+◌, []};
     ghost use Rattle.lane_queue.specs.Rule.{issuer, port};
 
@@ -96,9 +96,9 @@ impl Outcome<Load, View> for Take {
 }
 
 impl Lesson<Load, View> for Take {
-    ghost use Rattle.lane_queue.specs.Rule.{Owns};
+    ghost use Rattle.lane_queue.specs.Rule.{OwnSentInOrder};
 
-    ghost fact = { Owns };
+    ghost fact = { OwnSentInOrder };
 }
 
 /// What is left is read out, once all ports are joined.
@@ -111,9 +111,9 @@ impl Outcome<Load, View> for Read {
 }
 
 impl Lesson<Load, View> for Read {
-    ghost use Rattle.lane_queue.specs.Rule.{Whole};
+    ghost use Rattle.lane_queue.specs.Rule.{AllPortsLawful};
 
-    ghost fact = { Whole };
+    ghost fact = { AllPortsLawful };
 }
 
 /// One lane's queue.

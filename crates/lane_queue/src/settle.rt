@@ -4,13 +4,13 @@ ghost use Rattle.crossbeam_queue.specs.SegTies.{IsSegPassOf};
 ghost use Rattle.req_table.specs.Lanes.{LaneLaw};
 ghost use Rattle.lane_queue.specs.Lists.{FairLane};
 ghost use Rattle.lane_queue.specs.Loads.{flat};
-ghost use Rattle.lane_queue.specs.Rule.{scope, IsWhole};
+ghost use Rattle.lane_queue.specs.Rule.{scope, IsOfAllPorts};
 ghost use Rattle.lane_queue.specs.declared.rule.Lane.{Lane};
 ghost use Rattle.req_table.specs.Sizes.{sizes_of};
-ghost use Rattle.lane_queue.specs.Joining.{RootsHave, ArePorts, AreRetired, AreKept, LawOfLanes};
+ghost use Rattle.lane_queue.specs.Joining.{ArePassesOfAll, ArePorts, AreRetired, AllAgreeWithOwnLane, LawOfLanes};
 
 use crate::load::Load;
-use crate::make::Root;
+use crate::make::RootPass;
 use crate::port::Port;
 use crate::rule::{Lane, LanePass};
 use crate::steps;
@@ -26,13 +26,13 @@ pub fn join_all(
     store: &Snapshot<Store>,
     ports: &mut Vec<Port>,
     workers: u32,
-) -> Result<Vec<Root>, AllocError>
+) -> Result<Vec<RootPass>, AllocError>
     requires workers { (0 < workers) × (length lanes.now.items ≡ workers) }
     requires ports { ArePorts workers (sizes_of store.now.value) (map (λ (x : Lane). x.queue) lanes.now.items) ports.old.items }
     ensures roots { IfOk result (λ r.
-        RootsHave workers (sizes_of store.now.value) ports.old.items lanes.now.items r.items) }
+        ArePassesOfAll workers (sizes_of store.now.value) ports.old.items lanes.now.items r.items) }
     ensures ports { OnOk result (AreRetired workers ports.old.items ports.new.items) }
-    ensures kept { OnOk result (AreKept workers ports.old.items) }
+    ensures kept { OnOk result (AllAgreeWithOwnLane workers ports.old.items) }
 {
     let _store = store;
     let mut roots = ports[0].begin_join(alloc, lanes, workers)?;
@@ -50,7 +50,7 @@ fn read_all<R: Wait>(
     root: &mut LanePass,
 ) -> Result<Vec<Load>, AllocError>
     requires queue { IsSegPassOf lane.now.queue root.old }
-    requires whole { IsWhole root.old.me.view.client × (root.old.me.view.client.left ≡ []) }
+    requires all_ports_joined { IsOfAllPorts root.old.me.view.client × (root.old.me.view.client.left ≡ []) }
     ensures { let v = root.old.me.view.client in
         IfOk result (λ r.
         LaneLaw (scope v.terms) (λ s. slice_index_or v.sent s []) v.taken (flat r.items)
@@ -72,12 +72,12 @@ pub fn read_lanes<R: Wait>(
     lanes: &Vec<Lane>,
     store: &Snapshot<Store>,
     ports: &Vec<Port>,
-    mut roots: Vec<Root>,
+    mut roots: Vec<RootPass>,
     workers: u32,
 ) -> Result<Vec<Vec<Load>>, AllocError>
-    requires long { (length lanes.now.items ≡ workers) × (length ports.now.items ≡ workers) }
-    requires roots { RootsHave workers (sizes_of store.now.value) ports.now.items lanes.now.items roots.items }
-    ensures long { IfOk result (λ r. length r.items ≡ workers) }
+    requires lengths { (length lanes.now.items ≡ workers) × (length ports.now.items ≡ workers) }
+    requires roots { ArePassesOfAll workers (sizes_of store.now.value) ports.now.items lanes.now.items roots.items }
+    ensures lengths { IfOk result (λ r. length r.items ≡ workers) }
     ensures law { IfOk result (λ r.
         LawOfLanes workers (sizes_of store.now.value) ports.now.items (map (λ v. v.items) r.items)) }
 {

@@ -2,12 +2,12 @@
 ghost use Rattle.std.specs.Prelude.{◌≡◌, ◌≢◌, ◌<◌, ◌+◌, [], ◌∷◌, ◌++◌, IfOk, MatchResult, MatchOption};
 ghost use Rattle.crossbeam_queue.specs.SegTies.{IsSegPassOf};
 ghost use Rattle.req_table.specs.Lanes.{ends};
-ghost use Rattle.lane_queue.specs.Loads.{load_from, items_in, Carries, MayFollowAll};
+ghost use Rattle.lane_queue.specs.Loads.{load_from, items_in, IsNonEmpty, MayFollowAll};
 ghost use Rattle.lane_queue.specs.Rule.{scope, blank, issuer, joined, port, own_sent};
-ghost use Rattle.lane_queue.specs.Rule.{IsPort, IsJoined, IsWhole, IsReady, IsNext, Owns, Whole};
+ghost use Rattle.lane_queue.specs.Rule.{IsPort, IsJoined, IsOfAllPorts, MayIssue, IsNext, OwnSentInOrder, AllPortsLawful};
 
 use crate::load::Load;
-use crate::rule::{Issue, Lane, LanePass, Merge, Naming, Put, Queue, Read, Take};
+use crate::rule::{HasTerms, Issue, Lane, LanePass, Merge, Put, Queue, Read, Take};
 use std::alloc::{AllocError, Global};
 use std::sync::Wait;
 
@@ -20,9 +20,9 @@ pub fn open(alloc: Global) -> Result<(Lane, LanePass), AllocError>
 }
 
 /// Issues the pass of the next port.
-pub fn issue<J: Naming>(lane: &Lane, root: &mut LanePass) -> LanePass
+pub fn issue<J: HasTerms>(lane: &Lane, root: &mut LanePass) -> LanePass
     requires queue { IsSegPassOf lane.now.queue root.old }
-    requires ready { IsReady J.terms root.old.me.view.client }
+    requires ready { MayIssue J.terms root.old.me.view.client }
     ensures queue { IsSegPassOf lane.now.queue root.new × IsSegPassOf lane.now.queue result }
     ensures root { root.new.me.view.client ≡ issuer J.terms (root.old.me.view.client.low + 1) }
     ensures port { result.me.view.client ≡ port J.terms root.old.me.view.client.low [] [] }
@@ -34,9 +34,9 @@ pub fn issue<J: Naming>(lane: &Lane, root: &mut LanePass) -> LanePass
 pub fn send<R: Wait>(rt: &R, lane: &Lane, pass: &mut LanePass, load: Load) -> Result<(), Load>
     requires queue { IsSegPassOf lane.now.queue pass.old }
     requires port { IsPort pass.old.me.view.client }
-    requires some { Carries load }
+    requires some { IsNonEmpty load }
     requires sender { load_from load ≡ pass.old.me.view.client.low }
-    requires may { let v = pass.old.me.view.client in MayFollowAll (scope v.terms) (ends (own_sent v)) load }
+    requires may_follow { let v = pass.old.me.view.client in MayFollowAll (scope v.terms) (ends (own_sent v)) load }
     ensures queue { IsSegPassOf lane.now.queue pass.new }
     ensures sent { let v = pass.old.me.view.client in
         MatchResult result
@@ -54,7 +54,7 @@ pub fn take<R: Wait>(rt: &R, lane: &Lane, pass: &mut LanePass) -> Option<Load>
     ensures queue { IsSegPassOf lane.now.queue pass.new }
     ensures taken { let v = pass.old.me.view.client in
         MatchOption result
-        ((pass.new.me.view.client ≡ v) × Owns v [])
+        ((pass.new.me.view.client ≡ v) × OwnSentInOrder v [])
         (λ x. (pass.new.me.view.client ≡ port v.terms v.low (own_sent v) (v.taken ++ items_in x)) × IsNext v x) }
 {
     lane.queue.pop_as::<Take, R>(rt, pass)
@@ -66,8 +66,8 @@ pub fn join(lane: &Lane, root: &mut LanePass, next: LanePass)
     requires root { IsJoined root.old.me.view.client × (root.old.me.view.client.left ≡ []) }
     requires next { IsPort next.me.view.client × (next.me.view.client.terms ≡ root.old.me.view.client.terms)
         × (next.me.view.client.low ≡ root.old.me.view.client.high) }
-    requires theirs { root.old.me.view.client.high ≢ root.old.me.view.client.terms.owner → next.me.view.client.taken ≡ [] }
-    requires mine { ¬ root.old.me.view.client.terms.owner < root.old.me.view.client.high
+    requires next_took_nothing { root.old.me.view.client.high ≢ root.old.me.view.client.terms.owner → next.me.view.client.taken ≡ [] }
+    requires root_took_nothing { ¬ root.old.me.view.client.terms.owner < root.old.me.view.client.high
         → root.old.me.view.client.taken ≡ [] }
     ensures queue { IsSegPassOf lane.now.queue root.new }
     ensures joined { let v = root.old.me.view.client in
@@ -80,11 +80,11 @@ pub fn join(lane: &Lane, root: &mut LanePass, next: LanePass)
 /// Reads the front of the lane out, once all ports are joined.
 pub fn read<R: Wait>(rt: &R, lane: &Lane, root: &mut LanePass) -> Option<Load>
     requires queue { IsSegPassOf lane.now.queue root.old }
-    requires root { IsWhole root.old.me.view.client }
+    requires root { IsOfAllPorts root.old.me.view.client }
     ensures queue { IsSegPassOf lane.now.queue root.new }
     ensures left { let v = root.old.me.view.client in
         MatchOption result
-        ((root.new.me.view.client ≡ v) × Whole v [])
+        ((root.new.me.view.client ≡ v) × AllPortsLawful v [])
         (λ x. root.new.me.view.client ≡ joined v.terms v.terms.workers v.sent v.taken (v.left ++ items_in x)) }
 {
     lane.queue.pop_as::<Read, R>(rt, root)

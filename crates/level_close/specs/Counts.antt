@@ -7,9 +7,9 @@ pub record Counts : Type 0 where
   pub ended : List ℕ
 
 -- every sender has ended more levels than v, and so the level v itself
-abbrev pub AreAbove : ℕ → List ℕ → Type 0
-AreAbove v counts = All (λ c. v < c) counts
+abbrev pub HaveAllEndedLevel : ℕ → List ℕ → Type 0
+HaveAllEndedLevel v counts = All (λ c. v < c) counts
 
 -- every sender has ended all n levels
-abbrev pub AreAll : ℕ → List ℕ → Type 0
-AreAll n counts = All (λ c. c ≡ n) counts
+abbrev pub HaveAllEnded : ℕ → List ℕ → Type 0
+HaveAllEnded n counts = All (λ c. c ≡ n) counts

@@ -4,12 +4,12 @@ use Rattle.std.specs.Prelude.{IfSome, option_map}
 use Rattle.dd_store.specs.declared.reference.Ref.{Ref}
 use Rattle.dd_store.specs.Nodes.{den, count_of, empty_nodes}
 use Rattle.dd_store.specs.View.{part, Has}
-use Rattle.dd_store.proofs.Storing.{IsKept-empty}
+use Rattle.dd_store.proofs.Storing.{IsStore-empty}
 use Rattle.dd_store.proofs.View.{denotes, parts, same_ref}
 use Rattle.net_bench.specs.Circuit.{Circuit, Net, IsNet, circuit}
 use Rattle.net_order.specs.declared.order.Match.{Match}
 use Rattle.net_order.specs.declared.order.Order.{Order}
-use Rattle.net_order.specs.Order.{Paired, IsPairing, both, given_side}
+use Rattle.net_order.specs.Order.{NamingModel, IsPairing, both, given_side}
 use Rattle.net_order.proofs.Orders.{ordered_count}
 use Rattle.gate_plan.specs.Building.{levelled}
 use Rattle.gate_plan.specs.Need.{IsComplete}
@@ -24,7 +24,7 @@ use Rattle.limit_law.proofs.Covering.{Covered, Covers, covers_both}
 use Rattle.limit_law.proofs.Values.{all_read, all_read_with, covers_built, covers_compared}
 
 -- the variables of a pairing are few
-few : (how : Match) (order : Order) (a b : Circuit) (given : Option Circuit) (p : Paired) → IsPairing how a b given order p → length p.names ≤ 4096
+few : (how : Match) (order : Order) (a b : Circuit) (given : Option Circuit) (p : NamingModel) → IsPairing how a b given order p → length p.names ≤ 4096
 few how order a b given p h =
     let names = ap length h.naming.names in
     let count = ordered_count (both how a b) (given_side given) order h.naming.fit in
@@ -34,18 +34,18 @@ few how order a b given p h =
 -- a store without nodes to begin with
 module _ (n limit : ℕ) (Values : (List Bool → Bool) → Type 0) (low : n ≤ 4096) (small : limit < 2 ^ 32) where
   none : count_of (empty_nodes n limit) ≡ 0
-  none = sym (IsKept-empty n limit low small).counted
+  none = sym (IsStore-empty n limit low small).counted
 
   nothing : IsGood n limit Values (empty_nodes n limit)
   nothing = record {
-    sound = (IsKept-empty n limit low small).sound;
+    sound = (IsStore-empty n limit low small).sound;
     levels = refl;
     same = refl;
     lean = record { counted = λ r v lo hi h e. absurd (no_node (empty_nodes n limit) none r v lo hi h e) };
     within = (let e = none in omega (arith, e));
   }
 
-module _ (limit : ℕ) (small : limit < 2 ^ 32) (a b : Circuit) (given : Option Circuit) (p : Paired) (low : length p.names ≤ 4096) where
+module _ (limit : ℕ) (small : limit < 2 ^ 32) (a b : Circuit) (given : Option Circuit) (p : NamingModel) (low : length p.names ≤ 4096) where
   fits : Covered (length p.names) limit (IsNeededIn a b given p) (empty_nodes (length p.names) limit) (IsNeededIn a b given p) → FitsWithin limit a b given p
   fits c = record {
     store = c.store;
@@ -75,7 +75,7 @@ module _ (limit : ℕ) (small : limit < 2 ^ 32) (a b : Circuit) (given : Option 
       by (inl c) = inl (fits c)
       by (inr s) = inr (exceeds s)
 
-pub within_or_beyond : (how : Match) (order : Order) (a b : Net) (given : Option Net) (p : Paired) → IsNet a → IsNet b → IfSome given (λ net. IsNet net × HasOneOutput (circuit net)) →
+pub within_or_beyond : (how : Match) (order : Order) (a b : Net) (given : Option Net) (p : NamingModel) → IsNet a → IsNet b → IfSome given (λ net. IsNet net × HasOneOutput (circuit net)) →
     IsPairing how (circuit a) (circuit b) (option_map circuit given) order p → (limit : ℕ) → limit < 2 ^ 32 →
     FitsWithin limit (circuit a) (circuit b) (option_map circuit given) p ⊎ Exceeds limit (circuit a) (circuit b) (option_map circuit given) p
 within_or_beyond how order a b None p sound sound' sound'' h limit small =

@@ -7,7 +7,7 @@ use Rattle.dd_store.specs.declared.StoreFault.TheVariants.{Full}
 use Rattle.dd_store.specs.declared.reference.Ref.{Ref}
 use Rattle.dd_store.specs.declared.reference.Reference.TheVariants.{False, True}
 use Rattle.dd_store.specs.Functions.{Agree, IsFixed, DependsOn, OfEither}
-use Rattle.dd_store.specs.Marks.{plain_pair}
+use Rattle.dd_store.specs.Complements.{regular_pair}
 use Rattle.dd_store.specs.Nodes.{Nodes, den, IsSound, IsBranch, Makes, IsNeeded, count_of, with_node}
 use Rattle.dd_store.specs.Parts.{Part, top_of}
 use Rattle.dd_store.specs.Parts.Part.{node}
@@ -79,7 +79,7 @@ module _ (n limit : ℕ) (Values : (List Bool → Bool) → Type 0) (f : List Bo
   inside = let e = good.levels in omega (arith, e, lt)
 
   can : CanMake S v lo hi
-  can = record { level = inside; lo_here = hlo; hi_here = hhi; above_lo = tlo; above_hi = thi }
+  can = record { level = inside; lo_in_store = hlo; hi_in_store = hhi; above_lo = tlo; above_hi = thi }
 
   -- a node that is there or is made
   module _ (r : Ref) (T : Nodes) (m : Makes S v lo hi (Ok r) T) where
@@ -125,10 +125,10 @@ module _ (n limit : ℕ) (Values : (List Bool → Bool) → Type 0) (f : List Bo
     few : count_of T ≤ limit
     few = by (Makes-cases S T v lo hi (Ok r) m)
       where
-        by : (T ≡ S) ⊎ (IsNeeded S v lo hi × (count_of S < S.limit) × (T ≡ with_node S v (plain_pair lo hi).0 (plain_pair lo hi).1)) → count_of T ≤ limit
+        by : (T ≡ S) ⊎ (IsNeeded S v lo hi × (count_of S < S.limit) × (T ≡ with_node S v (regular_pair lo hi).0 (regular_pair lo hi).1)) → count_of T ≤ limit
         by (inl e) = subst (λ z. count_of z ≤ limit) (sym e) good.within
         by (inr k) =
-            let e : count_of T ≡ count_of S + 1 = ap count_of k.2 ∙ count-with_node S v (plain_pair lo hi).0 (plain_pair lo hi).1 good.sound.shaped inside in
+            let e : count_of T ≡ count_of S + 1 = ap count_of k.2 ∙ count-with_node S v (regular_pair lo hi).0 (regular_pair lo hi).1 good.sound.shaped inside in
             let room : count_of S < S.limit = k.1 in
             let s : S.limit ≡ limit = good.same in
             omega (arith, e, room, s)

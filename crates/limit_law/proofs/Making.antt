@@ -7,9 +7,9 @@ use Rattle.dd_store.specs.declared.StoreFault.TheVariants.{Full}
 use Rattle.dd_store.specs.declared.reference.Ref.{Ref}
 use Rattle.dd_store.specs.declared.reference.Reference.TheVariants.{False, True, Node}
 use Rattle.dd_store.specs.Graph.{Pair, top}
-use Rattle.dd_store.specs.Marks.{is_marked, mark_by, mark_both, plain_pair}
+use Rattle.dd_store.specs.Complements.{is_complement, complement_by, complement_both, regular_pair}
 use Rattle.dd_store.specs.Nodes.{Nodes, IsAbsent, IsNodeOf, Makes, children, count_of, fresh, with_node}
-use Rattle.dd_store.proofs.Marks.{mark_by-node}
+use Rattle.dd_store.proofs.Complements.{complement_by-node}
 use Rattle.dd_store.proofs.Places.{none_some}
 use Rattle.dd_store.proofs.Storing.{node-of}
 use Rattle.dd_store.proofs.View.{same_ref}
@@ -41,36 +41,36 @@ is_node S v lo hi r = by (same_number (top S.levels r) v) (same_pair (children S
 -- ---- whether the store has one
 
 module _ (S : Nodes) (v : ℕ) (lo hi : Ref) where
-  seek : (rs : List Ref) → ((r : Ref) × IsNodeOf S v lo hi r) ⊎ ((r : Ref) → Among r rs → (b : Bool) → IsNodeOf S v lo hi (mark_by b r) → ⊥)
+  seek : (rs : List Ref) → ((r : Ref) × IsNodeOf S v lo hi r) ⊎ ((r : Ref) → Among r rs → (b : Bool) → IsNodeOf S v lo hi (complement_by b r) → ⊥)
   seek [] = inr (λ r a b h. a)
-  seek (q ∷ rs) = by (is_node S v lo hi (mark_by false q)) (is_node S v lo hi (mark_by true q)) (seek rs)
+  seek (q ∷ rs) = by (is_node S v lo hi (complement_by false q)) (is_node S v lo hi (complement_by true q)) (seek rs)
     where
-      other : (IsNodeOf S v lo hi (mark_by false q) → ⊥) → (IsNodeOf S v lo hi (mark_by true q) → ⊥) → (b : Bool) → IsNodeOf S v lo hi (mark_by b q) → ⊥
+      other : (IsNodeOf S v lo hi (complement_by false q) → ⊥) → (IsNodeOf S v lo hi (complement_by true q) → ⊥) → (b : Bool) → IsNodeOf S v lo hi (complement_by b q) → ⊥
       other n m false h = n h
       other n m true h = m h
 
-      each : ((b : Bool) → IsNodeOf S v lo hi (mark_by b q) → ⊥) → ((r : Ref) → Among r rs → (b : Bool) → IsNodeOf S v lo hi (mark_by b r) → ⊥) →
-          (r : Ref) → Among r (q ∷ rs) → (b : Bool) → IsNodeOf S v lo hi (mark_by b r) → ⊥
-      each n later r (inl e) b h = n b (subst (λ z. IsNodeOf S v lo hi (mark_by b z)) e h)
+      each : ((b : Bool) → IsNodeOf S v lo hi (complement_by b q) → ⊥) → ((r : Ref) → Among r rs → (b : Bool) → IsNodeOf S v lo hi (complement_by b r) → ⊥) →
+          (r : Ref) → Among r (q ∷ rs) → (b : Bool) → IsNodeOf S v lo hi (complement_by b r) → ⊥
+      each n later r (inl e) b h = n b (subst (λ z. IsNodeOf S v lo hi (complement_by b z)) e h)
       each n later r (inr a) b h = later r a b h
 
-      by : Dec (IsNodeOf S v lo hi (mark_by false q)) → Dec (IsNodeOf S v lo hi (mark_by true q)) → ((r : Ref) × IsNodeOf S v lo hi r) ⊎ ((r : Ref) → Among r rs → (b : Bool) → IsNodeOf S v lo hi (mark_by b r) → ⊥) →
-          ((r : Ref) × IsNodeOf S v lo hi r) ⊎ ((r : Ref) → Among r (q ∷ rs) → (b : Bool) → IsNodeOf S v lo hi (mark_by b r) → ⊥)
-      by (yes h) d rest = inl (mark_by false q, h)
-      by (no n) (yes h) rest = inl (mark_by true q, h)
+      by : Dec (IsNodeOf S v lo hi (complement_by false q)) → Dec (IsNodeOf S v lo hi (complement_by true q)) → ((r : Ref) × IsNodeOf S v lo hi r) ⊎ ((r : Ref) → Among r rs → (b : Bool) → IsNodeOf S v lo hi (complement_by b r) → ⊥) →
+          ((r : Ref) × IsNodeOf S v lo hi r) ⊎ ((r : Ref) → Among r (q ∷ rs) → (b : Bool) → IsNodeOf S v lo hi (complement_by b r) → ⊥)
+      by (yes h) d rest = inl (complement_by false q, h)
+      by (no n) (yes h) rest = inl (complement_by true q, h)
       by (no n) (no m) (inl found) = inl found
       by (no n) (no m) (inr later) = inr (each (other n m) later)
 
   find_node : ((r : Ref) × IsNodeOf S v lo hi r) ⊎ IsAbsent S v lo hi
   find_node = by (seek (refs_of S))
     where
-      nowhere : ((r : Ref) → Among r (refs_of S) → (b : Bool) → IsNodeOf S v lo hi (mark_by b r) → ⊥) → IsAbsent S v lo hi
+      nowhere : ((r : Ref) → Among r (refs_of S) → (b : Bool) → IsNodeOf S v lo hi (complement_by b r) → ⊥) → IsAbsent S v lo hi
       nowhere none False h = none_some (lo, hi) h.1
       nowhere none True h = none_some (lo, hi) h.1
       nowhere none (Node m b) h =
-          none (Node m false) (has_each S m (mark_both b (lo, hi)) (node-of S m b (lo, hi) h.1)) b (subst (IsNodeOf S v lo hi) (sym (mark_by-node b m)) h)
+          none (Node m false) (has_each S m (complement_both b (lo, hi)) (node-of S m b (lo, hi) h.1)) b (subst (IsNodeOf S v lo hi) (sym (complement_by-node b m)) h)
 
-      by : ((r : Ref) × IsNodeOf S v lo hi r) ⊎ ((r : Ref) → Among r (refs_of S) → (b : Bool) → IsNodeOf S v lo hi (mark_by b r) → ⊥) → ((r : Ref) × IsNodeOf S v lo hi r) ⊎ IsAbsent S v lo hi
+      by : ((r : Ref) × IsNodeOf S v lo hi r) ⊎ ((r : Ref) → Among r (refs_of S) → (b : Bool) → IsNodeOf S v lo hi (complement_by b r) → ⊥) → ((r : Ref) × IsNodeOf S v lo hi r) ⊎ IsAbsent S v lo hi
       by (inl found) = inl found
       by (inr none) = inr (nowhere none)
 
@@ -84,5 +84,5 @@ module _ (S : Nodes) (v : ℕ) (lo hi : Ref) where
       by (yes e) found room = inl (lo, S, inl (inl (e, refl), refl))
       by (no n) (inl found) room = inl (found.0, S, inl (inr (n, found.1), refl))
       by (no n) (inr absent) (inl room) =
-          inl (Node (fresh S v (plain_pair lo hi).0 (plain_pair lo hi).1) (is_marked hi), with_node S v (plain_pair lo hi).0 (plain_pair lo hi).1, inr ((n, absent), room, refl, refl))
+          inl (Node (fresh S v (regular_pair lo hi).0 (regular_pair lo hi).1) (is_complement hi), with_node S v (regular_pair lo hi).0 (regular_pair lo hi).1, inr ((n, absent), room, refl, refl))
       by (no n) (inr absent) (inr full) = inr ((n, absent), full, refl)

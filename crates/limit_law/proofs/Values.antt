@@ -9,7 +9,7 @@ use Rattle.net_bench.specs.Statement.{takes_one}
 use Rattle.net_bench.specs.Labels.{IsFunctionOf, IsLabelling, bit_of}
 use Rattle.net_bench.proofs.Built.{has_labelling, same_labelling}
 use Rattle.net_bench.proofs.OneLabelling.{at_contained, map_same}
-use Rattle.net_order.specs.Order.{Paired}
+use Rattle.net_order.specs.Order.{NamingModel}
 use Rattle.gate_plan.specs.Building.{Levelled, levelled}
 use Rattle.gate_plan.specs.Folds.{IsFoldValue, IsVariable, value_so_far}
 use Rattle.gate_plan.specs.Needing.{IsValueOf}
@@ -112,12 +112,12 @@ covers_built n limit Values netlists read more =
     (λ one among. covers_read n limit Values one (read one among) (λ f h. more f (inr (one, among, h)))))
 
 -- the netlists of a pairing were read
-pub all_read : (a b : Net) → IsNet a → IsNet b → (p : Paired) → (one : Levelled) → Contains (levelled (circuit a) (circuit b) None p) one → IsRead one
+pub all_read : (a b : Net) → IsNet a → IsNet b → (p : NamingModel) → (one : Levelled) → Contains (levelled (circuit a) (circuit b) None p) one → IsRead one
 all_read a b sound sound' p one (zero, lt, e) = (a, sound, ap (λ (l : Levelled). l.netlist) e)
 all_read a b sound sound' p one (suc zero, lt, e) = (b, sound', ap (λ (l : Levelled). l.netlist) e)
 all_read a b sound sound' p one (suc (suc k), lt, e) = absurd (omega (arith, lt))
 
-pub all_read_with : (a b c : Net) → IsNet a → IsNet b → IsNet c → (p : Paired) → (one : Levelled) → Contains (levelled (circuit a) (circuit b) (Some (circuit c)) p) one → IsRead one
+pub all_read_with : (a b c : Net) → IsNet a → IsNet b → IsNet c → (p : NamingModel) → (one : Levelled) → Contains (levelled (circuit a) (circuit b) (Some (circuit c)) p) one → IsRead one
 all_read_with a b c sound sound' sound'' p one (zero, lt, e) = (a, sound, ap (λ (l : Levelled). l.netlist) e)
 all_read_with a b c sound sound' sound'' p one (suc zero, lt, e) = (b, sound', ap (λ (l : Levelled). l.netlist) e)
 all_read_with a b c sound sound' sound'' p one (suc (suc zero), lt, e) = (c, sound'', ap (λ (l : Levelled). l.netlist) e)
@@ -125,7 +125,7 @@ all_read_with a b c sound sound' sound'' p one (suc (suc (suc k)), lt, e) = absu
 
 -- ---- what is compared where a condition holds
 
-module _ (a b c : Net) (sound : IsNet a) (sound' : IsNet b) (sound'' : IsNet c) (one_output : HasOneOutput (circuit c)) (p : Paired) (inside : All (IsInside (circuit a) (circuit b)) (subjects (circuit a) (circuit b) p))
+module _ (a b c : Net) (sound : IsNet a) (sound' : IsNet b) (sound'' : IsNet c) (one_output : HasOneOutput (circuit c)) (p : NamingModel) (inside : All (IsInside (circuit a) (circuit b)) (subjects (circuit a) (circuit b) p))
     (limit : ℕ) (Values : (List Bool → Bool) → Type 0) (more : (f : List Bool → Bool) → IsComparedValue (circuit a) (circuit b) (Some (circuit c)) p f → Values f) where
   abbrev n : ℕ
   n = length p.names

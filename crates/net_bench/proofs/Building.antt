@@ -12,14 +12,14 @@ use Rattle.net_bench.specs.declared.symbols.Use.{Use}
 use Rattle.std.proofs.lemmas.List.Folds.{list_any-append}
 use Rattle.net_bench.specs.declared.symbols.SymbolTable.{SymbolTable}
 use Rattle.net_bench.specs.Machine.{Between}
-use Rattle.net_bench.specs.Symbols.{AreFound, AreParts, IsSymbol, IsTold, is_defined_role, is_driven_role, is_input_role, known_symbol, undefined_use, AreRoles, IsPlacedAt}
+use Rattle.net_bench.specs.Symbols.{AreFound, AreParts, IsSymbol, IsTableOf, is_defined_role, is_driven_role, is_input_role, known_symbol, undefined_use, AreRoles, IsPlacedAt}
 use Rattle.net_bench.specs.declared.fault.BenchFault.TheVariants.{Undefined}
 use Rattle.net_bench.specs.Text.{Word}
-use Rattle.net_bench.specs.Statement.{Statement, input_name, gate_name, defined, uses, counted}
+use Rattle.net_bench.specs.Statement.{Statement, input_name, gate_name, defined, uses, interned}
 use Rattle.net_bench.specs.Circuit.{Net, names_of, find, is_name_in, HasRole, distinct, number_of}
 use Rattle.net_bench.specs.Fault.{is_defined}
 use Rattle.net_bench.specs.Judge.{undefined_line}
-use Rattle.net_bench.specs.Sound.{AreDefined, IsLate, net_of, IsSound}
+use Rattle.net_bench.specs.Sound.{AreDefined, IsLateFault, net_of, IsSound}
 use Rattle.net_bench.proofs.Found.{found_low, found_of, number_found, is_there}
 use Rattle.net_bench.proofs.Tables.{undefined_split, undefined_none}
 
@@ -43,7 +43,7 @@ either_in (s ∷ ss) n =
 
 -- the table of the statements
 abbrev IsOf : List Statement → SymbolTable → Type 0
-IsOf ss table = IsTold ss (Between ss) table
+IsOf ss table = IsTableOf ss (Between ss) table
 
 or_both : (r : Role) (a b : Bool) → is_input_role r ≡ a → is_driven_role r ≡ b → is_defined_role r ≡ (a || b)
 or_both r a b e f = ap (λ c. c || is_driven_role r) e ∙ ap (λ c. a || c) f
@@ -74,7 +74,7 @@ uses_undefined ss table h (u ∷ us) [] found = absurd found
 by_table : (ss : List Statement) (table : SymbolTable) → IsOf ss table → undefined_use table.symbols.items table.uses.items ≡ undefined_line (is_defined ss) (flat_map uses ss)
 by_table ss table h = uses_undefined ss table h table.uses.items (flat_map uses ss) h.uses
 
-pub late_undefined : (ss : List Statement) (table : SymbolTable) (line : ℕ) → IsOf ss table → Some line ≡ undefined_use table.symbols.items table.uses.items → IsLate ss (Undefined line)
+pub late_undefined : (ss : List Statement) (table : SymbolTable) (line : ℕ) → IsOf ss table → Some line ≡ undefined_use table.symbols.items table.uses.items → IsLateFault ss (Undefined line)
 late_undefined ss table line h e = inr (inl (line, refl, undefined_split (is_defined ss) (flat_map uses ss) line (sym (e ∙ by_table ss table h))))
 
 pub all_defined : (ss : List Statement) (table : SymbolTable) → IsOf ss table → None ≡ undefined_use table.symbols.items table.uses.items → AreDefined ss
@@ -111,7 +111,7 @@ module _ (ss : List Statement) (table : SymbolTable) (h : IsOf ss table) (sound 
   whole = record { names = table.names; inputs = table.inputs.items; outputs = table.outputs.items; gates = table.gates.items; registers = table.registers.items; ranks = ranks }
 
   found_name : (i : ℕ) → i < length table.names → find table.names (get_or table.names i []) ≡ Some i
-  found_name i low = subst (λ ns. i < length ns → find ns (get_or ns i []) ≡ Some i) (sym h.names) (at_name (flat_map counted ss) i) low
+  found_name i low = subst (λ ns. i < length ns → find ns (get_or ns i []) ≡ Some i) (sym h.names) (at_name (flat_map interned ss) i) low
 
   role_at : (i : ℕ) (s : Symbol) → slice_get table.symbols.items i ≡ Some s → i < length table.names → (r : Role) → s.role ≡ r → HasRole whole i r
   role_at i s at low undefined is =

@@ -9,8 +9,8 @@ use Rattle.net_bench.specs.declared.netlist.Kind.{Kind}
 use Rattle.net_bench.specs.declared.netlist.Kind.TheVariants.{Dff}
 use Rattle.net_bench.specs.declared.netlist.GateLine.{GateLine}
 use Rattle.net_bench.specs.Text.{Word}
-use Rattle.net_bench.specs.Statement.{Statement, Input, Output, Gate, kind_of, takes_one, counted, input_name, output_name, gate_name, uses, defined}
-use Rattle.net_bench.specs.Circuit.{is_name_in, distinct, number_of, names_of, gate_with, gate_line, is_register_kind, is_register, is_gate, circuit_of, AreRanks, AreOnce, IsNet}
+use Rattle.net_bench.specs.Statement.{Statement, Input, Output, Gate, kind_of, takes_one, interned, input_name, output_name, gate_name, uses, defined}
+use Rattle.net_bench.specs.Circuit.{is_name_in, distinct, number_of, names_of, gate_with, gate_line, is_register_kind, is_register, is_gate, circuit_of, AreRanks, HaveNoRepeats, IsNet}
 use Rattle.net_bench.specs.Fault.{redefines, is_among, has_wrong_operands, is_one_operand_kind, is_defined}
 use Rattle.net_bench.specs.Heights.{HasOneGateEach}
 use Rattle.net_bench.specs.Sound.{IsSound, has_kind}
@@ -52,23 +52,23 @@ within f g ss n h e = let s : Holder f ss n = holder f ss n e in in_one g ss s.0
 nothing : (n : List ℕ) (X : Type 0) → is_name_in [] n ≡ true → X
 nothing n X e = cc
 
-inputs_counted : IsWithin input_name counted
-inputs_counted (Input word name) n e = e
-inputs_counted (Output word name) n e = nothing n _ e
-inputs_counted (Gate out word first others) n e = nothing n _ e
+inputs_interned : IsWithin input_name interned
+inputs_interned (Input word name) n e = e
+inputs_interned (Output word name) n e = nothing n _ e
+inputs_interned (Gate out word first others) n e = nothing n _ e
 
-outputs_counted : IsWithin output_name counted
-outputs_counted (Input word name) n e = nothing n _ e
-outputs_counted (Output word name) n e = e
-outputs_counted (Gate out word first others) n e = nothing n _ e
+outputs_interned : IsWithin output_name interned
+outputs_interned (Input word name) n e = nothing n _ e
+outputs_interned (Output word name) n e = e
+outputs_interned (Gate out word first others) n e = nothing n _ e
 
-gates_counted : IsWithin gate_name counted
-gates_counted (Input word name) n e = nothing n _ e
-gates_counted (Output word name) n e = nothing n _ e
-gates_counted (Gate out word first others) n e = elim (or_cases (bytes_eq out.text n) false e) [ inl h ↦ or_left (bytes_eq out.text n) _ h | inr h ↦ cc ]
+gates_interned : IsWithin gate_name interned
+gates_interned (Input word name) n e = nothing n _ e
+gates_interned (Output word name) n e = nothing n _ e
+gates_interned (Gate out word first others) n e = elim (or_cases (bytes_eq out.text n) false e) [ inl h ↦ or_left (bytes_eq out.text n) _ h | inr h ↦ cc ]
 
-pub in_names : (f : Names) (ss : List Statement) (n : List ℕ) → IsWithin f counted → is_name_in (flat_map f ss) n ≡ true → is_name_in (names_of ss) n ≡ true
-in_names f ss n h e = in_distinct (flat_map counted ss) n ∙ within f counted ss n h e
+pub in_names : (f : Names) (ss : List Statement) (n : List ℕ) → IsWithin f interned → is_name_in (flat_map f ss) n ≡ true → is_name_in (names_of ss) n ≡ true
+in_names f ss n h e = in_distinct (flat_map interned ss) n ∙ within f interned ss n h e
 
 -- ---- where an element of a filter comes from
 
@@ -151,10 +151,10 @@ blank_word = record { line = 0; text = [] }
 blank : Statement
 blank = Input (record { line = 0; text = [] }) (record { line = 0; text = [] })
 
-operands_counted : (names : List (List ℕ)) (s : Statement) (g : GateLine) → IsOf names s g → ((n : List ℕ) → is_name_in (counted s) n ≡ true → is_name_in names n ≡ true) → All (λ t. t < length names) g.operands
-operands_counted names (Input word name) g h all = absurd h
-operands_counted names (Output word name) g h all = absurd h
-operands_counted names (Gate out word first others) g (kind, is, e) all =
+operands_interned : (names : List (List ℕ)) (s : Statement) (g : GateLine) → IsOf names s g → ((n : List ℕ) → is_name_in (interned s) n ≡ true → is_name_in names n ≡ true) → All (λ t. t < length names) g.operands
+operands_interned names (Input word name) g h all = absurd h
+operands_interned names (Output word name) g h all = absurd h
+operands_interned names (Gate out word first others) g (kind, is, e) all =
     subst (λ (ts : List ℕ). All (λ t. t < length names) ts) (sym (ap (λ x. x.operands) e))
     (λ k d low.
     let w : Word = get_or (first ∷ others) k blank_word in
@@ -238,11 +238,11 @@ all_texts names (w ∷ ws) n all e =
     ]
 
 -- each name that a statement counts is defined, where its uses are
-counted_defined : (names : List (List ℕ)) (t : Statement) (n : List ℕ) → ((m : List ℕ) → is_name_in (defined t) m ≡ true → is_name_in names m ≡ true) →
-    list_all (λ w. is_name_in names w.text) (uses t) ≡ true → is_name_in (counted t) n ≡ true → is_name_in names n ≡ true
-counted_defined names (Input word name) n own all e = own n e
-counted_defined names (Output word name) n own all e = all_texts names (name ∷ []) n all e
-counted_defined names (Gate out word first others) n own all e =
+interned_defined : (names : List (List ℕ)) (t : Statement) (n : List ℕ) → ((m : List ℕ) → is_name_in (defined t) m ≡ true → is_name_in names m ≡ true) →
+    list_all (λ w. is_name_in names w.text) (uses t) ≡ true → is_name_in (interned t) n ≡ true → is_name_in names n ≡ true
+interned_defined names (Input word name) n own all e = own n e
+interned_defined names (Output word name) n own all e = all_texts names (name ∷ []) n all e
+interned_defined names (Gate out word first others) n own all e =
     elim (or_cases (bytes_eq out.text n) (is_name_in (map (λ v. v.text) (first ∷ others)) n) e) [
       | inl f ↦ own n (or_left (bytes_eq out.text n) _ f)
       | inr f ↦ all_texts names (first ∷ others) n all f
@@ -288,12 +288,12 @@ pub number_back : (xs : List (List ℕ)) (s : ℕ) → s < length (distinct xs) 
 number_back xs s low =
     let n : List ℕ = get_or (distinct xs) s [] in
     let there : is_name_in (distinct xs) (get_or (distinct xs) s []) ≡ true = contained_in (distinct xs) (get_or (distinct xs) s []) (s, low, get_or_default (distinct xs) s _ [] low) in
-    let inside : number_of (distinct xs) (get_or (distinct xs) s []) < length (distinct xs) = number_low (distinct xs) (get_or (distinct xs) s []) there in
+    let in_bounds : number_of (distinct xs) (get_or (distinct xs) s []) < length (distinct xs) = number_low (distinct xs) (get_or (distinct xs) s []) there in
     let at : get_or (distinct xs) (number_of (distinct xs) (get_or (distinct xs) s [])) [] ≡ get_or (distinct xs) s [] = number_at (distinct xs) (get_or (distinct xs) s []) [] there in
     elim (cases_lt (number_of (distinct xs) (get_or (distinct xs) s [])) s) [
       | inl lt ↦ absurd (apart_distinct xs (number_of (distinct xs) (get_or (distinct xs) s [])) s lt low at)
       | inr le ↦ elim (cases_lt s (number_of (distinct xs) (get_or (distinct xs) s []))) [
-        | inl lt ↦ absurd (apart_distinct xs s (number_of (distinct xs) (get_or (distinct xs) s [])) lt inside (sym at))
+        | inl lt ↦ absurd (apart_distinct xs s (number_of (distinct xs) (get_or (distinct xs) s [])) lt in_bounds (sym at))
         | inr ge ↦ omega arith
       ]
     ]
@@ -382,18 +382,18 @@ pub in_back : (xs ys : List ℕ) (s : ℕ) → Contains ys s → Contains (xs ++
 in_back [] ys s m = m
 in_back (x ∷ xs) ys s m = let more : Contains (xs ++ ys) s = in_back xs ys s m in (suc more.0, omega (arith, more.1), more.2)
 
-once_append : (xs ys : List ℕ) → AreOnce xs → AreOnce ys → All (λ x. All (λ y. y ≢ x) ys) xs → AreOnce (xs ++ ys)
+once_append : (xs ys : List ℕ) → HaveNoRepeats xs → HaveNoRepeats ys → All (λ x. All (λ y. y ≢ x) ys) xs → HaveNoRepeats (xs ++ ys)
 once_append [] ys a b c i j lt low e = b i j lt low e
 once_append (x ∷ xs) ys a b c i zero lt low e = absurd (omega arith)
 once_append (x ∷ xs) ys a b c zero (suc j) lt low e =
-    all_append (λ y. y ≢ x) xs ys (λ k d inside f. a 0 (suc k) (omega arith) (omega arith) (sym f ∙ get_or_default xs k d 0 inside)) (c 0 x (omega arith)) j 0 (omega arith) (sym e)
+    all_append (λ y. y ≢ x) xs ys (λ k d in_bounds f. a 0 (suc k) (omega arith) (omega arith) (sym f ∙ get_or_default xs k d 0 in_bounds)) (c 0 x (omega arith)) j 0 (omega arith) (sym e)
 once_append (x ∷ xs) ys a b c (suc i) (suc j) lt low e =
-    once_append xs ys (λ k l before inside f. a (suc k) (suc l) (omega arith) (omega arith) f) b (λ k d inside. c (suc k) d (omega arith)) i j (omega arith) (omega arith) e
+    once_append xs ys (λ k l before in_bounds f. a (suc k) (suc l) (omega arith) (omega arith) f) b (λ k d in_bounds. c (suc k) d (omega arith)) i j (omega arith) (omega arith) e
 
 blank_line : GateLine
 blank_line = record { out = 0; kind = Dff; operands = []; line = 0 }
 
-once_map : (gs : List GateLine) → HasOneGateEach gs → AreOnce (map (λ g. g.out) gs)
+once_map : (gs : List GateLine) → HasOneGateEach gs → HaveNoRepeats (map (λ g. g.out) gs)
 once_map gs once i j lt low e =
     let second : (j < length gs) × (get_or (map (λ (g : GateLine). g.out) gs) j 0 ≡ (get_or gs j blank_line).out) = at_map (λ (g : GateLine). g.out) gs j blank_line 0 low in
     let first : (i < length gs) × (get_or (map (λ (g : GateLine). g.out) gs) i 0 ≡ (get_or gs i blank_line).out) = at_map (λ (g : GateLine). g.out) gs i blank_line 0 (omega arith) in
@@ -429,7 +429,7 @@ module _ (ss : List Statement) (sound : IsSound ss) where
       let is : IsOf names (get_or ss p blank) g = is_of names (get_or ss p blank) g e in
       let o : (n : List ℕ) × (g.out ≡ number_of names n) × (gate_name (get_or ss p blank) ≡ n ∷ []) = out_of names (get_or ss p blank) g is in
       let here : is_name_in (gate_name (get_or ss p blank)) o.0 ≡ true = single gate_name (get_or ss p blank) o.0 o.2 in
-      (o.0, o.1, here, in_names gate_name ss o.0 gates_counted (in_one gate_name ss (get_or ss p blank) o.0 (p, low, get_or_default ss p (get_or ss p blank) blank low) here), is)
+      (o.0, o.1, here, in_names gate_name ss o.0 gates_interned (in_one gate_name ss (get_or ss p blank) o.0 (p, low, get_or_default ss p (get_or ss p blank) blank low) here), is)
 
   one_line : HasOneGateEach lines
   one_line i j d lt low e =
@@ -443,9 +443,9 @@ module _ (ss : List Statement) (sound : IsSound ss) where
   -- an INPUT's statement is no gate's, neither before nor behind
   conflict : (r p : ℕ) (m : List ℕ) (g : GateLine) → r < length ss → p < length ss → is_name_in (input_name (get_or ss r blank)) m ≡ true →
       is_name_in (gate_name (get_or ss p blank)) m ≡ true → IsOf names (get_or ss p blank) g → ⊥
-  conflict r p m g inside there input gate is =
+  conflict r p m g in_bounds there input gate is =
       elim (cases_lt p r) [
-        | inl lt ↦ never r ⊥ inside (again_gate (take r ss) (get_or ss p blank) (get_or ss r blank) m (before ss p r lt inside) gate (defined_input (get_or ss r blank) m input))
+        | inl lt ↦ never r ⊥ in_bounds (again_gate (take r ss) (get_or ss p blank) (get_or ss r blank) m (before ss p r lt in_bounds) gate (defined_input (get_or ss r blank) m input))
         | inr le ↦ elim (cases_lt r p) [
           | inl lt ↦ never p ⊥ there (again_input (take p ss) (get_or ss r blank) (get_or ss p blank) m (before ss r p lt there) input gate)
           | inr ge ↦ let same : r ≡ p = omega arith in
@@ -459,7 +459,7 @@ module _ (ss : List Statement) (sound : IsSound ss) where
   abbrev inputs : List ℕ
   inputs = map (number_of names) input_names
 
-  in_list : (f : Names) (k : ℕ) → IsWithin f counted → k < length (distinct (flat_map f ss)) →
+  in_list : (f : Names) (k : ℕ) → IsWithin f interned → k < length (distinct (flat_map f ss)) →
       (is_name_in (flat_map f ss) (get_or (distinct (flat_map f ss)) k []) ≡ true) × (is_name_in names (get_or (distinct (flat_map f ss)) k []) ≡ true)
   in_list f k h low =
       let m : List ℕ = get_or (distinct (flat_map f ss)) k [] in
@@ -468,20 +468,20 @@ module _ (ss : List Statement) (sound : IsSound ss) where
       let here : is_name_in (flat_map f ss) (get_or (distinct (flat_map f ss)) k []) ≡ true = sym (in_distinct (flat_map f ss) (get_or (distinct (flat_map f ss)) k [])) ∙ there in
       (here, in_names f ss (get_or (distinct (flat_map f ss)) k []) h here)
 
-  numbers_inside : (f : Names) → IsWithin f counted → All (λ i. i < length names) (map (number_of names) (distinct (flat_map f ss)))
+  numbers_inside : (f : Names) → IsWithin f interned → All (λ i. i < length names) (map (number_of names) (distinct (flat_map f ss)))
   numbers_inside f h k d low =
       let at : (k < length (distinct (flat_map f ss))) × (get_or (map (number_of names) (distinct (flat_map f ss))) k d ≡ number_of names (get_or (distinct (flat_map f ss)) k [])) =
       at_map (number_of names) (distinct (flat_map f ss)) k [] d low in
       subst (λ i. i < length names) (sym at.1) (number_low names (get_or (distinct (flat_map f ss)) k []) (in_list f k h at.0).1)
 
   inputs_inside : All (λ i. i < length names) inputs
-  inputs_inside = numbers_inside input_name inputs_counted
+  inputs_inside = numbers_inside input_name inputs_interned
 
   pub outputs_inside : All (λ i. i < length names) (map (number_of names) (distinct (flat_map output_name ss)))
-  outputs_inside = numbers_inside output_name outputs_counted
+  outputs_inside = numbers_inside output_name outputs_interned
 
   -- two names of the list have two numbers
-  numbers_once : (f : Names) → IsWithin f counted → AreOnce (map (number_of names) (distinct (flat_map f ss)))
+  numbers_once : (f : Names) → IsWithin f interned → HaveNoRepeats (map (number_of names) (distinct (flat_map f ss)))
   numbers_once f h i j lt low e =
       let second : (j < length (distinct (flat_map f ss))) × (get_or (map (number_of names) (distinct (flat_map f ss))) j 0 ≡ number_of names (get_or (distinct (flat_map f ss)) j [])) =
       at_map (number_of names) (distinct (flat_map f ss)) j [] 0 low in
@@ -504,13 +504,13 @@ module _ (ss : List Statement) (sound : IsSound ss) where
       let o : Origin' (get_or lines k d) = line_at k d low in
       subst (λ i. i < length names) (sym o.2.1) (number_low names o.2.0 o.2.3)
 
-  counted_inside : (p : ℕ) (n : List ℕ) → p < length ss → is_name_in (counted (get_or ss p blank)) n ≡ true → is_name_in names n ≡ true
-  counted_inside p n low h = in_names counted ss n (λ s m e. e) (in_one counted ss (get_or ss p blank) n (p, low, get_or_default ss p (get_or ss p blank) blank low) h)
+  counted_inside : (p : ℕ) (n : List ℕ) → p < length ss → is_name_in (interned (get_or ss p blank)) n ≡ true → is_name_in names n ≡ true
+  counted_inside p n low h = in_names interned ss n (λ s m e. e) (in_one interned ss (get_or ss p blank) n (p, low, get_or_default ss p (get_or ss p blank) blank low) h)
 
   lines_operands_inside : All (λ g. All (λ s. s < length names) g.operands) lines
   lines_operands_inside k d low =
       let o : Origin' (get_or lines k d) = line_at k d low in
-      operands_counted names (get_or ss o.0 blank) (get_or lines k d) o.2.4 (λ n h. counted_inside o.0 n o.1 h)
+      operands_interned names (get_or ss o.0 blank) (get_or lines k d) o.2.4 (λ n h. counted_inside o.0 n o.1 h)
 
   lines_operands_some : All (λ g. 0 < length g.operands) lines
   lines_operands_some k d low = let o : Origin' (get_or lines k d) = line_at k d low in has_operand names (get_or ss o.0 blank) (get_or lines k d) o.2.4
@@ -521,11 +521,11 @@ module _ (ss : List Statement) (sound : IsSound ss) where
       one_operand names (get_or ss o.0 blank) (get_or lines k d) o.2.4 (sound.counts o.0 blank o.1)
 
   lines_apart : All (λ i. All (λ g. g.out ≢ i) lines) inputs
-  lines_apart j i low k d inside e =
+  lines_apart j i low k d in_bounds e =
       let at : (j < length input_names) × (get_or inputs j i ≡ number_of names (get_or input_names j [])) = at_map (number_of names) input_names j [] i low in
-      let m : (is_name_in (flat_map input_name ss) (get_or input_names j []) ≡ true) × (is_name_in names (get_or input_names j []) ≡ true) = in_list input_name j inputs_counted at.0 in
+      let m : (is_name_in (flat_map input_name ss) (get_or input_names j []) ≡ true) × (is_name_in names (get_or input_names j []) ≡ true) = in_list input_name j inputs_interned at.0 in
       let h : Holder input_name ss (get_or input_names j []) = holder input_name ss (get_or input_names j []) m.0 in
-      let o : Origin' (get_or lines k d) = line_at k d inside in
+      let o : Origin' (get_or lines k d) = line_at k d in_bounds in
       let same : o.2.0 ≡ get_or input_names j [] = numbers_differ names o.2.0 (get_or input_names j []) o.2.3 m.1 (sym o.2.1 ∙ e ∙ at.1) in
       let stands : get_or ss h.1.0 blank ≡ h.0 = get_or_default ss h.1.0 blank h.0 h.1.1 ∙ h.1.2 in
       conflict h.1.0 o.0 (get_or input_names j []) (get_or lines k d) h.1.1 o.1
@@ -575,9 +575,9 @@ module _ (ss : List Statement) (sound : IsSound ss) where
   -- a register and a gate have two signals
   two_signals : (r p : ℕ) (d : GateLine) → r < length lines → p < length lines → is_register (get_or lines r d) ≡ true → is_gate (get_or lines p d) ≡ true →
       (get_or lines p d).out ≢ (get_or lines r d).out
-  two_signals r p d inside there register gate e =
+  two_signals r p d in_bounds there register gate e =
       elim (cases_lt p r) [
-        | inl lt ↦ one_line p r d lt inside e
+        | inl lt ↦ one_line p r d lt in_bounds e
         | inr le ↦ elim (cases_lt r p) [
           | inl lt ↦ one_line r p d lt there (sym e)
           | inr ge ↦ let same : r ≡ p = omega arith in
@@ -587,9 +587,9 @@ module _ (ss : List Statement) (sound : IsSound ss) where
       ]
 
   registers_apart : All (λ g. All (λ h. h.out ≢ g.out) gates) registers
-  registers_apart k d low j e inside =
+  registers_apart k d low j e in_bounds =
       let o : Kept is_register lines (get_or registers k d) = kept_at is_register lines k d low in
-      let p : Kept is_gate lines (get_or gates j e) = kept_at is_gate lines j e inside in
+      let p : Kept is_gate lines (get_or gates j e) = kept_at is_gate lines j e in_bounds in
       (λ same. two_signals o.0 p.0 d o.1 p.1 (ap is_register (o.2 d) ∙ o.3) (ap is_gate (p.2 d) ∙ p.3)
       (ap (λ (g : GateLine). g.out) (p.2 d) ∙ same ∙ sym (ap (λ (g : GateLine). g.out) (o.2 d))))
 
@@ -600,9 +600,9 @@ module _ (ss : List Statement) (sound : IsSound ss) where
       (all_map (λ i. All (λ (g : GateLine). g.out ≢ i) gates) (λ (g : GateLine). g.out) registers registers_apart)
 
   -- an input is no register, and no signal is two
-  pub variables_once : AreOnce variables
+  pub variables_once : HaveNoRepeats variables
   variables_once =
-      once_append inputs (map (λ g. g.out) registers) (numbers_once input_name inputs_counted)
+      once_append inputs (map (λ g. g.out) registers) (numbers_once input_name inputs_interned)
       (once_map registers (kept_once is_register lines one_line))
       (λ k d low.
       all_map (λ s. s ≢ get_or inputs k d) (λ (g : GateLine). g.out) registers
@@ -616,8 +616,8 @@ module _ (ss : List Statement) (sound : IsSound ss) where
   module _ (all : IsTrue (list_all (is_defined ss) (flat_map uses ss))) where
     pub name_defined : (n : List ℕ) → is_name_in names n ≡ true → is_name_in (flat_map defined ss) n ≡ true
     name_defined n h =
-        let t : Holder counted ss n = holder counted ss n (sym (in_distinct (flat_map counted ss) n) ∙ h) in
-        counted_defined (flat_map defined ss) t.0 n (λ m e. in_one defined ss t.0 m t.1 e) (all_of_flat (is_defined ss) uses ss t.0 all t.1) t.2
+        let t : Holder interned ss n = holder interned ss n (sym (in_distinct (flat_map interned ss) n) ∙ h) in
+        interned_defined (flat_map defined ss) t.0 n (λ m e. in_one defined ss t.0 m t.1 e) (all_of_flat (is_defined ss) uses ss t.0 all t.1) t.2
 
     -- by its kind, a line's signal is a variable or a gate's
     driven_by : (s : ℕ) (g : GateLine) → Contains lines g → g.out ≡ s → (b : Bool) → is_register g ≡ b → Signal' s
@@ -644,12 +644,12 @@ module _ (ss : List Statement) (sound : IsSound ss) where
         let n : List ℕ = get_or names s [] in
         let there : is_name_in names (get_or names s []) ≡ true = contained_in names (get_or names s []) (s, low, get_or_default names s _ [] low) in
         let t : Holder defined ss (get_or names s []) = holder defined ss (get_or names s []) (name_defined (get_or names s []) there) in
-        drive s (get_or names s []) (number_back (flat_map counted ss) s low) t.0 t.1 t.2
+        drive s (get_or names s []) (number_back (flat_map interned ss) s low) t.0 t.1 t.2
 
     pub net : (ranks : List ℕ) → AreRanks (circuit_of ss) ranks →
         IsNet (record { names = names; inputs = inputs; outputs = map (number_of names) (distinct (flat_map output_name ss)); gates = gates; registers = registers; ranks = ranks })
     net ranks ranked = record {
-      names = apart_distinct (flat_map counted ss);
+      names = apart_distinct (flat_map interned ss);
       few = sound.signals;
       variables = variables_inside;
       outs = outs_inside;
@@ -658,7 +658,7 @@ module _ (ss : List Statement) (sound : IsSound ss) where
       defined = driven;
       outputs = outputs_inside;
       variables_once = variables_once;
-      outputs_once = numbers_once output_name outputs_counted;
+      outputs_once = numbers_once output_name outputs_interned;
       gates = all_true is_gate lines;
       registers = all_true is_register lines;
       next = (λ k d low. (next_inside k d low, next_one k d low));

@@ -6,10 +6,10 @@ use Rattle.std.proofs.lemmas.Bool.{cases_lt}
 use Rattle.std.proofs.lemmas.Bool.Decides.{nat_tests}
 use Rattle.std.proofs.lemmas.List.{reverse-append, take_more, take_all, get_or_default, get_or-set_same, get_or-set_other}
 use Rattle.net_bench.specs.declared.netlist.GateLine.{GateLine}
-use Rattle.net_bench.specs.declared.walk.Waiting.{Waiting}
+use Rattle.net_bench.specs.declared.walk.WaitingGate.{WaitingGate}
 use Rattle.net_bench.specs.declared.symbols.Symbol.{Symbol}
 use Rattle.net_bench.specs.Circuit.{Circuit, greatest}
-use Rattle.net_bench.specs.Heights.{all_ranked, AreHeights, HasOneGateEach, IsBelow, IsDriven, IsEnded, IsRanking, IsNever, IsSettled, IsUnder, AreWaiting, gate_place, is_waiting, operands_at, out_at, steps_left, unbegun}
+use Rattle.net_bench.specs.Heights.{all_ranked, AreHeights, HasOneGateEach, IsBelow, IsDriven, HasHeightOrNeverWill, IsRanking, NeverHasHeight, HasHeightIfOperandsHave, IsWaitedFor, AreWaiting, gate_place, is_waiting, operands_at, out_at, steps_left, unbegun}
 use Rattle.net_bench.proofs.Heights.{both_true, ranked_more, small}
 use Rattle.net_bench.proofs.Settled.{below}
 
@@ -27,11 +27,11 @@ gate_there (h ∷ gates) (suc p) low = gate_there gates p (omega arith)
 
 -- an operand of the gate at a place
 pub feeds : (gates : List GateLine) (p k : ℕ) → p < length gates → k < length (operands_at gates p) → IsBelow gates (get_or (operands_at gates p) k 0) (out_at gates p)
-feeds gates p k low inside =
+feeds gates p k low in_bounds =
     let g = gate_there gates p low in
     let is = gate_is gates p g.0 low g.1 in
-    let inside' : k < length g.0.operands = subst (λ os. k < length os) is.0 inside in
-    (g.0, (p, low, sym g.1), sym is.1, (k, inside', get_or_default g.0.operands k _ 0 inside' ∙ ap (λ os. get_or os k 0) (sym is.0)))
+    let in_bounds' : k < length g.0.operands = subst (λ os. k < length os) is.0 in_bounds in
+    (g.0, (p, low, sym g.1), sym is.1, (k, in_bounds', get_or_default g.0.operands k _ 0 in_bounds' ∙ ap (λ os. get_or os k 0) (sym is.0)))
 
 abbrev as_circuit : List GateLine → Circuit
 as_circuit gates = record { names = []; inputs = []; outputs = []; gates = gates; registers = [] }
@@ -70,7 +70,7 @@ module _ (gates : List GateLine) (heights : List ℕ) (p : ℕ) (g : GateLine) (
 
 -- ---- what can never be ranked
 
-pub never_below : (gates : List GateLine) (t s : ℕ) → IsBelow gates t s → IsNever gates t → IsNever gates s
+pub never_below : (gates : List GateLine) (t s : ℕ) → IsBelow gates t s → NeverHasHeight gates t → NeverHasHeight gates s
 never_below gates t s b never ms sound =
     elim (cases_lt 0 (get_or ms s 0)) [
       | inl some ↦ let h = lower gates ms sound t s b some in let none : get_or ms t 0 ≡ 0 = never ms sound in absurd (omega (arith, h.0, none))
@@ -78,7 +78,7 @@ never_below gates t s b never ms sound =
     ]
 
 -- each gate that waits has a greater height than the one on top, if it has one
-chain_down : (gates : List GateLine) (heights ms : List ℕ) → AreHeights gates ms → (f : Waiting) (fs : List Waiting) → AreWaiting gates heights (f ∷ fs) → (q : ℕ) → is_waiting q (f ∷ fs) ≡ true → 0 < get_or ms (out_at gates q) 0 →
+chain_down : (gates : List GateLine) (heights ms : List ℕ) → AreHeights gates ms → (f : WaitingGate) (fs : List WaitingGate) → AreWaiting gates heights (f ∷ fs) → (q : ℕ) → is_waiting q (f ∷ fs) ≡ true → 0 < get_or ms (out_at gates q) 0 →
     (0 < get_or ms (out_at gates f.place) 0) × (get_or ms (out_at gates f.place) 0 ≤ get_or ms (out_at gates q) 0)
 chain_down gates heights ms sound f [] h q on some =
     elim (f.place == q) as (λ b. (f.place == q) ≡ b → (b || false) ≡ true → (0 < get_or ms (out_at gates f.place) 0) × (get_or ms (out_at gates f.place) 0 ≤ get_or ms (out_at gates q) 0)) [
@@ -94,8 +94,8 @@ chain_down gates heights ms sound f (u ∷ fs) h q on some =
           (here.0, omega (arith, here.1, above.1))
     ] refl on
 
-pub never_cycle : (gates : List GateLine) (heights : List ℕ) (f : Waiting) (fs : List Waiting) → AreWaiting gates heights (f ∷ fs) → (q : ℕ) → is_waiting q (f ∷ fs) ≡ true → IsBelow gates (out_at gates q) (out_at gates f.place) →
-    IsNever gates (out_at gates f.place)
+pub never_cycle : (gates : List GateLine) (heights : List ℕ) (f : WaitingGate) (fs : List WaitingGate) → AreWaiting gates heights (f ∷ fs) → (q : ℕ) → is_waiting q (f ∷ fs) ≡ true → IsBelow gates (out_at gates q) (out_at gates f.place) →
+    NeverHasHeight gates (out_at gates f.place)
 never_cycle gates heights f fs h q on b ms sound =
     elim (cases_lt 0 (get_or ms (out_at gates f.place) 0)) [
       | inl some ↦
@@ -118,25 +118,25 @@ grow_all ms more h (s ∷ ss) e =
     let now : nat_lt 0 (get_or more s 0) ≡ true = ap (λ k. nat_lt 0 k) (h s some) ∙ both.0 in
     rw (now, grow_all ms more h ss both.1) refl
 
-grow_waiting : (gates : List GateLine) (ms more : List ℕ) → Grows ms more → (fs : List Waiting) → AreWaiting gates ms fs → AreWaiting gates more fs
+grow_waiting : (gates : List GateLine) (ms more : List ℕ) → Grows ms more → (fs : List WaitingGate) → AreWaiting gates ms fs → AreWaiting gates more fs
 grow_waiting gates ms more h [] w = tt
 grow_waiting gates ms more h (f ∷ fs) w = ((w.0.0, w.0.1, grow_all ms more h (take f.passed (operands_at gates f.place)) w.0.2), w.1, grow_waiting gates ms more h fs w.2)
 
-grow_ended : (gates : List GateLine) (ms more : List ℕ) → Grows ms more → (p : ℕ) → IsEnded gates ms p → IsEnded gates more p
+grow_ended : (gates : List GateLine) (ms more : List ℕ) → Grows ms more → (p : ℕ) → HasHeightOrNeverWill gates ms p → HasHeightOrNeverWill gates more p
 grow_ended gates ms more h p (inl some) = inl (subst (λ k. 0 < k) (sym (h (out_at gates p) some)) some)
 grow_ended gates ms more h p (inr never) = inr never
 
 -- ---- the steps
 
 -- a gate is begun, and the gates that wait, wait for it
-pub step_begun : (gates : List GateLine) (heights : List ℕ) (begun : List Bool) (fs : List Waiting) (f : Waiting) → IsRanking gates heights begun fs → f.place < length gates → f.passed ≡ 0 → IsUnder gates f fs →
+pub step_begun : (gates : List GateLine) (heights : List ℕ) (begun : List Bool) (fs : List WaitingGate) (f : WaitingGate) → IsRanking gates heights begun fs → f.place < length gates → f.passed ≡ 0 → IsWaitedFor gates f fs →
     IsRanking gates heights (set begun f.place true) (f ∷ fs)
 step_begun gates heights begun fs f h low none under = record {
   sound = h.sound;
   len = length-set begun f.place true ∙ h.len;
   chain = ((low, omega (arith, none), ap (λ k. all_ranked heights (take k (operands_at gates f.place))) none), under, h.chain);
   left = λ p small on off.
-      elim (f.place == p) as (λ b. (f.place == p) ≡ b → (b || is_waiting p fs) ≡ false → IsEnded gates heights p) [
+      elim (f.place == p) as (λ b. (f.place == p) ≡ b → (b || is_waiting p fs) ≡ false → HasHeightOrNeverWill gates heights p) [
         | true ↦ λ e k. cc
         | false ↦ λ e k. let other : p ≡ f.place → ⊥ = (λ s. grind arith) in h.left p small (sym (get_or-set_other begun f.place p true false other) ∙ on) k
       ] refl off;
@@ -152,16 +152,16 @@ still_begun (b ∷ begun) (suc q) (suc p) e = still_begun begun q p e
 pub now_begun : (begun : List Bool) (q : ℕ) → q < length begun → get_or (set begun q true) q false ≡ true
 now_begun begun q low = get_or-set_same begun q true false low
 
-module _ (gates : List GateLine) (heights : List ℕ) (begun : List Bool) (f : Waiting) (fs : List Waiting) (h : IsRanking gates heights begun (f ∷ fs)) where
+module _ (gates : List GateLine) (heights : List ℕ) (begun : List Bool) (f : WaitingGate) (fs : List WaitingGate) (h : IsRanking gates heights begun (f ∷ fs)) where
   -- the gate on top is left
-  pub step_left : (more : List ℕ) → Grows heights more → AreHeights gates more → IsEnded gates more f.place → IsRanking gates more begun fs
+  pub step_left : (more : List ℕ) → Grows heights more → AreHeights gates more → HasHeightOrNeverWill gates more f.place → IsRanking gates more begun fs
   step_left more grows sound ended = record {
     sound = sound;
     len = h.len;
     chain = grow_waiting gates heights more grows fs h.chain.2;
     left = λ p low on off.
-        elim (f.place == p) as (λ b. (f.place == p) ≡ b → IsEnded gates more p) [
-          | true ↦ λ e. let same : f.place ≡ p = grind arith in subst (IsEnded gates more) same ended
+        elim (f.place == p) as (λ b. (f.place == p) ≡ b → HasHeightOrNeverWill gates more p) [
+          | true ↦ λ e. let same : f.place ≡ p = grind arith in subst (HasHeightOrNeverWill gates more) same ended
           | false ↦ λ e. grow_ended gates heights more grows p (h.left p low on (ap (λ b. b || is_waiting p fs) e ∙ off))
         ] refl;
   }
@@ -176,7 +176,7 @@ module _ (gates : List GateLine) (heights : List ℕ) (begun : List Bool) (f : W
       let both = both_true (nat_lt 0 (get_or heights o 0)) (all_ranked heights ops) e in
       rw (both.0, all_push ops s both.1 some) refl
 
-  under_more : (us : List Waiting) → IsUnder gates f us → IsUnder gates (record { place = f.place; passed = f.passed + 1 }) us
+  under_more : (us : List WaitingGate) → IsWaitedFor gates f us → IsWaitedFor gates (record { place = f.place; passed = f.passed + 1 }) us
   under_more [] u = tt
   under_more (x ∷ us) u = u
 
@@ -194,23 +194,23 @@ module _ (gates : List GateLine) (heights : List ℕ) (begun : List Bool) (f : W
   }
 
   under_next : (q : ℕ) → f.passed < length (operands_at gates f.place) → out_at gates q ≡ get_or (operands_at gates f.place) f.passed 0 → IsBelow gates (out_at gates q) (out_at gates f.place)
-  under_next q inside is = subst (λ o. IsBelow gates o (out_at gates f.place)) (sym is) (feeds gates f.place f.passed h.chain.0.0 inside)
+  under_next q in_bounds is = subst (λ o. IsBelow gates o (out_at gates f.place)) (sym is) (feeds gates f.place f.passed h.chain.0.0 in_bounds)
 
   -- it waits for a gate that is begun
   pub step_down : (q : ℕ) → q < length gates → f.passed < length (operands_at gates f.place) → out_at gates q ≡ get_or (operands_at gates f.place) f.passed 0 →
       IsRanking gates heights (set begun q true) (record { place = q; passed = 0 } ∷ f ∷ fs)
-  step_down q low inside is = step_begun gates heights begun (f ∷ fs) (record { place = q; passed = 0 }) h low refl (under_next q inside is)
+  step_down q low in_bounds is = step_begun gates heights begun (f ∷ fs) (record { place = q; passed = 0 }) h low refl (under_next q in_bounds is)
 
   -- the operand that it waits for was begun before, and has no height: neither will ever have one
   pub step_endless : (q : ℕ) → q < length gates → f.passed < length (operands_at gates f.place) → out_at gates q ≡ get_or (operands_at gates f.place) f.passed 0 → get_or begun q false ≡ true → get_or heights (out_at gates q) 0 ≡ 0 →
       IsRanking gates heights begun fs
-  step_endless q low inside is on none =
+  step_endless q low in_bounds is on none =
       step_left heights (λ s e. refl) h.sound
-      (inr (elim (is_waiting q (f ∷ fs)) as (λ v. is_waiting q (f ∷ fs) ≡ v → IsNever gates (out_at gates f.place)) [
-        | true ↦ λ waits. never_cycle gates heights f fs h.chain q waits (under_next q inside is)
+      (inr (elim (is_waiting q (f ∷ fs)) as (λ v. is_waiting q (f ∷ fs) ≡ v → NeverHasHeight gates (out_at gates f.place)) [
+        | true ↦ λ waits. never_cycle gates heights f fs h.chain q waits (under_next q in_bounds is)
         | false ↦ λ off. elim (h.left q low on off) [
           | inl some ↦ absurd (omega (arith, some, none))
-          | inr never ↦ never_below gates (out_at gates q) (out_at gates f.place) (under_next q inside is) never
+          | inr never ↦ never_below gates (out_at gates q) (out_at gates f.place) (under_next q in_bounds is) never
         ]
       ] refl))
 
@@ -225,7 +225,7 @@ fewer_unbegun (g ∷ gates) (false ∷ begun) zero low len e = omega arith
 fewer_unbegun (g ∷ gates) (true ∷ begun) (suc q) low len e = let more = fewer_unbegun gates begun q (omega arith) (omega (arith, len)) e in omega (arith, more)
 fewer_unbegun (g ∷ gates) (false ∷ begun) (suc q) low len e = let more = fewer_unbegun gates begun q (omega arith) (omega (arith, len)) e in omega (arith, more)
 
-module _ (gates : List GateLine) (begun : List Bool) (f : Waiting) (fs : List Waiting) where
+module _ (gates : List GateLine) (begun : List Bool) (f : WaitingGate) (fs : List WaitingGate) where
   pub fewer_left : steps_left gates begun fs < steps_left gates begun (f ∷ fs)
   fewer_left = omega arith
 
@@ -244,19 +244,19 @@ within k n e = let yes : nat_lt k n ≡ true = sym e in grind (arith, nat_tests)
 pub past : (k n : ℕ) → false ≡ nat_lt k n → n ≤ k
 past k n e = let out : nat_lt k n ≡ false = sym e in grind (arith, nat_tests)
 
-pub pushed : (fs : List Waiting) (f : Waiting) → reverse (fs ++ f ∷ []) ≡ f ∷ reverse fs
+pub pushed : (fs : List WaitingGate) (f : WaitingGate) → reverse (fs ++ f ∷ []) ≡ f ∷ reverse fs
 pushed fs f = reverse-append fs (f ∷ [])
 
-module _ (gates : List GateLine) (symbols : List Symbol) (heights : List ℕ) (begun : List Bool) (f : Waiting) (fs : List Waiting) (h : IsRanking gates heights begun (f ∷ fs)) (g : GateLine) (is : g ≡ get_or gates f.place g)
-    (os : List ℕ) (is_os : os ≡ g.operands) (o : ℕ) (inside : f.passed < length os) (at : o ≡ get_or os f.passed o) where
+module _ (gates : List GateLine) (symbols : List Symbol) (heights : List ℕ) (begun : List Bool) (f : WaitingGate) (fs : List WaitingGate) (h : IsRanking gates heights begun (f ∷ fs)) (g : GateLine) (is : g ≡ get_or gates f.place g)
+    (os : List ℕ) (is_os : os ≡ g.operands) (o : ℕ) (in_bounds : f.passed < length os) (at : o ≡ get_or os f.passed o) where
   ops_are : operands_at gates f.place ≡ os
   ops_are = (gate_is gates f.place g h.chain.0.0 is).0 ∙ sym is_os
 
   passed_low : f.passed < length (operands_at gates f.place)
-  passed_low = subst (λ xs. f.passed < length xs) (sym ops_are) inside
+  passed_low = subst (λ xs. f.passed < length xs) (sym ops_are) in_bounds
 
   operand_is : get_or (operands_at gates f.place) f.passed 0 ≡ o
-  operand_is = ap (λ xs. get_or xs f.passed 0) ops_are ∙ sym (get_or_default os f.passed o 0 inside) ∙ sym at
+  operand_is = ap (λ xs. get_or xs f.passed 0) ops_are ∙ sym (get_or_default os f.passed o 0 in_bounds) ∙ sym at
 
   pub next_passed : 0 < get_or heights o 0 → IsRanking gates heights begun (record { place = f.place; passed = f.passed + 1 } ∷ fs)
   next_passed some = step_passed gates heights begun f fs h passed_low (subst (λ s. 0 < get_or heights s 0) (sym operand_is) some)
@@ -265,16 +265,16 @@ module _ (gates : List GateLine) (symbols : List Symbol) (heights : List ℕ) (b
   next_fewer = fewer_passed gates begun f fs passed_low
 
   module _ (operands : All (λ g. All (λ s. s < length heights) g.operands) gates) (driven : (s : ℕ) → s < length heights → get_or heights s 0 ≡ 0 → IsDriven gates symbols s) (none : get_or heights o 0 ≡ 0)
-      (q : ℕ) (told : gate_place (slice_get symbols o) ≡ Some q) where
+      (q : ℕ) (at_gate : gate_place (slice_get symbols o) ≡ Some q) where
     operand_low : o < length heights
     operand_low =
         let all : All (λ s. s < length heights) os = subst (All (λ s. s < length heights)) (sym is_os) (subst (λ (x : GateLine). All (λ s. s < length heights) x.operands) (sym is) (operands f.place g h.chain.0.0)) in
-        subst (λ s. s < length heights) (sym at) (all f.passed o inside)
+        subst (λ s. s < length heights) (sym at) (all f.passed o in_bounds)
 
     next_gate : (q < length gates) × (out_at gates q ≡ get_or (operands_at gates f.place) f.passed 0)
     next_gate =
         let d = driven o operand_low none in
-        let same : d.0 ≡ q = ap (λ x. unwrap_or x 0) (sym d.1 ∙ told) in
+        let same : d.0 ≡ q = ap (λ x. unwrap_or x 0) (sym d.1 ∙ at_gate) in
         (subst (λ p. p < length gates) same d.2, ap (out_at gates) (sym same) ∙ d.3 ∙ sym operand_is)
 
     pub next_low : q < length gates
@@ -292,7 +292,7 @@ module _ (gates : List GateLine) (symbols : List Symbol) (heights : List ℕ) (b
 -- ---- the end
 
 -- a gate that can never be ranked has an operand without a height
-pub ended_settled : (gates : List GateLine) (heights : List ℕ) (p : ℕ) (g : GateLine) → p < length gates → g ≡ get_or gates p g → g.out < length heights → HasOneGateEach gates → AreHeights gates heights → IsEnded gates heights p → IsSettled heights g
+pub ended_settled : (gates : List GateLine) (heights : List ℕ) (p : ℕ) (g : GateLine) → p < length gates → g ≡ get_or gates p g → g.out < length heights → HasOneGateEach gates → AreHeights gates heights → HasHeightOrNeverWill gates heights p → HasHeightIfOperandsHave heights g
 ended_settled gates heights p g low at out one sound (inl some) none = let is = gate_is gates p g low at in absurd (omega (arith, some, none, ap (λ s. get_or heights s 0) is.1))
 ended_settled gates heights p g low at out one sound (inr never) none =
     elim (all_ranked heights g.operands) as (λ b. all_ranked heights g.operands ≡ b → b ≡ false) [
@@ -306,7 +306,7 @@ ended_settled gates heights p g low at out one sound (inr never) none =
     ] refl
 
 pub all_settled : (gates : List GateLine) (heights : List ℕ) (begun : List Bool) → All (λ g. g.out < length heights) gates → HasOneGateEach gates → IsRanking gates heights begun [] →
-    ((p : ℕ) → p < length gates → get_or begun p false ≡ true) → All (IsSettled heights) gates
+    ((p : ℕ) → p < length gates → get_or begun p false ≡ true) → All (HasHeightIfOperandsHave heights) gates
 all_settled gates heights begun outs one h all k d low =
     let g = get_or gates k d in
     ended_settled gates heights k g low (get_or_default gates k d _ low) (outs k d low) one h.sound (h.left k low (all k low) refl)

@@ -8,17 +8,17 @@ use Rattle.std.proofs.Math.Seq.{take-append_seam}
 use Rattle.std.proofs.lemmas.Grind.{flat_map-append}
 use Rattle.net_bench.specs.declared.netlist.Kind.{Kind}
 use Rattle.net_bench.specs.Text.{Word, Token, Open, Close, Equals, Name, End, Tokens}
-use Rattle.net_bench.specs.Statement.{Statement, Input, Output, Gate, spelled, after_comma, spelling, token_of, kind_of, counted, line_of, IsSpelledRight, AreSpelledRight}
+use Rattle.net_bench.specs.Statement.{Statement, Input, Output, Gate, spelled, after_comma, spelling, token_of, kind_of, interned, line_of, IsSpelledRight, AreSpelledRight}
 use Rattle.net_bench.specs.Circuit.{distinct, names_of}
-use Rattle.net_bench.specs.Fault.{NoGateWord, OperandCount, SecondDefinition, Crowded, max_signals, counted_in, has_wrong_operands, redefines, up_to, IsFaultless, ReadsWell}
+use Rattle.net_bench.specs.Fault.{NoGateWord, OperandCount, SecondDefinition, LimitExceeded, max_signals, interned_in, has_wrong_operands, redefines, up_to, IsFaultless, ReadsWell}
 use Rattle.net_bench.specs.Sound.{IsSound, has_kind}
-use Rattle.net_bench.proofs.Counting.{counted_all}
+use Rattle.net_bench.proofs.Interning.{interned_all}
 
 -- ---- places
 
 -- the place at which these first tokens end
 record Ends (ts : Tokens) (xs : List Token) (place : ℕ) : Type 0 where
-  inside : place < length ts
+  in_bounds : place < length ts
   whole : up_to ts place ≡ xs
 
 len_map : (ts : Tokens) → length (map token_of ts) ≡ length ts
@@ -27,7 +27,7 @@ len_map (t ∷ ts) = ap suc (len_map ts)
 
 ends : (ts : Tokens) (xs ys : List Token) (place : ℕ) → map token_of ts ≡ xs ++ ys → place + 1 ≡ length xs → Ends ts xs place
 ends ts xs ys place e n = record {
-  inside = omega (arith, len_map ts, ap length e, length-append xs ys);
+  in_bounds = omega (arith, len_map ts, ap length e, length-append xs ys);
   whole = sym (take-map token_of (place + 1) ts) ∙ ap (take (place + 1)) e ∙ ap (λ k. take k (xs ++ ys)) n ∙ take-append_seam xs ys;
 }
 
@@ -52,8 +52,8 @@ not_true true h = absurd (h refl)
 not_true false h = refl
 
 -- the tokens behind a gate's word
-abbrev behind_word : Word → List Word → List Token
-behind_word first others = Open ∷ Name first ∷ (flat_map after_comma others ++ Close ∷ [])
+abbrev after_word : Word → List Word → List Token
+after_word first others = Open ∷ Name first ∷ (flat_map after_comma others ++ Close ∷ [])
 
 module _ (ts : Tokens) (ss : List Statement) (right : AreSpelledRight ss) (reads : map token_of ts ≡ spelling ss) (clean : IsFaultless ts) where
   -- the tokens cut at the end of a statement
@@ -80,12 +80,12 @@ module _ (ts : Tokens) (ss : List Statement) (right : AreSpelledRight ss) (reads
     good_count : has_wrong_operands x ≡ false
     good_count =
         not_true (has_wrong_operands x)
-        (λ wrong. clean (length (flat_map spelled front ++ spelled x) - 1) (line_of x) OperandCount at_end.inside (front, x, (parts.0, at_end.whole), parts.1, refl, wrong))
+        (λ wrong. clean (length (flat_map spelled front ++ spelled x) - 1) (line_of x) OperandCount at_end.in_bounds (front, x, (parts.0, at_end.whole), parts.1, refl, wrong))
 
     good_definition : redefines front x ≡ false
     good_definition =
         not_true (redefines front x)
-        (λ again. clean (length (flat_map spelled front ++ spelled x) - 1) (line_of x) SecondDefinition at_end.inside (front, x, (parts.0, at_end.whole), parts.1, refl, again))
+        (λ again. clean (length (flat_map spelled front ++ spelled x) - 1) (line_of x) SecondDefinition at_end.in_bounds (front, x, (parts.0, at_end.whole), parts.1, refl, again))
 
   -- a gate's word has a kind
   module _ (front back : List Statement) (out word first : Word) (others : List Word) (e : ss ≡ front ++ Gate out word first others ∷ back) where
@@ -94,10 +94,10 @@ module _ (ts : Tokens) (ss : List Statement) (right : AreSpelledRight ss) (reads
 
     at_word : Ends ts (flat_map spelled front ++ Name out ∷ Equals ∷ Name word ∷ []) (length (flat_map spelled front) + 2)
     at_word =
-        ends ts (flat_map spelled front ++ Name out ∷ Equals ∷ Name word ∷ []) (behind_word first others ++ (flat_map spelled back ++ End ∷ [])) (length (flat_map spelled front) + 2)
+        ends ts (flat_map spelled front ++ Name out ∷ Equals ∷ Name word ∷ []) (after_word first others ++ (flat_map spelled back ++ End ∷ [])) (length (flat_map spelled front) + 2)
         (tokens_cut front back (Gate out word first others) e ∙
         append_assoc (flat_map spelled front) (spelled (Gate out word first others)) (flat_map spelled back ++ End ∷ []) ∙
-        sym (append_assoc (flat_map spelled front) (Name out ∷ Equals ∷ Name word ∷ []) (behind_word first others ++ (flat_map spelled back ++ End ∷ []))))
+        sym (append_assoc (flat_map spelled front) (Name out ∷ Equals ∷ Name word ∷ []) (after_word first others ++ (flat_map spelled back ++ End ∷ []))))
         (omega (arith, length-append (flat_map spelled front) (Name out ∷ Equals ∷ Name word ∷ [])))
 
     front_right : AreSpelledRight front
@@ -105,7 +105,7 @@ module _ (ts : Tokens) (ss : List Statement) (right : AreSpelledRight ss) (reads
 
     no_kind : (o : Option Kind) → kind_of word.text ≡ o → is_some o ≡ true
     no_kind (Some kind) is = refl
-    no_kind None is = absurd (clean (length (flat_map spelled front) + 2) out.line NoGateWord at_word.inside (front, out, word, (front_right, at_word.whole), refl, is))
+    no_kind None is = absurd (clean (length (flat_map spelled front) + 2) out.line NoGateWord at_word.in_bounds (front, out, word, (front_right, at_word.whole), refl, is))
 
     good_word : is_some (kind_of word.text) ≡ true
     good_word = no_kind (kind_of word.text) refl
@@ -124,16 +124,16 @@ module _ (ts : Tokens) (ss : List Statement) (right : AreSpelledRight ss) (reads
   abbrev here : ℕ × Token
   here = get_or ts (length (flat_map spelled ss)) (0, End)
 
-  all_counted : counted_in (up_to ts (length (flat_map spelled ss))) ≡ flat_map counted ss
-  all_counted = ap counted_in at_text_end.whole ∙ counted_all ss (End ∷ []) ∙ append-nil (flat_map counted ss)
+  all_interned : interned_in (up_to ts (length (flat_map spelled ss))) ≡ flat_map interned ss
+  all_interned = ap interned_in at_text_end.whole ∙ interned_all ss (End ∷ []) ∙ append-nil (flat_map interned ss)
 
   good_number : length (names_of ss) ≤ max_signals
   good_number =
       elim (cases_lt max_signals (length (names_of ss))) [
-        | inl many ↦ absurd (clean (length (flat_map spelled ss)) here.0 Crowded at_text_end.inside (
+        | inl many ↦ absurd (clean (length (flat_map spelled ss)) here.0 LimitExceeded at_text_end.in_bounds (
           here.1,
-          slice_get-get_or ts (length (flat_map spelled ss)) (0, End) at_text_end.inside,
-          inl (subst (λ (ns : List (List ℕ)). max_signals < length (distinct ns)) (sym all_counted) many),
+          slice_get-get_or ts (length (flat_map spelled ss)) (0, End) at_text_end.in_bounds,
+          inl (subst (λ (ns : List (List ℕ)). max_signals < length (distinct ns)) (sym all_interned) many),
         ))
         | inr few ↦ few
       ]

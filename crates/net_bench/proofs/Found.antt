@@ -11,7 +11,7 @@ use Rattle.net_bench.specs.declared.symbols.Use.{Use}
 use Rattle.net_bench.specs.Text.{Word}
 use Rattle.net_bench.specs.Statement.{Statement, Input, Output, Gate, kind_of}
 use Rattle.net_bench.specs.Circuit.{is_name_in, with_name, find, number_of, gate_line, gate_with}
-use Rattle.net_bench.specs.Symbols.{AreFound, IsLater, counted_words, line_with}
+use Rattle.net_bench.specs.Symbols.{AreFound, IsLater, interned_words, gate_line_with}
 use Rattle.net_bench.proofs.Numbers.{same_name, name_itself, number_low, number_at}
 use Rattle.net_bench.proofs.Places.{passes, place_other}
 
@@ -74,8 +74,8 @@ in_front names more n i e low =
     list_any_at (λ m. bytes_eq m n) names i [] low (ap (λ m. bytes_eq m n) (sym (get_or-append names more [] i low) ∙ found_at (names ++ more) n i e) ∙ name_itself n)
 
 -- a name that is new stands behind the others
-pub new_behind : (xs names : List (List ℕ)) (n : List ℕ) (i : ℕ) → find (fold with_name names xs) n ≡ Some i → is_name_in names n ≡ false → length names ≤ i
-new_behind xs names n i e new =
+pub new_after : (xs names : List (List ℕ)) (n : List ℕ) (i : ℕ) → find (fold with_name names xs) n ≡ Some i → is_name_in names n ≡ false → length names ≤ i
+new_after xs names n i e new =
     let (more, f) = fold_front xs names in
     elim (cases_lt i (length names)) [
       | inl low ↦ let there : is_name_in names n ≡ true = in_front names more n i (subst (λ ns. find ns n ≡ Some i) f e) low in cc
@@ -125,7 +125,7 @@ gate_same : (out number line : ℕ) (kind : Kind) (some others : List ℕ) → o
     (let g : GateLine = record { out = out; kind = kind; operands = some; line = line } in g) ≡ record { out = number; kind = kind; operands = others; line = line }
 gate_same out number line kind some others e f = cc
 
-pub line_is : (names : List (List ℕ)) (x : Statement) (u : Use) (us : List Use) → AreFound names (u ∷ us) (counted_words x) → line_with x u us ≡ gate_line names x
+pub line_is : (names : List (List ℕ)) (x : Statement) (u : Use) (us : List Use) → AreFound names (u ∷ us) (interned_words x) → gate_line_with x u us ≡ gate_line names x
 line_is names (Input word name) u us h = refl
 line_is names (Output word name) u us h = refl
 line_is names (Gate out word first others) u us h =

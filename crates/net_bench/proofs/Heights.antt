@@ -54,7 +54,7 @@ greatest_low ms (s ∷ ss) low =
       | false ↦ here
     ]
 
-module _ (gates : List GateLine) (ms : List ℕ) (place : ℕ) (g : GateLine) (inside : place < length gates) (is : g ≡ get_or gates place g) (out : g.out < length ms)
+module _ (gates : List GateLine) (ms : List ℕ) (place : ℕ) (g : GateLine) (in_bounds : place < length gates) (is : g ≡ get_or gates place g) (out : g.out < length ms)
     (one : HasOneGateEach gates) (sound : AreHeights gates ms) (none : get_or ms g.out 0 ≡ 0) (all : all_ranked ms g.operands ≡ true) where
   abbrev value : ℕ
   value = greatest (map (λ s. get_or ms s 0) g.operands) + 1
@@ -98,7 +98,7 @@ module _ (gates : List GateLine) (ms : List ℕ) (place : ℕ) (g : GateLine) (i
   apart_from h k low other at e =
       let outs : (get_or gates k g).out ≡ (get_or gates place g).out = ap (λ x. x.out) (sym at) ∙ e ∙ ap (λ x. x.out) is in
       elim (cases_lt k place) [
-        | inl lt ↦ one k place g lt inside outs
+        | inl lt ↦ one k place g lt in_bounds outs
         | inr le ↦ one place k g (omega (arith, other)) low (sym outs)
       ]
 
@@ -106,7 +106,7 @@ module _ (gates : List GateLine) (ms : List ℕ) (place : ℕ) (g : GateLine) (i
   right_at k d low =
       elim (nat_eq k place) as (λ b. nat_eq k place ≡ b → 0 < get_or (set ms g.out value) (get_or gates k d).out 0 → IsRanked (set ms g.out value) (get_or gates k d)) [
         | true ↦ λ e some. let same : k ≡ place = grind arith in
-            let at : g ≡ get_or gates k d = is ∙ get_or_default gates place g d inside ∙ ap (λ j. get_or gates j d) (sym same) in
+            let at : g ≡ get_or gates k d = is ∙ get_or_default gates place g d in_bounds ∙ ap (λ j. get_or gates j d) (sym same) in
             subst (IsRanked (set ms g.out value)) at this_right
         | false ↦ λ e some. let other : k ≢ place = (λ f. grind arith) in
             other_right (get_or gates k d) (apart_from (get_or gates k d) k low other (get_or_default gates k d g low)) (sound.right k d low) some
@@ -119,14 +119,14 @@ module _ (gates : List GateLine) (ms : List ℕ) (place : ℕ) (g : GateLine) (i
 
 pub input_low : (ms : List ℕ) (i : ℕ) → i < length ms → get_or ms i 0 ≡ 0 → ((s : ℕ) → get_or ms s 0 + unranked ms ≤ length ms) →
     (s : ℕ) → get_or (set ms i 1) s 0 + unranked (set ms i 1) ≤ length (set ms i 1)
-input_low ms i inside none low s =
-    let fewer : unranked (set ms i 1) + 1 ≡ unranked ms = unranked_set ms i 1 inside none (omega arith) in
+input_low ms i in_bounds none low s =
+    let fewer : unranked (set ms i 1) + 1 ≡ unranked ms = unranked_set ms i 1 in_bounds none (omega arith) in
     let old : get_or ms s 0 + unranked ms ≤ length ms = low s in
     let at : get_or ms i 0 + unranked ms ≤ length ms = low i in
     let long : length (set ms i 1) ≡ length ms = simp length-set in
     elim (nat_eq s i) as (λ b. nat_eq s i ≡ b → get_or (set ms i 1) s 0 + unranked (set ms i 1) ≤ length (set ms i 1)) [
       | true ↦ λ e. let same : s ≡ i = grind arith in
-          let now : get_or (set ms i 1) s 0 ≡ 1 = ap (λ k. get_or (set ms i 1) k 0) same ∙ get_or-set_same ms i 1 0 inside in omega arith
+          let now : get_or (set ms i 1) s 0 ≡ 1 = ap (λ k. get_or (set ms i 1) k 0) same ∙ get_or-set_same ms i 1 0 in_bounds in omega arith
       | false ↦ λ e. let other : s ≢ i = (λ f. grind arith) in
           let now : get_or (set ms i 1) s 0 ≡ get_or ms s 0 = get_or-set_other ms i s 1 0 other in omega arith
     ] refl

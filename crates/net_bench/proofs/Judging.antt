@@ -9,8 +9,8 @@ use Rattle.net_bench.specs.Text.{Word, Token, Open, Close, Equals, Name, Unknown
 use Rattle.net_bench.specs.Statement.{Statement, Gate, spelled, token_of, kind_of, line_of, IsSpelledRight, AreSpelledRight}
 use Rattle.net_bench.specs.Machine.{State, Between, First, Opened, Named, Defining, AtWord, Operands, AfterOperand, AfterComma, Finished, Failed, is_port_word, port, step, run, tokens_of, IsRight}
 use Rattle.net_bench.specs.Circuit.{distinct}
-use Rattle.net_bench.specs.Fault.{Cause, StrayByte, LongName, Misplaced, NoGateWord, OperandCount, SecondDefinition, Crowded, order_of, max_name, max_signals, max_operands, counted_in, operands_in, has_wrong_operands, redefines, up_to, Begins, StandsAfter, IsFaulty, IsFirst, IsFaultless}
-use Rattle.net_bench.specs.Judge.{Found, lexical, syntactic, without_kind, gate_word, closed, wrong_count, second, crowded, tests, first_of, unless, judge}
+use Rattle.net_bench.specs.Fault.{Cause, StrayByte, LongName, Misplaced, NoGateWord, OperandCount, SecondDefinition, LimitExceeded, order_of, max_name, max_signals, max_operands, interned_in, operands_in, has_wrong_operands, redefines, up_to, Begins, IsAfterStatements, IsFaulty, IsFirst, IsFaultless}
+use Rattle.net_bench.specs.Judge.{FaultOnLine, lexical, syntactic, without_kind, gate_word, closed, wrong_count, second, over_limit, tests, first_of, unless, judge}
 use Rattle.net_bench.proofs.Machine.{run_all, run_one, Goes, go, can_begin, cannot_begin, spelled_snoc}
 
 -- ---- one place of a text
@@ -21,7 +21,7 @@ record At (ts : Tokens) (place line : ℕ) (t : Token) (s : State) (front : List
   whole : up_to ts place ≡ front
   before : IsRight s
   reached : run (Between []) front ≡ step s t
-  told : front ≡ tokens_of s ++ t ∷ []
+  front_is : front ≡ tokens_of s ++ t ∷ []
 
 test_true : {X : Type 0} (b : Bool) (x y : X) → b ≡ true → (if b then x else y) ≡ x
 test_true true x y e = refl
@@ -113,7 +113,7 @@ same_place : {ts : Tokens} {place line : ℕ} {t : Token} {s : State} {front : L
     (l : ℕ) (u : Token) → slice_get ts place ≡ Some (l, u) → (line ≡ l) × (t ≡ u)
 same_place at l u e = first_of_pair _ _ _ _ (some_of _ _ (sym at.here ∙ e))
 
-not_none : (b : Bool) (x : Found) → b ≡ true → (if b then Some x else None) ≡ Some x
+not_none : (b : Bool) (x : FaultOnLine) → b ≡ true → (if b then Some x else None) ≡ Some x
 not_none true x e = refl
 not_none false x e = cc
 
@@ -138,29 +138,29 @@ failing : (front : List Token) → (Begins front → ⊥) → run (Between []) f
 failing front h = elim (is_failed (run (Between []) front)) [ inl e ↦ e | inr other ↦ absurd (h (can_begin front other)) ]
 
 word_state : {ts : Tokens} {place line : ℕ} {t : Token} {s : State} {front : List Token} → At ts place line t s front →
-    (ss : List Statement) (out word : Word) → StandsAfter ss ts place (Name out ∷ Equals ∷ Name word ∷ []) → step s t ≡ AtWord ss out word
+    (ss : List Statement) (out word : Word) → IsAfterStatements ss ts place (Name out ∷ Equals ∷ Name word ∷ []) → step s t ≡ AtWord ss out word
 word_state at ss out word h =
     sym at.reached ∙ ap (run (Between [])) (sym at.whole ∙ h.1) ∙ run_all [] ss (Name out ∷ Equals ∷ Name word ∷ []) h.0
 
 statement_closed : {ts : Tokens} {place line : ℕ} {t : Token} {s : State} {front : List Token} → At ts place line t s front →
-    (ss : List Statement) (x : Statement) → StandsAfter ss ts place (spelled x) → IsSpelledRight x → closed s t ≡ Some (ss, x)
+    (ss : List Statement) (x : Statement) → IsAfterStatements ss ts place (spelled x) → IsSpelledRight x → closed s t ≡ Some (ss, x)
 statement_closed {t = t} {s = s} at ss x h right =
     closed_is s t ss x (sym at.reached ∙ ap (run (Between [])) (sym at.whole ∙ h.1) ∙ after_statement ss x h.0 right)
 
 abbrev IsCrowded : List Token → Type 0
-IsCrowded front = (max_signals < length (distinct (counted_in front))) ⊎ (max_operands < length (operands_in front))
+IsCrowded front = (max_signals < length (distinct (interned_in front))) ⊎ (max_operands < length (operands_in front))
 
-abbrev is_crowded : List Token → Bool
-is_crowded front = nat_lt max_signals (length (distinct (counted_in front))) || nat_lt max_operands (length (operands_in front))
+abbrev is_over_limit : List Token → Bool
+is_over_limit front = nat_lt max_signals (length (distinct (interned_in front))) || nat_lt max_operands (length (operands_in front))
 
 or_true : (a b : Bool) → (a ≡ true) ⊎ (b ≡ true) → (a || b) ≡ true
 or_true true b h = refl
 or_true false b (inl e) = cc
 or_true false b (inr e) = e
 
-crowded_test : (front : List Token) → IsCrowded front → is_crowded front ≡ true
-crowded_test front (inl h) = or_true _ _ (inl (lt_test max_signals (length (distinct (counted_in front))) h))
-crowded_test front (inr h) = or_true _ _ (inr (lt_test max_operands (length (operands_in front)) h))
+over_limit_test : (front : List Token) → IsCrowded front → is_over_limit front ≡ true
+over_limit_test front (inl h) = or_true _ _ (inl (lt_test max_signals (length (distinct (interned_in front))) h))
+over_limit_test front (inr h) = or_true _ _ (inr (lt_test max_operands (length (operands_in front)) h))
 
 shows : (ts : Tokens) (place line : ℕ) (t : Token) (s : State) (front : List Token) → At ts place line t s front →
     (cause : Cause) (l : ℕ) → IsFaulty ts place cause l → Shows s line t front cause l
@@ -180,13 +180,13 @@ shows ts place line t s front at OperandCount l (ss, x, stands, right, on, wrong
     ap Some (ap wrong_count (statement_closed at ss x stands right) ∙ not_none (has_wrong_operands x) (OperandCount, line_of x) wrong ∙ ap (λ n. Some (OperandCount, n)) (sym on))
 shows ts place line t s front at SecondDefinition l (ss, x, stands, right, on, again) =
     ap Some (ap second (statement_closed at ss x stands right) ∙ not_none (redefines ss x) (SecondDefinition, line_of x) again ∙ ap (λ n. Some (SecondDefinition, n)) (sym on))
-shows ts place line t s front at Crowded l h =
+shows ts place line t s front at LimitExceeded l h =
     let same : (line ≡ l) × (t ≡ h.0) = same_place at l h.0 h.1 in
-    ap Some (not_none (is_crowded front) (Crowded, line) (crowded_test front (subst IsCrowded at.whole h.2)) ∙ ap (λ n. Some (Crowded, n)) same.0)
+    ap Some (not_none (is_over_limit front) (LimitExceeded, line) (over_limit_test front (subst IsCrowded at.whole h.2)) ∙ ap (λ n. Some (LimitExceeded, n)) same.0)
 
 -- ---- what the tests show is a fault of the place
 
-abbrev Is : Tokens → ℕ → ℕ → Found → Type 0
+abbrev Is : Tokens → ℕ → ℕ → FaultOnLine → Type 0
 Is ts place k f = (order_of f.0 ≡ k) × IsFaulty ts place f.0 f.1
 
 apart_word : (done : List Statement) (out g : Word) → AtWord done out g ≡ Failed → ⊥
@@ -202,17 +202,17 @@ true_or : (a b : Bool) → (a || b) ≡ true → (a ≡ true) ⊎ (b ≡ true)
 true_or true b h = inl refl
 true_or false b h = inr h
 
-crowded_is : (front : List Token) → is_crowded front ≡ true → IsCrowded front
-crowded_is front h =
-    elim (true_or (nat_lt max_signals (length (distinct (counted_in front)))) (nat_lt max_operands (length (operands_in front))) h) [
-      | inl a ↦ inl (lt_of' max_signals (length (distinct (counted_in front))) a)
+over_limit_is : (front : List Token) → is_over_limit front ≡ true → IsCrowded front
+over_limit_is front h =
+    elim (true_or (nat_lt max_signals (length (distinct (interned_in front)))) (nat_lt max_operands (length (operands_in front))) h) [
+      | inl a ↦ inl (lt_of' max_signals (length (distinct (interned_in front))) a)
       | inr a ↦ inr (lt_of' max_operands (length (operands_in front)) a)
     ]
 
-abbrev found : Cause → ℕ → Found
+abbrev found : Cause → ℕ → FaultOnLine
 found c l = (c, l)
 
-syntactic_is : (line : ℕ) (x : State) (f : Found) → syntactic line x ≡ Some f → (x ≡ Failed) × (found Misplaced line ≡ f)
+syntactic_is : (line : ℕ) (x : State) (f : FaultOnLine) → syntactic line x ≡ Some f → (x ≡ Failed) × (found Misplaced line ≡ f)
 syntactic_is line Failed f e = (refl, some_of _ _ e)
 syntactic_is line (Between done) f e = cc
 syntactic_is line (First done w) f e = cc
@@ -225,20 +225,20 @@ syntactic_is line (AfterOperand done out g a others) f e = cc
 syntactic_is line (AfterComma done out g a others) f e = cc
 syntactic_is line (Finished done) f e = cc
 
-abbrev IsNoWord : Word → Word → Found → Type 0
+abbrev IsNoWord : Word → Word → FaultOnLine → Type 0
 IsNoWord out g f = (found NoGateWord out.line ≡ f) × (kind_of g.text ≡ None)
 
-kind_found : (line : ℕ) (k : Option Kind) (f : Found) → without_kind line k ≡ Some f → (k ≡ None) × (found NoGateWord line ≡ f)
+kind_found : (line : ℕ) (k : Option Kind) (f : FaultOnLine) → without_kind line k ≡ Some f → (k ≡ None) × (found NoGateWord line ≡ f)
 kind_found line None f e = (refl, some_of _ _ e)
 kind_found line (Some k) f e = cc
 
-word_is : (out g : Word) (f : Found) → without_kind out.line (kind_of g.text) ≡ Some f → IsNoWord out g f
+word_is : (out g : Word) (f : FaultOnLine) → without_kind out.line (kind_of g.text) ≡ Some f → IsNoWord out g f
 word_is out g f e = let k : (kind_of g.text ≡ None) × (found NoGateWord out.line ≡ f) = kind_found out.line (kind_of g.text) f e in (k.1, k.0)
 
-abbrev IsWordFault : State → Found → Type 0
+abbrev IsWordFault : State → FaultOnLine → Type 0
 IsWordFault x f = (done : List Statement) × (out g : Word) × (x ≡ AtWord done out g) × IsNoWord out g f
 
-gate_word_is : (x : State) (f : Found) → gate_word x ≡ Some f → IsWordFault x f
+gate_word_is : (x : State) (f : FaultOnLine) → gate_word x ≡ Some f → IsWordFault x f
 gate_word_is (AtWord done out g) f e = (done, out, g, refl, word_is out g f e)
 gate_word_is Failed f e = cc
 gate_word_is (Between done) f e = cc
@@ -254,11 +254,11 @@ gate_word_is (Finished done) f e = cc
 abbrev Closes : Option (List Statement × Statement) → (List Statement × Statement → Type 0) → Type 0
 Closes o P = (c : List Statement × Statement) × (o ≡ Some c) × P c
 
-wrong_count_is : (o : Option (List Statement × Statement)) (f : Found) → wrong_count o ≡ Some f → Closes o (λ c. (has_wrong_operands c.1 ≡ true) × (found OperandCount (line_of c.1) ≡ f))
+wrong_count_is : (o : Option (List Statement × Statement)) (f : FaultOnLine) → wrong_count o ≡ Some f → Closes o (λ c. (has_wrong_operands c.1 ≡ true) × (found OperandCount (line_of c.1) ≡ f))
 wrong_count_is None f e = cc
 wrong_count_is (Some c) f e = (c, refl, test_some (has_wrong_operands c.1) (found OperandCount (line_of c.1)) f e)
 
-second_is : (o : Option (List Statement × Statement)) (f : Found) → second o ≡ Some f → Closes o (λ c. (redefines c.0 c.1 ≡ true) × (found SecondDefinition (line_of c.1) ≡ f))
+second_is : (o : Option (List Statement × Statement)) (f : FaultOnLine) → second o ≡ Some f → Closes o (λ c. (redefines c.0 c.1 ≡ true) × (found SecondDefinition (line_of c.1) ≡ f))
 second_is None f e = cc
 second_is (Some c) f e = (c, refl, test_some (redefines c.0 c.1) (found SecondDefinition (line_of c.1)) f e)
 
@@ -267,78 +267,78 @@ module _ (ts : Tokens) (place line : ℕ) (t : Token) (s : State) (front : List 
   on : step s t ≢ Failed → Goes s t (step s t)
   on other = go s t other at.before
 
-  stands_at_word : (done : List Statement) (out g : Word) → step s t ≡ AtWord done out g → StandsAfter done ts place (Name out ∷ Equals ∷ Name g ∷ [])
+  stands_at_word : (done : List Statement) (out g : Word) → step s t ≡ AtWord done out g → IsAfterStatements done ts place (Name out ∷ Equals ∷ Name g ∷ [])
   stands_at_word done out g e =
-      let goes : Goes s t (step s t) = on (λ f. apart_word done out g (sym e ∙ f)) in
-      (subst IsRight e goes.0, at.whole ∙ at.told ∙ sym goes.1 ∙ ap tokens_of e)
+      let continues : Goes s t (step s t) = on (λ f. apart_word done out g (sym e ∙ f)) in
+      (subst IsRight e continues.0, at.whole ∙ at.front_is ∙ sym continues.1 ∙ ap tokens_of e)
 
-  stands_closed : (c : List Statement × Statement) → closed s t ≡ Some c → StandsAfter c.0 ts place (spelled c.1) × IsSpelledRight c.1
+  stands_closed : (c : List Statement × Statement) → closed s t ≡ Some c → IsAfterStatements c.0 ts place (spelled c.1) × IsSpelledRight c.1
   stands_closed c e =
       let next : step s t ≡ Between (c.0 ++ c.1 ∷ []) = closed_steps s t c e in
-      let goes : Goes s t (step s t) = on (λ f. apart_between (c.0 ++ c.1 ∷ []) (sym next ∙ f)) in
-      let right : AreSpelledRight c.0 × IsSpelledRight c.1 = right_parts c.0 c.1 (subst IsRight next goes.0) in
-      ((right.0, at.whole ∙ at.told ∙ sym goes.1 ∙ ap tokens_of next ∙ spelled_snoc c.0 c.1), right.1)
+      let continues : Goes s t (step s t) = on (λ f. apart_between (c.0 ++ c.1 ∷ []) (sym next ∙ f)) in
+      let right : AreSpelledRight c.0 × IsSpelledRight c.1 = right_parts c.0 c.1 (subst IsRight next continues.0) in
+      ((right.0, at.whole ∙ at.front_is ∙ sym continues.1 ∙ ap tokens_of next ∙ spelled_snoc c.0 c.1), right.1)
 
-  lexical_shows : (u : Token) (f : Found) → t ≡ u → lexical line u ≡ Some f → Is ts place 0 f
+  lexical_shows : (u : Token) (f : FaultOnLine) → t ≡ u → lexical line u ≡ Some f → Is ts place 0 f
   lexical_shows (Unknown b) f e h = subst (Is ts place 0) (some_of _ _ h) (refl, (b, at.here ∙ ap (λ u. Some (placed line u)) e))
   lexical_shows (Name w) f e h =
       let long : (nat_lt max_name (length w.text) ≡ true) × (found LongName line ≡ f) = test_some (nat_lt max_name (length w.text)) (found LongName line) f h in
       subst (Is ts place 0) long.1 (refl, (w, at.here ∙ ap (λ u. Some (placed line u)) e, lt_of' max_name (length w.text) long.0))
   lexical_shows u f e h = cc
 
-  syntactic_shows : (f : Found) → syntactic line (step s t) ≡ Some f → Is ts place 1 f
+  syntactic_shows : (f : FaultOnLine) → syntactic line (step s t) ≡ Some f → Is ts place 1 f
   syntactic_shows f h =
       let k : (step s t ≡ Failed) × (found Misplaced line ≡ f) = syntactic_is line (step s t) f h in
       subst (Is ts place 1) k.1 (refl, (t, at.here, λ b. cannot_begin front (at.reached ∙ k.0) (subst Begins at.whole b)))
 
-  word_shows : (f : Found) → gate_word (step s t) ≡ Some f → Is ts place 2 f
+  word_shows : (f : FaultOnLine) → gate_word (step s t) ≡ Some f → Is ts place 2 f
   word_shows f h =
       let k : IsWordFault (step s t) f = gate_word_is (step s t) f h in
       subst (Is ts place 2) k.4.0 (refl, (k.0, k.1, k.2, stands_at_word k.0 k.1 k.2 k.3, refl, k.4.1))
 
-  count_shows : (f : Found) → wrong_count (closed s t) ≡ Some f → Is ts place 3 f
+  count_shows : (f : FaultOnLine) → wrong_count (closed s t) ≡ Some f → Is ts place 3 f
   count_shows f h =
       let k : Closes (closed s t) (λ c. (has_wrong_operands c.1 ≡ true) × (found OperandCount (line_of c.1) ≡ f)) = wrong_count_is (closed s t) f h in
-      let stands : StandsAfter k.0.0 ts place (spelled k.0.1) × IsSpelledRight k.0.1 = stands_closed k.0 k.1 in
+      let stands : IsAfterStatements k.0.0 ts place (spelled k.0.1) × IsSpelledRight k.0.1 = stands_closed k.0 k.1 in
       subst (Is ts place 3) k.2.1 (refl, (k.0.0, k.0.1, stands.0, stands.1, refl, k.2.0))
 
-  second_shows : (f : Found) → second (closed s t) ≡ Some f → Is ts place 4 f
+  second_shows : (f : FaultOnLine) → second (closed s t) ≡ Some f → Is ts place 4 f
   second_shows f h =
       let k : Closes (closed s t) (λ c. (redefines c.0 c.1 ≡ true) × (found SecondDefinition (line_of c.1) ≡ f)) = second_is (closed s t) f h in
-      let stands : StandsAfter k.0.0 ts place (spelled k.0.1) × IsSpelledRight k.0.1 = stands_closed k.0 k.1 in
+      let stands : IsAfterStatements k.0.0 ts place (spelled k.0.1) × IsSpelledRight k.0.1 = stands_closed k.0 k.1 in
       subst (Is ts place 4) k.2.1 (refl, (k.0.0, k.0.1, stands.0, stands.1, refl, k.2.0))
 
-  crowded_shows : (f : Found) → crowded line front ≡ Some f → Is ts place 5 f
-  crowded_shows f h =
-      let k : (is_crowded front ≡ true) × (found Crowded line ≡ f) = test_some (is_crowded front) (found Crowded line) f h in
-      subst (Is ts place 5) k.1 (refl, (t, at.here, subst IsCrowded (sym at.whole) (crowded_is front k.0)))
+  over_limit_shows : (f : FaultOnLine) → over_limit line front ≡ Some f → Is ts place 5 f
+  over_limit_shows f h =
+      let k : (is_over_limit front ≡ true) × (found LimitExceeded line ≡ f) = test_some (is_over_limit front) (found LimitExceeded line) f h in
+      subst (Is ts place 5) k.1 (refl, (t, at.here, subst IsCrowded (sym at.whole) (over_limit_is front k.0)))
 
-  each : (k : ℕ) (f : Found) → slice_get (tests s line t front) k ≡ Some (Some f) → Is ts place k f
+  each : (k : ℕ) (f : FaultOnLine) → slice_get (tests s line t front) k ≡ Some (Some f) → Is ts place k f
   each zero f h = lexical_shows t f refl (some_of _ _ h)
   each (suc zero) f h = syntactic_shows f (some_of _ _ h)
   each (suc (suc zero)) f h = word_shows f (some_of _ _ h)
   each (suc (suc (suc zero))) f h = count_shows f (some_of _ _ h)
   each (suc (suc (suc (suc zero)))) f h = second_shows f (some_of _ _ h)
-  each (suc (suc (suc (suc (suc zero))))) f h = crowded_shows f (some_of _ _ h)
+  each (suc (suc (suc (suc (suc zero))))) f h = over_limit_shows f (some_of _ _ h)
   each (suc (suc (suc (suc (suc (suc k)))))) f h = cc
 
 -- ---- the first of the tests
 
-abbrev IsFirstTest : List (Option Found) → Found → Type 0
+abbrev IsFirstTest : List (Option FaultOnLine) → FaultOnLine → Type 0
 IsFirstTest os f = (k : ℕ) × (slice_get os k ≡ Some (Some f)) × ((j : ℕ) → j < k → slice_get os j ≡ Some None)
 
-none_before : (os : List (Option Found)) (k : ℕ) → ((j : ℕ) → j < k → slice_get os j ≡ Some None) → (j : ℕ) → j < suc k → slice_get (None ∷ os) j ≡ Some None
+none_before : (os : List (Option FaultOnLine)) (k : ℕ) → ((j : ℕ) → j < k → slice_get os j ≡ Some None) → (j : ℕ) → j < suc k → slice_get (None ∷ os) j ≡ Some None
 none_before os k h zero lt = refl
 none_before os k h (suc j) lt = h j (omega arith)
 
-first_is : (os : List (Option Found)) (f : Found) → first_of os ≡ Some f → IsFirstTest os f
+first_is : (os : List (Option FaultOnLine)) (f : FaultOnLine) → first_of os ≡ Some f → IsFirstTest os f
 first_is [] f e = cc
 first_is (Some g ∷ os) f e = (0, ap Some e, λ j h. absurd (omega arith))
 first_is (None ∷ os) f e =
     let k : IsFirstTest os f = first_is os f e in
     (suc k.0, k.1, λ j h. none_before os k.0 k.2 j h)
 
-none_is : (os : List (Option Found)) → first_of os ≡ None → (j : ℕ) (f : Found) → slice_get os j ≡ Some (Some f) → ⊥
+none_is : (os : List (Option FaultOnLine)) → first_of os ≡ None → (j : ℕ) (f : FaultOnLine) → slice_get os j ≡ Some (Some f) → ⊥
 none_is [] e j f h = cc
 none_is (Some g ∷ os) e j f h = cc
 none_is (None ∷ os) e zero f h = cc
@@ -362,7 +362,7 @@ record Come (ts before rest : Tokens) (s : State) : Type 0 where
   split : ts ≡ before ++ rest
   state : run (Between []) (map token_of before) ≡ s
   right : IsRight s
-  said : tokens_of s ≡ map token_of before
+  parsed : tokens_of s ≡ map token_of before
   clean : Clean ts (length before)
 
 at_place : (ts before rest : Tokens) (x : ℕ × Token) (s : State) → Come ts before (x ∷ rest) s → At ts (length before) x.0 x.1 s (map token_of before ++ x.1 ∷ [])
@@ -371,11 +371,11 @@ at_place ts before rest x s h = record {
   whole = rw (h.split, add-one) (take_length before rest x);
   before = h.right;
   reached = fold-append step (Between []) (map token_of before) (x.1 ∷ []) ∙ ap (λ z. step z x.1) h.state;
-  told = ap (λ z. z ++ x.1 ∷ []) (sym h.said);
+  front_is = ap (λ z. z ++ x.1 ∷ []) (sym h.parsed);
 }
 
 -- the tests at this place
-abbrev tests_at : Tokens → ℕ × Token → State → List (Option Found)
+abbrev tests_at : Tokens → ℕ × Token → State → List (Option FaultOnLine)
 tests_at before x s = tests s x.0 x.1 (map token_of before ++ x.1 ∷ [])
 
 not_failed : (before : Tokens) (x : ℕ × Token) (s : State) → first_of (tests_at before x s) ≡ None → step s x.1 ≢ Failed
@@ -397,39 +397,39 @@ clean_here ts before rest x s h none p l cause lt faulty =
 come_on : (ts before rest : Tokens) (x : ℕ × Token) (s : State) → Come ts before (x ∷ rest) s → first_of (tests_at before x s) ≡ None →
     Come ts (before ++ x ∷ []) rest (step s x.1)
 come_on ts before rest x s h none =
-    let goes : Goes s x.1 (step s x.1) = go s x.1 (not_failed before x s none) h.right in
+    let continues : Goes s x.1 (step s x.1) = go s x.1 (not_failed before x s none) h.right in
     record {
       split = h.split ∙ sym (append_assoc before (x ∷ []) rest);
       state = ap (run (Between [])) (map-append token_of before (x ∷ [])) ∙ fold-append step (Between []) (map token_of before) (x.1 ∷ []) ∙ ap (λ z. step z x.1) h.state;
-      right = goes.0;
-      said = goes.1 ∙ ap (λ z. z ++ x.1 ∷ []) h.said ∙ sym (map-append token_of before (x ∷ []));
+      right = continues.0;
+      parsed = continues.1 ∙ ap (λ z. z ++ x.1 ∷ []) h.parsed ∙ sym (map-append token_of before (x ∷ []));
       clean = λ p l cause lt faulty. clean_here ts before rest x s h none p l cause (rw length-append at lt) faulty;
     }
 
-none_some : (g : Found) → None ≡ Some g → ⊥
+none_some : (g : FaultOnLine) → None ≡ Some g → ⊥
 none_some g e = cc
 
-not_before : (os : List (Option Found)) (k j : ℕ) (g : Found) → ((i : ℕ) → i < k → slice_get os i ≡ Some None) → slice_get os j ≡ Some (Some g) → (n : ℕ) → n ≡ k → n ≤ j
+not_before : (os : List (Option FaultOnLine)) (k j : ℕ) (g : FaultOnLine) → ((i : ℕ) → i < k → slice_get os i ≡ Some None) → slice_get os j ≡ Some (Some g) → (n : ℕ) → n ≡ k → n ≤ j
 not_before os k j g none is n e =
     elim (cases_lt j k) [ inl a ↦ absurd (none_some g (some_of _ _ (sym (none j a) ∙ is))) | inr a ↦ omega arith ]
 
 -- ---- what the judge answers
 
 -- the first fault of the text
-abbrev pub FirstFault : Tokens → Found → Type 0
+abbrev pub FirstFault : Tokens → FaultOnLine → Type 0
 FirstFault ts f = (place : ℕ) × IsFirst ts place f.0 f.1
 
 within : (ts before rest : Tokens) (x : ℕ × Token) → ts ≡ before ++ x ∷ rest → length before < length ts
 within ts before rest x e = omega (arith, ap length e, length-append before (x ∷ rest))
 
-first_fault : (ts before rest : Tokens) (x : ℕ × Token) (s : State) → Come ts before (x ∷ rest) s → (f : Found) → first_of (tests_at before x s) ≡ Some f → FirstFault ts f
+first_fault : (ts before rest : Tokens) (x : ℕ × Token) (s : State) → Come ts before (x ∷ rest) s → (f : FaultOnLine) → first_of (tests_at before x s) ≡ Some f → FirstFault ts f
 first_fault ts before rest x s h f e =
     let at : At ts (length before) x.0 x.1 s (map token_of before ++ x.1 ∷ []) = at_place ts before rest x s h in
     let k : IsFirstTest (tests_at before x s) f = first_is (tests_at before x s) f e in
     let is : Is ts (length before) k.0 f = each ts (length before) x.0 x.1 s (map token_of before ++ x.1 ∷ []) at k.0 f k.1 in (
       length before,
       record {
-        inside = within ts before rest x h.split;
+        in_bounds = within ts before rest x h.split;
         here = is.1;
         earlier = λ p l other lt faulty. h.clean p l other lt faulty;
         same = λ l other faulty. not_before (tests_at before x s) k.0 (order_of other) (found other l) k.2
@@ -438,7 +438,7 @@ first_fault ts before rest x s h f e =
     )
 
 -- what the judge's answer says of the text
-abbrev Says : Tokens → Result State Found → Type 0
+abbrev Says : Tokens → Result State FaultOnLine → Type 0
 Says ts (Err f) = FirstFault ts f
 Says ts (Ok s) = Come ts ts [] s
 
@@ -463,9 +463,9 @@ says ts before (x ∷ rest) s h =
 
 -- the judge's fault is the first of the text, and without one no place is faulty
 judged : (ts : Tokens) → Says ts (judge (Between []) [] ts)
-judged ts = says ts [] ts (Between []) (record { split = refl; state = refl; right = tt; said = refl; clean = λ p l cause lt faulty. absurd (omega arith) })
+judged ts = says ts [] ts (Between []) (record { split = refl; state = refl; right = tt; parsed = refl; clean = λ p l cause lt faulty. absurd (omega arith) })
 
-pub first_found : (ts : Tokens) (f : Found) → judge (Between []) [] ts ≡ Err f → FirstFault ts f
+pub first_found : (ts : Tokens) (f : FaultOnLine) → judge (Between []) [] ts ≡ Err f → FirstFault ts f
 first_found ts f e = subst (Says ts) e (judged ts)
 
 pub none_found : (ts : Tokens) (s : State) → judge (Between []) [] ts ≡ Ok s → IsFaultless ts × (run (Between []) (map token_of ts) ≡ s)

@@ -19,11 +19,11 @@ pub mod Numbers
 pub mod CircuitOf
 pub mod Tables
 pub mod Building
-pub mod Counting
+pub mod Interning
 pub mod Found
 pub mod Parts
 pub mod Placing
-pub mod Telling
+pub mod Answering
 pub mod Judged
 pub mod Faultless
 pub mod Accepting

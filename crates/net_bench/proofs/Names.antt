@@ -11,7 +11,7 @@ use Rattle.net_bench.proofs.Places.{passes_none}
 use Rattle.net_bench.specs.declared.name_table.Span.{Span}
 use Rattle.net_bench.specs.Circuit.{find, is_name_in}
 use Rattle.slot_table.specs.Probes.{Probes, IsFree, home_of}
-use Rattle.net_bench.specs.NameTable.{name_in, names_in, IsInside, IsEachOnce, IsTable, spread_of}
+use Rattle.net_bench.specs.NameTable.{name_in, names_in, IsInside, NamesAreDistinct, IsTable, folded_hash_of}
 use Rattle.slot_table.proofs.Places.{slice_get_cases-push}
 use Rattle.slot_table.proofs.Probing.{Probes-push}
 
@@ -56,10 +56,10 @@ names_next bytes spans k d low =
 
 -- ---- one more name
 
-module _ (bytes name : List ℕ) (spans : List Span) (s : Span) (inside : All (IsInside bytes) spans) (at : s.start ≡ length bytes) (long : s.len ≡ length name) where
+module _ (bytes name : List ℕ) (spans : List Span) (s : Span) (in_bounds : All (IsInside bytes) spans) (at : s.start ≡ length bytes) (long : s.len ≡ length name) where
   pub more_names : names_in (bytes ++ name) (spans ++ s ∷ []) ≡ names_in bytes spans ++ name ∷ []
   more_names =
-      map-append (name_in (bytes ++ name)) spans (s ∷ []) ∙ ap (λ ns. ns ++ name_in (bytes ++ name) s ∷ []) (same_names bytes name spans inside) ∙
+      map-append (name_in (bytes ++ name)) spans (s ∷ []) ∙ ap (λ ns. ns ++ name_in (bytes ++ name) s ∷ []) (same_names bytes name spans in_bounds) ∙
       ap (λ n. names_in bytes spans ++ n ∷ []) (new_name bytes name s at long)
 
   old_inside : (t : Span) → IsInside bytes t → IsInside (bytes ++ name) t
@@ -72,10 +72,10 @@ module _ (bytes name : List ℕ) (spans : List Span) (s : Span) (inside : All (I
   inside_more (t ∷ ts) h (suc k) d low = inside_more ts (λ i e lt. h (suc i) e (omega arith)) k d (omega arith)
 
   pub all_inside : All (IsInside (bytes ++ name)) (spans ++ s ∷ [])
-  all_inside = inside_more spans inside
+  all_inside = inside_more spans in_bounds
 
 -- a list with a name that is not there has each name once
-pub once_more : (names : List (List ℕ)) (name : List ℕ) → IsEachOnce names → ((i : ℕ) → slice_get names i ≡ Some name → ⊥) → IsEachOnce (names ++ name ∷ [])
+pub once_more : (names : List (List ℕ)) (name : List ℕ) → NamesAreDistinct names → ((i : ℕ) → slice_get names i ≡ Some name → ⊥) → NamesAreDistinct (names ++ name ∷ [])
 once_more names name once new i j n e f =
     elim (slice_get_cases-push names name i n e) [
       | inl a ↦ elim (slice_get_cases-push names name j n f) [
@@ -91,7 +91,7 @@ once_more names name once new i j n e f =
 -- ---- the number of a name
 
 -- where each name stands once, find answers the place of the name
-pub found_place : (names : List (List ℕ)) (n : List ℕ) (i : ℕ) → IsEachOnce names → slice_get names i ≡ Some n → find names n ≡ Some i
+pub found_place : (names : List (List ℕ)) (n : List ℕ) (i : ℕ) → NamesAreDistinct names → slice_get names i ≡ Some n → find names n ≡ Some i
 found_place names n i once at =
     elim (find names n) as (λ o. find names n ≡ o → o ≡ Some i) [
       | None ↦ λ e.
@@ -106,8 +106,8 @@ found_place names n i once at =
     ] refl
 
 -- a name that stands nowhere has no place
-pub found_nowhere : (names : List (List ℕ)) (n : List ℕ) → ((i : ℕ) → slice_get names i ≡ Some n → ⊥) → find names n ≡ None
-found_nowhere names n none =
+pub found_missing : (names : List (List ℕ)) (n : List ℕ) → ((i : ℕ) → slice_get names i ≡ Some n → ⊥) → find names n ≡ None
+found_missing names n none =
     elim (find names n) as (λ o. find names n ≡ o → o ≡ None) [
       | None ↦ λ e. refl
       | Some k ↦ λ e.
@@ -138,24 +138,24 @@ same_some m n e = cc
 -- ---- a table with one more name
 
 pub IsTable-push : (bytes more name : List ℕ) (spans grown : List Span) (s : Span) (ts : List ℕ) (j x : ℕ) →
-    All (IsInside bytes) spans → IsEachOnce (names_in bytes spans) → Probes spread_of (length ts) (names_in bytes spans) ts → 2 * (length spans + 1) ≤ length ts →
-    ((i : ℕ) → slice_get (names_in bytes spans) i ≡ Some name → ⊥) → IsFree (length ts) (home_of spread_of (length ts) name) ts j →
+    All (IsInside bytes) spans → NamesAreDistinct (names_in bytes spans) → Probes folded_hash_of (length ts) (names_in bytes spans) ts → 2 * (length spans + 1) ≤ length ts →
+    ((i : ℕ) → slice_get (names_in bytes spans) i ≡ Some name → ⊥) → IsFree (length ts) (home_of folded_hash_of (length ts) name) ts j →
     more ≡ bytes ++ name → grown ≡ spans ++ s ∷ [] → s.start ≡ length bytes → s.len ≡ length name → x ≡ length spans + 1 → IsTable more grown (set ts j x)
-IsTable-push bytes more name spans grown s ts j x inside once probes room absent free is_more is_grown at long held =
+IsTable-push bytes more name spans grown s ts j x in_bounds once probes room absent free is_more is_grown at long slot_value =
     let names : List (List ℕ) = names_in bytes spans in
     let count : length (names_in bytes spans) ≡ length spans = names_count bytes spans in
     let e : names_in more grown ≡ names_in bytes spans ++ name ∷ [] =
-    ap (λ b. names_in b grown) is_more ∙ ap (names_in (bytes ++ name)) is_grown ∙ more_names bytes name spans s inside at long in
-    let v : Probes spread_of (length ts) (names_in bytes spans ++ name ∷ []) (set ts j (suc (length (names_in bytes spans)))) = Probes-push spread_of (length ts) (names_in bytes spans) ts name j probes free in
+    ap (λ b. names_in b grown) is_more ∙ ap (names_in (bytes ++ name)) is_grown ∙ more_names bytes name spans s in_bounds at long in
+    let v : Probes folded_hash_of (length ts) (names_in bytes spans ++ name ∷ []) (set ts j (suc (length (names_in bytes spans)))) = Probes-push folded_hash_of (length ts) (names_in bytes spans) ts name j probes free in
     let is : suc (length (names_in bytes spans)) ≡ x = omega arith in
     let size : length ts ≡ length (set ts j x) = sym (length-set ts j x) in
-    let p : Probes spread_of (length ts) (names_in bytes spans ++ name ∷ []) (set ts j x) = subst (λ (z : ℕ). Probes spread_of (length ts) (names_in bytes spans ++ name ∷ []) (set ts j z)) is v in
-    let q : Probes spread_of (length (set ts j x)) (names_in bytes spans ++ name ∷ []) (set ts j x) = subst (λ (z : ℕ). Probes spread_of z (names_in bytes spans ++ name ∷ []) (set ts j x)) size p in
-    let all : All (IsInside (bytes ++ name)) (spans ++ s ∷ []) = all_inside bytes name spans s inside at long in
+    let p : Probes folded_hash_of (length ts) (names_in bytes spans ++ name ∷ []) (set ts j x) = subst (λ (z : ℕ). Probes folded_hash_of (length ts) (names_in bytes spans ++ name ∷ []) (set ts j z)) is v in
+    let q : Probes folded_hash_of (length (set ts j x)) (names_in bytes spans ++ name ∷ []) (set ts j x) = subst (λ (z : ℕ). Probes folded_hash_of z (names_in bytes spans ++ name ∷ []) (set ts j x)) size p in
+    let all : All (IsInside (bytes ++ name)) (spans ++ s ∷ []) = all_inside bytes name spans s in_bounds at long in
     let len : length grown ≡ length spans + 1 = ap (λ (z : List Span). length z) is_grown ∙ length_push spans s in
     record {
-      inside = subst (λ (z : List Span). All (IsInside more) z) (sym is_grown) (subst (λ (z : List ℕ). All (IsInside z) (spans ++ s ∷ [])) (sym is_more) all);
-      once = subst IsEachOnce (sym e) (once_more (names_in bytes spans) name once absent);
-      probes = subst (λ (z : List (List ℕ)). Probes spread_of (length (set ts j x)) z (set ts j x)) (sym e) q;
+      in_bounds = subst (λ (z : List Span). All (IsInside more) z) (sym is_grown) (subst (λ (z : List ℕ). All (IsInside z) (spans ++ s ∷ [])) (sym is_more) all);
+      once = subst NamesAreDistinct (sym e) (once_more (names_in bytes spans) name once absent);
+      probes = subst (λ (z : List (List ℕ)). Probes folded_hash_of (length (set ts j x)) z (set ts j x)) (sym e) q;
       half = omega arith;
     }

@@ -11,17 +11,17 @@ use Rattle.net_bench.specs.declared.symbols.Use.{Use}
 use Rattle.net_bench.specs.declared.symbols.Symbol.{Symbol}
 use Rattle.net_bench.specs.declared.netlist.Role.{Role}
 use Rattle.net_bench.specs.declared.netlist.Role.TheVariants.{Undefined as undefined, Input as input, Gate as gate, Register as register}
-use Rattle.net_bench.specs.Statement.{Statement, Input, Output, Gate, counted, uses, input_name, output_name, gate_name, kind_of}
+use Rattle.net_bench.specs.Statement.{Statement, Input, Output, Gate, interned, uses, input_name, output_name, gate_name, kind_of}
 use Rattle.net_bench.specs.Circuit.{is_gate, is_register, is_name_in, with_name, distinct, find, number_of, gate_line, is_register_kind}
 use Rattle.net_bench.specs.Fault.{redefines}
-use Rattle.net_bench.specs.Symbols.{AreFound, AreSymbols, IsSymbol, blank, counted_words, subject, symbol_after, inputs_with, outputs_with, line_with, uses_with, is_input_role, is_driven_role, driven_role, IsPlacedAt, ArePlaced}
+use Rattle.net_bench.specs.Symbols.{AreFound, AreSymbols, IsSymbol, blank, interned_words, subject, symbol_after, inputs_with, outputs_with, gate_line_with, uses_with, is_input_role, is_driven_role, driven_role, IsPlacedAt, ArePlaced}
 use Rattle.net_bench.specs.Sound.{has_kind}
 use Rattle.slot_table.proofs.Places.{slice_get-push, slice_get-append}
 use Rattle.std.proofs.lemmas.Bool.{cases_lt}
 use Rattle.std.proofs.lemmas.List.Elements.{All-nil, All-cons, All-head, All-tail}
 use Rattle.net_bench.proofs.Numbers.{in_distinct, in_fold, or_left, or_right, or_cases, same_name, name_itself}
-use Rattle.net_bench.proofs.Counting.{one_more}
-use Rattle.net_bench.proofs.Found.{found_low, found_of, one_name, one_number, later_fold, new_behind, line_is}
+use Rattle.net_bench.proofs.Interning.{one_more}
+use Rattle.net_bench.proofs.Found.{found_low, found_of, one_name, one_number, later_fold, new_after, line_is}
 
 or_false : (a : Bool) → (a || false) ≡ a
 or_false true = refl
@@ -34,30 +34,30 @@ or_true false = refl
 -- ---- a name that no statement has counted
 
 -- what the statements say of names, they have counted
-among : (f : Statement → List (List ℕ)) (n : List ℕ) → ((s : Statement) → is_name_in (f s) n ≡ true → is_name_in (counted s) n ≡ true) →
-    (ss : List Statement) → is_name_in (flat_map f ss) n ≡ true → is_name_in (flat_map counted ss) n ≡ true
+among : (f : Statement → List (List ℕ)) (n : List ℕ) → ((s : Statement) → is_name_in (f s) n ≡ true → is_name_in (interned s) n ≡ true) →
+    (ss : List Statement) → is_name_in (flat_map f ss) n ≡ true → is_name_in (flat_map interned ss) n ≡ true
 among f n h [] e = e
 among f n h (s ∷ ss) e =
-    list_any-append (λ m. bytes_eq m n) (counted s) (flat_map counted ss) ∙
+    list_any-append (λ m. bytes_eq m n) (interned s) (flat_map interned ss) ∙
     elim (or_cases (is_name_in (f s) n) (is_name_in (flat_map f ss) n) (sym (list_any-append (λ m. bytes_eq m n) (f s) (flat_map f ss)) ∙ e)) [
-      | inl a ↦ or_left (is_name_in (counted s) n) (is_name_in (flat_map counted ss) n) (h s a)
-      | inr b ↦ or_right (is_name_in (counted s) n) (is_name_in (flat_map counted ss) n) (among f n h ss b)
+      | inl a ↦ or_left (is_name_in (interned s) n) (is_name_in (flat_map interned ss) n) (h s a)
+      | inr b ↦ or_right (is_name_in (interned s) n) (is_name_in (flat_map interned ss) n) (among f n h ss b)
     ]
 
-input_counted : (n : List ℕ) (s : Statement) → is_name_in (input_name s) n ≡ true → is_name_in (counted s) n ≡ true
-input_counted n (Input word name) e = e
-input_counted n (Output word name) e = cc
-input_counted n (Gate out word first others) e = cc
+input_interned : (n : List ℕ) (s : Statement) → is_name_in (input_name s) n ≡ true → is_name_in (interned s) n ≡ true
+input_interned n (Input word name) e = e
+input_interned n (Output word name) e = cc
+input_interned n (Gate out word first others) e = cc
 
-output_counted : (n : List ℕ) (s : Statement) → is_name_in (output_name s) n ≡ true → is_name_in (counted s) n ≡ true
-output_counted n (Input word name) e = cc
-output_counted n (Output word name) e = e
-output_counted n (Gate out word first others) e = cc
+output_interned : (n : List ℕ) (s : Statement) → is_name_in (output_name s) n ≡ true → is_name_in (interned s) n ≡ true
+output_interned n (Input word name) e = cc
+output_interned n (Output word name) e = e
+output_interned n (Gate out word first others) e = cc
 
-gate_counted : (n : List ℕ) (s : Statement) → is_name_in (gate_name s) n ≡ true → is_name_in (counted s) n ≡ true
-gate_counted n (Input word name) e = cc
-gate_counted n (Output word name) e = cc
-gate_counted n (Gate out word first others) e =
+gate_interned : (n : List ℕ) (s : Statement) → is_name_in (gate_name s) n ≡ true → is_name_in (interned s) n ≡ true
+gate_interned n (Input word name) e = cc
+gate_interned n (Output word name) e = cc
+gate_interned n (Gate out word first others) e =
     or_left (bytes_eq out.text n) (is_name_in (first.text ∷ map (λ w. w.text) others) n) (sym (or_false (bytes_eq out.text n)) ∙ e)
 
 not_true : (b : Bool) → (b ≡ true → ⊥) → false ≡ b
@@ -67,11 +67,11 @@ not_true false h = refl
 true_false : true ≡ false → ⊥
 true_false e = cc
 
-blank_symbol : (done : List Statement) (n : List ℕ) → is_name_in (flat_map counted done) n ≡ false → IsSymbol done n blank
+blank_symbol : (done : List Statement) (n : List ℕ) → is_name_in (flat_map interned done) n ≡ false → IsSymbol done n blank
 blank_symbol done n none = record {
-  input = not_true (is_name_in (flat_map input_name done) n) (λ e. true_false (sym (among input_name n (input_counted n) done e) ∙ none));
-  driven = not_true (is_name_in (flat_map gate_name done) n) (λ e. true_false (sym (among gate_name n (gate_counted n) done e) ∙ none));
-  output = not_true (is_name_in (flat_map output_name done) n) (λ e. true_false (sym (among output_name n (output_counted n) done e) ∙ none));
+  input = not_true (is_name_in (flat_map input_name done) n) (λ e. true_false (sym (among input_name n (input_interned n) done e) ∙ none));
+  driven = not_true (is_name_in (flat_map gate_name done) n) (λ e. true_false (sym (among gate_name n (gate_interned n) done e) ∙ none));
+  output = not_true (is_name_in (flat_map output_name done) n) (λ e. true_false (sym (among output_name n (output_interned n) done e) ∙ none));
 }
 
 -- ---- symbols of more names
@@ -89,9 +89,9 @@ slice_back (z ∷ xs) k b zero x high e = absurd (omega arith)
 slice_back (z ∷ xs) k b (suc i) x high e = slice_back xs k b i x (omega arith) e
 
 module _ (done : List Statement) (names xs : List (List ℕ)) (symbols more : List Symbol) (k : ℕ)
-    (whole : (n : List ℕ) → is_name_in (flat_map counted done) n ≡ true → is_name_in names n ≡ true)
+    (whole : (n : List ℕ) → is_name_in (flat_map interned done) n ≡ true → is_name_in names n ≡ true)
     (each : length symbols ≡ length names) (were : AreSymbols done names symbols) (are : more ≡ symbols ++ replicate k blank) where
-  pub whole_more : (n : List ℕ) → is_name_in (flat_map counted done) n ≡ true → is_name_in (fold with_name names xs) n ≡ true
+  pub whole_more : (n : List ℕ) → is_name_in (flat_map interned done) n ≡ true → is_name_in (fold with_name names xs) n ≡ true
   whole_more n e = in_fold xs names n ∙ or_left (is_name_in names n) (is_name_in xs n) (whole n e)
 
   symbol_more : (n : List ℕ) (i : ℕ) (s : Symbol) (b : Bool) → is_name_in names n ≡ b → find (fold with_name names xs) n ≡ Some i → slice_get (symbols ++ replicate k blank) i ≡ Some s → IsSymbol done n s
@@ -101,9 +101,9 @@ module _ (done : List Statement) (names xs : List (List ℕ)) (symbols more : Li
       let low : j < length symbols = subst (λ l. j < l) (sym each) (found_low names n j f) in
       were n j s f (slice_front symbols (replicate k blank) j s low (subst (λ l. slice_get (symbols ++ replicate k blank) l ≡ Some s) (sym same) at))
   symbol_more n i s false new e at =
-      let high : length symbols ≤ i = subst (λ l. l ≤ i) (sym each) (new_behind xs names n i e new) in
+      let high : length symbols ≤ i = subst (λ l. l ≤ i) (sym each) (new_after xs names n i e new) in
       subst (IsSymbol done n) (sym (slice_back symbols k blank i s high at))
-      (blank_symbol done n (sym (not_true (is_name_in (flat_map counted done) n) (λ c. true_false (sym (whole n c) ∙ new)))))
+      (blank_symbol done n (sym (not_true (is_name_in (flat_map interned done) n) (λ c. true_false (sym (whole n c) ∙ new)))))
 
   pub symbols_more : AreSymbols done (fold with_name names xs) more
   symbols_more n i s e at = symbol_more n i s (is_name_in names n) refl e (subst (λ ss. slice_get ss i ≡ Some s) are at)
@@ -260,15 +260,15 @@ filter_one g y None e = ap (λ p. Rattle.std.specs.List.cons_option p []) e
 filter_one g y (Some z) e = ap (λ p. Rattle.std.specs.List.cons_option p []) e
 
 -- the kept lines of one more statement
-pub lines_after : (kept : GateLine → Bool) (later : List (List ℕ)) (done : List Statement) (x : Statement) (u : Use) (us : List Use) → AreFound later (u ∷ us) (counted_words x) →
-    filter kept (filter_map (gate_line later) done) ++ filter kept (option_to_list (line_with x u us)) ≡ filter kept (filter_map (gate_line later) (done ++ x ∷ []))
+pub lines_after : (kept : GateLine → Bool) (later : List (List ℕ)) (done : List Statement) (x : Statement) (u : Use) (us : List Use) → AreFound later (u ∷ us) (interned_words x) →
+    filter kept (filter_map (gate_line later) done) ++ filter kept (option_to_list (gate_line_with x u us)) ≡ filter kept (filter_map (gate_line later) (done ++ x ∷ []))
 lines_after kept later done x u us h =
-    sym (filter-append kept (filter_map (gate_line later) done) (option_to_list (line_with x u us))) ∙
+    sym (filter-append kept (filter_map (gate_line later) done) (option_to_list (gate_line_with x u us))) ∙
     ap (λ ls. filter kept (filter_map (gate_line later) done ++ ls)) (ap option_to_list (line_is later x u us h) ∙ sym (filter_one (gate_line later) x (gate_line later x) refl)) ∙
     ap (filter kept) (sym (filter_map-append (gate_line later) done (x ∷ [])))
 
 -- the uses of a statement
-pub uses_found : (names : List (List ℕ)) (x : Statement) (u : Use) (us : List Use) → AreFound names (u ∷ us) (counted_words x) → AreFound names (uses_with x u us) (uses x)
+pub uses_found : (names : List (List ℕ)) (x : Statement) (u : Use) (us : List Use) → AreFound names (u ∷ us) (interned_words x) → AreFound names (uses_with x u us) (uses x)
 uses_found names (Input word name) u us h = tt
 uses_found names (Output word name) u [] h = (h.0, h.1, tt)
 uses_found names (Output word name) u (v ∷ us) h = absurd h.2
@@ -308,7 +308,7 @@ abbrev line_by : ℕ → ℕ → List ℕ → Option Kind → Option GateLine
 line_by out line operands o = option_map (λ kind. (let g : GateLine = record { out = out; kind = kind; operands = operands; line = line } in g)) o
 
 own_place : (gates registers : List GateLine) (x : Statement) (u : Use) (us : List Use) (s : Symbol) → has_kind x ≡ true → IsPlacedAt gates registers u.signal s.role →
-    IsPlacedAt (gates ++ filter is_gate (option_to_list (line_with x u us))) (registers ++ filter is_register (option_to_list (line_with x u us))) u.signal
+    IsPlacedAt (gates ++ filter is_gate (option_to_list (gate_line_with x u us))) (registers ++ filter is_register (option_to_list (gate_line_with x u us))) u.signal
     (symbol_after x s (length gates) (length registers)).role
 own_place gates registers (Input word name) u us s good h = tt
 own_place gates registers (Output word name) u us s good h = place_stays gates registers [] [] u.signal s.role h
@@ -320,7 +320,7 @@ own_place gates registers (Gate out word first others) u us s good h =
 
 pub places_after : (gates registers : List GateLine) (symbols : List Symbol) (x : Statement) (u : Use) (us : List Use) (s : Symbol) → u.signal < length symbols → slice_get symbols u.signal ≡ Some s →
     has_kind x ≡ true → ArePlaced gates registers symbols →
-    ArePlaced (gates ++ filter is_gate (option_to_list (line_with x u us))) (registers ++ filter is_register (option_to_list (line_with x u us)))
+    ArePlaced (gates ++ filter is_gate (option_to_list (gate_line_with x u us))) (registers ++ filter is_register (option_to_list (gate_line_with x u us)))
     (slice_set symbols u.signal (symbol_after x s (length gates) (length registers)))
 places_after gates registers symbols x u us s low here good h i t at =
     elim (differ i u.signal) [
@@ -328,11 +328,11 @@ places_after gates registers symbols x u us s low here good h i t at =
           let is : t ≡ symbol_after x s (length gates) (length registers) =
           slice_get-set_same symbols u.signal (symbol_after x s (length gates) (length registers)) t low
           (subst (λ j. slice_get (slice_set symbols u.signal (symbol_after x s (length gates) (length registers))) j ≡ Some t) same at) in
-          subst (λ j. IsPlacedAt (gates ++ filter is_gate (option_to_list (line_with x u us))) (registers ++ filter is_register (option_to_list (line_with x u us))) j t.role) (sym same)
-          (subst (λ (y : Symbol). IsPlacedAt (gates ++ filter is_gate (option_to_list (line_with x u us))) (registers ++ filter is_register (option_to_list (line_with x u us))) u.signal y.role) (sym is)
+          subst (λ j. IsPlacedAt (gates ++ filter is_gate (option_to_list (gate_line_with x u us))) (registers ++ filter is_register (option_to_list (gate_line_with x u us))) j t.role) (sym same)
+          (subst (λ (y : Symbol). IsPlacedAt (gates ++ filter is_gate (option_to_list (gate_line_with x u us))) (registers ++ filter is_register (option_to_list (gate_line_with x u us))) u.signal y.role) (sym is)
           (own_place gates registers x u us s good (h u.signal s here)))
       | inr other ↦
-          place_stays gates registers (filter is_gate (option_to_list (line_with x u us))) (filter is_register (option_to_list (line_with x u us))) i t.role
+          place_stays gates registers (filter is_gate (option_to_list (gate_line_with x u us))) (filter is_register (option_to_list (gate_line_with x u us))) i t.role
           (h i t (slice_get-set_other symbols u.signal i (symbol_after x s (length gates) (length registers)) t other at))
     ]
 

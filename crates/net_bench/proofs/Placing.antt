@@ -10,7 +10,7 @@ use Rattle.net_bench.specs.declared.netlist.Role.TheVariants.{Undefined as undef
 use Rattle.net_bench.specs.declared.symbols.Symbol.{Symbol}
 use Rattle.net_bench.specs.Circuit.{Net, HasRole, IsNet, IsDefined, circuit}
 use Rattle.net_bench.specs.Symbols.{AreRoles, blank, is_defined_role}
-use Rattle.net_bench.specs.Assembly.{role_in, AreRight, IsPlaced, KeepsRoles}
+use Rattle.net_bench.specs.Assembly.{role_in, AreRolesRight, HasRoleSet, KeepsRoles}
 
 role_here : (ss : List Symbol) (i : ℕ) (x : Symbol) → i < length ss → role_in (set ss i x) i ≡ x.role
 role_here ss i x low = ap (λ (y : Symbol). y.role) (get_or-set_same ss i x blank low)
@@ -28,10 +28,10 @@ by_place ss i x P low new s old =
           subst (P s) (sym (role_there ss i s x other)) (old other)
     ] refl
 
-pub right_set : (n : Net) (ss : List Symbol) (i : ℕ) (x : Symbol) → i < length ss → HasRole n i x.role → AreRight n ss → AreRight n (set ss i x)
+pub right_set : (n : Net) (ss : List Symbol) (i : ℕ) (x : Symbol) → i < length ss → HasRole n i x.role → AreRolesRight n ss → AreRolesRight n (set ss i x)
 right_set n ss i x low is right s = by_place ss i x (λ k r. (r ≡ undefined) ⊎ HasRole n k r) low (inr is) s (λ other. right s)
 
-pub placed_set : (ss : List Symbol) (i : ℕ) (x : Symbol) → i < length ss → is_defined_role x.role ≡ true → IsPlaced (set ss i x) i
+pub placed_set : (ss : List Symbol) (i : ℕ) (x : Symbol) → i < length ss → is_defined_role x.role ≡ true → HasRoleSet (set ss i x) i
 placed_set ss i x low some = ap is_defined_role (role_here ss i x low) ∙ some
 
 pub kept_set : (ss : List Symbol) (i : ℕ) (x : Symbol) → i < length ss → is_defined_role x.role ≡ true → KeepsRoles ss (set ss i x)
@@ -47,7 +47,7 @@ none_yet (suc n) (suc s) x e = none_yet n s x e
 
 -- ---- all roles are told
 
-pub none_right : (n : Net) (ss : List Symbol) → ((s : ℕ) → role_in ss s ≡ undefined) → AreRight n ss
+pub none_right : (n : Net) (ss : List Symbol) → ((s : ℕ) → role_in ss s ≡ undefined) → AreRolesRight n ss
 none_right n ss none s = inl (none s)
 
 pub inputs_low : (n : Net) → IsNet n → All (λ s. s < length n.names) n.inputs
@@ -73,11 +73,11 @@ registers_low n sound bound is i d low =
     behind (x ∷ xs) gs bound all i d low = behind xs gs bound (λ j e less. all (suc j) e (omega arith)) i d low
 
 -- a list's elements have the role
-placed_at : (ss : List Symbol) (xs : List ℕ) (s : ℕ) → All (IsPlaced ss) xs → Contains xs s → IsPlaced ss s
-placed_at ss xs s all (i, low, at) = subst (IsPlaced ss) at (all i s low)
+placed_at : (ss : List Symbol) (xs : List ℕ) (s : ℕ) → All (HasRoleSet ss) xs → Contains xs s → HasRoleSet ss s
+placed_at ss xs s all (i, low, at) = subst (HasRoleSet ss) at (all i s low)
 
-line_at : (ss : List Symbol) (gs : List GateLine) (g : GateLine) → All (λ h. IsPlaced ss h.out) gs → Contains gs g → IsPlaced ss g.out
-line_at ss gs g all (i, low, at) = subst (λ (h : GateLine). IsPlaced ss h.out) at (all i g low)
+line_at : (ss : List Symbol) (gs : List GateLine) (g : GateLine) → All (λ h. HasRoleSet ss h.out) gs → Contains gs g → HasRoleSet ss g.out
+line_at ss gs g all (i, low, at) = subst (λ (h : GateLine). HasRoleSet ss h.out) at (all i g low)
 
 -- a variable is an input or a register
 split_variable : (xs : List ℕ) (gs : List GateLine) (s i : ℕ) → i < length (xs ++ map (λ g. g.out) gs) → get_or (xs ++ map (λ g. g.out) gs) i s ≡ s →
@@ -94,17 +94,17 @@ split_variable (x ∷ xs) gs s (suc i) low at = elim (split_variable xs gs s i (
   | inr r ↦ inr r
 ]
 
-module _ (n : Net) (sound : IsNet n) (ss : List Symbol) (each : length ss ≡ length n.names) (right : AreRight n ss)
-    (inputs : All (IsPlaced ss) n.inputs) (gates : All (λ g. IsPlaced ss g.out) n.gates) (registers : All (λ g. IsPlaced ss g.out) n.registers) where
-  told : (r : Role) → is_defined_role r ≡ true → r ≡ undefined → ⊥
-  told r some none = let bad : false ≡ true = sym (ap is_defined_role none) ∙ some in cc
+module _ (n : Net) (sound : IsNet n) (ss : List Symbol) (each : length ss ≡ length n.names) (right : AreRolesRight n ss)
+    (inputs : All (HasRoleSet ss) n.inputs) (gates : All (λ g. HasRoleSet ss g.out) n.gates) (registers : All (λ g. HasRoleSet ss g.out) n.registers) where
+  not_undefined : (r : Role) → is_defined_role r ≡ true → r ≡ undefined → ⊥
+  not_undefined r some none = let bad : false ≡ true = sym (ap is_defined_role none) ∙ some in cc
 
-  placed : (s : ℕ) → IsDefined (circuit n) s → IsPlaced ss s
+  placed : (s : ℕ) → IsDefined (circuit n) s → HasRoleSet ss s
   placed s (inl (i, low, at)) = elim (split_variable n.inputs n.registers s i low at) [
     | inl there ↦ placed_at ss n.inputs s inputs there
-    | inr (g, there, out) ↦ subst (IsPlaced ss) out (line_at ss n.registers g registers there)
+    | inr (g, there, out) ↦ subst (HasRoleSet ss) out (line_at ss n.registers g registers there)
   ]
-  placed s (inr (g, there, out)) = subst (IsPlaced ss) out (line_at ss n.gates g gates there)
+  placed s (inr (g, there, out)) = subst (HasRoleSet ss) out (line_at ss n.gates g gates there)
 
   pub all_right : AreRoles n ss
   all_right = record {
@@ -113,7 +113,7 @@ module _ (n : Net) (sound : IsNet n) (ss : List Symbol) (each : length ss ≡ le
         let low : i < length n.names = subst (λ k. i < k) each (slice_get_within ss i s at) in
         let is : role_in ss i ≡ s.role = ap (λ (y : Symbol). y.role) (get_or_from_slice_get ss i s blank at) in
         subst (HasRole n i) is (elim (right i) [
-          | inl none ↦ absurd (told (role_in ss i) (placed i (sound.defined i low)) none)
+          | inl none ↦ absurd (not_undefined (role_in ss i) (placed i (sound.defined i low)) none)
           | inr has ↦ has
         ]);
   }

@@ -8,8 +8,8 @@ use Rattle.net_bench.specs.Circuit.{Net, HasRole}
 use Rattle.net_bench.specs.Symbols.{blank, is_defined_role}
 
 -- the netlist that has these parts
-abbrev pub whole : Assembly → Net
-whole p = record {
+abbrev pub net_of_parts : Assembly → Net
+net_of_parts p = record {
   names = p.names;
   inputs = p.inputs.items;
   outputs = p.outputs.items;
@@ -23,13 +23,13 @@ abbrev pub role_in : List Symbol → ℕ → Role
 role_in symbols s = (slice_index_or symbols s blank).role
 
 -- each role that is told is right
-abbrev pub AreRight : Net → List Symbol → Type 0
-AreRight n symbols = (s : ℕ) → (role_in symbols s ≡ undefined) ⊎ HasRole n s (role_in symbols s)
+abbrev pub AreRolesRight : Net → List Symbol → Type 0
+AreRolesRight n symbols = (s : ℕ) → (role_in symbols s ≡ undefined) ⊎ HasRole n s (role_in symbols s)
 
 -- the signal's role is told
-abbrev pub IsPlaced : List Symbol → ℕ → Type 0
-IsPlaced symbols s = is_defined_role (role_in symbols s) ≡ true
+abbrev pub HasRoleSet : List Symbol → ℕ → Type 0
+HasRoleSet symbols s = is_defined_role (role_in symbols s) ≡ true
 
 -- no role that is told is lost
 abbrev pub KeepsRoles : List Symbol → List Symbol → Type 0
-KeepsRoles old new = (s : ℕ) → IsPlaced old s → IsPlaced new s
+KeepsRoles old new = (s : ℕ) → HasRoleSet old s → HasRoleSet new s

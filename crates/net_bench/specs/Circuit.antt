@@ -9,7 +9,7 @@ use Rattle.net_bench.specs.declared.netlist.Role.{Role}
 use Rattle.net_bench.specs.declared.netlist.Role.TheVariants.{Undefined as undefined, Input as input, Gate as gate, Register as register}
 use Rattle.net_bench.specs.declared.netlist.GateLine.{GateLine}
 use Rattle.net_bench.specs.Text.{Word}
-use Rattle.net_bench.specs.Statement.{Statement, Input, Output, Gate, kind_of, takes_one, counted, input_name, output_name, operands}
+use Rattle.net_bench.specs.Statement.{Statement, Input, Output, Gate, kind_of, takes_one, interned, input_name, output_name, operands}
 
 -- whether the name is among the names
 abbrev pub is_name_in : List (List ℕ) → List ℕ → Bool
@@ -75,7 +75,7 @@ gate_line names (Gate out word first others) = option_map (λ kind. gate_with na
 
 -- the signals in the order in which the statements count them
 abbrev pub names_of : List Statement → List (List ℕ)
-names_of ss = distinct (flat_map counted ss)
+names_of ss = distinct (flat_map interned ss)
 
 -- signals are numbered by first counting; a repeated INPUT or OUTPUT counts once
 abbrev pub circuit_of : List Statement → Circuit
@@ -136,8 +136,8 @@ abbrev pub IsDefined : Circuit → ℕ → Type 0
 IsDefined c s = Contains (variables_of c) s ⊎ ((g : GateLine) × Contains c.gates g × (g.out ≡ s))
 
 -- no number stands twice
-abbrev pub AreOnce : List ℕ → Type 0
-AreOnce xs = (i j : ℕ) → i < j → j < length xs → slice_index xs i ≢ slice_index xs j
+abbrev pub HaveNoRepeats : List ℕ → Type 0
+HaveNoRepeats xs = (i j : ℕ) → i < j → j < length xs → slice_index xs i ≢ slice_index xs j
 
 -- what gives a signal its value is what its role tells
 abbrev pub HasRole : Net → ℕ → Role → Type 0
@@ -169,8 +169,8 @@ pub record IsNet (n : Net) : Type 0 where
   pub defined : (s : ℕ) → s < length n.names → IsDefined (circuit n) s
   pub outputs : All (λ s. s < length n.names) n.outputs
   -- a variable is one input or one register, and an output stands once among the outputs
-  pub variables_once : AreOnce (variables_of (circuit n))
-  pub outputs_once : AreOnce n.outputs
+  pub variables_once : HaveNoRepeats (variables_of (circuit n))
+  pub outputs_once : HaveNoRepeats n.outputs
   pub gates : All (λ g. IsTrue (is_gate g)) n.gates
   pub registers : All (λ g. IsTrue (is_register g)) n.registers
   -- a register has one operand, its next state

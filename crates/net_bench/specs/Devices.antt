@@ -6,7 +6,7 @@ use Rattle.net_bench.specs.declared.device.TextFault.TheVariants.{Read, TooLong,
 
 -- Of the bytes that the device tells, at most so many are taken, from the front.
 abbrev pub TakesAtMost : ℕ → Option (List ℕ) → Option (List ℕ) → Type 0
-TakesAtMost most told left = (bytes : List ℕ) × Consumes told left bytes × (length bytes ≤ most)
+TakesAtMost most before left = (bytes : List ℕ) × Consumes before left bytes × (length bytes ≤ most)
 
 -- A write took no byte of some that it was handed.
 abbrev pub took_none : {E : Type 0} → Result ℕ E → List ℕ → Bool

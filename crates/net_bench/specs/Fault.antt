@@ -37,12 +37,12 @@ abbrev pub Begins : List Token → Type 0
 Begins front = (ss : List Statement) × (more : List Token) × AreSpelledRight ss × (front ++ more ≡ spelling ss)
 
 -- The names that the tokens count: behind `(` and `,` where they stand, left of `=` at the `=`.
-abbrev pub counted_in : List Token → List (List ℕ)
-counted_in [] = []
-counted_in (Open ∷ Name w ∷ ts) = w.text ∷ counted_in (Name w ∷ ts)
-counted_in (Comma ∷ Name w ∷ ts) = w.text ∷ counted_in (Name w ∷ ts)
-counted_in (Name w ∷ Equals ∷ ts) = w.text ∷ counted_in (Equals ∷ ts)
-counted_in (t ∷ ts) = counted_in ts
+abbrev pub interned_in : List Token → List (List ℕ)
+interned_in [] = []
+interned_in (Open ∷ Name w ∷ ts) = w.text ∷ interned_in (Name w ∷ ts)
+interned_in (Comma ∷ Name w ∷ ts) = w.text ∷ interned_in (Name w ∷ ts)
+interned_in (Name w ∷ Equals ∷ ts) = w.text ∷ interned_in (Equals ∷ ts)
+interned_in (t ∷ ts) = interned_in ts
 
 -- The operands: in a gate behind `(` and `,`. A gate's `(` stands behind `=` and the gate word.
 abbrev pub operands_in : List Token → List Word
@@ -59,7 +59,7 @@ pub data Cause : Type 0 where
   NoGateWord : Cause
   OperandCount : Cause
   SecondDefinition : Cause
-  Crowded : Cause
+  LimitExceeded : Cause
 
 -- which comes first at one place
 abbrev pub order_of : Cause → ℕ
@@ -69,7 +69,7 @@ order_of Misplaced = 1
 order_of NoGateWord = 2
 order_of OperandCount = 3
 order_of SecondDefinition = 4
-order_of Crowded = 5
+order_of LimitExceeded = 5
 
 -- the fault that is answered for a cause on this line
 abbrev pub fault_of : Cause → ℕ → BenchFault
@@ -79,7 +79,7 @@ fault_of Misplaced line = BadStatement line
 fault_of NoGateWord line = UnknownGate line
 fault_of OperandCount line = WrongOperands line
 fault_of SecondDefinition line = Redefined line
-fault_of Crowded line = TooMany line
+fault_of LimitExceeded line = TooMany line
 
 -- a kind that takes one operand
 abbrev pub is_one_operand_kind : Option Kind → Bool
@@ -104,8 +104,8 @@ redefines before s =
     (gate_name s)
 
 -- up to this place the tokens are these whole statements, and then these
-abbrev pub StandsAfter : List Statement → List (ℕ × Token) → ℕ → List Token → Type 0
-StandsAfter ss ts place last = AreSpelledRight ss × (up_to ts place ≡ flat_map spelled ss ++ last)
+abbrev pub IsAfterStatements : List Statement → List (ℕ × Token) → ℕ → List Token → Type 0
+IsAfterStatements ss ts place last = AreSpelledRight ss × (up_to ts place ≡ flat_map spelled ss ++ last)
 
 -- The place has this fault, whose line this is. Tokens before the place may be faulty too.
 abbrev pub IsFaulty : List (ℕ × Token) → ℕ → Cause → ℕ → Type 0
@@ -113,21 +113,21 @@ IsFaulty ts place StrayByte line = (b : ℕ) × (slice_get ts place ≡ Some (li
 IsFaulty ts place LongName line = (w : Word) × (slice_get ts place ≡ Some (line, Name w)) × (max_name < length w.text)
 IsFaulty ts place Misplaced line = (t : Token) × (slice_get ts place ≡ Some (line, t)) × (Begins (up_to ts place) → ⊥)
 IsFaulty ts place NoGateWord line =
-    (ss : List Statement) × (out word : Word) × StandsAfter ss ts place (Name out ∷ Equals ∷ Name word ∷ []) ×
+    (ss : List Statement) × (out word : Word) × IsAfterStatements ss ts place (Name out ∷ Equals ∷ Name word ∷ []) ×
     (line ≡ out.line) × (kind_of word.text ≡ None)
 IsFaulty ts place OperandCount line =
-    (ss : List Statement) × (s : Statement) × StandsAfter ss ts place (spelled s) × IsSpelledRight s ×
+    (ss : List Statement) × (s : Statement) × IsAfterStatements ss ts place (spelled s) × IsSpelledRight s ×
     (line ≡ line_of s) × IsTrue (has_wrong_operands s)
 IsFaulty ts place SecondDefinition line =
-    (ss : List Statement) × (s : Statement) × StandsAfter ss ts place (spelled s) × IsSpelledRight s ×
+    (ss : List Statement) × (s : Statement) × IsAfterStatements ss ts place (spelled s) × IsSpelledRight s ×
     (line ≡ line_of s) × IsTrue (redefines ss s)
-IsFaulty ts place Crowded line =
+IsFaulty ts place LimitExceeded line =
     (t : Token) × (slice_get ts place ≡ Some (line, t)) ×
-    ((max_signals < length (distinct (counted_in (up_to ts place)))) ⊎ (max_operands < length (operands_in (up_to ts place))))
+    ((max_signals < length (distinct (interned_in (up_to ts place)))) ⊎ (max_operands < length (operands_in (up_to ts place))))
 
 -- This is the first faulty place, and the first fault there.
 pub record IsFirst (ts : List (ℕ × Token)) (place : ℕ) (cause : Cause) (line : ℕ) : Type 0 where
-  pub inside : place < length ts
+  pub in_bounds : place < length ts
   pub here : IsFaulty ts place cause line
   pub earlier : (p l : ℕ) (other : Cause) → p < place → IsFaulty ts p other l → ⊥
   pub same : (l : ℕ) (other : Cause) → IsFaulty ts place other l → order_of cause ≤ order_of other
@@ -161,8 +161,8 @@ pub record IsNetlistText (text : List ℕ) (ss : List Statement) : Type 0 where
   pub acyclic : (s : ℕ) → IsEndless (circuit_of ss) s → ⊥
 
 -- a refusal at a place of the text
-abbrev pub IsPlaced : List ℕ → BenchFault → Type 0
-IsPlaced text fault =
+abbrev pub IsFaultAtPlace : List ℕ → BenchFault → Type 0
+IsFaultAtPlace text fault =
     (length text ≤ max_text) × (ts : List (ℕ × Token)) × HasTokens text ts ×
     (place line : ℕ) × (cause : Cause) × IsFirst ts place cause line × (fault ≡ fault_of cause line)
 
@@ -178,12 +178,12 @@ IsRefused text (Cycle line) =
     (ss : List Statement) × ReadsWell text ss × IsTrue (list_all (is_defined ss) (flat_map uses ss)) × FirstEndless (circuit_of ss) line
 IsRefused text Read = ⊥
 IsRefused text OutOfMemory = ⊥
-IsRefused text (BadByte line) = IsPlaced text (BadByte line)
-IsRefused text (BadStatement line) = IsPlaced text (BadStatement line)
-IsRefused text (UnknownGate line) = IsPlaced text (UnknownGate line)
-IsRefused text (WrongOperands line) = IsPlaced text (WrongOperands line)
-IsRefused text (Redefined line) = IsPlaced text (Redefined line)
-IsRefused text (TooMany line) = IsPlaced text (TooMany line)
+IsRefused text (BadByte line) = IsFaultAtPlace text (BadByte line)
+IsRefused text (BadStatement line) = IsFaultAtPlace text (BadStatement line)
+IsRefused text (UnknownGate line) = IsFaultAtPlace text (UnknownGate line)
+IsRefused text (WrongOperands line) = IsFaultAtPlace text (WrongOperands line)
+IsRefused text (Redefined line) = IsFaultAtPlace text (Redefined line)
+IsRefused text (TooMany line) = IsFaultAtPlace text (TooMany line)
 
 -- the text is a netlist of some statements, and this is what they make
 abbrev pub MakesNetlist : List ℕ → Circuit → Type 0

@@ -5,7 +5,7 @@ use Rattle.std.specs.Prelude.{slice_index, slice_index_or, All}
 use Rattle.net_bench.specs.declared.netlist.GateLine.{GateLine}
 use Rattle.net_bench.specs.declared.netlist.Role.{Role}
 use Rattle.net_bench.specs.declared.netlist.Role.TheVariants.{Undefined as undefined, Input as input, Gate as gate, Register as register}
-use Rattle.net_bench.specs.declared.walk.Waiting.{Waiting}
+use Rattle.net_bench.specs.declared.walk.WaitingGate.{WaitingGate}
 use Rattle.net_bench.specs.declared.symbols.Symbol.{Symbol}
 use Rattle.net_bench.specs.Circuit.{greatest}
 
@@ -53,8 +53,8 @@ abbrev pub HasOneGateEach : List GateLine → Type 0
 HasOneGateEach gates = (i j : ℕ) (d : GateLine) → i < j → j < length gates → (slice_index_or gates i d).out ≢ (slice_index_or gates j d).out
 
 -- a gate without a height has an operand without one
-abbrev pub IsSettled : List ℕ → GateLine → Type 0
-IsSettled heights g = slice_index heights g.out ≡ 0 → all_ranked heights g.operands ≡ false
+abbrev pub HasHeightIfOperandsHave : List ℕ → GateLine → Type 0
+HasHeightIfOperandsHave heights g = slice_index heights g.out ≡ 0 → all_ranked heights g.operands ≡ false
 
 -- the line of the first gate without a height
 abbrev pub unranked_line : List ℕ → List GateLine → Option ℕ
@@ -83,40 +83,40 @@ abbrev pub IsBelow : List GateLine → ℕ → ℕ → Type 0
 IsBelow gates operand s = (g : GateLine) × Contains gates g × (g.out ≡ s) × Contains g.operands operand
 
 -- no heights that are right give the signal one
-abbrev pub IsNever : List GateLine → ℕ → Type 0
-IsNever gates s = (heights : List ℕ) → AreHeights gates heights → slice_index heights s ≡ 0
+abbrev pub NeverHasHeight : List GateLine → ℕ → Type 0
+NeverHasHeight gates s = (heights : List ℕ) → AreHeights gates heights → slice_index heights s ≡ 0
 
 -- the gate at this place has a height, or will never have one
-abbrev pub IsEnded : List GateLine → List ℕ → ℕ → Type 0
-IsEnded gates heights p = (0 < slice_index heights (out_at gates p)) ⊎ IsNever gates (out_at gates p)
+abbrev pub HasHeightOrNeverWill : List GateLine → List ℕ → ℕ → Type 0
+HasHeightOrNeverWill gates heights p = (0 < slice_index heights (out_at gates p)) ⊎ NeverHasHeight gates (out_at gates p)
 
 -- a gate that waits is one of the gates, and the operands that it has passed have heights
-abbrev pub IsFrame : List GateLine → List ℕ → Waiting → Type 0
+abbrev pub IsFrame : List GateLine → List ℕ → WaitingGate → Type 0
 IsFrame gates heights f = (f.place < length gates) × (f.passed ≤ length (operands_at gates f.place))
     × (all_ranked heights (take f.passed (operands_at gates f.place)) ≡ true)
 
 -- the gate that waits next waits for this one
-abbrev pub IsUnder : List GateLine → Waiting → List Waiting → Type 0
-IsUnder gates f [] = Unit {0}
-IsUnder gates f (u ∷ fs) = IsBelow gates (out_at gates f.place) (out_at gates u.place)
+abbrev pub IsWaitedFor : List GateLine → WaitingGate → List WaitingGate → Type 0
+IsWaitedFor gates f [] = Unit {0}
+IsWaitedFor gates f (u ∷ fs) = IsBelow gates (out_at gates f.place) (out_at gates u.place)
 
 -- the gates that wait, each for the one before it in the list
-abbrev pub AreWaiting : List GateLine → List ℕ → List Waiting → Type 0
+abbrev pub AreWaiting : List GateLine → List ℕ → List WaitingGate → Type 0
 AreWaiting gates heights [] = Unit {0}
-AreWaiting gates heights (f ∷ fs) = IsFrame gates heights f × IsUnder gates f fs × AreWaiting gates heights fs
+AreWaiting gates heights (f ∷ fs) = IsFrame gates heights f × IsWaitedFor gates f fs × AreWaiting gates heights fs
 
 -- the gate at this place waits
-abbrev pub is_waiting : ℕ → List Waiting → Bool
+abbrev pub is_waiting : ℕ → List WaitingGate → Bool
 is_waiting p [] = false
 is_waiting p (f ∷ fs) = (f.place == p) || is_waiting p fs
 
 -- Between two steps of the walk: each gate that was begun and does not wait has a height, or will never have one. The gate that goes
 -- on next stands first.
-pub record IsRanking (gates : List GateLine) (heights : List ℕ) (begun : List Bool) (waiting : List Waiting) : Type 0 where
+pub record IsRanking (gates : List GateLine) (heights : List ℕ) (begun : List Bool) (waiting : List WaitingGate) : Type 0 where
   pub sound : AreHeights gates heights
   pub len : length begun ≡ length gates
   pub chain : AreWaiting gates heights waiting
-  pub left : (p : ℕ) → p < length gates → slice_index_or begun p false ≡ true → is_waiting p waiting ≡ false → IsEnded gates heights p
+  pub left : (p : ℕ) → p < length gates → slice_index_or begun p false ≡ true → is_waiting p waiting ≡ false → HasHeightOrNeverWill gates heights p
 
 -- the steps that are left: two and one for each operand of a gate that is not begun
 abbrev pub unbegun : List GateLine → List Bool → ℕ
@@ -124,9 +124,9 @@ unbegun [] begun = 0
 unbegun (g ∷ gates) [] = 0
 unbegun (g ∷ gates) (b ∷ begun) = (if b then 0 else length g.operands + 2) + unbegun gates begun
 
-abbrev pub waiting_steps : List GateLine → List Waiting → ℕ
+abbrev pub waiting_steps : List GateLine → List WaitingGate → ℕ
 waiting_steps gates [] = 0
 waiting_steps gates (f ∷ fs) = (length (operands_at gates f.place) - f.passed) + 1 + waiting_steps gates fs
 
-abbrev pub steps_left : List GateLine → List Bool → List Waiting → ℕ
+abbrev pub steps_left : List GateLine → List Bool → List WaitingGate → ℕ
 steps_left gates begun waiting = unbegun gates begun + waiting_steps gates waiting

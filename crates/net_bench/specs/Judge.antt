@@ -12,35 +12,35 @@ use Rattle.net_bench.specs.Pieces.{tokens_at}
 use Rattle.net_bench.specs.Statement.{Statement, Gate, kind_of, line_of, uses}
 use Rattle.net_bench.specs.Machine.{State, Between, Named, AtWord, AfterOperand, Finished, Failed, port, step}
 use Rattle.net_bench.specs.Circuit.{circuit_of, distinct, variables_of}
-use Rattle.net_bench.specs.Fault.{Cause, StrayByte, LongName, Misplaced, NoGateWord, OperandCount, SecondDefinition, Crowded, fault_of}
-use Rattle.net_bench.specs.Fault.{max_name, max_signals, max_operands, counted_in, operands_in, has_wrong_operands, redefines, is_defined}
+use Rattle.net_bench.specs.Fault.{Cause, StrayByte, LongName, Misplaced, NoGateWord, OperandCount, SecondDefinition, LimitExceeded, fault_of}
+use Rattle.net_bench.specs.Fault.{max_name, max_signals, max_operands, interned_in, operands_in, has_wrong_operands, redefines, is_defined}
 
 -- a fault and its line
-abbrev pub Found : Type 0
-Found = Cause × ℕ
+abbrev pub FaultOnLine : Type 0
+FaultOnLine = Cause × ℕ
 
 -- the fault as it is answered
-abbrev pub told : Found → BenchFault
-told found = fault_of found.0 found.1
+abbrev pub answered_fault : FaultOnLine → BenchFault
+answered_fault found = fault_of found.0 found.1
 
 -- the token itself is faulty
-abbrev pub lexical : ℕ → Token → Option Found
+abbrev pub lexical : ℕ → Token → Option FaultOnLine
 lexical line (Unknown b) = Some (StrayByte, line)
 lexical line (Name w) = if nat_lt max_name (length w.text) then Some (LongName, line) else None
 lexical line t = None
 
 -- no statement has the token there
-abbrev pub syntactic : ℕ → State → Option Found
+abbrev pub syntactic : ℕ → State → Option FaultOnLine
 syntactic line Failed = Some (Misplaced, line)
 syntactic line s = None
 
 -- a gate word that names no kind
-abbrev pub without_kind : ℕ → Option Kind → Option Found
+abbrev pub without_kind : ℕ → Option Kind → Option FaultOnLine
 without_kind line None = Some (NoGateWord, line)
 without_kind line (Some kind) = None
 
 -- the gate word at which the state stands names no kind
-abbrev pub gate_word : State → Option Found
+abbrev pub gate_word : State → Option FaultOnLine
 gate_word (AtWord done out g) = without_kind out.line (kind_of g.text)
 gate_word s = None
 
@@ -51,45 +51,45 @@ closed (AfterOperand done out g a others) Close = Some (done, Gate out g a other
 closed s t = None
 
 -- the closed statement has too many operands
-abbrev pub wrong_count : Option (List Statement × Statement) → Option Found
+abbrev pub wrong_count : Option (List Statement × Statement) → Option FaultOnLine
 wrong_count None = None
 wrong_count (Some c) = if has_wrong_operands c.1 then Some (OperandCount, line_of c.1) else None
 
 -- the closed statement defines a signal again
-abbrev pub second : Option (List Statement × Statement) → Option Found
+abbrev pub second : Option (List Statement × Statement) → Option FaultOnLine
 second None = None
 second (Some c) = if redefines c.0 c.1 then Some (SecondDefinition, line_of c.1) else None
 
 -- the tokens up to here count too many signals or operands
-abbrev pub crowded : ℕ → List Token → Option Found
-crowded line front =
-    if nat_lt max_signals (length (distinct (counted_in front))) || nat_lt max_operands (length (operands_in front)) then Some
-    (Crowded, line) else None
+abbrev pub over_limit : ℕ → List Token → Option FaultOnLine
+over_limit line front =
+    if nat_lt max_signals (length (distinct (interned_in front))) || nat_lt max_operands (length (operands_in front)) then Some
+    (LimitExceeded, line) else None
 
 -- what is wrong at the token, the causes in their order
-abbrev pub tests : State → ℕ → Token → List Token → List (Option Found)
+abbrev pub tests : State → ℕ → Token → List Token → List (Option FaultOnLine)
 tests s line t front =
     lexical line t ∷ syntactic line (step s t) ∷ gate_word (step s t) ∷ wrong_count (closed s t) ∷ second (closed s t)
-    ∷ crowded line front ∷ []
+    ∷ over_limit line front ∷ []
 
 -- the first test that shows a fault
-abbrev pub first_of : List (Option Found) → Option Found
+abbrev pub first_of : List (Option FaultOnLine) → Option FaultOnLine
 first_of [] = None
 first_of (Some found ∷ more) = Some found
 first_of (None ∷ more) = first_of more
 
 -- goes on where nothing was found
-abbrev pub unless : Option Found → (Unit {0} → Result State Found) → Result State Found
+abbrev pub unless : Option FaultOnLine → (Unit {0} → Result State FaultOnLine) → Result State FaultOnLine
 unless (Some found) next = Err found
 unless None next = next tt
 
 -- walks over the tokens with the reader's state and the tokens seen, up to the first fault
-unfoldable pub judge : State → List Token → Tokens → Result State Found
+unfoldable pub judge : State → List Token → Tokens → Result State FaultOnLine
 judge s seen [] = Ok s
 judge s seen (t ∷ ts) = unless (first_of (tests s t.0 t.1 (seen ++ t.1 ∷ []))) (λ _. judge (step s t.1) (seen ++ t.1 ∷ []) ts)
 
 -- the statements that the judge has ended with
-abbrev pub finished : Result State Found → List Statement
+abbrev pub finished : Result State FaultOnLine → List Statement
 finished (Ok (Finished ss)) = ss
 finished (Ok s) = []
 finished (Err found) = []
@@ -135,10 +135,10 @@ on_undefined ss None =
     let c = circuit_of ss in on_endless ss (endless_line (sweeps c.gates c.gates (variables_of c)) c.gates)
 
 -- looks for undefined uses, unless the judge has found a fault
-abbrev pub on_judged : Result State Found → Result (List Statement) BenchFault
+abbrev pub on_judged : Result State FaultOnLine → Result (List Statement) BenchFault
 on_judged (Ok (Finished ss)) = on_undefined ss (undefined_line (is_defined ss) (flat_map uses ss))
 on_judged (Ok s) = Ok []
-on_judged (Err found) = Err (told found)
+on_judged (Err found) = Err (answered_fault found)
 
 -- the statements of the text, or its fault
 abbrev pub answer : List ℕ → Result (List Statement) BenchFault

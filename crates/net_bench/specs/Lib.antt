@@ -4,7 +4,7 @@ pub mod Scan
 pub mod Examples
 pub mod Statement
 pub mod Machine
-pub mod Said
+pub mod ParsedStatement
 pub mod Circuit
 pub mod Assembly
 pub mod Devices

@@ -26,22 +26,22 @@ unfoldable pub hash_of : List ℕ → ℕ
 hash_of name = fold mix 14695981039346656037 name
 
 -- the same from both halves of the hash
-unfoldable pub spread_of : List ℕ → ℕ
-spread_of name = bit_xor (hash_of name) (hash_of name / 2 ^ 32)
+unfoldable pub folded_hash_of : List ℕ → ℕ
+folded_hash_of name = bit_xor (hash_of name) (hash_of name / 2 ^ 32)
 
 -- no name is there twice
-abbrev pub IsEachOnce : List (List ℕ) → Type 0
-IsEachOnce names = (i j : ℕ) (name : List ℕ) → slice_get names i ≡ Some name → slice_get names j ≡ Some name → i ≡ j
+abbrev pub NamesAreDistinct : List (List ℕ) → Type 0
+NamesAreDistinct names = (i j : ℕ) (name : List ℕ) → slice_get names i ≡ Some name → slice_get names j ≡ Some name → i ≡ j
 
 -- where the search for a name ends: at its number, or at the first empty slot where it has none
 abbrev pub IsProbe : List (List ℕ) → List ℕ → List ℕ → Probe → Type 0
 IsProbe names ts name (Number i) = slice_get names i ≡ Some name
 IsProbe names ts name (Slot j) = ((i : ℕ) → slice_get names i ≡ Some name → ⊥)
-    × IsFree (length ts) (home_of spread_of (length ts) name) ts j
+    × IsFree (length ts) (home_of folded_hash_of (length ts) name) ts j
 
 -- what holds of each table
 pub record IsTable (bytes : List ℕ) (spans : List Span) (ts : List ℕ) : Type 0 where
-  pub inside : All (IsInside bytes) spans
-  pub once : IsEachOnce (names_in bytes spans)
-  pub probes : Probes spread_of (length ts) (names_in bytes spans) ts
+  pub in_bounds : All (IsInside bytes) spans
+  pub once : NamesAreDistinct (names_in bytes spans)
+  pub probes : Probes folded_hash_of (length ts) (names_in bytes spans) ts
   pub half : 2 * length spans ≤ length ts

@@ -32,7 +32,7 @@ net_of ss ranks =
     record { names = c.names; inputs = c.inputs; outputs = c.outputs; gates = c.gates; registers = c.registers; ranks = ranks }
 
 -- what may be wrong with sound statements, or memory ran out
-abbrev pub IsLate : List Statement → BenchFault → Type 0
-IsLate ss fault =
+abbrev pub IsLateFault : List Statement → BenchFault → Type 0
+IsLateFault ss fault =
     (fault ≡ OutOfMemory) ⊎ ((line : ℕ) × (fault ≡ Undefined line) × FirstUndefined ss line) ⊎
     ((line : ℕ) × (fault ≡ Cycle line) × AreDefined ss × FirstEndless (circuit_of ss) line)

@@ -84,10 +84,10 @@ line_of (Output word name) = word.line
 line_of (Gate out word first others) = out.line
 
 -- the signals in the order in which a statement counts them
-abbrev pub counted : Statement → List (List ℕ)
-counted (Input word name) = name.text ∷ []
-counted (Output word name) = name.text ∷ []
-counted (Gate out word first others) = out.text ∷ first.text ∷ map (λ w. w.text) others
+abbrev pub interned : Statement → List (List ℕ)
+interned (Input word name) = name.text ∷ []
+interned (Output word name) = name.text ∷ []
+interned (Gate out word first others) = out.text ∷ first.text ∷ map (λ w. w.text) others
 
 -- the name of an INPUT
 abbrev pub input_name : Statement → List (List ℕ)

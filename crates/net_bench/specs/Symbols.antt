@@ -13,17 +13,17 @@ use Rattle.net_bench.specs.declared.netlist.GateLine.{GateLine}
 use Rattle.net_bench.specs.declared.fault.BenchFault.{BenchFault}
 use Rattle.net_bench.specs.declared.fault.BenchFault.TheVariants.{TooMany, OutOfMemory}
 use Rattle.net_bench.specs.Text.{Word, Token, Name}
-use Rattle.net_bench.specs.Statement.{Statement, Input, Output, Gate, counted, operands, uses, input_name, output_name, gate_name, kind_of}
+use Rattle.net_bench.specs.Statement.{Statement, Input, Output, Gate, interned, operands, uses, input_name, output_name, gate_name, kind_of}
 use Rattle.net_bench.specs.Statement.{line_of}
 use Rattle.net_bench.specs.Machine.{State, Between, First, Opened, Named, Defining, AtWord, Operands, AfterOperand, AfterComma, Finished}
 use Rattle.net_bench.specs.Machine.{Failed, tokens_of, step, IsRight}
-use Rattle.net_bench.specs.declared.syntax.Pending.{Pending}
-use Rattle.net_bench.specs.Said.{state_of}
+use Rattle.net_bench.specs.declared.syntax.PartialStatement.{PartialStatement}
+use Rattle.net_bench.specs.ParsedStatement.{state_of}
 use Rattle.net_bench.specs.Circuit.{is_name_in, with_name, distinct, find, number_of, gate_line, is_gate, is_register, is_register_kind}
 use Rattle.net_bench.specs.Circuit.{Net, HasRole}
 use Rattle.net_bench.specs.Sound.{has_kind}
 use Rattle.net_bench.specs.Fault.{OperandCount, SecondDefinition, max_signals, max_operands, has_wrong_operands, redefines}
-use Rattle.net_bench.specs.Judge.{Found, first_of, tests, told}
+use Rattle.net_bench.specs.Judge.{FaultOnLine, first_of, tests, answered_fault}
 
 -- ---- what a state's tokens have counted
 
@@ -32,18 +32,18 @@ abbrev pub texts : List Word → List (List ℕ)
 texts ws = map (λ w. w.text) ws
 
 -- the names that the tokens up to this state have counted
-abbrev pub counted_of : State → List (List ℕ)
-counted_of (Between done) = flat_map counted done
-counted_of (First done w) = flat_map counted done
-counted_of (Opened done w) = flat_map counted done
-counted_of (Named done w n) = flat_map counted done ++ n.text ∷ []
-counted_of (Defining done out) = flat_map counted done ++ out.text ∷ []
-counted_of (AtWord done out g) = flat_map counted done ++ out.text ∷ []
-counted_of (Operands done out g) = flat_map counted done ++ out.text ∷ []
-counted_of (AfterOperand done out g a others) = flat_map counted done ++ out.text ∷ a.text ∷ texts others
-counted_of (AfterComma done out g a others) = flat_map counted done ++ out.text ∷ a.text ∷ texts others
-counted_of (Finished done) = flat_map counted done
-counted_of Failed = []
+abbrev pub interned_of : State → List (List ℕ)
+interned_of (Between done) = flat_map interned done
+interned_of (First done w) = flat_map interned done
+interned_of (Opened done w) = flat_map interned done
+interned_of (Named done w n) = flat_map interned done ++ n.text ∷ []
+interned_of (Defining done out) = flat_map interned done ++ out.text ∷ []
+interned_of (AtWord done out g) = flat_map interned done ++ out.text ∷ []
+interned_of (Operands done out g) = flat_map interned done ++ out.text ∷ []
+interned_of (AfterOperand done out g a others) = flat_map interned done ++ out.text ∷ a.text ∷ texts others
+interned_of (AfterComma done out g a others) = flat_map interned done ++ out.text ∷ a.text ∷ texts others
+interned_of (Finished done) = flat_map interned done
+interned_of Failed = []
 
 -- their operands
 abbrev pub operands_of : State → List Word
@@ -94,8 +94,8 @@ subject (Output word name) = name
 subject (Gate out word first others) = out
 
 -- the words that a statement counts
-abbrev pub counted_words : Statement → List Word
-counted_words x = subject x ∷ operands x
+abbrev pub interned_words : Statement → List Word
+interned_words x = subject x ∷ operands x
 
 -- the uses are these words, each with its number and its line
 abbrev pub AreFound : List (List ℕ) → List Use → List Word → Type 0
@@ -163,11 +163,11 @@ outputs_with (Output word name) u s = if s.is_output then [] else u.signal ∷ [
 outputs_with x u s = []
 
 -- its gate or register
-abbrev pub line_with : Statement → Use → List Use → Option GateLine
-line_with (Gate out word first others) u us =
+abbrev pub gate_line_with : Statement → Use → List Use → Option GateLine
+gate_line_with (Gate out word first others) u us =
     option_map (λ kind. (let g : GateLine = record { out = u.signal; kind = kind; operands = map (λ v. v.signal) us; line = out.line } in
     g)) (kind_of word.text)
-line_with x u us = None
+gate_line_with x u us = None
 
 -- its uses
 abbrev pub uses_with : Statement → Use → List Use → List Use
@@ -201,10 +201,10 @@ pub record AreParts (names : List (List ℕ)) (done : List Statement) (table : S
   pub registers : table.registers.items ≡ filter is_register (filter_map (gate_line names) done)
 
 -- the table is that of this state, behind these whole statements, and no limit is passed
-pub record IsTold (done : List Statement) (s : State) (table : SymbolTable) : Type 0 where
+pub record IsTableOf (done : List Statement) (s : State) (table : SymbolTable) : Type 0 where
   pub right : IsRight s
-  pub names : table.names ≡ distinct (counted_of s)
-  pub whole : (n : List ℕ) → is_name_in (flat_map counted done) n ≡ true → is_name_in table.names n ≡ true
+  pub names : table.names ≡ distinct (interned_of s)
+  pub whole : (n : List ℕ) → is_name_in (flat_map interned done) n ≡ true → is_name_in table.names n ≡ true
   pub operands : table.operands ≡ length (operands_of s)
   pub begun : AreFound table.names table.begun.items (begun_words s)
   pub each : length table.symbols.items ≡ length table.names
@@ -225,7 +225,7 @@ pub record KeepsParts (old new : SymbolTable) : Type 0 where
   pub uses : new.uses.items ≡ old.uses.items
 
 -- the new table has counted these words and so many operands more, and no limit is passed
-pub record CountsMore (old new : SymbolTable) (words : List Word) (more : ℕ) : Type 0 where
+pub record InternsMore (old new : SymbolTable) (words : List Word) (more : ℕ) : Type 0 where
   pub names : new.names ≡ fold with_name old.names (texts words)
   pub operands : new.operands ≡ old.operands + more
   pub begun : (us : List Use) × (new.begun.items ≡ old.begun.items ++ us) × AreFound new.names us words
@@ -236,12 +236,12 @@ pub record CountsMore (old new : SymbolTable) (words : List Word) (more : ℕ) :
   pub low : old.operands + more ≤ max_operands
 
 -- with these words and so many operands more a limit is passed
-abbrev pub IsOver : SymbolTable → List Word → ℕ → Type 0
-IsOver old words operands = (max_signals < length (fold with_name old.names (texts words))) ⊎ (max_operands < old.operands + operands)
+abbrev pub IsOverLimit : SymbolTable → List Word → ℕ → Type 0
+IsOverLimit old words operands = (max_signals < length (fold with_name old.names (texts words))) ⊎ (max_operands < old.operands + operands)
 
 -- out of memory, or a limit is passed on this line
-abbrev pub IsCrowding : ℕ → SymbolTable → List Word → ℕ → BenchFault → Type 0
-IsCrowding line old words operands fault = (fault ≡ OutOfMemory) ⊎ ((fault ≡ TooMany line) × IsOver old words operands)
+abbrev pub IsLimitFault : ℕ → SymbolTable → List Word → ℕ → BenchFault → Type 0
+IsLimitFault line old words operands fault = (fault ≡ OutOfMemory) ⊎ ((fault ≡ TooMany line) × IsOverLimit old words operands)
 
 -- the new table has what a statement says more, whose signals are these and whose first symbol is this
 pub record Defines (x : Statement) (u : Use) (us : List Use) (s : Symbol) (old new : SymbolTable) : Type 0 where
@@ -253,17 +253,17 @@ pub record Defines (x : Statement) (u : Use) (us : List Use) (s : Symbol) (old n
   pub uses : new.uses.items ≡ old.uses.items ++ uses_with x u us
   pub inputs : new.inputs.items ≡ old.inputs.items ++ inputs_with x u s
   pub outputs : new.outputs.items ≡ old.outputs.items ++ outputs_with x u s
-  pub gates : new.gates.items ≡ old.gates.items ++ filter is_gate (option_to_list (line_with x u us))
-  pub registers : new.registers.items ≡ old.registers.items ++ filter is_register (option_to_list (line_with x u us))
+  pub gates : new.gates.items ≡ old.gates.items ++ filter is_gate (option_to_list (gate_line_with x u us))
+  pub registers : new.registers.items ≡ old.registers.items ++ filter is_register (option_to_list (gate_line_with x u us))
 
 -- the statement that is closed, by what the table knows of its signals
-abbrev pub IsClosed : Statement → SymbolTable → SymbolTable → Type 0
-IsClosed x old new =
+abbrev pub ClosesStatement : Statement → SymbolTable → SymbolTable → Type 0
+ClosesStatement x old new =
     (u : Use) × (us : List Use) × (s : Symbol) × (old.begun.items ≡ u ∷ us) × (slice_get old.symbols.items u.signal ≡ Some s)
     × Defines x u us s old new
 
 -- what is wrong with a whole statement behind these
-abbrev pub statement_fault : List Statement → Statement → Option Found
+abbrev pub statement_fault : List Statement → Statement → Option FaultOnLine
 statement_fault done x =
     if has_wrong_operands x then Some (OperandCount, line_of x) else (
     if redefines done x then Some (SecondDefinition, line_of x) else None)
@@ -287,15 +287,15 @@ undefined_use symbols (u ∷ us) = if known_symbol (slice_get symbols u.signal) 
 -- ---- the judge by states
 
 -- the judge's tests of a token in a state
-abbrev pub token_tests : State → ℕ → Token → List (Option Found)
+abbrev pub token_tests : State → ℕ → Token → List (Option FaultOnLine)
 token_tests s line t = tests s line t (tokens_of s ++ t ∷ [])
 
 -- the fault tells what the tests of a token have found
-abbrev pub Tells : BenchFault → State → ℕ → Token → Type 0
-Tells fault s line t = (f : Found) × (first_of (token_tests s line t) ≡ Some f) × (fault ≡ told f)
+abbrev pub IsAnsweredFault : BenchFault → State → ℕ → Token → Type 0
+IsAnsweredFault fault s line t = (f : FaultOnLine) × (first_of (token_tests s line t) ≡ Some f) × (fault ≡ answered_fault f)
 
 -- the tests of a token have found nothing, and the part and the table are those of the next state
-abbrev pub GoesOn : State → ℕ → Token → Pending → SymbolTable → Type 0
-GoesOn s line t p table =
+abbrev pub Continues : State → ℕ → Token → PartialStatement → SymbolTable → Type 0
+Continues s line t p table =
     (first_of (token_tests s line t) ≡ None) × ((done : List Statement) × (state_of done p ≡ step s t)
-    × IsTold done (state_of done p) table)
+    × IsTableOf done (state_of done p) table)

@@ -1,26 +1,26 @@
 // The parts of a netlist, a statement at a time, by the numbers of its signals.
 ghost use Rattle.std.specs.Prelude.{◌≡◌, ◌++◌, length, map, filter, IfOk, OnOk, option_to_list};
-ghost use Rattle.net_bench.specs.Said.{statement_of};
+ghost use Rattle.net_bench.specs.ParsedStatement.{statement_of};
 ghost use Rattle.net_bench.specs.Circuit.{is_gate, is_register};
-ghost use Rattle.net_bench.specs.Symbols.{driven_role, inputs_with, line_with, outputs_with, symbol_after, uses_with};
+ghost use Rattle.net_bench.specs.Symbols.{driven_role, inputs_with, gate_line_with, outputs_with, symbol_after, uses_with};
 
 use crate::kinds::kind_of;
 use crate::name_table::narrow;
 use crate::netlist::{GateLine, Kind, Operands, Role, Signal};
 use crate::symbols::{Symbol, Use};
-use crate::syntax::Said;
+use crate::syntax::ParsedStatement;
 use std::alloc::{AllocError, Global};
 
 /// Puts the signal of an INPUT at the end, where it is no input yet.
 pub fn add_input(
     inputs: &mut Vec<Signal>,
-    said: &Said<'_>,
+    parsed: &ParsedStatement<'_>,
     first: Use,
     symbol: Symbol,
 ) -> Result<(), AllocError>
-    ensures { OnOk result (inputs.new.items ≡ inputs.old.items ++ inputs_with (statement_of said.now) first symbol) }
+    ensures { OnOk result (inputs.new.items ≡ inputs.old.items ++ inputs_with (statement_of parsed.now) first symbol) }
 {
-    let Said::Input { .. } = said else {
+    let ParsedStatement::Input { .. } = parsed else {
         return Ok(());
     };
     if !matches!(symbol.role, Role::Input) {
@@ -32,13 +32,13 @@ pub fn add_input(
 /// Puts the signal of an OUTPUT at the end, where it is no output yet.
 pub fn add_output(
     outputs: &mut Vec<Signal>,
-    said: &Said<'_>,
+    parsed: &ParsedStatement<'_>,
     first: Use,
     symbol: Symbol,
 ) -> Result<(), AllocError>
-    ensures { OnOk result (outputs.new.items ≡ outputs.old.items ++ outputs_with (statement_of said.now) first symbol) }
+    ensures { OnOk result (outputs.new.items ≡ outputs.old.items ++ outputs_with (statement_of parsed.now) first symbol) }
 {
-    let Said::Output { .. } = said else {
+    let ParsedStatement::Output { .. } = parsed else {
         return Ok(());
     };
     if !symbol.is_output {
@@ -50,16 +50,16 @@ pub fn add_output(
 /// Puts the uses of a statement at the end.
 pub fn add_uses(
     uses: &mut Vec<Use>,
-    said: &Said<'_>,
+    parsed: &ParsedStatement<'_>,
     first: Use,
     operands: &[Use],
 ) -> Result<(), AllocError>
-    ensures { OnOk result (uses.new.items ≡ uses.old.items ++ uses_with (statement_of said.now) first operands.now) }
+    ensures { OnOk result (uses.new.items ≡ uses.old.items ++ uses_with (statement_of parsed.now) first operands.now) }
 {
-    match said {
-        Said::Input { .. } => {}
-        Said::Output { .. } => uses.push(first)?,
-        Said::Gate(_) => uses.extend_from_slice(operands)?,
+    match parsed {
+        ParsedStatement::Input { .. } => {}
+        ParsedStatement::Output { .. } => uses.push(first)?,
+        ParsedStatement::Gate(_) => uses.extend_from_slice(operands)?,
     }
     Ok(())
 }
@@ -76,15 +76,15 @@ fn operands_of(alloc: Global, uses: &[Use]) -> Result<Operands, AllocError>
 }
 
 /// The gate or register of a statement, where it has one.
-fn line_of(
+fn gate_line_of(
     alloc: Global,
-    said: &Said<'_>,
+    parsed: &ParsedStatement<'_>,
     first: Use,
     operands: &[Use],
 ) -> Result<Option<GateLine>, AllocError>
-    ensures { IfOk result (λ g. g ≡ line_with (statement_of said.now) first operands.now) }
+    ensures { IfOk result (λ g. g ≡ gate_line_with (statement_of parsed.now) first operands.now) }
 {
-    let Said::Gate(gate) = said else {
+    let ParsedStatement::Gate(gate) = parsed else {
         return Ok(None);
     };
     let Some(kind) = kind_of(gate.word.text) else {
@@ -124,16 +124,16 @@ pub fn add_driven(
     alloc: Global,
     gates: &mut Vec<GateLine>,
     registers: &mut Vec<GateLine>,
-    said: &Said<'_>,
+    parsed: &ParsedStatement<'_>,
     first: Use,
     operands: &[Use],
 ) -> Result<(), AllocError>
     ensures gates { OnOk result (gates.new.items ≡ gates.old.items
-        ++ filter is_gate (option_to_list (line_with (statement_of said.now) first operands.now))) }
+        ++ filter is_gate (option_to_list (gate_line_with (statement_of parsed.now) first operands.now))) }
     ensures registers { OnOk result (registers.new.items ≡ registers.old.items
-        ++ filter is_register (option_to_list (line_with (statement_of said.now) first operands.now))) }
+        ++ filter is_register (option_to_list (gate_line_with (statement_of parsed.now) first operands.now))) }
 {
-    let line = line_of(alloc, said, first, operands)?;
+    let line = gate_line_of(alloc, parsed, first, operands)?;
     add_line(gates, registers, line)
 }
 
@@ -148,20 +148,20 @@ fn driven_role(kind: Option<Kind>, gate: u32, register: u32) -> Role
 }
 
 /// The symbol of a statement's signal behind it, where a gate or register goes to one of these places.
-fn symbol_after(said: &Said<'_>, symbol: Symbol, gate: u32, register: u32) -> Symbol
-    ensures { result ≡ symbol_after (statement_of said.now) symbol gate register }
+fn symbol_after(parsed: &ParsedStatement<'_>, symbol: Symbol, gate: u32, register: u32) -> Symbol
+    ensures { result ≡ symbol_after (statement_of parsed.now) symbol gate register }
 {
-    match said {
-        Said::Input { .. } => Symbol {
+    match parsed {
+        ParsedStatement::Input { .. } => Symbol {
             role: Role::Input,
             is_output: symbol.is_output,
         },
-        Said::Output { .. } => Symbol {
+        ParsedStatement::Output { .. } => Symbol {
             role: symbol.role,
             is_output: true,
         },
-        Said::Gate(said) => Symbol {
-            role: driven_role(kind_of(said.word.text), gate, register),
+        ParsedStatement::Gate(parsed) => Symbol {
+            role: driven_role(kind_of(parsed.word.text), gate, register),
             is_output: symbol.is_output,
         },
     }
@@ -169,16 +169,16 @@ fn symbol_after(said: &Said<'_>, symbol: Symbol, gate: u32, register: u32) -> Sy
 
 /// The symbol of a statement's signal behind it, where its gate or register comes to the end of its list.
 pub fn next_symbol(
-    said: &Said<'_>,
+    parsed: &ParsedStatement<'_>,
     symbol: Symbol,
     gates: &[GateLine],
     registers: &[GateLine],
 ) -> Result<Symbol, AllocError>
-    ensures { IfOk result (λ s. s ≡ symbol_after (statement_of said.now) symbol (length gates.now) (length registers.now)) }
+    ensures { IfOk result (λ s. s ≡ symbol_after (statement_of parsed.now) symbol (length gates.now) (length registers.now)) }
 {
     let gate = narrow(gates.len())?;
     let register = narrow(registers.len())?;
-    Ok(symbol_after(said, symbol, gate, register))
+    Ok(symbol_after(parsed, symbol, gate, register))
 }
 
 /// The inputs, then the registers' signals.

@@ -64,13 +64,13 @@ pub trait Sink {
 
 /// A std reader or writer as a device.
 #[derive(Drop)]
-pub struct Through<T> {
+pub struct StdDevice<T> {
     inner: T,
     failed: bool,
     stopped: bool,
 }
 
-impl<T> Model for Through<T> {
+impl<T> Model for StdDevice<T> {
     ghost use Rattle.std.specs.Prelude.{Bool};
 
     ghost Value = { T × Bool × Bool };
@@ -78,12 +78,12 @@ impl<T> Model for Through<T> {
     ghost view = { λ d. (d.inner, d.failed, d.stopped) };
 }
 
-impl<T> Through<T> {
+impl<T> StdDevice<T> {
     /// The device over this reader or writer. It has neither failed nor stopped yet.
-    pub fn new(inner: T) -> Through<T>
+    pub fn new(inner: T) -> StdDevice<T>
         ensures fresh { result ≡ (inner, false, false) }
     {
-        Through {
+        StdDevice {
             inner,
             failed: false,
             stopped: false,
@@ -91,7 +91,7 @@ impl<T> Through<T> {
     }
 }
 
-impl<T: Read> Source for Through<T> {
+impl<T: Read> Source for StdDevice<T> {
     ghost remaining = { λ d. T.remaining d.0 };
 
     ghost has_failed = { λ d. d.1 };
@@ -107,7 +107,7 @@ impl<T: Read> Source for Through<T> {
     }
 }
 
-impl<T: Write> Sink for Through<T> {
+impl<T: Write> Sink for StdDevice<T> {
     ghost contents = { λ d. T.contents d.0 };
 
     ghost has_failed = { λ d. d.1 };
@@ -209,9 +209,9 @@ pub fn read_text<R: Source>(
     limit: usize,
 ) -> Result<Vec<u8>, TextFault>
     requires { limit < 2 ^ 40 }
-    ensures whole { IfOk result (λ v. IfSome (R.remaining device.old) (λ told. v.items ≡ told)) }
+    ensures whole { IfOk result (λ v. IfSome (R.remaining device.old) (λ given_bytes. v.items ≡ given_bytes)) }
     ensures within { IfOk result (λ v. length v.items ≤ limit) }
-    ensures long { result ≡ Err TextFault.TooLong → IfSome (R.remaining device.old) (λ told. limit < length told) }
+    ensures long { result ≡ Err TextFault.TooLong → IfSome (R.remaining device.old) (λ given_bytes. limit < length given_bytes) }
     ensures taken { TakesAtMost (limit + 1) (R.remaining device.old) (R.remaining device.new) }
     ensures read { result ≡ Err TextFault.Read → IsTrue (R.has_failed device.new) }
     ensures kept { (result ≡ Err TextFault.Read → ⊥) → R.has_failed device.new ≡ R.has_failed device.old }

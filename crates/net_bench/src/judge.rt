@@ -3,18 +3,18 @@ ghost use Rattle.std.specs.Prelude.{◌≡◌, ◌≢◌, ◌⊎◌, ◌≤◌, 
 ghost use Rattle.std.specs.Prelude.{Ok, Err};
 ghost use Rattle.net_bench.specs.Text.{End};
 ghost use Rattle.net_bench.specs.Scan.{seen};
-ghost use Rattle.net_bench.specs.Said.{statement_of, state_of};
+ghost use Rattle.net_bench.specs.ParsedStatement.{statement_of, state_of};
 ghost use Rattle.net_bench.specs.Statement.{Statement};
 ghost use Rattle.net_bench.specs.Machine.{Between, Finished};
 ghost use Rattle.net_bench.specs.Pieces.{tokens_at};
-ghost use Rattle.net_bench.specs.Judge.{Found, gate_word, judge, lexical, statements_in, told};
-ghost use Rattle.net_bench.specs.Symbols.{GoesOn, IsClosed, IsTold, KnowsSubject, Tells, statement_fault};
+ghost use Rattle.net_bench.specs.Judge.{FaultOnLine, gate_word, judge, lexical, statements_in, answered_fault};
+ghost use Rattle.net_bench.specs.Symbols.{Continues, ClosesStatement, IsTableOf, KnowsSubject, IsAnsweredFault, statement_fault};
 
 use crate::fault::BenchFault;
 use crate::kinds::kind_of;
 use crate::scan::{Scanner, Token};
 use crate::symbols::SymbolTable;
-use crate::syntax::{Next, Pending, Said, next_part};
+use crate::syntax::{Next, ParsedStatement, PartialStatement, next_part};
 use std::alloc::Global;
 
 /// The most bytes of a name.
@@ -22,7 +22,7 @@ const MAX_NAME: usize = 255;
 
 /// A byte that no statement has, or a name that is too long.
 fn token_fault(line: u32, token: Token<'_>) -> Option<BenchFault>
-    ensures { result ≡ option_map told (lexical line (seen line token.entry)) }
+    ensures { result ≡ option_map answered_fault (lexical line (seen line token.entry)) }
 {
     match token {
         Token::Unknown(_) => Some(BenchFault::BadByte { line }),
@@ -37,10 +37,10 @@ fn token_fault(line: u32, token: Token<'_>) -> Option<BenchFault>
 }
 
 /// A gate word that names no kind, where the part ends in a gate word.
-fn word_fault(part: &Pending<'_>) -> Option<BenchFault>
-    ensures { (done : List Statement) → result ≡ option_map told (gate_word (state_of done part.now)) }
+fn word_fault(part: &PartialStatement<'_>) -> Option<BenchFault>
+    ensures { (done : List Statement) → result ≡ option_map answered_fault (gate_word (state_of done part.now)) }
 {
-    let Pending::AtWord { out, word } = part else {
+    let PartialStatement::AtWord { out, word } = part else {
         return None;
     };
     match kind_of(word.text) {
@@ -50,20 +50,24 @@ fn word_fault(part: &Pending<'_>) -> Option<BenchFault>
 }
 
 /// Closes a statement, where nothing is wrong with it.
-fn close(alloc: Global, symbols: &mut SymbolTable, said: Said<'_>) -> Result<(), BenchFault>
+fn close(
+    alloc: Global,
+    symbols: &mut SymbolTable,
+    parsed: ParsedStatement<'_>,
+) -> Result<(), BenchFault>
     requires some { 0 < length symbols.old.begun.items }
-    requires inside { All (λ u. u.signal < length symbols.old.symbols.items) symbols.old.begun.items }
+    requires in_bounds { All (λ u. u.signal < length symbols.old.symbols.items) symbols.old.begun.items }
     ensures clean { OnOk result ((done : List Statement) → KnowsSubject done symbols.old.begun.items symbols.old.symbols.items
-        (statement_of said.entry) → statement_fault done (statement_of said.entry) ≡ None) }
-    ensures closed { OnOk result (IsClosed (statement_of said.entry) symbols.old symbols.new) }
+        (statement_of parsed.entry) → statement_fault done (statement_of parsed.entry) ≡ None) }
+    ensures closed { OnOk result (ClosesStatement (statement_of parsed.entry) symbols.old symbols.new) }
     ensures fault { IfErr result (λ f. (f ≡ BenchFault.OutOfMemory)
-        ⊎ ((done : List Statement) → KnowsSubject done symbols.old.begun.items symbols.old.symbols.items (statement_of said.entry)
-        → Some f ≡ option_map told (statement_fault done (statement_of said.entry)))) }
+        ⊎ ((done : List Statement) → KnowsSubject done symbols.old.begun.items symbols.old.symbols.items (statement_of parsed.entry)
+        → Some f ≡ option_map answered_fault (statement_fault done (statement_of parsed.entry)))) }
 {
-    if let Some(fault) = symbols.fault_of(&said) {
+    if let Some(fault) = symbols.fault_of(&parsed) {
         return Err(fault);
     }
-    symbols.define(alloc, &said)?;
+    symbols.define(alloc, &parsed)?;
     Ok(())
 }
 
@@ -71,17 +75,17 @@ fn close(alloc: Global, symbols: &mut SymbolTable, said: Said<'_>) -> Result<(),
 fn take_token<'a>(
     alloc: Global,
     symbols: &mut SymbolTable,
-    part: Pending<'a>,
+    part: PartialStatement<'a>,
     line: u32,
     token: Token<'a>,
-) -> Result<Pending<'a>, BenchFault>
+) -> Result<PartialStatement<'a>, BenchFault>
     requires token { seen line token ≢ End }
-    requires told { (done : List Statement) × IsTold done (state_of done part) symbols.old }
-    ensures goes { IfOk result (λ p. (done : List Statement) → IsTold done (state_of done part.entry) symbols.old
-        → GoesOn (state_of done part.entry) line (seen line token.entry) p symbols.new) }
+    requires table_matches { (done : List Statement) × IsTableOf done (state_of done part) symbols.old }
+    ensures continues { IfOk result (λ p. (done : List Statement) → IsTableOf done (state_of done part.entry) symbols.old
+        → Continues (state_of done part.entry) line (seen line token.entry) p symbols.new) }
     ensures fault { IfErr result (λ f. (f ≡ BenchFault.OutOfMemory)
-        ⊎ ((done : List Statement) → IsTold done (state_of done part.entry) symbols.old
-        → Tells f (state_of done part.entry) line (seen line token.entry))) }
+        ⊎ ((done : List Statement) → IsTableOf done (state_of done part.entry) symbols.old
+        → IsAnsweredFault f (state_of done part.entry) line (seen line token.entry))) }
 {
     if let Some(fault) = token_fault(line, token) {
         return Err(fault);
@@ -91,12 +95,12 @@ fn take_token<'a>(
             if let Some(fault) = word_fault(&part) {
                 return Err(fault);
             }
-            symbols.count(alloc, &part, line, token)?;
+            symbols.intern_token(alloc, &part, line, token)?;
             Ok(part)
         }
-        Next::Whole(said) => {
-            close(alloc, symbols, said)?;
-            Ok(Pending::Nothing)
+        Next::Complete(parsed) => {
+            close(alloc, symbols, parsed)?;
+            Ok(PartialStatement::Nothing)
         }
     }
 }
@@ -107,17 +111,17 @@ fn take_token<'a>(
 pub fn judge_text(alloc: Global, text: &[u8]) -> Result<SymbolTable, BenchFault>
     requires { length text.now ≤ 67108864 }
     ensures ok { OnOk result (judge (Between []) [] (tokens_at 1 text.now) ≡ Ok (Finished (statements_in text.now))) }
-    ensures told { IfOk result (λ symbols. IsTold (statements_in text.now) (Between (statements_in text.now)) symbols) }
+    ensures table_matches { IfOk result (λ symbols. IsTableOf (statements_in text.now) (Between (statements_in text.now)) symbols) }
     ensures fault { IfErr result (λ f. (f ≡ BenchFault.OutOfMemory)
-        ⊎ ((found : Found) × (judge (Between []) [] (tokens_at 1 text.now) ≡ Err found) × (f ≡ told found))) }
+        ⊎ ((found : FaultOnLine) × (judge (Between []) [] (tokens_at 1 text.now) ≡ Err found) × (f ≡ answered_fault found))) }
 {
     let mut symbols = SymbolTable::new(alloc);
-    let mut part = Pending::Nothing;
+    let mut part = PartialStatement::Nothing;
     let mut scanner = Scanner::new(text);
     'tokens: loop {
         let (line, token) = scanner.next();
         if let Token::End = token {
-            let Pending::Nothing = part else {
+            let PartialStatement::Nothing = part else {
                 return Err(BenchFault::BadStatement { line });
             };
             return Ok(symbols);

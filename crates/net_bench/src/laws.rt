@@ -7,7 +7,7 @@ ghost use Rattle.net_bench.specs.Circuit.{Circuit, Net, IsNet, circuit, circuit_
 ghost use Rattle.net_bench.specs.Labels.{IsLabelling, bit_of};
 ghost use Rattle.net_bench.specs.Fault.{Begins, IsFirst, IsFaultless, IsRefused, IsNetlistText, ReadsWell};
 ghost use Rattle.net_bench.specs.declared.fault.BenchFault.{BenchFault};
-ghost use Rattle.net_bench.specs.Judge.{Found, judge};
+ghost use Rattle.net_bench.specs.Judge.{FaultOnLine, judge};
 ghost use Rattle.net_bench.specs.Sound.{IsSound, net_of, AreDefined};
 
 /// A text reads as one list of statements at most.
@@ -26,7 +26,7 @@ pub fn machine_is_exact()
 /// What the judge finds is the first fault of the text; where it finds none no place is faulty.
 #[tactic(auto, using(crate::proofs::Judging::first_found, crate::proofs::Judging::none_found))]
 pub fn judge_is_exact()
-    ensures fault { (ts : Tokens) (f : Found) → judge (Between []) [] ts ≡ Err f → (place : ℕ) × IsFirst ts place f.0 f.1 }
+    ensures fault { (ts : Tokens) (f : FaultOnLine) → judge (Between []) [] ts ≡ Err f → (place : ℕ) × IsFirst ts place f.0 f.1 }
     ensures none { (ts : Tokens) (s : State) → judge (Between []) [] ts ≡ Ok s → IsFaultless ts }
 {}
 

@@ -3,7 +3,7 @@ ghost use Rattle.std.specs.Prelude.{◌≡◌, ℕ, ◌+◌, ◌*◌, ◌<◌, �
 ghost use Rattle.std.specs.Prelude.{slice_get, slice_index_or, if◌then◌else◌, IfOk, OnOk, OnErr, Some, None};
 ghost use Rattle.net_bench.specs.Circuit.{with_name, find, number_of, is_name_in};
 ghost use Rattle.slot_table.specs.Probes.{Probes, home_of};
-ghost use Rattle.net_bench.specs.NameTable.{IsEachOnce, IsInside, IsProbe, IsTable, hash_of, name_in, names_in, spread_of};
+ghost use Rattle.net_bench.specs.NameTable.{NamesAreDistinct, IsInside, IsProbe, IsTable, hash_of, name_in, names_in, folded_hash_of};
 
 use slot_table::{free_slot, next_slot};
 use std::alloc::{AllocError, Global};
@@ -66,8 +66,8 @@ fn hash(name: &[u8]) -> u64
 }
 
 /// The same from both halves of the hash.
-fn spread(name: &[u8]) -> u64
-    ensures { result ≡ spread_of name.now }
+fn folded_hash(name: &[u8]) -> u64
+    ensures { result ≡ folded_hash_of name.now }
 {
     let hash = hash(name);
     hash ^ (hash >> 32)
@@ -76,10 +76,10 @@ fn spread(name: &[u8]) -> u64
 /// The slot, of `count`, in which the search for a name begins.
 fn home(name: &[u8], count: usize) -> usize
     requires { 0 < count }
-    ensures value { result ≡ home_of spread_of count name.now }
+    ensures value { result ≡ home_of folded_hash_of count name.now }
     ensures within { result < count }
 {
-    spread(name) as usize & (count - 1)
+    folded_hash(name) as usize & (count - 1)
 }
 
 /// The name in a span.
@@ -100,10 +100,10 @@ fn slots_of(
     spans: &[Span],
     count: usize,
 ) -> Result<Vec<u32>, AllocError>
-    requires inside { All (IsInside bytes.now) spans.now }
+    requires in_bounds { All (IsInside bytes.now) spans.now }
     requires count { length spans.now < count }
     requires numbers { length spans.now < 2 ^ 32 }
-    ensures { IfOk result (λ ts. Probes spread_of count (names_in bytes.now spans.now) ts.items) }
+    ensures { IfOk result (λ ts. Probes folded_hash_of count (names_in bytes.now spans.now) ts.items) }
 {
     let mut slots = Vec::with_capacity(alloc, count)?;
     slots.resize(count, 0u32)?;
@@ -118,11 +118,11 @@ fn slots_of(
 /// Gives the slots room for one name more, all names in their slots anew where they need twice as many. After an error
 /// the slots are as before.
 fn grow_slots(bytes: &[u8], spans: &[Span], slots: &mut Vec<u32>) -> Result<(), AllocError>
-    requires inside { All (IsInside bytes.now) spans.now }
-    requires probes { Probes spread_of (length slots.old.items) (names_in bytes.now spans.now) slots.old.items }
+    requires in_bounds { All (IsInside bytes.now) spans.now }
+    requires probes { Probes folded_hash_of (length slots.old.items) (names_in bytes.now spans.now) slots.old.items }
     requires half { 2 * length spans.now ≤ length slots.old.items }
     requires numbers { length spans.now < 2 ^ 32 }
-    ensures probes { Probes spread_of (length slots.new.items) (names_in bytes.now spans.now) slots.new.items }
+    ensures probes { Probes folded_hash_of (length slots.new.items) (names_in bytes.now spans.now) slots.new.items }
     ensures half { 2 * length spans.now ≤ length slots.new.items }
     ensures room { OnOk result (2 * (length spans.now + 1) ≤ length slots.new.items) }
 {
@@ -137,7 +137,7 @@ fn grow_slots(bytes: &[u8], spans: &[Span], slots: &mut Vec<u32>) -> Result<(), 
 }
 
 /// Where a name lies that is put behind these bytes.
-fn span_behind(bytes: &[u8], name: &[u8]) -> Result<Span, AllocError>
+fn next_span(bytes: &[u8], name: &[u8]) -> Result<Span, AllocError>
     ensures start { IfOk result (λ span. span.start ≡ length bytes.now) }
     ensures len { IfOk result (λ span. span.len ≡ length name.now) }
 {
@@ -173,20 +173,20 @@ fn is_same(left: &[u8], right: &[u8]) -> bool
 
 /// Where the search for a name ends.
 fn seek(bytes: &[u8], spans: &[Span], slots: &[u32], name: &[u8]) -> Probe
-    requires inside { All (IsInside bytes.now) spans.now }
-    requires probes { Probes spread_of (length slots.now) (names_in bytes.now spans.now) slots.now }
+    requires in_bounds { All (IsInside bytes.now) spans.now }
+    requires probes { Probes folded_hash_of (length slots.now) (names_in bytes.now spans.now) slots.now }
     requires room { length spans.now < length slots.now }
     ensures { IsProbe (names_in bytes.now spans.now) slots.now name.now result }
 {
     let mut slot = home(name, slots.len());
     for _distance in 0..slots.len() {
-        let held = slots[slot];
-        if held == 0 {
+        let slot_value = slots[slot];
+        if slot_value == 0 {
             return Probe::Slot(slot);
         }
-        let other = name_in(bytes, spans[held as usize - 1]);
+        let other = name_in(bytes, spans[slot_value as usize - 1]);
         if is_same(other, name) {
-            return Probe::Number(held - 1);
+            return Probe::Number(slot_value - 1);
         }
         slot = next_slot(slot, slots.len());
     }
@@ -225,14 +225,14 @@ impl NameTable {
 
     /// Puts the name at the end, where it is not there yet, and answers its number. A table holds less than 4,294,967,296 names and
     /// bytes of names.
-    pub fn count(&mut self, alloc: Global, name: &[u8]) -> Result<u32, AllocError>
+    pub fn intern(&mut self, alloc: Global, name: &[u8]) -> Result<u32, AllocError>
         ensures added { OnOk result (self.new ≡ with_name self.old name.now) }
         ensures number { IfOk result (λ n. find self.new name.now ≡ Some n) }
         ensures err { OnErr result (self.new ≡ self.old) }
     {
         let _ = alloc;
-        let held = narrow(self.spans.len() + 1)?;
-        let span = span_behind(self.bytes.as_slice(), name)?;
+        let slot_value = narrow(self.spans.len() + 1)?;
+        let span = next_span(self.bytes.as_slice(), name)?;
         grow_slots(
             self.bytes.as_slice(),
             self.spans.as_slice(),
@@ -247,8 +247,8 @@ impl NameTable {
             Probe::Number(number) => Ok(number),
             Probe::Slot(slot) => {
                 put(&mut self.bytes, &mut self.spans, name, span)?;
-                self.slots[slot] = held;
-                Ok(held - 1)
+                self.slots[slot] = slot_value;
+                Ok(slot_value - 1)
             }
         }
     }

@@ -9,7 +9,7 @@ ghost use Rattle.net_bench.specs.Heights.{unranked, unranked_line, HasOneGateEac
 use crate::fault::BenchFault;
 use crate::netlist::{GateLine, Netlist, Signal};
 use crate::symbols::Symbol;
-use crate::walk::{height_of, settle};
+use crate::walk::{height_of, set_heights};
 use std::alloc::Global;
 
 /// The line of the first gate without a height.
@@ -28,8 +28,8 @@ fn unranked_line(heights: &[u32], gates: &[GateLine]) -> Option<u32>
 
 /// The signal gets the height 1.
 #[tactic(auto, using(crate::proofs::Heights::input_low))]
-fn mark_variable(heights: &mut [u32], signal: Signal)
-    requires inside { signal < length heights.old }
+fn set_variable_height(heights: &mut [u32], signal: Signal)
+    requires in_bounds { signal < length heights.old }
     requires one { (s : ℕ) → slice_index heights.old s ≤ 1 }
     requires low { (s : ℕ) → slice_index heights.old s + unranked heights.old ≤ length heights.old }
     ensures here { slice_index heights.new signal ≡ 1 }
@@ -44,8 +44,8 @@ fn mark_variable(heights: &mut [u32], signal: Signal)
 }
 
 /// Each variable gets the height 1, and nothing else a height.
-fn rank_variables(heights: &mut [u32], variables: &[Signal])
-    requires inside { All (λ s. s < length heights.old) variables.now }
+fn set_variable_heights(heights: &mut [u32], variables: &[Signal])
+    requires in_bounds { All (λ s. s < length heights.old) variables.now }
     requires none { (s : ℕ) → slice_index heights.old s ≡ 0 }
     requires count { unranked heights.old ≤ length heights.old }
     ensures variables { All (λ s. slice_index heights.new s ≡ 1) variables.now }
@@ -53,7 +53,7 @@ fn rank_variables(heights: &mut [u32], variables: &[Signal])
     ensures low { (s : ℕ) → slice_index heights.new s + unranked heights.new ≤ length heights.new }
 {
     for variable in variables {
-        mark_variable(heights, *variable);
+        set_variable_height(heights, *variable);
     }
 }
 
@@ -123,8 +123,8 @@ fn rank_all(
     ensures cycle { IfErr result (λ e. (e ≡ BenchFault.OutOfMemory)
         ⊎ ((line : ℕ) × (e ≡ Cycle line) × ((c : Circuit) → c.gates ≡ gates.now → FirstEndless c line))) }
 {
-    rank_variables(ranks, variables);
-    match settle(alloc, gates, symbols, ranks) {
+    set_variable_heights(ranks, variables);
+    match set_heights(alloc, gates, symbols, ranks) {
         Ok(()) => {}
         Err(_) => return Err(BenchFault::OutOfMemory),
     }

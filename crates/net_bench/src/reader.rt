@@ -5,11 +5,11 @@ ghost use Rattle.net_bench.specs.Circuit.{circuit, circuit_of, variables_of, IsN
 ghost use Rattle.net_bench.specs.Fault.{IsRefused, MakesNetlist, max_text};
 ghost use Rattle.net_bench.specs.Devices.{TakesAtMost};
 ghost use Rattle.net_bench.specs.Judge.{statements_in};
-ghost use Rattle.net_bench.specs.Sound.{IsSound, AreDefined, IsLate};
+ghost use Rattle.net_bench.specs.Sound.{IsSound, AreDefined, IsLateFault};
 ghost use Rattle.net_bench.specs.Machine.{Between};
 ghost use Rattle.net_bench.specs.Heights.{IsDriven};
-ghost use Rattle.net_bench.specs.Assembly.{whole};
-ghost use Rattle.net_bench.specs.Symbols.{IsTold};
+ghost use Rattle.net_bench.specs.Assembly.{net_of_parts};
+ghost use Rattle.net_bench.specs.Symbols.{IsTableOf};
 
 use crate::assembly::{Assembly, symbols_of};
 use crate::build::variables_of;
@@ -39,7 +39,7 @@ fn ranks_for(
     requires gates { gates.now ≡ (circuit_of (statements_in text.now)).gates }
     requires driven { (s : ℕ) → s < length symbols.now → Contains variables.now s ⊎ IsDriven gates.now symbols.now s }
     ensures ranks { IfOk result (λ v. AreRanks (circuit_of (statements_in text.now)) v.items) }
-    ensures refused { IfErr result (IsLate (statements_in text.now)) }
+    ensures refused { IfErr result (IsLateFault (statements_in text.now)) }
 {
     let _ = text;
     ranks_of(alloc, symbols, variables, gates)
@@ -47,9 +47,9 @@ fn ranks_for(
 
 /// Refuses a text that uses a signal without definition.
 fn check_defined(text: &[u8], symbols: &SymbolTable) -> Result<(), BenchFault>
-    requires told { IsTold (statements_in text.now) (Between (statements_in text.now)) symbols.now }
+    requires table_matches { IsTableOf (statements_in text.now) (Between (statements_in text.now)) symbols.now }
     ensures defined { OnOk result (AreDefined (statements_in text.now)) }
-    ensures refused { IfErr result (IsLate (statements_in text.now)) }
+    ensures refused { IfErr result (IsLateFault (statements_in text.now)) }
 {
     let _ = text;
     match first_undefined(symbols.symbols.as_slice(), symbols.uses.as_slice()) {
@@ -62,9 +62,9 @@ fn check_defined(text: &[u8], symbols: &SymbolTable) -> Result<(), BenchFault>
 fn netlist_of(alloc: Global, text: &[u8], symbols: SymbolTable) -> Result<Netlist, BenchFault>
     requires sound { IsSound (statements_in text.now) }
     requires defined { AreDefined (statements_in text.now) }
-    requires told { IsTold (statements_in text.now) (Between (statements_in text.now)) symbols }
+    requires table_matches { IsTableOf (statements_in text.now) (Between (statements_in text.now)) symbols }
     ensures accepted { IfOk result (λ net. (circuit net ≡ circuit_of (statements_in text.now)) × IsNet net) }
-    ensures refused { IfErr result (IsLate (statements_in text.now)) }
+    ensures refused { IfErr result (IsLateFault (statements_in text.now)) }
 {
     let SymbolTable {
         names,
@@ -97,8 +97,8 @@ fn netlist_of(alloc: Global, text: &[u8], symbols: SymbolTable) -> Result<Netlis
 
 /// The netlist of parts that are at hand.
 pub fn netlist_of_parts(alloc: Global, parts: Assembly) -> Result<Netlist, AllocError>
-    requires { IsNet (whole parts) }
-    ensures { IfOk result (λ net. net ≡ whole parts) }
+    requires { IsNet (net_of_parts parts) }
+    ensures { IfOk result (λ net. net ≡ net_of_parts parts) }
 {
     let symbols = symbols_of(alloc, &parts)?;
     let variables = variables_of(alloc, parts.inputs.as_slice(), parts.registers.as_slice())?;

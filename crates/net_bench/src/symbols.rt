@@ -2,11 +2,11 @@
 ghost use Rattle.std.specs.Prelude.{◌≡◌, ℕ, ◌+◌, ◌<◌, ◌≤◌, List, [], ◌∷◌, ◌++◌, length, replicate, slice_get, option_map, All, Some, IfErr};
 ghost use Rattle.std.specs.Prelude.{OnOk};
 ghost use Rattle.net_bench.specs.Fault.{has_wrong_operands, is_one_operand_kind, redefines};
-ghost use Rattle.net_bench.specs.Judge.{told};
-ghost use Rattle.net_bench.specs.Said.{word_of, statement_of, state_of};
+ghost use Rattle.net_bench.specs.Judge.{answered_fault};
+ghost use Rattle.net_bench.specs.ParsedStatement.{word_of, statement_of, state_of};
 ghost use Rattle.net_bench.specs.Scan.{seen};
 ghost use Rattle.net_bench.specs.Statement.{Statement, kind_of};
-ghost use Rattle.net_bench.specs.Symbols.{CountsMore, IsClosed, IsCrowding, IsSymbol, KeepsParts, KnowsSubject, blank, is_defined_role};
+ghost use Rattle.net_bench.specs.Symbols.{InternsMore, ClosesStatement, IsLimitFault, IsSymbol, KeepsParts, KnowsSubject, blank, is_defined_role};
 ghost use Rattle.net_bench.specs.Symbols.{is_driven_role, known_symbol, newest, newest_operands, statement_fault, subject, undefined_use};
 
 use crate::build::{add_driven, add_input, add_output, add_uses, next_symbol};
@@ -15,7 +15,7 @@ use crate::kinds::kind_of;
 use crate::name_table::NameTable;
 use crate::netlist::{GateLine, Kind, Role, Signal};
 use crate::scan::Token;
-use crate::syntax::{Pending, Said, Word};
+use crate::syntax::{ParsedStatement, PartialStatement, Word};
 use std::alloc::{AllocError, Global};
 
 /// The most signals of a netlist.
@@ -126,27 +126,31 @@ impl SymbolTable {
     }
 
     /// What is wrong with a statement that is whole now.
-    pub fn fault_of(&self, said: &Said<'_>) -> Option<BenchFault>
+    pub fn fault_of(&self, parsed: &ParsedStatement<'_>) -> Option<BenchFault>
         requires some { 0 < length self.now.begun.items }
-        requires inside { All (λ u. u.signal < length self.now.symbols.items) self.now.begun.items }
-        ensures { (done : List Statement) → KnowsSubject done self.now.begun.items self.now.symbols.items (statement_of said.now) →
-            result ≡ option_map told (statement_fault done (statement_of said.now)) }
+        requires in_bounds { All (λ u. u.signal < length self.now.symbols.items) self.now.begun.items }
+        ensures { (done : List Statement) → KnowsSubject done self.now.begun.items self.now.symbols.items (statement_of parsed.now) →
+            result ≡ option_map answered_fault (statement_fault done (statement_of parsed.now)) }
     {
-        if has_wrong_operands(said) {
-            return Some(BenchFault::WrongOperands { line: said.line() });
+        if has_wrong_operands(parsed) {
+            return Some(BenchFault::WrongOperands {
+                line: parsed.line(),
+            });
         }
         let symbol = symbol_of(self.symbols.as_slice(), self.begun[0].signal);
-        if redefines(symbol, said) {
-            return Some(BenchFault::Redefined { line: said.line() });
+        if redefines(symbol, parsed) {
+            return Some(BenchFault::Redefined {
+                line: parsed.line(),
+            });
         }
         None
     }
 
     /// Notes what the statement says of its signals.
-    pub fn define(&mut self, alloc: Global, said: &Said<'_>) -> Result<(), AllocError>
+    pub fn define(&mut self, alloc: Global, parsed: &ParsedStatement<'_>) -> Result<(), AllocError>
         requires some { 0 < length self.old.begun.items }
-        requires inside { All (λ u. u.signal < length self.old.symbols.items) self.old.begun.items }
-        ensures { OnOk result (IsClosed (statement_of said.now) self.old self.new) }
+        requires in_bounds { All (λ u. u.signal < length self.old.symbols.items) self.old.begun.items }
+        ensures { OnOk result (ClosesStatement (statement_of parsed.now) self.old self.new) }
     {
         let Some((first, operands)) = self.begun.as_slice().split_first() else {
             unreachable!()
@@ -154,19 +158,19 @@ impl SymbolTable {
         let first = *first;
         let symbol = symbol_of(self.symbols.as_slice(), first.signal);
         let after = next_symbol(
-            said,
+            parsed,
             symbol,
             self.gates.as_slice(),
             self.registers.as_slice(),
         )?;
-        add_input(&mut self.inputs, said, first, symbol)?;
-        add_output(&mut self.outputs, said, first, symbol)?;
-        add_uses(&mut self.uses, said, first, operands)?;
+        add_input(&mut self.inputs, parsed, first, symbol)?;
+        add_output(&mut self.outputs, parsed, first, symbol)?;
+        add_uses(&mut self.uses, parsed, first, operands)?;
         add_driven(
             alloc,
             &mut self.gates,
             &mut self.registers,
-            said,
+            parsed,
             first,
             operands,
         )?;
@@ -176,10 +180,10 @@ impl SymbolTable {
     }
 
     /// Notes a signal that was counted in the statement that is not whole yet, and its symbol where it is new.
-    fn note(&mut self, signal: Signal, line: u32) -> Result<(), AllocError>
+    fn note_use(&mut self, signal: Signal, line: u32) -> Result<(), AllocError>
         requires { length self.old.symbols.items ≤ length self.old.names }
         ensures symbols { OnOk result ((n : ℕ) × (self.new.symbols.items ≡ self.old.symbols.items ++ replicate n blank)) }
-        ensures each { OnOk result (length self.old.names ≤ length self.old.symbols.items + 1
+        ensures one_symbol_per_name { OnOk result (length self.old.names ≤ length self.old.symbols.items + 1
             → length self.new.symbols.items ≡ length self.old.names) }
         ensures begun { OnOk result (self.new.begun.items ≡ self.old.begun.items ++ (record { signal = signal; line = line }) ∷ []) }
         ensures names { self.new.names ≡ self.old.names }
@@ -197,56 +201,56 @@ impl SymbolTable {
     }
 
     /// Counts a signal.
-    fn count_name(&mut self, alloc: Global, line: u32, name: Word<'_>) -> Result<(), BenchFault>
+    fn intern_name(&mut self, alloc: Global, line: u32, name: Word<'_>) -> Result<(), BenchFault>
         requires operands { self.old.operands ≤ 4000000 }
-        requires each { length self.old.symbols.items ≡ length self.old.names }
-        ensures ok { OnOk result (CountsMore self.old self.new (word_of name.entry ∷ []) 0) }
-        ensures err { IfErr result (IsCrowding line self.old (word_of name.entry ∷ []) 0) }
+        requires one_symbol_per_name { length self.old.symbols.items ≡ length self.old.names }
+        ensures ok { OnOk result (InternsMore self.old self.new (word_of name.entry ∷ []) 0) }
+        ensures err { IfErr result (IsLimitFault line self.old (word_of name.entry ∷ []) 0) }
     {
-        let number = self.names.count(alloc, name.text)?;
+        let number = self.names.intern(alloc, name.text)?;
         if self.names.len() > MAX_SIGNALS {
             return Err(BenchFault::TooMany { line });
         }
-        self.note(Signal::of(number), name.line)?;
+        self.note_use(Signal::of(number), name.line)?;
         Ok(())
     }
 
     /// Counts an operand, and its signal.
-    fn count_operand(&mut self, alloc: Global, line: u32, name: Word<'_>) -> Result<(), BenchFault>
+    fn intern_operand(&mut self, alloc: Global, line: u32, name: Word<'_>) -> Result<(), BenchFault>
         requires operands { self.old.operands ≤ 4000000 }
-        requires each { length self.old.symbols.items ≡ length self.old.names }
-        ensures ok { OnOk result (CountsMore self.old self.new (word_of name.entry ∷ []) 1) }
-        ensures err { IfErr result (IsCrowding line self.old (word_of name.entry ∷ []) 1) }
+        requires one_symbol_per_name { length self.old.symbols.items ≡ length self.old.names }
+        ensures ok { OnOk result (InternsMore self.old self.new (word_of name.entry ∷ []) 1) }
+        ensures err { IfErr result (IsLimitFault line self.old (word_of name.entry ∷ []) 1) }
     {
         if self.operands >= MAX_OPERANDS {
             return Err(BenchFault::TooMany { line });
         }
-        self.count_name(alloc, line, name)?;
+        self.intern_name(alloc, line, name)?;
         self.operands += 1;
         Ok(())
     }
 
     /// Counts what a token counts that leads to this part of a statement.
-    pub fn count(
+    pub fn intern_token(
         &mut self,
         alloc: Global,
-        part: &Pending<'_>,
+        part: &PartialStatement<'_>,
         line: u32,
         token: Token<'_>,
     ) -> Result<(), BenchFault>
         requires operands { self.old.operands ≤ 4000000 }
         requires names { length self.old.names ≤ 1000000 }
-        requires each { length self.old.symbols.items ≡ length self.old.names }
-        ensures ok { OnOk result (CountsMore self.old self.new (newest (state_of [] part.now) (seen line token.entry))
+        requires one_symbol_per_name { length self.old.symbols.items ≡ length self.old.names }
+        ensures ok { OnOk result (InternsMore self.old self.new (newest (state_of [] part.now) (seen line token.entry))
             (newest_operands (state_of [] part.now) (seen line token.entry))) }
-        ensures err { IfErr result (IsCrowding line self.old (newest (state_of [] part.now) (seen line token.entry))
+        ensures err { IfErr result (IsLimitFault line self.old (newest (state_of [] part.now) (seen line token.entry))
             (newest_operands (state_of [] part.now) (seen line token.entry))) }
     {
         match part {
-            Pending::Defining { out } => self.count_name(alloc, line, *out),
-            Pending::Named { name, .. } => self.count_name(alloc, line, *name),
-            Pending::AfterOperand(_) => match token {
-                Token::Name(text) => self.count_operand(alloc, line, Word { line, text }),
+            PartialStatement::Defining { out } => self.intern_name(alloc, line, *out),
+            PartialStatement::Named { name, .. } => self.intern_name(alloc, line, *name),
+            PartialStatement::AfterOperand(_) => match token {
+                Token::Name(text) => self.intern_operand(alloc, line, Word { line, text }),
                 _ => Ok(()),
             },
             _ => Ok(()),
@@ -255,14 +259,14 @@ impl SymbolTable {
 }
 
 /// Whether the statement defines a signal again that has this symbol.
-fn redefines(symbol: Symbol, said: &Said<'_>) -> bool
-    ensures { (done : List Statement) → IsSymbol done (subject (statement_of said.now)).text symbol
-        → result ≡ redefines done (statement_of said.now) }
+fn redefines(symbol: Symbol, parsed: &ParsedStatement<'_>) -> bool
+    ensures { (done : List Statement) → IsSymbol done (subject (statement_of parsed.now)).text symbol
+        → result ≡ redefines done (statement_of parsed.now) }
 {
-    match said {
-        Said::Input { .. } => is_driven(symbol.role),
-        Said::Output { .. } => false,
-        Said::Gate(_) => is_defined(symbol.role),
+    match parsed {
+        ParsedStatement::Input { .. } => is_driven(symbol.role),
+        ParsedStatement::Output { .. } => false,
+        ParsedStatement::Gate(_) => is_defined(symbol.role),
     }
 }
 
@@ -277,11 +281,11 @@ fn takes_one(word: &[u8]) -> bool
 }
 
 /// Whether a gate of one operand has more.
-fn has_wrong_operands(said: &Said<'_>) -> bool
-    ensures { result ≡ has_wrong_operands (statement_of said.now) }
+fn has_wrong_operands(parsed: &ParsedStatement<'_>) -> bool
+    ensures { result ≡ has_wrong_operands (statement_of parsed.now) }
 {
-    match said {
-        Said::Gate(gate) => !gate.others.is_empty() && takes_one(gate.word.text),
+    match parsed {
+        ParsedStatement::Gate(gate) => !gate.others.is_empty() && takes_one(gate.word.text),
         _ => false,
     }
 }

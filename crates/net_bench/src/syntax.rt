@@ -1,7 +1,7 @@
 // The statements of a text, as they are spelled, and the parts of a statement.
 ghost use Rattle.std.specs.Prelude.{◌≡◌, ◌≢◌, ◌⊎◌, List, [], ◌∷◌, ◌++◌, None, IfOk, IfErr};
 ghost use Rattle.net_bench.specs.Text.{Name, End};
-ghost use Rattle.net_bench.specs.Said.{word_of, statement_of, state_of, next_state, closing};
+ghost use Rattle.net_bench.specs.ParsedStatement.{word_of, statement_of, state_of, next_state, closing};
 ghost use Rattle.net_bench.specs.Scan.{seen};
 ghost use Rattle.net_bench.specs.Statement.{Statement, line_of};
 ghost use Rattle.net_bench.specs.Machine.{Failed, is_input_word, is_output_word, port, step};
@@ -21,7 +21,7 @@ pub struct Word<'a> {
 
 /// A gate of the text, with its operands so far.
 #[derive(Drop)]
-pub struct SaidGate<'a> {
+pub struct ParsedGate<'a> {
     pub out: Word<'a>,
     pub word: Word<'a>,
     pub first: Word<'a>,
@@ -30,27 +30,27 @@ pub struct SaidGate<'a> {
 
 /// A statement of the text.
 #[derive(Drop)]
-pub enum Said<'a> {
+pub enum ParsedStatement<'a> {
     Input { word: Word<'a>, name: Word<'a> },
     Output { word: Word<'a>, name: Word<'a> },
-    Gate(SaidGate<'a>),
+    Gate(ParsedGate<'a>),
 }
 
-impl Said<'_> {
+impl ParsedStatement<'_> {
     /// The line of the statement's first token.
     pub fn line(&self) -> u32
         ensures { result ≡ line_of (statement_of self.now) }
     {
         match self {
-            Said::Input { word, .. } | Said::Output { word, .. } => word.line,
-            Said::Gate(gate) => gate.out.line,
+            ParsedStatement::Input { word, .. } | ParsedStatement::Output { word, .. } => word.line,
+            ParsedStatement::Gate(gate) => gate.out.line,
         }
     }
 }
 
 /// What the tokens behind the last whole statement have said.
 #[derive(Drop)]
-pub enum Pending<'a> {
+pub enum PartialStatement<'a> {
     Nothing,
     First { word: Word<'a> },
     Opened { word: Word<'a> },
@@ -58,8 +58,8 @@ pub enum Pending<'a> {
     Defining { out: Word<'a> },
     AtWord { out: Word<'a>, word: Word<'a> },
     Operands { out: Word<'a>, word: Word<'a> },
-    AfterOperand(SaidGate<'a>),
-    AfterComma(SaidGate<'a>),
+    AfterOperand(ParsedGate<'a>),
+    AfterComma(ParsedGate<'a>),
 }
 
 /// INPUT, in either case.
@@ -77,35 +77,35 @@ fn is_output(word: Word<'_>) -> bool
 }
 
 /// The statement of a word that is INPUT or OUTPUT.
-fn port<'a>(word: Word<'a>, name: Word<'a>) -> Said<'a>
+fn port<'a>(word: Word<'a>, name: Word<'a>) -> ParsedStatement<'a>
     ensures { statement_of result ≡ port (word_of word.entry) (word_of name.entry) }
 {
     if is_input(word) {
-        return Said::Input { word, name };
+        return ParsedStatement::Input { word, name };
     }
-    Said::Output { word, name }
+    ParsedStatement::Output { word, name }
 }
 
 /// What one more token makes of a part of a statement: more of it, or the whole.
 #[derive(Drop)]
 pub enum Next<'a> {
-    More(Pending<'a>),
-    Whole(Said<'a>),
+    More(PartialStatement<'a>),
+    Complete(ParsedStatement<'a>),
 }
 
 /// The gate with one operand more.
-fn with_operand<'a>(gate: SaidGate<'a>, operand: Word<'a>) -> Result<SaidGate<'a>, AllocError>
+fn with_operand<'a>(gate: ParsedGate<'a>, operand: Word<'a>) -> Result<ParsedGate<'a>, AllocError>
     ensures { IfOk result (λ g. (g.out ≡ gate.entry.out) × (g.word ≡ gate.entry.word) × (g.first ≡ gate.entry.first)
         × (g.others.items ≡ gate.entry.others.items ++ operand.entry ∷ [])) }
 {
-    let SaidGate {
+    let ParsedGate {
         out,
         word,
         first,
         mut others,
     } = gate;
     others.push(operand)?;
-    Ok(SaidGate {
+    Ok(ParsedGate {
         out,
         word,
         first,
@@ -116,9 +116,9 @@ fn with_operand<'a>(gate: SaidGate<'a>, operand: Word<'a>) -> Result<SaidGate<'a
 /// What a name makes of a part of a statement.
 fn next_name<'a>(
     alloc: Global,
-    part: Pending<'a>,
+    part: PartialStatement<'a>,
     name: Word<'a>,
-) -> Result<Pending<'a>, BenchFault>
+) -> Result<PartialStatement<'a>, BenchFault>
     ensures step { IfOk result (λ p. (done : List Statement)
         → state_of done p ≡ step (state_of done part.entry) (Name (word_of name.entry))) }
     ensures closed { IfOk result (λ p. (done : List Statement) → closed (state_of done part.entry) (Name (word_of name.entry)) ≡ None) }
@@ -127,16 +127,20 @@ fn next_name<'a>(
         → step (state_of done part.entry) (Name (word_of name.entry)) ≡ Failed))) }
 {
     match part {
-        Pending::Nothing => Ok(Pending::First { word: name }),
-        Pending::Opened { word } => Ok(Pending::Named { word, name }),
-        Pending::Defining { out } => Ok(Pending::AtWord { out, word: name }),
-        Pending::Operands { out, word } => Ok(Pending::AfterOperand(SaidGate {
-            out,
-            word,
-            first: name,
-            others: Vec::new(alloc),
-        })),
-        Pending::AfterComma(gate) => Ok(Pending::AfterOperand(with_operand(gate, name)?)),
+        PartialStatement::Nothing => Ok(PartialStatement::First { word: name }),
+        PartialStatement::Opened { word } => Ok(PartialStatement::Named { word, name }),
+        PartialStatement::Defining { out } => Ok(PartialStatement::AtWord { out, word: name }),
+        PartialStatement::Operands { out, word } => Ok(PartialStatement::AfterOperand(
+            ParsedGate {
+                out,
+                word,
+                first: name,
+                others: Vec::new(alloc),
+            },
+        )),
+        PartialStatement::AfterComma(gate) => Ok(PartialStatement::AfterOperand(with_operand(
+            gate, name,
+        )?)),
         _ => Err(BenchFault::BadStatement { line: name.line }),
     }
 }
@@ -144,7 +148,7 @@ fn next_name<'a>(
 /// What one more token, which is not the end, makes of a part of a statement.
 pub fn next_part<'a>(
     alloc: Global,
-    part: Pending<'a>,
+    part: PartialStatement<'a>,
     line: u32,
     token: Token<'a>,
 ) -> Result<Next<'a>, BenchFault>
@@ -161,17 +165,24 @@ pub fn next_part<'a>(
             let part = next_name(alloc, part, Word { line, text })?;
             Ok(Next::More(part))
         }
-        (Pending::First { word }, Token::Equals) => Ok(Next::More(Pending::Defining { out: word })),
-        (Pending::First { word }, Token::Open) if is_input(word) || is_output(word) => Ok(
-            Next::More(Pending::Opened { word }),
+        (PartialStatement::First { word }, Token::Equals) => Ok(Next::More(
+            PartialStatement::Defining { out: word },
+        )),
+        (PartialStatement::First { word }, Token::Open) if is_input(word) || is_output(word) => Ok(
+            Next::More(PartialStatement::Opened { word }),
         ),
-        (Pending::Named { word, name }, Token::Close) => Ok(Next::Whole(port(word, name))),
-        (Pending::AtWord { out, word }, Token::Open) => Ok(Next::More(Pending::Operands {
-            out,
-            word,
-        })),
-        (Pending::AfterOperand(gate), Token::Comma) => Ok(Next::More(Pending::AfterComma(gate))),
-        (Pending::AfterOperand(gate), Token::Close) => Ok(Next::Whole(Said::Gate(gate))),
+        (PartialStatement::Named { word, name }, Token::Close) => Ok(Next::Complete(port(
+            word, name,
+        ))),
+        (PartialStatement::AtWord { out, word }, Token::Open) => Ok(Next::More(
+            PartialStatement::Operands { out, word },
+        )),
+        (PartialStatement::AfterOperand(gate), Token::Comma) => Ok(Next::More(
+            PartialStatement::AfterComma(gate),
+        )),
+        (PartialStatement::AfterOperand(gate), Token::Close) => Ok(Next::Complete(
+            ParsedStatement::Gate(gate),
+        )),
         _ => Err(BenchFault::BadStatement { line }),
     }
 }

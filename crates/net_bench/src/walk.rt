@@ -3,7 +3,7 @@ ghost use Rattle.std.specs.Prelude.{◌≡◌, ℕ, ◌<◌, ◌≤◌, [], ◌�
 ghost use Rattle.std.specs.Prelude.{true, false};
 ghost use Rattle.net_bench.specs.Circuit.{greatest};
 ghost use Rattle.net_bench.specs.Heights.{all_ranked, gate_place, operands_at, out_at, steps_left, AreHeights, HasOneGateEach, IsDriven};
-ghost use Rattle.net_bench.specs.Heights.{IsRanking, IsSettled};
+ghost use Rattle.net_bench.specs.Heights.{IsRanking, HasHeightIfOperandsHave};
 
 use crate::netlist::{GateLine, Role, Signal};
 use crate::symbols::Symbol;
@@ -37,8 +37,8 @@ fn greatest_height(heights: &[u32], signals: &[Signal]) -> u32
 
 /// Heights the gate at this place, all of whose operands have heights, where it has none.
 #[tactic(auto, using(crate::proofs::Heights::small, crate::proofs::Heights::ranked_more))]
-fn rank_gate(gates: &[GateLine], place: usize, heights: &mut [u32])
-    requires inside { place < length gates.now }
+fn set_gate_height(gates: &[GateLine], place: usize, heights: &mut [u32])
+    requires in_bounds { place < length gates.now }
     requires few { length heights.old ≤ 1000000 }
     requires outs { All (λ g. g.out < length heights.old) gates.now }
     requires one_gate { HasOneGateEach gates.now }
@@ -73,7 +73,7 @@ fn gate_of(symbols: &[Symbol], signal: Signal) -> Option<usize>
 
 /// A gate that waits for an operand, and how many of its operands it has passed.
 #[derive(Clone, Copy, Debug)]
-pub struct Waiting {
+pub struct WaitingGate {
     pub place: usize,
     pub passed: usize,
 }
@@ -83,10 +83,10 @@ pub struct Waiting {
 fn advance(
     gates: &[GateLine],
     symbols: &[Symbol],
-    gate: Waiting,
+    gate: WaitingGate,
     heights: &mut [u32],
     begun: &mut [bool],
-    waiting: &mut Vec<Waiting>,
+    waiting: &mut Vec<WaitingGate>,
 ) -> Result<(), AllocError>
     requires few { length heights.old ≤ 1000000 }
     requires outs { All (λ g. g.out < length heights.old) gates.now }
@@ -96,16 +96,16 @@ fn advance(
     requires ranking { IsRanking gates.now heights.old begun.old (gate ∷ reverse waiting.old.items) }
     ensures ranking { OnOk result (IsRanking gates.now heights.new begun.new (reverse waiting.new.items)) }
     ensures kept { OnOk result ((s : ℕ) → 0 < slice_index heights.old s → slice_index heights.new s ≡ slice_index heights.old s) }
-    ensures still { OnOk result ((p : ℕ) → slice_index_or begun.old p false ≡ true → slice_index_or begun.new p false ≡ true) }
-    ensures fewer { OnOk result (steps_left gates.now begun.new (reverse waiting.new.items) < steps_left gates.now begun.old
+    ensures begun_stay { OnOk result ((p : ℕ) → slice_index_or begun.old p false ≡ true → slice_index_or begun.new p false ≡ true) }
+    ensures fewer_steps_left { OnOk result (steps_left gates.now begun.new (reverse waiting.new.items) < steps_left gates.now begun.old
         (gate ∷ reverse waiting.old.items)) }
 {
     let Some(operand) = gates[gate.place].operands.as_slice().get(gate.passed) else {
-        rank_gate(gates, gate.place, heights);
+        set_gate_height(gates, gate.place, heights);
         return Ok(());
     };
     if height_of(heights, *operand) != 0 {
-        waiting.push(Waiting {
+        waiting.push(WaitingGate {
             place: gate.place,
             passed: gate.passed + 1,
         })?;
@@ -119,7 +119,7 @@ fn advance(
     }
     begun[below] = true;
     waiting.push(gate)?;
-    waiting.push(Waiting {
+    waiting.push(WaitingGate {
         place: below,
         passed: 0,
     })?;
@@ -127,7 +127,7 @@ fn advance(
 }
 
 /// Heights the gate at this place, and those below it, each after its operands. A gate from which an endless chain starts gets no height.
-fn rank_below(
+fn set_heights_below(
     alloc: Global,
     gates: &[GateLine],
     symbols: &[Symbol],
@@ -135,7 +135,7 @@ fn rank_below(
     heights: &mut [u32],
     begun: &mut [bool],
 ) -> Result<(), AllocError>
-    requires inside { start < length gates.now }
+    requires in_bounds { start < length gates.now }
     requires few { length heights.old ≤ 1000000 }
     requires outs { All (λ g. g.out < length heights.old) gates.now }
     requires operands { All (λ g. All (λ s. s < length heights.old) g.operands) gates.now }
@@ -144,15 +144,15 @@ fn rank_below(
     requires ranking { IsRanking gates.now heights.old begun.old [] }
     ensures ranking { OnOk result (IsRanking gates.now heights.new begun.new []) }
     ensures kept { OnOk result ((s : ℕ) → 0 < slice_index heights.old s → slice_index heights.new s ≡ slice_index heights.old s) }
-    ensures still { OnOk result ((p : ℕ) → slice_index_or begun.old p false ≡ true → slice_index_or begun.new p false ≡ true) }
+    ensures begun_stay { OnOk result ((p : ℕ) → slice_index_or begun.old p false ≡ true → slice_index_or begun.new p false ≡ true) }
     ensures begun { OnOk result (slice_index_or begun.new start false ≡ true) }
 {
     if begun[start] {
         return Ok(());
     }
     begun[start] = true;
-    let mut waiting: Vec<Waiting> = Vec::new(alloc);
-    waiting.push(Waiting {
+    let mut waiting: Vec<WaitingGate> = Vec::new(alloc);
+    waiting.push(WaitingGate {
         place: start,
         passed: 0,
     })?;
@@ -163,7 +163,7 @@ fn rank_below(
 }
 
 /// Heights each gate from which no endless chain of operands starts: one walk over the gates, on a stack of those that wait.
-pub fn settle(
+pub fn set_heights(
     alloc: Global,
     gates: &[GateLine],
     symbols: &[Symbol],
@@ -177,11 +177,11 @@ pub fn settle(
     requires sound { AreHeights gates.now heights.old }
     ensures sound { OnOk result (AreHeights gates.now heights.new) }
     ensures kept { OnOk result ((s : ℕ) → 0 < slice_index heights.old s → slice_index heights.new s ≡ slice_index heights.old s) }
-    ensures settled { OnOk result (All (IsSettled heights.new) gates.now) }
+    ensures settled { OnOk result (All (HasHeightIfOperandsHave heights.new) gates.now) }
 {
     let mut begun: Vec<bool> = vec![in alloc; false; gates.len()]?;
     for place in 0..gates.len() {
-        rank_below(alloc, gates, symbols, place, heights, begun.as_mut_slice())?;
+        set_heights_below(alloc, gates, symbols, place, heights, begun.as_mut_slice())?;
     }
     Ok(())
 }

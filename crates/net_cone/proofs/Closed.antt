@@ -28,7 +28,7 @@ no_registers xs (g ∷ gs) s e among = cc
 behind : (from ts : List ℕ) (s : ℕ) → All (λ t. t < length from) ts → Contains (map (slice_index from) ts) s → Contains from s
 behind from [] s low (i, less, at) = absurd (omega arith)
 behind from (t ∷ ts) s low (zero, less, at) =
-    let inside : t < length from = low 0 0 (omega arith) in (t, inside, get_or_default from t s 0 inside ∙ at)
+    let in_bounds : t < length from = low 0 0 (omega arith) in (t, in_bounds, get_or_default from t s 0 in_bounds ∙ at)
 behind from (t ∷ ts) s low (suc i, less, at) = behind from ts s (λ j d l. low (suc j) d (omega arith)) (i, omega arith, at)
 
 module _ (n : Net) (root : ℕ) (names : List (List ℕ)) (cone : Net) (from : List ℕ) (net : IsNet n) (is : IsCone n root names cone from) where
@@ -68,7 +68,7 @@ module _ (n : Net) (root : ℕ) (names : List (List ℕ)) (cone : Net) (from : L
       ]
 
   signal_in : (s : ℕ) → IsBelow (circuit n) root s → Contains from s
-  signal_in _ here = (is.top, is.inside, get_or_default from is.top root 0 is.inside ∙ is.stands)
+  signal_in _ here = (is.top, is.in_bounds, get_or_default from is.top root 0 is.in_bounds ∙ is.top_is_root)
   signal_in _ (deeper {s} {t} h feeds) = operand_in s t (signal_in s h) feeds
 
   input_in : (s : ℕ) → Contains (variables_of (circuit n)) s → IsBelow (circuit n) root s → (t : ℕ) × Contains cone.inputs t × (slice_index from t ≡ s)

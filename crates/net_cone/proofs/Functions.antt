@@ -56,7 +56,7 @@ module _ (n : Net) (root : ℕ) (names : List (List ℕ)) (cone : Net) (from : L
 
   at_copy : (g : GateLine) → IsCopy n from g → bit_of lowered g.out ≡ value_of g.kind (map (bit_of lowered) g.operands)
   at_copy g c =
-      at_signal g.out c.inside ∙ ap (bit_of bits) c.out ∙
+      at_signal g.out c.in_bounds ∙ ap (bit_of bits) c.out ∙
       at_contained (λ h. bit_of bits h.out ≡ value_of h.kind (map (bit_of bits) h.operands)) n.gates c.source label.gates c.among ∙
       ap (λ k. value_of k (map (bit_of bits) c.source.operands)) (sym c.kind) ∙
       ap (λ ts. value_of g.kind (map (bit_of bits) ts)) (sym c.operands) ∙
@@ -66,7 +66,7 @@ module _ (n : Net) (root : ℕ) (names : List (List ℕ)) (cone : Net) (from : L
   IsValued g = bit_of lowered g.out ≡ value_of g.kind (map (bit_of lowered) g.operands)
 
   last_valued : IsValued (last_gate (length from) is.top)
-  last_valued = at_end ∙ ap (bit_of bits) (sym is.stands) ∙ sym (at_signal is.top is.inside) ∙ sym (and_true (bit_of lowered is.top))
+  last_valued = at_end ∙ ap (bit_of bits) (sym is.top_is_root) ∙ sym (at_signal is.top is.in_bounds) ∙ sym (and_true (bit_of lowered is.top))
 
   one_last : (i : ℕ) (d : GateLine) → i < 1 → IsValued (get_or (last_gate (length from) is.top ∷ []) i d)
   one_last zero d low = last_valued
@@ -119,10 +119,10 @@ pub from_cone : (n : Net) (root : ℕ) (names : List (List ℕ)) (cone : Net) (f
     ((x : List Bool) → (bits : List Bool) × IsLabelling (circuit n) level x bits) →
     (count : ℕ) (f : List Bool → Bool) → IsFunctionOf (circuit cone) inner count (length from) f → IsFunctionOf (circuit n) level count root f
 from_cone n root names cone from is level inner meet labelled count f h x size =
-    let (inside, of_cone, at) = h x size in
+    let (in_bounds, of_cone, at) = h x size in
     let (bits, label) = labelled x in
     let low : length from < length cone.names = omega (arith, is.count) in
-    let one = same_labelling cone is.sound inner x (map (bit_of bits) (from ++ root ∷ [])) inside
+    let one = same_labelling cone is.sound inner x (map (bit_of bits) (from ++ root ∷ [])) in_bounds
     (below n root names cone from is level inner meet x bits label) of_cone (length from) low in
     (bits, label, sym (root_bit n root names cone from is level inner meet x bits label) ∙ one ∙ at)
 

@@ -6,5 +6,5 @@ pub mod Walking
 pub mod Lists
 pub mod Names
 pub mod Numbered
-pub mod Drawn
+pub mod ConeParts
 pub mod Spreading

@@ -3,7 +3,7 @@ use Rattle.std.proofs.Common.{◌≡◌, ◌≢◌, ℕ, zero, suc, ◌<◌, Lis
 use Rattle.std.specs.Prelude.{All, cond, ◌||◌, bytes_eq, fold, slice_index}
 use Rattle.std.proofs.lemmas.List.{append-nil, append_assoc}
 use Rattle.std.proofs.lemmas.List.Elements.{All-append}
-use Rattle.net_bench.specs.Circuit.{AreOnce, is_name_in, with_name}
+use Rattle.net_bench.specs.Circuit.{HaveNoRepeats, is_name_in, with_name}
 use Rattle.net_bench.proofs.Names.{same_bytes}
 
 -- each name differs from those behind it
@@ -52,7 +52,7 @@ apart_append (x ∷ xs) ys (differ, ax) ay new = (
   apart_append xs ys ax ay (λ i d low. tail_all (λ z. z ≢ get_or ys i d) x xs (new i d low)),
 )
 
-pub apart_map : (f : ℕ → List ℕ) (xs : List ℕ) → AreOnce xs → ((i j : ℕ) → i < length xs → j < length xs → f (slice_index xs i) ≡ f (slice_index xs j) → slice_index xs i ≡ slice_index xs j) → AreApart (map f xs)
+pub apart_map : (f : ℕ → List ℕ) (xs : List ℕ) → HaveNoRepeats xs → ((i j : ℕ) → i < length xs → j < length xs → f (slice_index xs i) ≡ f (slice_index xs j) → slice_index xs i ≡ slice_index xs j) → AreApart (map f xs)
 apart_map f [] once differ = tt
 apart_map f (x ∷ xs) once differ = (
   all_map xs (λ i low same. once 0 (suc i) (omega arith) (omega arith) (sym (differ (suc i) 0 (omega arith) (omega arith) same))),

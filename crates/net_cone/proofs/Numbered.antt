@@ -7,7 +7,7 @@ use Rattle.std.proofs.lemmas.Bool.{cases_lt}
 use Rattle.net_bench.proofs.OneLabelling.{at_contained}
 use Rattle.std.proofs.lemmas.Option.{get_or_from_slice_get}
 use Rattle.net_bench.specs.declared.netlist.GateLine.{GateLine}
-use Rattle.net_bench.specs.Circuit.{AreOnce, IsNet, Net, circuit, variables_of}
+use Rattle.net_bench.specs.Circuit.{HaveNoRepeats, IsNet, Net, circuit, variables_of}
 use Rattle.net_cone.specs.Cones.{AreNames, last_gate}
 use Rattle.net_cone.specs.Walk.{is_visited}
 
@@ -28,14 +28,14 @@ taken_short (x ∷ xs) zero i low = absurd (omega arith)
 taken_short (x ∷ xs) (suc p) zero low = omega arith
 taken_short (x ∷ xs) (suc p) (suc i) low = let more : i < length xs = taken_short xs p i (omega arith) in omega arith
 
-earlier : (xs : List ℕ) (p s : ℕ) → AreOnce xs → p < length xs → s ≡ get_or xs p s → All (λ t. t ≢ s) (take p xs)
+earlier : (xs : List ℕ) (p s : ℕ) → HaveNoRepeats xs → p < length xs → s ≡ get_or xs p s → All (λ t. t ≢ s) (take p xs)
 earlier xs p s once low is i d less same =
     let before : i < p = taken_low xs p i less in
     let within : i < length xs = taken_short xs p i less in
     once i p before low
     (get_or_default xs i 0 d within ∙ sym (get_or-take p xs i d before) ∙ same ∙ is ∙ get_or_default xs p s 0 low)
 
-pub fresh_next : (seen : List Bool) (signals from initial : List ℕ) (p s : ℕ) → AreOnce signals → p < length signals → s ≡ get_or signals p s →
+pub fresh_next : (seen : List Bool) (signals from initial : List ℕ) (p s : ℕ) → HaveNoRepeats signals → p < length signals → s ≡ get_or signals p s →
     All (λ t. t ≢ s) initial → from ≡ initial ++ filter (is_visited seen) (take p signals) → All (λ t. t ≢ s) from
 fresh_next seen signals from initial p s once low is fresh added =
     subst (All (λ t. t ≢ s)) (sym added)
@@ -59,8 +59,8 @@ module _ (n : Net) (sound : IsNet n) (outs : List ℕ) (is : outs ≡ map (λ g.
   outs_inside bound same = subst (λ os. All (λ s. s < bound) os) (sym is) (subst (λ b. All (λ s. s < b) (map (λ g. g.out) n.gates)) (sym same)
       (λ i d low. subst (λ s. s < length n.names) (sym (out_at n.gates i d low)) (sound.outs i no_gate (subst (λ k. i < k) (length_outs n.gates) low))))
 
-  pub outs_once : AreOnce outs
-  outs_once = subst AreOnce (sym is)
+  pub outs_once : HaveNoRepeats outs
+  outs_once = subst HaveNoRepeats (sym is)
       (λ i j less low same.
       let long : length (map (λ g. g.out) n.gates) ≡ length n.gates = length_outs n.gates in
       sound.one_gate i j no_gate less (omega arith) (sym (out_at n.gates i 0 (omega arith)) ∙ same ∙ out_at n.gates j 0 low))

@@ -12,7 +12,7 @@ use Rattle.net_bench.specs.declared.netlist.Role.TheVariants.{Gate as gate, Unde
 use Rattle.net_bench.specs.Circuit.{Net, IsNet, circuit, gate_by, gate_of}
 use Rattle.net_bench.proofs.Built.{role_gate}
 use Rattle.net_cone.specs.Cones.{IsBelow, here, deeper}
-use Rattle.net_cone.specs.Walk.{AreBelow, IsVisited, IsWalking, KeepsVisited, gates_of}
+use Rattle.net_cone.specs.Walk.{AreBelow, IsVisited, IsWalkBelow, KeepsVisited, gates_of}
 
 pub contained_at : (xs : List ℕ) (i d : ℕ) → i < length xs → Contains xs (get_or xs i d)
 contained_at xs i d low = (i, low, get_or_default xs i (get_or xs i d) d low)
@@ -67,9 +67,9 @@ last_of : (P : ℕ → Type 0) (xs : List ℕ) (y : ℕ) → All P (xs ++ y ∷ 
 last_of P [] y all = all 0 0 (omega arith)
 last_of P (x ∷ xs) y all = last_of P xs y (λ j e less. all (suc j) e (omega arith))
 
-module _ (n : Net) (sound : IsNet n) (root s : ℕ) (old new : List Bool) (before after : List ℕ) (w : IsWalking n root old (before ++ s ∷ [])) where
+module _ (n : Net) (sound : IsNet n) (root s : ℕ) (old new : List Bool) (before after : List ℕ) (w : IsWalkBelow n root old (before ++ s ∷ [])) where
   -- a variable is passed
-  pub pass_variable : gate_of n.gates s ≡ None → IsWalking n root old before
+  pub pass_variable : gate_of n.gates s ≡ None → IsWalkBelow n root old before
   pass_variable none = record {
     each = w.each;
     start = w.start;
@@ -87,7 +87,7 @@ module _ (n : Net) (sound : IsNet n) (root s : ℕ) (old new : List Bool) (befor
   -- the operands of its gate are visited
   pub pass_gate : (g : GateLine) → Contains n.gates g → g.out ≡ s → length new ≡ length n.names → All (IsVisited new) g.operands → KeepsVisited old new →
       ((t : ℕ) → IsVisited new t → IsVisited old t ⊎ (Contains g.operands t × Contains after t)) → ((t : ℕ) → Contains before t → Contains after t) →
-      (All (IsVisited old) before → All (IsVisited new) after) → IsWalking n root new after
+      (All (IsVisited old) before → All (IsVisited new) after) → IsWalkBelow n root new after
   pass_gate g there out each operands kept only stay visited = record {
     each = each;
     start = kept root w.start;
@@ -112,20 +112,20 @@ module _ (n : Net) (sound : IsNet n) (root s : ℕ) (old new : List Bool) (befor
     ];
   }
 
-pub taken : (n : Net) (root s : ℕ) (seen : List Bool) (old rest : List ℕ) → old ≡ rest ++ s ∷ [] → IsWalking n root seen old → IsWalking n root seen (rest ++ s ∷ [])
-taken n root s seen old rest is w = subst (IsWalking n root seen) is w
+pub taken : (n : Net) (root s : ℕ) (seen : List Bool) (old rest : List ℕ) → old ≡ rest ++ s ∷ [] → IsWalkBelow n root seen old → IsWalkBelow n root seen (rest ++ s ∷ [])
+taken n root s seen old rest is w = subst (IsWalkBelow n root seen) is w
 
-pub taken_low : (n : Net) → IsNet n → (root s : ℕ) (seen : List Bool) (rest : List ℕ) → IsWalking n root seen (rest ++ s ∷ []) → s < length n.names
-taken_low n sound root s seen rest w = inside seen s (length n.names) w.each (last_of (IsVisited seen) rest s w.waits)
+pub taken_low : (n : Net) → IsNet n → (root s : ℕ) (seen : List Bool) (rest : List ℕ) → IsWalkBelow n root seen (rest ++ s ∷ []) → s < length n.names
+taken_low n sound root s seen rest w = in_bounds seen s (length n.names) w.each (last_of (IsVisited seen) rest s w.waits)
   where
-    inside : (ms : List Bool) (i bound : ℕ) → length ms ≡ bound → IsVisited ms i → i < bound
-    inside [] i bound is visited = cc
-    inside (m ∷ ms) zero bound is visited = omega arith
-    inside (m ∷ ms) (suc i) zero is visited = absurd (omega arith)
-    inside (m ∷ ms) (suc i) (suc bound) is visited = let more : i < bound = inside ms i bound (omega arith) visited in omega arith
+    in_bounds : (ms : List Bool) (i bound : ℕ) → length ms ≡ bound → IsVisited ms i → i < bound
+    in_bounds [] i bound is visited = cc
+    in_bounds (m ∷ ms) zero bound is visited = omega arith
+    in_bounds (m ∷ ms) (suc i) zero is visited = absurd (omega arith)
+    in_bounds (m ∷ ms) (suc i) (suc bound) is visited = let more : i < bound = in_bounds ms i bound (omega arith) visited in omega arith
 
 pub begun : (n : Net) (root : ℕ) (old new : List Bool) (waiting : List ℕ) → length new ≡ length n.names → ((s : ℕ) → IsVisited old s → ⊥) → IsVisited new root →
-    ((s : ℕ) → IsVisited new s → IsVisited old s ⊎ ((s ≡ root) × Contains waiting s)) → All (IsVisited new) waiting → IsWalking n root new waiting
+    ((s : ℕ) → IsVisited new s → IsVisited old s ⊎ ((s ≡ root) × Contains waiting s)) → All (IsVisited new) waiting → IsWalkBelow n root new waiting
 begun n root old new waiting each none visited only all = record {
   each = each;
   start = visited;
@@ -140,7 +140,7 @@ begun n root old new waiting each none visited only all = record {
   ];
 }
 
-pub ended : (n : Net) (root : ℕ) (seen : List Bool) (waiting : List ℕ) → waiting ≡ [] → IsWalking n root seen waiting → AreBelow n root seen
+pub ended : (n : Net) (root : ℕ) (seen : List Bool) (waiting : List ℕ) → waiting ≡ [] → IsWalkBelow n root seen waiting → AreBelow n root seen
 ended n root seen [] e w = record {
   each = w.each;
   start = w.start;

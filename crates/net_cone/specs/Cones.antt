@@ -3,7 +3,7 @@ use Rattle.std.specs.Prelude.{◌≡◌, ◌+◌, ◌<◌, ℕ, Bool, List, [], 
 use Rattle.std.specs.Prelude.{slice_index_or, Contains, All}
 use Rattle.net_bench.specs.declared.netlist.GateLine.{GateLine}
 use Rattle.net_bench.specs.declared.netlist.Kind.TheVariants.{Buff}
-use Rattle.net_bench.specs.Circuit.{AreOnce, Circuit, Feeds, IsNet, Net, circuit, variables_of}
+use Rattle.net_bench.specs.Circuit.{HaveNoRepeats, Circuit, Feeds, IsNet, Net, circuit, variables_of}
 
 -- the signal is the root, or an operand of a gate whose signal is below the root; no operand is below a variable
 pub data IsBelow (c : Circuit) (root : ℕ) : ℕ → Type 0 where
@@ -38,7 +38,7 @@ gate_signals n = map (λ g. g.out) n.gates
 pub record IsCopy (n : Net) (from : List ℕ) (g : GateLine) : Type 0 where
   pub source : GateLine
   pub among : Contains n.gates source
-  pub inside : g.out < length from
+  pub in_bounds : g.out < length from
   pub out : slice_index from g.out ≡ source.out
   pub kind : g.kind ≡ source.kind
   pub low : All (λ t. t < length from) g.operands
@@ -57,7 +57,7 @@ pub record IsCone (n : Net) (root : ℕ) (names : List (List ℕ)) (cone : Net) 
   pub sound : IsNet cone
   pub count : length cone.names ≡ length from + 1
   pub below : All (IsBelow (circuit n) root) from
-  pub once : AreOnce from
+  pub once : HaveNoRepeats from
   -- the variables that are met stand first, in their order, then the signals of the gates that are met, in text order
   pub met : ℕ → Bool
   pub order : from ≡ filter met (variables_of (circuit n)) ++ filter met (map (λ g. g.out) n.gates)
@@ -69,8 +69,8 @@ pub record IsCone (n : Net) (root : ℕ) (names : List (List ℕ)) (cone : Net) 
   -- its gates are gates of the netlist, and last a copy of the root, its one output
   pub gates : cone.gates ≡ copies ++ last_gate (length from) top ∷ []
   pub copied : All (IsCopy n from) copies
-  pub inside : top < length from
-  pub stands : slice_index from top ≡ root
+  pub in_bounds : top < length from
+  pub top_is_root : slice_index from top ≡ root
   pub outputs : cone.outputs ≡ length from ∷ []
   pub input_names : All (λ t. slice_index_or cone.names t [] ≡ variable_name names (slice_index from t)) cone.inputs
   pub gate_names : All (λ g. slice_index_or cone.names g.out [] ≡ gate_name n (slice_index from g.out)) copies

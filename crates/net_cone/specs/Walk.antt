@@ -3,7 +3,7 @@ use Rattle.std.specs.Prelude.{◌≡◌, ◌⊎◌, ◌<◌, ◌≤◌, ◌+◌,
 use Rattle.std.specs.Prelude.{filter_map, fold, map, length, take, drop, slice_index, slice_index_or, Contains, All}
 use Rattle.net_bench.specs.declared.netlist.GateLine.{GateLine}
 use Rattle.net_bench.specs.Circuit.{Net, circuit, gate_of, with_name}
-use Rattle.net_cone.specs.declared.cone.Numbers.{Numbers}
+use Rattle.net_cone.specs.declared.cone.ConeNumbering.{ConeNumbering}
 use Rattle.net_cone.specs.Cones.{IsBelow, gate_name, last_gate, variable_name}
 
 -- the signal has a mark
@@ -27,7 +27,7 @@ abbrev pub KeepsVisited : List Bool → List Bool → Type 0
 KeepsVisited old new = (s : ℕ) → IsVisited old s → IsVisited new s
 
 -- the visited signals are below the root, and those that wait are visited; the others' operands are visited
-pub record IsWalking (n : Net) (root : ℕ) (seen : List Bool) (waiting : List ℕ) : Type 0 where
+pub record IsWalkBelow (n : Net) (root : ℕ) (seen : List Bool) (waiting : List ℕ) : Type 0 where
   pub each : length seen ≡ length n.names
   pub start : IsVisited seen root
   pub below : (s : ℕ) → IsVisited seen s → IsBelow (circuit n) root s
@@ -43,12 +43,12 @@ pub record AreBelow (n : Net) (root : ℕ) (seen : List Bool) : Type 0 where
 
 -- each signal of the list has its place as its number
 pub record IsNumbering (from to : List ℕ) : Type 0 where
-  pub inside : All (λ s. s < length to) from
+  pub in_bounds : All (λ s. s < length to) from
   pub place : (i : ℕ) → i < length from → slice_index to (slice_index from i) ≡ i
 
 -- a gate by the cone's numbers
-abbrev pub renamed : List ℕ → GateLine → GateLine
-renamed to g = record { out = slice_index to g.out; kind = g.kind; operands = map (slice_index to) g.operands; line = g.line }
+abbrev pub renumbered : List ℕ → GateLine → GateLine
+renumbered to g = record { out = slice_index to g.out; kind = g.kind; operands = map (slice_index to) g.operands; line = g.line }
 
 -- the gates whose signals are visited
 abbrev pub visited_gates : List Bool → List GateLine → List GateLine
@@ -66,13 +66,13 @@ cone_names n given variables from = (map (variable_name given) (take variables f
     ++ (111 ∷ []) ∷ []
 
 -- the parts of the cone are made as they are to be
-pub record IsDrawn (n : Net) (root : ℕ) (given : List (List ℕ)) (numbers : Numbers) (cone : Net) : Type 0 where
+pub record HasConeParts (n : Net) (root : ℕ) (given : List (List ℕ)) (numbers : ConeNumbering) (cone : Net) : Type 0 where
   pub names : cone.names ≡ fold with_name [] (cone_names n given numbers.variables numbers.from.items)
   pub few : length cone.names ≤ 1000000
   pub inputs : length cone.inputs ≡ numbers.variables
   pub input : (i d : ℕ) → i < numbers.variables → slice_index_or cone.inputs i d ≡ i
   pub outputs : cone.outputs ≡ length numbers.from.items ∷ []
-  pub gates : cone.gates ≡ map (renamed numbers.to.items) (gates_of n.gates (drop numbers.variables numbers.from.items))
+  pub gates : cone.gates ≡ map (renumbered numbers.to.items) (gates_of n.gates (drop numbers.variables numbers.from.items))
       ++ last_gate (length numbers.from.items) (slice_index numbers.to.items root) ∷ []
   pub registers : cone.registers ≡ []
   pub ranks : cone.ranks ≡ map (slice_index n.ranks) numbers.from.items ++ (slice_index n.ranks root + 1) ∷ []

@@ -2,7 +2,7 @@
 ghost use Rattle.std.specs.Prelude.{◌≡◌, ◌⊎◌, ◌<◌, ◌≤◌, ◌+◌, ℕ, ◌++◌, ◌∷◌, [], length, All, Contains, IfOk, OnOk};
 ghost use Rattle.net_bench.specs.declared.netlist.GateLine.{GateLine};
 ghost use Rattle.net_bench.specs.Circuit.{IsNet, circuit};
-ghost use Rattle.net_cone.specs.Walk.{AreBelow, IsVisited, IsWalking, KeepsVisited, unvisited};
+ghost use Rattle.net_cone.specs.Walk.{AreBelow, IsVisited, IsWalkBelow, KeepsVisited, unvisited};
 
 use net_bench::netlist::{Netlist, Role, Signal};
 use std::alloc::{AllocError, Global};
@@ -10,10 +10,10 @@ use std::alloc::{AllocError, Global};
 /// Notes a signal that was not visited as visited, and lets it wait.
 #[tactic(auto, using(crate::proofs::Visiting::unvisited_set, crate::proofs::Visiting::kept_set, crate::proofs::Visiting::only_set, crate::proofs::Visiting::visited_here, crate::proofs::Visiting::still))]
 fn visit(seen: &mut [bool], waiting: &mut Vec<Signal>, signal: Signal) -> Result<(), AllocError>
-    requires inside { signal < length seen.old }
-    ensures here { OnOk result (IsVisited seen.new signal) }
+    requires in_bounds { signal < length seen.old }
+    ensures signal_visited { OnOk result (IsVisited seen.new signal) }
     ensures kept { OnOk result (KeepsVisited seen.old seen.new) }
-    ensures only { OnOk result ((s : ℕ) → IsVisited seen.new s → IsVisited seen.old s ⊎ ((s ≡ signal) × Contains waiting.new.items s)) }
+    ensures new_ones_wait { OnOk result ((s : ℕ) → IsVisited seen.new s → IsVisited seen.old s ⊎ ((s ≡ signal) × Contains waiting.new.items s)) }
     ensures waiting { OnOk result ((s : ℕ) → Contains waiting.old.items s → Contains waiting.new.items s) }
     ensures visited { OnOk result (All (λ s. IsVisited seen.old s) waiting.old.items → All (λ s. IsVisited seen.new s) waiting.new.items) }
     ensures steps { OnOk result (unvisited seen.new + length waiting.new.items ≡ unvisited seen.old + length waiting.old.items) }
@@ -34,10 +34,10 @@ fn visit_all(
     waiting: &mut Vec<Signal>,
     signals: &[Signal],
 ) -> Result<(), AllocError>
-    requires inside { All (λ s. s < length seen.old) signals.now }
-    ensures here { OnOk result (All (λ s. IsVisited seen.new s) signals.now) }
+    requires in_bounds { All (λ s. s < length seen.old) signals.now }
+    ensures signals_visited { OnOk result (All (λ s. IsVisited seen.new s) signals.now) }
     ensures kept { OnOk result (KeepsVisited seen.old seen.new) }
-    ensures only { OnOk result ((s : ℕ) → IsVisited seen.new s
+    ensures new_ones_wait { OnOk result ((s : ℕ) → IsVisited seen.new s
         → IsVisited seen.old s ⊎ (Contains signals.now s × Contains waiting.new.items s)) }
     ensures waiting { OnOk result ((s : ℕ) → Contains waiting.old.items s → Contains waiting.new.items s) }
     ensures visited { OnOk result (All (λ s. IsVisited seen.old s) waiting.old.items → All (λ s. IsVisited seen.new s) waiting.new.items) }
@@ -50,17 +50,17 @@ fn visit_all(
 }
 
 /// Passes a signal: visits the operands of its gate, where it has one.
-fn pass(
+fn visit_operands(
     net: &Netlist,
     root: Signal,
     seen: &mut [bool],
     waiting: &mut Vec<Signal>,
     signal: Signal,
 ) -> Result<(), AllocError>
-    requires inside { signal < length net.now.names }
-    requires walking { IsWalking net.now root seen.old (waiting.old.items ++ signal ∷ []) }
-    ensures walking { OnOk result (IsWalking net.now root seen.new waiting.new.items) }
-    ensures only { OnOk result ((s : ℕ) → IsVisited seen.new s → IsVisited seen.old s ⊎ Contains waiting.new.items s) }
+    requires in_bounds { signal < length net.now.names }
+    requires walking { IsWalkBelow net.now root seen.old (waiting.old.items ++ signal ∷ []) }
+    ensures walking { OnOk result (IsWalkBelow net.now root seen.new waiting.new.items) }
+    ensures new_ones_wait { OnOk result ((s : ℕ) → IsVisited seen.new s → IsVisited seen.old s ⊎ Contains waiting.new.items s) }
     ensures waiting { OnOk result ((s : ℕ) → Contains waiting.old.items s → Contains waiting.new.items s) }
     ensures steps { OnOk result (unvisited seen.new + length waiting.new.items ≡ unvisited seen.old + length waiting.old.items) }
 {
@@ -82,19 +82,19 @@ pub fn visit_below(
     seen: &mut [bool],
     met: &mut Vec<Signal>,
 ) -> Result<(), AllocError>
-    requires inside { root < length net.now.names }
-    requires each { length seen.old ≡ length net.now.names }
-    requires none { (s : ℕ) → IsVisited seen.old s → ⊥ }
+    requires in_bounds { root < length net.now.names }
+    requires one_per_signal { length seen.old ≡ length net.now.names }
+    requires none_visited { (s : ℕ) → IsVisited seen.old s → ⊥ }
     requires sound { IsNet net.now }
     ensures below { OnOk result (AreBelow net.now root seen.new) }
     ensures met { OnOk result ((s : ℕ) → IsVisited seen.new s → Contains met.new.items s) }
-    ensures inside { OnOk result (All (λ s. s < length net.now.names) met.old.items → All (λ s. s < length net.now.names) met.new.items) }
+    ensures in_bounds { OnOk result (All (λ s. s < length net.now.names) met.old.items → All (λ s. s < length net.now.names) met.new.items) }
 {
     let mut waiting = Vec::new(alloc);
     visit(seen, &mut waiting, root)?;
     while let Some(signal) = waiting.pop() {
         met.push(signal)?;
-        pass(net, root, seen, &mut waiting, signal)?;
+        visit_operands(net, root, seen, &mut waiting, signal)?;
     }
     Ok(())
 }

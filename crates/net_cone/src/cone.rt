@@ -1,13 +1,13 @@
 // The cone of a signal.
 ghost use Rattle.std.specs.Prelude.{◌≡◌, ◌<◌, ◌≤◌, ℕ, ◌++◌, ◌∷◌, [], filter, fold, map, length, slice_index, All, IfOk, OnOk};
-ghost use Rattle.net_bench.specs.Assembly.{whole};
+ghost use Rattle.net_bench.specs.Assembly.{net_of_parts};
 ghost use Rattle.net_bench.specs.Circuit.{IsNet, circuit, variables_of, with_name};
 ghost use Rattle.net_cone.specs.Cones.{AreNames, IsCone, gate_signals};
-ghost use Rattle.net_cone.specs.Walk.{AreBelow, IsDrawn, IsNumbering, cone_names, is_visited};
+ghost use Rattle.net_cone.specs.Walk.{AreBelow, HasConeParts, IsNumbering, cone_names, is_visited};
 
 use crate::below::seen_below;
-use crate::naming::{count_gates, count_variables};
-use crate::numbering::{first_numbers, last_gate, number_visited, ranks_of, renamed_gates};
+use crate::naming::{intern_gates, intern_variables};
+use crate::numbering::{first_numbers, last_gate, number_visited, ranks_of, renumbered_gates};
 use net_bench::assembly::Assembly;
 use net_bench::name_table::{NameTable, narrow};
 use net_bench::netlist::{Netlist, Signal};
@@ -36,7 +36,7 @@ impl Cone {
 
 /// The signals of a cone but the last, its variables first; their numbers by signal of the netlist; and how many are variables.
 #[derive(Drop)]
-pub struct Numbers {
+pub struct ConeNumbering {
     pub from: Vec<Signal>,
     pub to: Vec<u32>,
     pub variables: usize,
@@ -51,9 +51,9 @@ fn number_all(
     to: &mut [u32],
 ) -> Result<usize, AllocError>
     requires seen { length seen.now ≡ length to.old }
-    requires each { length to.old ≡ length net.now.names }
+    requires one_per_signal { length to.old ≡ length net.now.names }
     requires outs { outs.now ≡ gate_signals net.now }
-    requires none { from.old.items ≡ [] }
+    requires none_numbered { from.old.items ≡ [] }
     ensures numbered { OnOk result (IsNumbering from.new.items to.new) }
     ensures variables { IfOk result (λ n. n ≡ length (filter (is_visited seen.now) (variables_of (circuit net.now)))) }
     ensures from { OnOk result (from.new.items ≡ filter (is_visited seen.now) (variables_of (circuit net.now))
@@ -71,10 +71,10 @@ fn numbers_of(
     net: &Netlist,
     seen: &[bool],
     outs: &[Signal],
-) -> Result<Numbers, AllocError>
+) -> Result<ConeNumbering, AllocError>
     requires seen { length seen.now ≡ length net.now.names }
     requires outs { outs.now ≡ gate_signals net.now }
-    ensures each { IfOk result (λ v. length v.to.items ≡ length net.now.names) }
+    ensures one_per_signal { IfOk result (λ v. length v.to.items ≡ length net.now.names) }
     ensures numbered { IfOk result (λ v. IsNumbering v.from.items v.to.items) }
     ensures variables { IfOk result (λ v. v.variables ≡ length (filter (is_visited seen.now) (variables_of (circuit net.now)))) }
     ensures from { IfOk result (λ v. v.from.items ≡ filter (is_visited seen.now) (variables_of (circuit net.now))
@@ -83,7 +83,7 @@ fn numbers_of(
     let mut to = Vec::from_elem(alloc, 0u32, net.count())?;
     let mut from = Vec::new(alloc);
     let variables = number_all(net, seen, outs, &mut from, to.as_mut_slice())?;
-    Ok(Numbers {
+    Ok(ConeNumbering {
         from,
         to,
         variables,
@@ -106,9 +106,9 @@ fn names_of(
 {
     let mut names = NameTable::new(alloc);
     let (inputs, gates) = from.split_at(variables);
-    count_variables(alloc, &mut names, inputs, given)?;
-    count_gates(alloc, &mut names, net, gates)?;
-    names.count(alloc, b"o")?;
+    intern_variables(alloc, &mut names, inputs, given)?;
+    intern_gates(alloc, &mut names, net, gates)?;
+    names.intern(alloc, b"o")?;
     if names.len() > MAX_SIGNALS {
         return Err(AllocError);
     }
@@ -121,20 +121,20 @@ fn parts_of(
     net: &Netlist,
     root: Signal,
     given: &[Vec<u8>],
-    numbers: &Numbers,
+    numbers: &ConeNumbering,
 ) -> Result<Assembly, AllocError>
     requires root { root < length net.now.names }
     requires given { length given.now ≡ length net.now.names }
     requires to { length numbers.now.to.items ≡ length net.now.names }
     requires known { All (λ s. s < length net.now.names) numbers.now.from.items }
     requires variables { numbers.now.variables ≤ length numbers.now.from.items }
-    ensures { IfOk result (λ p. IsDrawn net.now root (map (λ w. w.items) given.now) numbers.now (whole p)) }
+    ensures { IfOk result (λ p. HasConeParts net.now root (map (λ w. w.items) given.now) numbers.now (net_of_parts p)) }
 {
     let from = numbers.from.as_slice();
     let to = numbers.to.as_slice();
     let names = names_of(alloc, net, from, numbers.variables, given)?;
     let (_, own) = from.split_at(numbers.variables);
-    let mut gates = renamed_gates(alloc, net, own, to)?;
+    let mut gates = renumbered_gates(alloc, net, own, to)?;
     let out = Signal::of(narrow(from.len())?);
     gates.push(last_gate(alloc, out, to, root)?)?;
     let mut outputs = Vec::new(alloc);
@@ -160,7 +160,7 @@ pub fn cone_of(
     names: &[Vec<u8>],
     outs: &[Signal],
 ) -> Result<Cone, AllocError>
-    requires inside { root < length net.now.names }
+    requires in_bounds { root < length net.now.names }
     requires names { AreNames net.now (map (λ w. w.items) names.now) }
     requires outs { outs.now ≡ gate_signals net.now }
     ensures { IfOk result (λ c. IsCone net.now root (map (λ w. w.items) names.now) c.net c.from.items) }
@@ -169,7 +169,7 @@ pub fn cone_of(
     let seen = below.as_slice();
     let numbers = numbers_of(alloc, net, seen, outs)?;
     let parts = parts_of(alloc, net, root, names, &numbers)?;
-    let Numbers { from, .. } = numbers;
+    let ConeNumbering { from, .. } = numbers;
     Ok(Cone {
         net: netlist_of_parts(alloc, parts)?,
         from,

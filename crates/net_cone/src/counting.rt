@@ -10,11 +10,11 @@ use net_bench::netlist::{Netlist, Role, Signal};
 use std::alloc::{AllocError, Global};
 
 /// Makes a signal one that was not visited: 1 where it was and is a gate's, else 0.
-fn take_visit(net: &Netlist, seen: &mut [bool], signal: Signal) -> u64
-    requires inside { signal < length net.now.names }
-    requires each { length seen.old ≡ length net.now.names }
-    ensures none { IsVisited seen.new signal → ⊥ }
-    ensures only { (s : ℕ) → IsVisited seen.new s → IsVisited seen.old s }
+fn unvisit(net: &Netlist, seen: &mut [bool], signal: Signal) -> u64
+    requires in_bounds { signal < length net.now.names }
+    requires one_per_signal { length seen.old ≡ length net.now.names }
+    ensures none_visited { IsVisited seen.new signal → ⊥ }
+    ensures no_new_ones { (s : ℕ) → IsVisited seen.new s → IsVisited seen.old s }
     ensures gates { result + gates_visited seen.new net.now.gates ≡ gates_visited seen.old net.now.gates }
     ensures one { result ≤ 1 }
 {
@@ -30,16 +30,16 @@ fn take_visit(net: &Netlist, seen: &mut [bool], signal: Signal) -> u64
 }
 
 /// Takes the seen of these signals away, and counts the gates that had one.
-fn take_visited(net: &Netlist, seen: &mut [bool], met: &[Signal]) -> u64
-    requires inside { All (λ s. s < length net.now.names) met.now }
-    requires each { length seen.old ≡ length net.now.names }
+fn unvisit_all(net: &Netlist, seen: &mut [bool], met: &[Signal]) -> u64
+    requires in_bounds { All (λ s. s < length net.now.names) met.now }
+    requires one_per_signal { length seen.old ≡ length net.now.names }
     requires met { (s : ℕ) → IsVisited seen.old s → Contains met.now s }
-    ensures none { (s : ℕ) → IsVisited seen.new s → ⊥ }
+    ensures none_visited { (s : ℕ) → IsVisited seen.new s → ⊥ }
     ensures gates { result ≡ gates_visited seen.old net.now.gates }
 {
     let mut gates = 0;
     for place in 0..met.len() {
-        gates += take_visit(net, seen, met[place]);
+        gates += unvisit(net, seen, met[place]);
     }
     gates
 }
@@ -51,16 +51,16 @@ fn count_below(
     root: Signal,
     seen: &mut [bool],
 ) -> Result<u64, AllocError>
-    requires inside { root < length net.now.names }
-    requires each { length seen.old ≡ length net.now.names }
-    requires none { (s : ℕ) → IsVisited seen.old s → ⊥ }
+    requires in_bounds { root < length net.now.names }
+    requires one_per_signal { length seen.old ≡ length net.now.names }
+    requires none_visited { (s : ℕ) → IsVisited seen.old s → ⊥ }
     requires sound { IsNet net.now }
     ensures gates { IfOk result (HasGates (circuit net.now) root) }
-    ensures none { IfOk result (λ gates. (s : ℕ) → IsVisited seen.new s → ⊥) }
+    ensures none_visited { IfOk result (λ gates. (s : ℕ) → IsVisited seen.new s → ⊥) }
 {
     let mut met = Vec::new(alloc);
     visit_below(alloc, net, root, seen, &mut met)?;
-    Ok(take_visited(net, seen, met.as_slice()))
+    Ok(unvisit_all(net, seen, met.as_slice()))
 }
 
 /// How many gates are below each of the roots. None is left visited behind a root.
@@ -70,9 +70,9 @@ fn counts_below(
     roots: &[Signal],
     seen: &mut [bool],
 ) -> Result<Vec<u64>, AllocError>
-    requires inside { All (λ s. s < length net.now.names) roots.now }
-    requires each { length seen.old ≡ length net.now.names }
-    requires none { (s : ℕ) → IsVisited seen.old s → ⊥ }
+    requires in_bounds { All (λ s. s < length net.now.names) roots.now }
+    requires one_per_signal { length seen.old ≡ length net.now.names }
+    requires none_visited { (s : ℕ) → IsVisited seen.old s → ⊥ }
     requires sound { IsNet net.now }
     ensures { IfOk result (λ v. AllZip (HasGates (circuit net.now)) roots.now v.items) }
 {

@@ -3,7 +3,7 @@ ghost use Rattle.std.specs.Prelude.{◌≡◌, ◌↔◌, ◌<◌, ℕ, Bool, Li
 ghost use Rattle.net_bench.specs.Circuit.{IsNet, Net, circuit, variables_of};
 ghost use Rattle.net_bench.specs.Labels.{IsFunctionOf};
 ghost use Rattle.net_cone.specs.Cones.{IsBelow, IsCone};
-ghost use Rattle.net_cone.specs.Spreading.{pick};
+ghost use Rattle.net_cone.specs.Spreading.{bits_at};
 
 /// A signal's function in its cone is its function in the netlist.
 pub fn functions()
@@ -20,7 +20,7 @@ pub fn widened()
         (level inner : ℕ → ℕ) (places : List ℕ) → ((t : ℕ) → Contains cone.inputs t
         → (inner t < length places) × (level (slice_index from t) ≡ slice_index places (inner t))) →
         (count : ℕ) (f : List Bool → Bool) → IsFunctionOf (circuit cone) inner (length places) (length from) f
-        → IsFunctionOf (circuit n) level count root (λ x. f (pick places x)) }
+        → IsFunctionOf (circuit n) level count root (λ x. f (bits_at places x)) }
 {}
 
 /// What is below the root is in its cone, a variable among the inputs.

@@ -8,18 +8,23 @@ use net_bench::netlist::{Netlist, Signal};
 use std::alloc::{AllocError, Global};
 
 /// Puts a name behind a byte to the names.
-fn count(alloc: Global, names: &mut NameTable, first: u8, name: &[u8]) -> Result<(), AllocError>
+fn intern_prefixed(
+    alloc: Global,
+    names: &mut NameTable,
+    first: u8,
+    name: &[u8],
+) -> Result<(), AllocError>
     ensures { OnOk result (names.new ≡ with_name names.old (first ∷ name.now)) }
 {
     let mut whole = Vec::new(alloc);
     whole.push(first)?;
     whole.extend_from_slice(name)?;
-    names.count(alloc, whole.as_slice())?;
+    names.intern(alloc, whole.as_slice())?;
     Ok(())
 }
 
 /// Puts the names of variables to the names.
-pub fn count_variables(
+pub fn intern_variables(
     alloc: Global,
     names: &mut NameTable,
     variables: &[Signal],
@@ -30,7 +35,7 @@ pub fn count_variables(
 {
     for place in 0..variables.len() {
         let name = given[variables[place].number() as usize].as_slice();
-        count(alloc, names, b'v', name)?;
+        intern_prefixed(alloc, names, b'v', name)?;
     }
     Ok(())
 }
@@ -45,7 +50,7 @@ fn name_of<'a>(net: &'a Netlist, signal: Signal) -> &'a [u8]
 }
 
 /// Puts the names of gates to the names.
-pub fn count_gates(
+pub fn intern_gates(
     alloc: Global,
     names: &mut NameTable,
     net: &Netlist,
@@ -55,7 +60,7 @@ pub fn count_gates(
     ensures { OnOk result (names.new ≡ fold with_name names.old (map (gate_name net.now) signals.now)) }
 {
     for place in 0..signals.len() {
-        count(alloc, names, b'g', name_of(net, signals[place]))?;
+        intern_prefixed(alloc, names, b'g', name_of(net, signals[place]))?;
     }
     Ok(())
 }

@@ -1,9 +1,9 @@
 // The numbers of signals in a cone, and its gates by these numbers.
 ghost use Rattle.std.specs.Prelude.{◌≡◌, ◌≢◌, ◌<◌, ℕ, ◌++◌, ◌∷◌, [], filter, map, length, slice_index, slice_index_or, ◌+◌, All, IfOk};
 ghost use Rattle.std.specs.Prelude.{OnOk};
-ghost use Rattle.net_bench.specs.Circuit.{AreOnce, IsNet};
+ghost use Rattle.net_bench.specs.Circuit.{HaveNoRepeats, IsNet};
 ghost use Rattle.net_cone.specs.Cones.{gate_signals, last_gate};
-ghost use Rattle.net_cone.specs.Walk.{IsNumbering, gates_of, is_visited, renamed};
+ghost use Rattle.net_cone.specs.Walk.{IsNumbering, gates_of, is_visited, renumbered};
 
 use net_bench::name_table::narrow;
 use net_bench::netlist::{GateLine, Kind, Netlist, Operands, Role, Signal};
@@ -11,7 +11,7 @@ use std::alloc::{AllocError, Global};
 
 /// Gives a signal the next number.
 fn number(signal: Signal, from: &mut Vec<Signal>, to: &mut [u32]) -> Result<(), AllocError>
-    requires inside { signal < length to.old }
+    requires in_bounds { signal < length to.old }
     requires fresh { All (λ s. s ≢ signal) from.old.items }
     requires numbered { IsNumbering from.old.items to.old }
     ensures numbered { OnOk result (IsNumbering from.new.items to.new) }
@@ -31,8 +31,8 @@ pub fn number_visited(
     to: &mut [u32],
 ) -> Result<(), AllocError>
     requires seen { length seen.now ≡ length to.old }
-    requires inside { All (λ s. s < length to.old) signals.now }
-    requires once { AreOnce signals.now }
+    requires in_bounds { All (λ s. s < length to.old) signals.now }
+    requires once { HaveNoRepeats signals.now }
     requires fresh { All (λ s. All (λ t. t ≢ s) from.old.items) signals.now }
     requires numbered { IsNumbering from.old.items to.old }
     ensures numbered { OnOk result (IsNumbering from.new.items to.new) }
@@ -68,10 +68,10 @@ fn number_of(to: &[u32], signal: Signal) -> Signal
 }
 
 /// A gate by numbers.
-fn renamed(alloc: Global, gate: &GateLine, to: &[u32]) -> Result<GateLine, AllocError>
+fn renumbered(alloc: Global, gate: &GateLine, to: &[u32]) -> Result<GateLine, AllocError>
     requires out { gate.now.out < length to.now }
     requires operands { All (λ s. s < length to.now) gate.now.operands }
-    ensures { IfOk result (λ g. g ≡ renamed to.now gate.now) }
+    ensures { IfOk result (λ g. g ≡ renumbered to.now gate.now) }
 {
     let mut operands = Vec::new(alloc);
     let signals = gate.operands.as_slice();
@@ -87,7 +87,7 @@ fn renamed(alloc: Global, gate: &GateLine, to: &[u32]) -> Result<GateLine, Alloc
 }
 
 /// The gates of these signals, by numbers.
-pub fn renamed_gates(
+pub fn renumbered_gates(
     alloc: Global,
     net: &Netlist,
     signals: &[Signal],
@@ -95,13 +95,13 @@ pub fn renamed_gates(
 ) -> Result<Vec<GateLine>, AllocError>
     requires signals { All (λ s. s < length net.now.names) signals.now }
     requires numbers { length to.now ≡ length net.now.names }
-    ensures { IfOk result (λ v. v.items ≡ map (renamed to.now) (gates_of net.now.gates signals.now)) }
+    ensures { IfOk result (λ v. v.items ≡ map (renumbered to.now) (gates_of net.now.gates signals.now)) }
 {
     let mut copies = Vec::new(alloc);
     let gates = net.gates();
     for place in 0..signals.len() {
         if let Role::Gate(gate) = net.role(signals[place]) {
-            copies.push(renamed(alloc, &gates[gate as usize], to)?)?;
+            copies.push(renumbered(alloc, &gates[gate as usize], to)?)?;
         }
     }
     Ok(copies)
@@ -132,7 +132,7 @@ pub fn ranks_of(
 /// The first numbers.
 pub fn first_numbers(alloc: Global, count: usize) -> Result<Vec<Signal>, AllocError>
     ensures count { IfOk result (λ v. length v.items ≡ count) }
-    ensures each { IfOk result (λ v. (i d : ℕ) → i < count → slice_index_or v.items i d ≡ i) }
+    ensures each_is_its_place { IfOk result (λ v. (i d : ℕ) → i < count → slice_index_or v.items i d ≡ i) }
 {
     let mut signals = Vec::new(alloc);
     for place in 0..count {

@@ -10,12 +10,12 @@ use Rattle.net_bench.specs.Labels.{bit_of}
 use Rattle.net_bench.proofs.Found.{found_at}
 use Rattle.net_bench.proofs.Names.{found_place}
 use Rattle.net_bench.proofs.OneLabelling.{at_contained}
-use Rattle.net_bench.specs.NameTable.{IsEachOnce}
+use Rattle.net_bench.specs.NameTable.{NamesAreDistinct}
 use Rattle.net_cone.proofs.Numbered.{one_name}
 use Rattle.net_cone.proofs.Walking.{gate_found}
-use Rattle.net_explain.specs.declared.differing.Inner.{Inner}
-use Rattle.net_explain.specs.Explaining.{IsInner, Viewed, differ, differing, gate_line, inner_at, inner_on, inner_to, inner_with, is_inner, line_of}
-use Rattle.net_explain.specs.Ranked.{rank_row}
+use Rattle.net_explain.specs.declared.differing.InnerSignal.{InnerSignal}
+use Rattle.net_explain.specs.Explaining.{IsInner, SimulationModel, differ, differing, gate_line, inner_at, inner_on, inner_to, inner_with, is_inner, line_of}
+use Rattle.net_explain.specs.RankRows.{rank_row}
 use Rattle.net_explain.proofs.Lists.{same_or}
 use Rattle.net_explain.proofs.Rows.{in_row, rank_low, rank_top}
 
@@ -88,39 +88,39 @@ on_line n s line e =
     let at = gate_at n.gates s g is in
     (g, at.0, at.1, on)
 
-names_once : (n : Net) → IsNet n → IsEachOnce n.names
+names_once : (n : Net) → IsNet n → NamesAreDistinct n.names
 names_once n sound i j name e f =
     one_name n sound i j (slice_get_within n.names i name e) (slice_get_within n.names j name f)
     (get_or_from_slice_get n.names i name [] e ∙ sym (get_or_from_slice_get n.names j name [] f))
 
 -- ---- what a listed signal is
 
-pub record IsOn (s t : ℕ) (value : Bool) (x y : Option ℕ) (i : Inner) : Type 0 where
+pub record IsOn (s t : ℕ) (value : Bool) (x y : Option ℕ) (i : InnerSignal) : Type 0 where
   pub first : i.first ≡ s
   pub second : i.second ≡ t
   pub bit : i.value ≡ value
   pub line : x ≡ Some i.first_line
   pub other_line : y ≡ Some i.second_line
 
-on_facts : (s t : ℕ) (value : Bool) (x y : Option ℕ) (i : Inner) → inner_on s t value x y ≡ Some i → IsOn s t value x y i
+on_facts : (s t : ℕ) (value : Bool) (x y : Option ℕ) (i : InnerSignal) → inner_on s t value x y ≡ Some i → IsOn s t value x y i
 on_facts s t value None y i e = cc
 on_facts s t value (Some x) None i e = cc
 on_facts s t value (Some x) (Some y) i e =
     let same : record { first = s; second = t; value = value; first_line = x; second_line = y } ≡ i = cc in
     record {
-      first = sym (ap (λ (z : Inner). z.first) same);
-      second = sym (ap (λ (z : Inner). z.second) same);
-      bit = sym (ap (λ (z : Inner). z.value) same);
-      line = ap (λ (z : Inner). Some z.first_line) same;
-      other_line = ap (λ (z : Inner). Some z.second_line) same;
+      first = sym (ap (λ (z : InnerSignal). z.first) same);
+      second = sym (ap (λ (z : InnerSignal). z.second) same);
+      bit = sym (ap (λ (z : InnerSignal). z.value) same);
+      line = ap (λ (z : InnerSignal). Some z.first_line) same;
+      other_line = ap (λ (z : InnerSignal). Some z.second_line) same;
     }
 
-pub record IsWith (a b : Net) (v w : Viewed) (s : ℕ) (o : Option ℕ) (i : Inner) : Type 0 where
+pub record IsWith (a b : Net) (v w : SimulationModel) (s : ℕ) (o : Option ℕ) (i : InnerSignal) : Type 0 where
   pub partner : o ≡ Some i.second
   pub test : is_inner v w s i.second ≡ true
   pub on : IsOn s i.second (bit_of v.values s) (line_of a s) (line_of b i.second) i
 
-with_facts : (a b : Net) (v w : Viewed) (s : ℕ) (o : Option ℕ) (i : Inner) → inner_with a b v w s o ≡ Some i → IsWith a b v w s o i
+with_facts : (a b : Net) (v w : SimulationModel) (s : ℕ) (o : Option ℕ) (i : InnerSignal) → inner_with a b v w s o ≡ Some i → IsWith a b v w s o i
 with_facts a b v w s None i e = cc
 with_facts a b v w s (Some t) i e = by (is_inner v w s t) refl e
   where
@@ -171,7 +171,7 @@ not_both s r t q apart = elim (same_or s r) [
   | inr ne ↦ ap (λ b. b && (t == q)) (ne_eqb s r ne)
 ]
 
-module _ (a b : Net) (v w : Viewed) (i : Inner) (first : IsNet a) (second : IsNet b) where
+module _ (a b : Net) (v w : SimulationModel) (i : InnerSignal) (first : IsNet a) (second : IsNet b) where
   in_ranks : (r : ℕ) → Contains (inner_to a b v w r) i → (s : ℕ) × (inner_at a b v w s ≡ Some i)
   in_ranks zero (k, low, at) = absurd (omega arith)
   in_ranks (suc r) among = elim (parted (inner_to a b v w r) (filter_map (inner_at a b v w) (rank_row a (suc r))) i among) [

@@ -4,21 +4,21 @@ use Rattle.std.specs.Prelude.{Contains, All, filter_map, option_to_list}
 use Rattle.std.proofs.lemmas.List.Elements.{All-append, filter_map-append}
 use Rattle.net_bench.specs.Circuit.{Net, IsNet, find}
 use Rattle.net_bench.proofs.Found.{found_low}
-use Rattle.net_explain.specs.declared.differing.Inner.{Inner}
-use Rattle.net_explain.specs.Explaining.{Viewed, inner_at, inner_on, inner_to, inner_with, is_inner, line_of}
-use Rattle.net_explain.specs.Ranked.{rank_row}
+use Rattle.net_explain.specs.declared.differing.InnerSignal.{InnerSignal}
+use Rattle.net_explain.specs.Explaining.{SimulationModel, inner_at, inner_on, inner_to, inner_with, is_inner, line_of}
+use Rattle.net_explain.specs.RankRows.{rank_row}
 use Rattle.net_bench.specs.Labels.{bit_of}
 use Rattle.net_explain.proofs.Lists.{taken_more}
 use Rattle.net_explain.proofs.Rows.{signal_low}
 
-on_facts : (s t : ℕ) (value : Bool) (x y : Option ℕ) (i : Inner) → inner_on s t value x y ≡ Some i → (i.first ≡ s) × (i.second ≡ t)
+on_facts : (s t : ℕ) (value : Bool) (x y : Option ℕ) (i : InnerSignal) → inner_on s t value x y ≡ Some i → (i.first ≡ s) × (i.second ≡ t)
 on_facts s t value None y i e = cc
 on_facts s t value (Some x) None i e = cc
 on_facts s t value (Some x) (Some y) i e =
     let same : record { first = s; second = t; value = value; first_line = x; second_line = y } ≡ i = cc in
-    (sym (ap (λ (z : Inner). z.first) same), sym (ap (λ (z : Inner). z.second) same))
+    (sym (ap (λ (z : InnerSignal). z.first) same), sym (ap (λ (z : InnerSignal). z.second) same))
 
-with_facts : (a b : Net) (v w : Viewed) (s : ℕ) (o : Option ℕ) (i : Inner) → inner_with a b v w s o ≡ Some i → (i.first ≡ s) × (o ≡ Some i.second)
+with_facts : (a b : Net) (v w : SimulationModel) (s : ℕ) (o : Option ℕ) (i : InnerSignal) → inner_with a b v w s o ≡ Some i → (i.first ≡ s) × (o ≡ Some i.second)
 with_facts a b v w s None i e = cc
 with_facts a b v w s (Some t) i e = by (is_inner v w s t) e
   where
@@ -52,20 +52,20 @@ all_given P h (x ∷ xs) each =
     given_more P h x xs (h x) refl (λ y e. each x y (0, omega arith, refl) e)
     (all_given P h xs (λ z y among e. each z y (suc among.0, omega (arith, among.1), among.2) e))
 
-module _ (a b : Net) (sound : IsNet a) (v w : Viewed) where
+module _ (a b : Net) (sound : IsNet a) (v w : SimulationModel) where
   pub all_first : (r : ℕ) → All (λ i. i.first < length a.names) (inner_to a b v w r)
-  all_first zero = none_yet (λ (i : Inner). i.first < length a.names)
+  all_first zero = none_yet (λ (i : InnerSignal). i.first < length a.names)
   all_first (suc r) = All-append (λ i. i.first < length a.names) (inner_to a b v w r) (filter_map (inner_at a b v w) (rank_row a (suc r))) (all_first r)
       (all_given (λ i. i.first < length a.names) (inner_at a b v w) (rank_row a (suc r))
       (λ s i among e. subst (λ k. k < length a.names) (sym (with_facts a b v w s (find b.names (get_or a.names s [])) i e).0)
       (signal_low a sound (suc r) s among)))
 
   pub all_second : (r : ℕ) → All (λ i. i.second < length b.names) (inner_to a b v w r)
-  all_second zero = none_yet (λ (i : Inner). i.second < length b.names)
+  all_second zero = none_yet (λ (i : InnerSignal). i.second < length b.names)
   all_second (suc r) = All-append (λ i. i.second < length b.names) (inner_to a b v w r) (filter_map (inner_at a b v w) (rank_row a (suc r))) (all_second r)
       (all_given (λ i. i.second < length b.names) (inner_at a b v w) (rank_row a (suc r))
       (λ s i among e. found_low b.names (get_or a.names s []) i.second (with_facts a b v w s (find b.names (get_or a.names s [])) i e).1))
 
 -- the row of one rank more
-pub row_added : (a b : Net) (v w : Viewed) (r : ℕ) (row : List ℕ) → row ≡ rank_row a (r + 1) → inner_to a b v w r ++ filter_map (inner_at a b v w) row ≡ inner_to a b v w (r + 1)
+pub row_added : (a b : Net) (v w : SimulationModel) (r : ℕ) (row : List ℕ) → row ≡ rank_row a (r + 1) → inner_to a b v w r ++ filter_map (inner_at a b v w) row ≡ inner_to a b v w (r + 1)
 row_added a b v w r row e = rw (e, add-one) refl

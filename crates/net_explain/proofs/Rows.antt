@@ -10,7 +10,7 @@ use Rattle.net_bench.specs.Circuit.{Net, IsNet, circuit, greatest, highest_rank,
 use Rattle.net_bench.proofs.OneLabelling.{at_contained}
 use Rattle.net_bench.proofs.Chains.{greatest_above, lower}
 use Rattle.net_cone.proofs.Lists.{in_filter, in_map}
-use Rattle.net_explain.specs.Ranked.{AreRows, rank_row}
+use Rattle.net_explain.specs.RankRows.{AreRankRows, rank_row}
 use Rattle.net_explain.proofs.Lists.{all_of, same_or}
 
 long : {X : Type 0} (f : X → ℕ) (ys : List X) (i : ℕ) → i < length ys → i < length (map f ys)
@@ -117,5 +117,5 @@ pub row_low : (n : Net) → IsNet n → (r : ℕ) → All (λ s. s < length n.na
 row_low n sound r = all_of (λ s. s < length n.names) (rank_row n r) (λ s among. signal_low n sound r s among)
 
 -- a row as it is read
-pub row_is : {X : Type 0} (f : X → List ℕ) (n : Net) (rows : List X) (i : ℕ) (r : X) (row : List ℕ) → AreRows n (map f rows) → i < length rows → r ≡ get_or rows i r → row ≡ f r → row ≡ rank_row n (i + 1)
+pub row_is : {X : Type 0} (f : X → List ℕ) (n : Net) (rows : List X) (i : ℕ) (r : X) (row : List ℕ) → AreRankRows n (map f rows) → i < length rows → r ≡ get_or rows i r → row ≡ f r → row ≡ rank_row n (i + 1)
 row_is f n rows i r row are low at is = is ∙ ap f at ∙ sym (get_or-map f rows i r [] low) ∙ are.each i (subst (λ k. i < k) (sym (length-map rows f)) low)

@@ -9,7 +9,7 @@ use Rattle.net_bench.specs.Labels.{IsFunctionOf, IsLabelling, bit_of, value_of}
 use Rattle.net_bench.proofs.OneLabelling.{at_contained, map_same}
 use Rattle.net_bench.proofs.Built.{same_labelling}
 use Rattle.net_cone.proofs.Walking.{gate_found}
-use Rattle.net_explain.specs.Ranked.{rank_row}
+use Rattle.net_explain.specs.RankRows.{rank_row}
 use Rattle.net_explain.specs.Values.{AreSet, HasValue, KeepsVariables}
 use Rattle.net_explain.proofs.Lists.{all_of, in_last, in_take, same_or, taken_more}
 use Rattle.net_explain.proofs.Rows.{in_row, operand_lower, rank_low, rank_top, row_gate, row_rank}

@@ -9,7 +9,7 @@ use Rattle.net_bench.specs.Labels.{bit_of}
 use Rattle.net_bench.proofs.OneLabelling.{at_contained}
 use Rattle.net_cone.specs.Cones.{IsBelow, IsCone, here, deeper}
 use Rattle.net_cone.proofs.Closed.{in_cone}
-use Rattle.net_explain.specs.Explaining.{AreBelow}
+use Rattle.net_explain.specs.Explaining.{AreBelowFlags}
 use Rattle.net_explain.proofs.Lists.{all_of, same_or}
 
 pub visited_here : (visited : List Bool) (i : ℕ) → i < length visited → bit_of (set visited i true) i ≡ true
@@ -34,7 +34,7 @@ none_visited (suc n) zero e = cc
 none_visited (suc n) (suc s) e = none_visited n s e
 
 pub below_of : (n : Net) → IsNet n → (root : ℕ) (names : List (List ℕ)) (cone : Net) (from : List ℕ) → IsCone n root names cone from → (count : ℕ) (old new : List Bool) →
-    old ≡ replicate count false → length new ≡ length n.names → ((s : ℕ) → (bit_of new s ≡ true) ↔ ((bit_of old s ≡ true) ⊎ Contains from s)) → AreBelow n root new
+    old ≡ replicate count false → length new ≡ length n.names → ((s : ℕ) → (bit_of new s ≡ true) ↔ ((bit_of old s ≡ true) ⊎ Contains from s)) → AreBelowFlags n root new
 below_of n sound root names cone from is count old new none each visited = record {
   each = each;
   below = λ s. (

@@ -5,30 +5,30 @@ use Rattle.net_bench.specs.declared.netlist.GateLine.{GateLine}
 use Rattle.net_bench.specs.Circuit.{Net, circuit, find, gate_of, highest_rank}
 use Rattle.net_bench.specs.Labels.{IsLabelling, bit_of}
 use Rattle.net_cone.specs.Cones.{IsBelow}
-use Rattle.net_order.specs.Order.{Paired}
-use Rattle.net_explain.specs.declared.evaluate.Half.{Half}
-use Rattle.net_explain.specs.declared.evaluate.Half.TheVariants.{First, Second}
-use Rattle.net_explain.specs.declared.differing.Inner.{Inner}
-use Rattle.net_explain.specs.declared.explaining.GateCount.{GateCount}
-use Rattle.net_explain.specs.Ranked.{rank_row}
+use Rattle.net_order.specs.Order.{NamingModel}
+use Rattle.net_explain.specs.declared.evaluate.WhichNetlist.{WhichNetlist}
+use Rattle.net_explain.specs.declared.evaluate.WhichNetlist.TheVariants.{First, Second}
+use Rattle.net_explain.specs.declared.differing.InnerSignal.{InnerSignal}
+use Rattle.net_explain.specs.declared.explanation.GateCount.{GateCount}
+use Rattle.net_explain.specs.RankRows.{rank_row}
 use Rattle.net_explain.specs.Values.{level_in}
 
 -- by signal, whether it is below the root
-pub record AreBelow (n : Net) (root : ℕ) (visited : List Bool) : Type 0 where
+pub record AreBelowFlags (n : Net) (root : ℕ) (visited : List Bool) : Type 0 where
   pub each : length visited ≡ length n.names
   pub below : (s : ℕ) → (bit_of visited s ≡ true) ↔ IsBelow (circuit n) root s
 
 -- One of two netlists, seen from a signal: by signal the values at an assignment, and which signals are below that one.
-pub record Viewed : Type 0 where
+pub record SimulationModel : Type 0 where
   pub root : ℕ
   pub values : List Bool
   pub below : List Bool
 
 -- this is what is seen of a netlist of a pairing
-pub record IsView (n : Net) (p : Paired) (which : Half) (x : List Bool) (root : ℕ) (v : Viewed) : Type 0 where
+pub record IsSimulation (n : Net) (p : NamingModel) (which : WhichNetlist) (x : List Bool) (root : ℕ) (v : SimulationModel) : Type 0 where
   pub from : v.root ≡ root
   pub values : IsLabelling (circuit n) (level_in p which) x v.values
-  pub below : AreBelow n root v.below
+  pub below : AreBelowFlags n root v.below
 
 -- the line of a signal's gate, where it has one
 abbrev pub gate_line : Option GateLine → Option ℕ
@@ -43,12 +43,12 @@ abbrev pub differ : Bool → Bool → Bool
 differ b c = cond b (not c) c
 
 -- both signals are below those that are compared, they are not these, and they have other values
-abbrev pub is_inner : Viewed → Viewed → ℕ → ℕ → Bool
+abbrev pub is_inner : SimulationModel → SimulationModel → ℕ → ℕ → Bool
 is_inner v w s t = bit_of v.below s && (bit_of w.below t &&
     (not (s == v.root && t == w.root) && differ (bit_of v.values s) (bit_of w.values t)))
 
 -- two signals with the lines of their gates, where both have one
-abbrev pub inner_on : ℕ → ℕ → Bool → Option ℕ → Option ℕ → Option Inner
+abbrev pub inner_on : ℕ → ℕ → Bool → Option ℕ → Option ℕ → Option InnerSignal
 inner_on s t value None line = None
 inner_on s t value (Some first) None = None
 inner_on s t value (Some first) (Some second) = Some (record {
@@ -61,24 +61,24 @@ inner_on s t value (Some first) (Some second) = Some (record {
 })
 
 -- a signal of the first netlist with the one of its name in the second, if both are inner signals with other values
-abbrev pub inner_with : Net → Net → Viewed → Viewed → ℕ → Option ℕ → Option Inner
+abbrev pub inner_with : Net → Net → SimulationModel → SimulationModel → ℕ → Option ℕ → Option InnerSignal
 inner_with a b v w s None = None
 inner_with a b v w s (Some t) = if is_inner v w s t then inner_on s t (bit_of v.values s) (line_of a s) (line_of b t) else None
 
-abbrev pub inner_at : Net → Net → Viewed → Viewed → ℕ → Option Inner
+abbrev pub inner_at : Net → Net → SimulationModel → SimulationModel → ℕ → Option InnerSignal
 inner_at a b v w s = inner_with a b v w s (find b.names (slice_index_or a.names s []))
 
 -- those among the signals of the gates of the first ranks of the first netlist: by rank, those of one rank in text order
-abbrev pub inner_to : Net → Net → Viewed → Viewed → ℕ → List Inner
+abbrev pub inner_to : Net → Net → SimulationModel → SimulationModel → ℕ → List InnerSignal
 inner_to a b v w zero = []
 inner_to a b v w (suc r) = inner_to a b v w r ++ filter_map (inner_at a b v w) (rank_row a (suc r))
 
 -- *the inner signals that differ*, by rank in the first netlist, those of one rank in the order of its text
-abbrev pub differing : Net → Net → Viewed → Viewed → List Inner
+abbrev pub differing : Net → Net → SimulationModel → SimulationModel → List InnerSignal
 differing a b v w = inner_to a b v w (highest_rank a)
 
 -- An inner signal that differs, whatever the list: a signal of a gate of each netlist, on these lines.
-pub record IsInner (a b : Net) (v w : Viewed) (i : Inner) : Type 0 where
+pub record IsInner (a b : Net) (v w : SimulationModel) (i : InnerSignal) : Type 0 where
   pub gate : GateLine
   pub other_gate : GateLine
   pub among : Contains a.gates gate
@@ -98,29 +98,29 @@ pub record IsInner (a b : Net) (v w : Viewed) (i : Inner) : Type 0 where
   pub other_value : bit_of w.values i.second ≡ not i.value
 
 -- how many gates are below what is seen, and how many of these are not below the signal
-pub record IsPart (n : Net) (v : Viewed) (low : ℕ) (p : GateCount) : Type 0 where
+pub record IsGateCount (n : Net) (v : SimulationModel) (low : ℕ) (p : GateCount) : Type 0 where
   pub visited : List Bool
-  pub below : AreBelow n low visited
+  pub below : AreBelowFlags n low visited
   pub all : p.all ≡ count_by (λ g. bit_of v.below g.out) n.gates
-  pub behind : p.behind ≡ count_by (λ g. bit_of v.below g.out && not (bit_of visited g.out)) n.gates
+  pub outside : p.outside ≡ count_by (λ g. bit_of v.below g.out && not (bit_of visited g.out)) n.gates
 
 -- so many gates of both netlists lie behind the first of the inner signals
-abbrev pub AreParts : Net → Net → Viewed → Viewed → List Inner → Option (GateCount × GateCount) → Type 0
-AreParts a b v w [] None = Unit {0}
-AreParts a b v w [] (Some ps) = ⊥
-AreParts a b v w (i ∷ is) None = ⊥
-AreParts a b v w (i ∷ is) (Some ps) = IsPart a v i.first ps.0 × IsPart b w i.second ps.1
+abbrev pub AreGateCounts : Net → Net → SimulationModel → SimulationModel → List InnerSignal → Option (GateCount × GateCount) → Type 0
+AreGateCounts a b v w [] None = Unit {0}
+AreGateCounts a b v w [] (Some ps) = ⊥
+AreGateCounts a b v w (i ∷ is) None = ⊥
+AreGateCounts a b v w (i ∷ is) (Some ps) = IsGateCount a v i.first ps.0 × IsGateCount b w i.second ps.1
 
 -- What explains that two signals differ at an assignment.
-pub record Explained : Type 0 where
-  pub inner : List Inner
-  pub parts : Option (GateCount × GateCount)
+pub record ExplanationModel : Type 0 where
+  pub inner : List InnerSignal
+  pub gate_counts : Option (GateCount × GateCount)
 
 -- this explains the pair of signals: exactly its inner signals that differ, and what lies behind the first of them
-pub record IsExplanation (a b : Net) (p : Paired) (pair : ℕ × ℕ) (x : List Bool) (e : Explained) : Type 0 where
-  pub first : Viewed
-  pub second : Viewed
-  pub seen : IsView a p First x pair.0 first
-  pub other : IsView b p Second x pair.1 second
+pub record IsExplanation (a b : Net) (p : NamingModel) (pair : ℕ × ℕ) (x : List Bool) (e : ExplanationModel) : Type 0 where
+  pub first : SimulationModel
+  pub second : SimulationModel
+  pub seen : IsSimulation a p First x pair.0 first
+  pub other : IsSimulation b p Second x pair.1 second
   pub inner : e.inner ≡ differing a b first second
-  pub parts : AreParts a b first second e.inner e.parts
+  pub gate_counts : AreGateCounts a b first second e.inner e.gate_counts

@@ -1,4 +1,4 @@
-pub mod Ranked
+pub mod RankRows
 pub mod Values
 pub mod Explaining
 pub mod Text

@@ -3,12 +3,12 @@ use Rattle.std.specs.Prelude.{◌≡◌, ◌≤◌, ◌⊎◌, ℕ, Bool, List, 
 use Rattle.net_bench.specs.declared.netlist.GateLine.{GateLine}
 use Rattle.net_bench.specs.Circuit.{Net, circuit, variables_of, rank_of}
 use Rattle.net_bench.specs.Labels.{bit_of, value_of}
-use Rattle.net_order.specs.Order.{Paired, first_level, second_level}
-use Rattle.net_explain.specs.declared.evaluate.Half.{Half}
-use Rattle.net_explain.specs.declared.evaluate.Half.TheVariants.{First, Second}
+use Rattle.net_order.specs.Order.{NamingModel, first_level, second_level}
+use Rattle.net_explain.specs.declared.evaluate.WhichNetlist.{WhichNetlist}
+use Rattle.net_explain.specs.declared.evaluate.WhichNetlist.TheVariants.{First, Second}
 
 -- the level of a variable of the first netlist or of the second
-abbrev pub level_in : Paired → Half → ℕ → ℕ
+abbrev pub level_in : NamingModel → WhichNetlist → ℕ → ℕ
 level_in p First s = first_level p s
 level_in p Second s = second_level p s
 

@@ -3,14 +3,14 @@ ghost use Rattle.std.specs.Prelude.{◌≡◌, ◌<◌, ◌++◌, [], length, fi
 ghost use Rattle.net_bench.specs.Circuit.{IsNet};
 ghost use Rattle.net_explain.specs.Explaining.{differ, differing, inner_at, is_inner, line_of};
 
-use crate::ranked::rows_of;
-use crate::view::Simulation;
+use crate::rank_rows::gates_by_rank;
+use crate::simulation::Simulation;
 use net_bench::netlist::{Netlist, Role, Signal};
 use std::alloc::{AllocError, Global};
 
 /// A signal of the first netlist and the one of its name in the second. Each is the signal of a gate, whose line is told.
 #[derive(Clone, Copy, Drop, Debug, PartialEq, Eq)]
-pub struct Inner {
+pub struct InnerSignal {
     pub first: Signal,
     pub second: Signal,
     /// In the first netlist. In the second it is the other one.
@@ -65,7 +65,7 @@ fn inner_at(
     seen: &Simulation,
     other: &Simulation,
     signal: Signal,
-) -> Option<Inner>
+) -> Option<InnerSignal>
     requires { signal < length first.now.names }
     ensures { result ≡ inner_at first.now second.now seen.now other.now signal }
 {
@@ -75,7 +75,7 @@ fn inner_at(
     }
     let first_line = line_of(first, signal)?;
     let second_line = line_of(second, partner)?;
-    Some(Inner {
+    Some(InnerSignal {
         first: signal,
         second: partner,
         value: seen.value(signal),
@@ -85,7 +85,7 @@ fn inner_at(
 }
 
 /// Adds an inner signal, if there is one.
-fn add(found: &mut Vec<Inner>, inner: Option<Inner>) -> Result<(), AllocError>
+fn add(found: &mut Vec<InnerSignal>, inner: Option<InnerSignal>) -> Result<(), AllocError>
     ensures { OnOk result (found.new.items ≡ found.old.items ++ option_to_list inner) }
 {
     if let Some(inner) = inner {
@@ -101,7 +101,7 @@ fn add_row(
     seen: &Simulation,
     other: &Simulation,
     row: &[Signal],
-    found: &mut Vec<Inner>,
+    found: &mut Vec<InnerSignal>,
 ) -> Result<(), AllocError>
     requires { All (λ s. s < length first.now.names) row.now }
     ensures { OnOk result (found.new.items ≡ found.old.items ++ filter_map (inner_at first.now second.now seen.now other.now) row.now) }
@@ -119,13 +119,13 @@ pub fn differing(
     second: &Netlist,
     seen: &Simulation,
     other: &Simulation,
-) -> Result<Vec<Inner>, AllocError>
+) -> Result<Vec<InnerSignal>, AllocError>
     ensures inner { IfOk result (λ v. v.items ≡ differing first.now second.now seen.now other.now) }
     // They are signals of their netlists.
     ensures first { IfOk result (λ v. All (λ i. i.first < length first.now.names) v.items) }
     ensures second { IfOk result (λ v. All (λ i. i.second < length second.now.names) v.items) }
 {
-    let table = rows_of(alloc, first)?;
+    let table = gates_by_rank(alloc, first)?;
     let rows = table.as_slice();
     let mut found = Vec::new(alloc);
     for place in 0..rows.len() {

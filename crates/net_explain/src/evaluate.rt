@@ -3,34 +3,40 @@ ghost use Rattle.std.specs.Prelude.{◌≡◌, ◌<◌, ◌+◌, ℕ, Bool, List
 ghost use Rattle.std.specs.Prelude.{MatchOption};
 ghost use Rattle.net_bench.specs.Circuit.{IsNet, circuit, gate_of, variables_of};
 ghost use Rattle.net_bench.specs.Labels.{IsFunctionOf, IsLabelling, bit_of, value_of};
-ghost use Rattle.net_explain.specs.Ranked.{AreRows};
+ghost use Rattle.net_explain.specs.RankRows.{AreRankRows};
 ghost use Rattle.net_explain.specs.Values.{AreSet, KeepsVariables, level_in};
 
 use crate::gates::{bit_at, value_of};
-use crate::ranked::rows_of;
+use crate::rank_rows::gates_by_rank;
 use net_bench::netlist::{Netlist, Role, Signal};
 use net_order::naming::Naming;
 use std::alloc::{AllocError, Global};
 
 /// One of the two netlists of a naming.
 #[derive(Clone, Copy, Drop, Debug, PartialEq, Eq)]
-pub enum Half {
+pub enum WhichNetlist {
     First,
     Second,
 }
 
 /// The level of a variable of the first netlist or of the second.
-fn level_in(naming: &Naming, which: Half, variable: Signal) -> u32
+fn level_in(naming: &Naming, which: WhichNetlist, variable: Signal) -> u32
     ensures { result ≡ level_in naming.now which variable }
 {
     match which {
-        Half::First => naming.first_level(variable),
-        Half::Second => naming.second_level(variable),
+        WhichNetlist::First => naming.first_level(variable),
+        WhichNetlist::Second => naming.second_level(variable),
     }
 }
 
 /// Sets each variable to the bit of its level.
-fn set_variables(net: &Netlist, naming: &Naming, which: Half, at: &[bool], bits: &mut [bool])
+fn set_variables(
+    net: &Netlist,
+    naming: &Naming,
+    which: WhichNetlist,
+    at: &[bool],
+    bits: &mut [bool],
+)
     requires { length bits.old ≡ length net.now.names }
     ensures { All (λ s. bit_of bits.new s ≡ bit_of at.now (level_in naming.now which s)) (variables_of (circuit net.now)) }
 {
@@ -43,8 +49,8 @@ fn set_variables(net: &Netlist, naming: &Naming, which: Half, at: &[bool], bits:
 
 /// Sets the signal of a gate to the gate's value by the bits of its operands. Any other signal stays as it is.
 fn set_gate(net: &Netlist, bits: &mut [bool], signal: Signal)
-    requires inside { signal < length net.now.names }
-    requires each { length bits.old ≡ length net.now.names }
+    requires in_bounds { signal < length net.now.names }
+    requires one_per_signal { length bits.old ≡ length net.now.names }
     ensures { MatchOption (gate_of net.now.gates signal) (bits.new ≡ bits.old)
         (λ g. bits.new ≡ slice_set bits.old signal (value_of g.kind (map (bit_of bits.old) g.operands))) }
 {
@@ -58,7 +64,7 @@ fn set_gate(net: &Netlist, bits: &mut [bool], signal: Signal)
 
 /// Sets the signals of the gates of one rank, where those of lower ranks are set.
 fn set_row(net: &Netlist, rows: &[Vec<Signal>], place: usize, bits: &mut [bool])
-    requires rows { AreRows net.now (map (λ w. w.items) rows.now) }
+    requires rows { AreRankRows net.now (map (λ w. w.items) rows.now) }
     requires place { place < length rows.now }
     requires set { AreSet net.now bits.old place [] }
     requires sound { IsNet net.now }
@@ -73,8 +79,8 @@ fn set_row(net: &Netlist, rows: &[Vec<Signal>], place: usize, bits: &mut [bool])
 
 /// Sets the signals of all gates, by rising rank.
 fn set_gates(net: &Netlist, rows: &[Vec<Signal>], bits: &mut [bool])
-    requires rows { AreRows net.now (map (λ w. w.items) rows.now) }
-    requires each { length bits.old ≡ length net.now.names }
+    requires rows { AreRankRows net.now (map (λ w. w.items) rows.now) }
+    requires one_per_signal { length bits.old ≡ length net.now.names }
     requires sound { IsNet net.now }
     ensures set { AreSet net.now bits.new (length rows.now) [] }
     ensures kept { KeepsVariables net.now bits.old bits.new }
@@ -88,13 +94,13 @@ fn set_gates(net: &Netlist, rows: &[Vec<Signal>], bits: &mut [bool])
 fn set_signals(
     net: &Netlist,
     naming: &Naming,
-    which: Half,
+    which: WhichNetlist,
     at: &[bool],
     rows: &[Vec<Signal>],
     bits: &mut [bool],
 )
-    requires rows { AreRows net.now (map (λ w. w.items) rows.now) }
-    requires each { length bits.old ≡ length net.now.names }
+    requires rows { AreRankRows net.now (map (λ w. w.items) rows.now) }
+    requires one_per_signal { length bits.old ≡ length net.now.names }
     requires sound { IsNet net.now }
     ensures { IsLabelling (circuit net.now) (level_in naming.now which) at.now bits.new }
 {
@@ -108,7 +114,7 @@ pub fn values(
     alloc: Global,
     net: &Netlist,
     naming: &Naming,
-    which: Half,
+    which: WhichNetlist,
     at: &[bool],
 ) -> Result<Vec<bool>, AllocError>
     // Each variable has the bit of its level, and each gate the value of its operands.
@@ -118,7 +124,7 @@ pub fn values(
         IsFunctionOf (circuit net.now) (level_in naming.now which) (length at.now) s f → bit_of v.items s ≡ f at.now) }
     ensures sound { IsNet net.now }
 {
-    let rows = rows_of(alloc, net)?;
+    let rows = gates_by_rank(alloc, net)?;
     let mut bits = Vec::from_elem(alloc, false, net.count())?;
     set_signals(net, naming, which, at, rows.as_slice(), bits.as_mut_slice());
     Ok(bits)

@@ -1,13 +1,13 @@
 //! Laws of explanations.
 ghost use Rattle.std.specs.Prelude.{◌≡◌, ◌↔◌, ℕ, Contains};
 ghost use Rattle.net_bench.specs.Circuit.{IsNet, Net};
-ghost use Rattle.net_explain.specs.Explaining.{IsInner, Viewed, differing};
+ghost use Rattle.net_explain.specs.Explaining.{IsInner, SimulationModel, differing};
 ghost use Rattle.net_explain.specs.Vcd.{code};
-ghost use Rattle.net_explain.specs.declared.differing.Inner.{Inner};
+ghost use Rattle.net_explain.specs.declared.differing.InnerSignal.{InnerSignal};
 
 /// What is listed are the inner signals that differ, and no others.
 pub fn exact()
-    ensures { (a b : Net) (v w : Viewed) (i : Inner) → IsNet a → IsNet b → Contains (differing a b v w) i ↔ IsInner a b v w i }
+    ensures { (a b : Net) (v w : SimulationModel) (i : InnerSignal) → IsNet a → IsNet b → Contains (differing a b v w) i ↔ IsInner a b v w i }
 {}
 
 /// Signals of different numbers have different identifiers.

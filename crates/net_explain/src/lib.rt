@@ -10,22 +10,22 @@
 //! values which a test finds for itself are the same (`tests/vcd.py`, `tests/explained.py`). That time and memory are
 //! linear in the netlists no clause says.
 //!
-//! **Begin** with `specs/Explaining`; then `explaining`, over `view` (what is seen of one netlist) and `differing`.
+//! **Begin** with `specs/Explaining`; then `explanation`, over `simulation` (what is seen of one netlist) and `differing`.
 #![tactic(auto)]
 
-mod cones;
+mod below;
 mod differing;
 mod evaluate;
-mod explaining;
+mod explanation;
 mod gates;
 pub mod laws;
-mod ranked;
+mod rank_rows;
+mod simulation;
 mod text;
 mod vcd;
-mod view;
 
-pub use differing::Inner;
-pub use evaluate::{Half, values};
-pub use explaining::{Explanation, GateCount, explain};
+pub use differing::InnerSignal;
+pub use evaluate::{WhichNetlist, values};
+pub use explanation::{Explanation, GateCount, explain};
 pub use text::explanation_of;
 pub use vcd::vcd_of;

@@ -1,10 +1,10 @@
 //! The lines of an explanation.
 ghost use Rattle.std.specs.Prelude.{◌≡◌, ◌<◌, ◌++◌, length, All, IfOk, OnOk};
-ghost use Rattle.net_explain.specs.Text.{behind_text, bit_text, explanation_text, head_text, inner_text, inners_text, part_text};
-ghost use Rattle.net_explain.specs.Text.{parts_text};
+ghost use Rattle.net_explain.specs.Text.{outside_text, bit_text, explanation_text, head_text, inner_text, inners_text, gate_count_text};
+ghost use Rattle.net_explain.specs.Text.{last_line_text};
 
-use crate::differing::{Inner, name_of};
-use crate::explaining::{Explanation, GateCount};
+use crate::differing::{InnerSignal, name_of};
+use crate::explanation::{Explanation, GateCount};
 use net_bench::netlist::Netlist;
 use std::alloc::{AllocError, Global};
 
@@ -36,12 +36,12 @@ fn add_inner(
     alloc: Global,
     text: &mut Vec<u8>,
     net: &Netlist,
-    inner: Inner,
+    inner: InnerSignal,
 ) -> Result<(), AllocError>
     requires { inner.first < length net.now.names }
     ensures { OnOk result (text.new.items ≡ text.old.items ++ inner_text net.now.names inner) }
 {
-    let Inner {
+    let InnerSignal {
         first,
         value,
         first_line,
@@ -64,7 +64,7 @@ fn add_inners(
     alloc: Global,
     text: &mut Vec<u8>,
     net: &Netlist,
-    inner: &[Inner],
+    inner: &[InnerSignal],
 ) -> Result<(), AllocError>
     requires { All (λ i. i.first < length net.now.names) inner.now }
     ensures { OnOk result (text.new.items ≡ text.old.items ++ inners_text net.now.names inner.now) }
@@ -76,29 +76,29 @@ fn add_inners(
 }
 
 /// Adds how many gates of how many.
-fn add_part(alloc: Global, text: &mut Vec<u8>, part: GateCount) -> Result<(), AllocError>
-    ensures { OnOk result (text.new.items ≡ text.old.items ++ part_text part) }
+fn add_gate_count(alloc: Global, text: &mut Vec<u8>, part: GateCount) -> Result<(), AllocError>
+    ensures { OnOk result (text.new.items ≡ text.old.items ++ gate_count_text part) }
 {
-    let GateCount { all, behind } = part;
-    let shown = format!(in alloc; "{behind} of {all}")?;
+    let GateCount { all, outside } = part;
+    let shown = format!(in alloc; "{outside} of {all}")?;
     text.extend_from_slice(shown.as_bytes())?;
     Ok(())
 }
 
 /// Adds the last line: how many gates are outside the cone of a signal.
-fn add_behind(
+fn add_outside_line(
     alloc: Global,
     text: &mut Vec<u8>,
     name: &[u8],
     first: GateCount,
     second: GateCount,
 ) -> Result<(), AllocError>
-    ensures { OnOk result (text.new.items ≡ text.old.items ++ behind_text name.now first second) }
+    ensures { OnOk result (text.new.items ≡ text.old.items ++ outside_text name.now first second) }
 {
     text.extend_from_slice(b"  ")?;
-    add_part(alloc, text, first)?;
+    add_gate_count(alloc, text, first)?;
     text.extend_from_slice(b" gates in the first netlist and ")?;
-    add_part(alloc, text, second)?;
+    add_gate_count(alloc, text, second)?;
     text.extend_from_slice(b" in the second are outside the cone of ")?;
     text.extend_from_slice(name)?;
     text.extend_from_slice(b"\n")?;
@@ -106,23 +106,23 @@ fn add_behind(
 }
 
 /// Adds the last line, where there are inner signals that differ.
-fn add_parts(
+fn add_last_line(
     alloc: Global,
     text: &mut Vec<u8>,
     net: &Netlist,
-    inner: &[Inner],
-    parts: Option<(GateCount, GateCount)>,
+    inner: &[InnerSignal],
+    gate_counts: Option<(GateCount, GateCount)>,
 ) -> Result<(), AllocError>
     requires { All (λ i. i.first < length net.now.names) inner.now }
-    ensures { OnOk result (text.new.items ≡ text.old.items ++ parts_text net.now.names inner.now parts) }
+    ensures { OnOk result (text.new.items ≡ text.old.items ++ last_line_text net.now.names inner.now gate_counts) }
 {
-    let Some((first, second)) = parts else {
+    let Some((first, second)) = gate_counts else {
         return Ok(());
     };
     if inner.is_empty() {
         return Ok(());
     }
-    add_behind(alloc, text, name_of(net, inner[0].first), first, second)
+    add_outside_line(alloc, text, name_of(net, inner[0].first), first, second)
 }
 
 /// The lines of an explanation. The subject is what its report line speaks of, as "s" or "NEXT q"; the netlist is the first of the two.
@@ -139,6 +139,6 @@ pub fn explanation_of(
     let inner = explanation.inner();
     add_head(alloc, &mut text, subject, inner.len())?;
     add_inners(alloc, &mut text, first, inner)?;
-    add_parts(alloc, &mut text, first, inner, explanation.parts())?;
+    add_last_line(alloc, &mut text, first, inner, explanation.gate_counts())?;
     Ok(text)
 }

@@ -4,8 +4,8 @@ use Rattle.std.specs.Prelude.{cond, nat_lt, ◌==◌}
 use Rattle.std.proofs.lemmas.Bool.Decides.{nat_tests}
 use Rattle.std.proofs.lemmas.List.{map-append}
 use Rattle.net_bench.proofs.Numbers.{or_cases}
-use Rattle.net_order.specs.Force.{moved, numbers_below, step, steps_of}
-use Rattle.net_order.specs.Order.{Sided, forced_back, graph_of, is_member}
+use Rattle.net_order.specs.Force.{force_order, numbers_below, step, steps_of}
+use Rattle.net_order.specs.Order.{NamedNetlistModel, force_numbers, graph_of, is_member}
 use Rattle.net_order.proofs.Members.{all_of, equal_numbers, no_true}
 
 -- one more step
@@ -36,9 +36,9 @@ filter_low n [] s e = absurd (no_true e)
 filter_low n (v ∷ xs) s e = either_low n v s (nat_lt v n) (filter (λ w. nat_lt w n) xs) refl (filter_low n xs s) e
 
 -- the numbers that are left are those of variables
-pub forced_low : (names : List (List ℕ)) (sides given : List Sided) (s : ℕ) → is_member s (forced_back names sides given) ≡ true → s < length names
-unfolding forced_back
-forced_low names sides given s e = filter_low (length names) (reverse (moved (length names) (graph_of names sides given))) s e
+pub forced_low : (names : List (List ℕ)) (sides given : List NamedNetlistModel) (s : ℕ) → is_member s (force_numbers names sides given) ≡ true → s < length names
+unfolding force_numbers
+forced_low names sides given s e = filter_low (length names) (reverse (force_order (length names) (graph_of names sides given))) s e
 
-pub all_forced_low : (names : List (List ℕ)) (sides given : List Sided) (numbers : List ℕ) → numbers ≡ forced_back names sides given → All (λ s. s < length names) numbers
-all_forced_low names sides given numbers is = subst (All (λ s. s < length names)) (sym is) (all_of (λ s. s < length names) (forced_back names sides given) (forced_low names sides given))
+pub all_forced_low : (names : List (List ℕ)) (sides given : List NamedNetlistModel) (numbers : List ℕ) → numbers ≡ force_numbers names sides given → All (λ s. s < length names) numbers
+all_forced_low names sides given numbers is = subst (All (λ s. s < length names)) (sym is) (all_of (λ s. s < length names) (force_numbers names sides given) (forced_low names sides given))

@@ -7,7 +7,7 @@ use Rattle.std.proofs.lemmas.List.Sorted.{length_permutation}
 use Rattle.std.proofs.lemmas.Map.Keys.{IsDistinct-IsPermutation}
 use Rattle.net_bench.specs.Circuit.{is_name_in, with_name, distinct}
 use Rattle.net_order.specs.Index.{index_key, put_by_key, rising}
-use Rattle.net_order.specs.Order.{Sided, all_names, by_index, declared}
+use Rattle.net_order.specs.Order.{NamedNetlistModel, all_names, by_index, declared}
 use Rattle.net_order.specs.Tables.{with_names}
 use Rattle.net_order.proofs.Different.{AmongNames, all_different, names_equal}
 use Rattle.net_order.proofs.Members.{in_joined}
@@ -65,7 +65,7 @@ rising_in key (x ∷ xs) n = put_in key x (rising key xs) n ∙ ap (λ b. bytes_
 pub rising_different : (key : List ℕ → ℕ) (xs : List (List ℕ)) → IsDistinct bytes_eq xs → IsDistinct bytes_eq (rising key xs)
 rising_different key xs h = IsDistinct-IsPermutation bytes_eq names_equal.symm xs (rising key xs) (rising_moved key xs) h
 
-module _ (sides given : List Sided) where
+module _ (sides given : List NamedNetlistModel) where
   pub indexed_different : IsDistinct bytes_eq (by_index sides given)
   indexed_different = rising_different index_key (declared sides given) (all_different (all_names sides given))
 

@@ -6,9 +6,9 @@ use Rattle.net_bench.specs.Circuit.{Circuit, Feeds, AreRanks, Net, IsNet, circui
 use Rattle.net_bench.proofs.Chains.{lower}
 use Rattle.std.specs.List.{sum_by}
 use Rattle.std.proofs.lemmas.List.Sums.{sum_by-cons}
-use Rattle.net_order.specs.declared.walk.Way.{Way}
-use Rattle.net_order.specs.declared.walk.Way.TheVariants.{Written, ByRank}
-use Rattle.net_order.specs.Order.{is_member, leaves, below, operands_of, gate_operands, taken, steps_of, rank_of}
+use Rattle.net_order.specs.declared.walk.OperandOrder.{OperandOrder}
+use Rattle.net_order.specs.declared.walk.OperandOrder.TheVariants.{Written, ByRank}
+use Rattle.net_order.specs.Order.{is_member, leaves, below, operands_of, gate_operands, in_walk_order, walk_operands, rank_of}
 use Rattle.net_order.specs.Walk.{steps_within, steps_below}
 use Rattle.net_order.proofs.Ranks.{deep}
 use Rattle.net_order.proofs.Falling.{falling_contains}
@@ -114,21 +114,21 @@ among_operands c s o (Some g) e among = let a = found_gate s c.gates g e in (g, 
 pub feeds_of : (c : Circuit) (s o : ℕ) → Contains (operands_of c s) o → Feeds c o s
 feeds_of c s o among = among_operands c s o (find (λ x. x.out == s) c.gates) refl among
 
-taken_contains : (way : Way) (c : Circuit) (os : List ℕ) (o : ℕ) → Contains (taken way c os) o → Contains os o
+taken_contains : (operand_order : OperandOrder) (c : Circuit) (os : List ℕ) (o : ℕ) → Contains (in_walk_order operand_order c os) o → Contains os o
 taken_contains Written c os o among = among
 taken_contains ByRank c os o among = falling_contains (rank_of c) os o among
 
-steps_feed : (way : Way) (c : Circuit) (s o : ℕ) → Contains (steps_of way c s) o → Feeds c o s
-steps_feed way c s o among = feeds_of c s o (taken_contains way c (operands_of c s) o among)
+steps_feed : (operand_order : OperandOrder) (c : Circuit) (s o : ℕ) → Contains (walk_operands operand_order c s) o → Feeds c o s
+steps_feed operand_order c s o among = feeds_of c s o (taken_contains operand_order c (operands_of c s) o among)
 
 false_or_true : (b : Bool) → (b ≡ true → ⊥) → b ≡ false
 false_or_true true h = absurd (h refl)
 false_or_true false h = refl
 
-pub taken_all : (way : Way) (c : Circuit) (P : ℕ → Type 0) (os : List ℕ) → All P os → All P (taken way c os)
-taken_all way c P os h i d low =
-    let o = slice_index_or (taken way c os) i d in
-    let among = taken_contains way c os o (i, low, at_any (taken way c os) i d o low) in
+pub taken_all : (operand_order : OperandOrder) (c : Circuit) (P : ℕ → Type 0) (os : List ℕ) → All P os → All P (in_walk_order operand_order c os)
+taken_all operand_order c P os h i d low =
+    let o = slice_index_or (in_walk_order operand_order c os) i d in
+    let among = taken_contains operand_order c os o (i, low, at_any (in_walk_order operand_order c os) i d o low) in
     subst P among.2 (h among.0 o among.1)
 
 module _ (n : Net) (sound : IsNet n) where
@@ -140,26 +140,26 @@ module _ (n : Net) (sound : IsNet n) where
       sound.apart i.0 s i.1 a.0.0 g a.0.1 (ap (λ x. x.out) a.0.2 ∙ a.1 ∙ sym i.2))
 
   -- the leaves of a gate are its operands' leaves
-  pub gate_leaves : (way : Way) (s : ℕ) (g : GateLine) → find (λ x. x.out == s) n.gates ≡ Some g → below way (circuit n) s ≡ flat_map (below way (circuit n)) (taken way (circuit n) g.operands)
-  gate_leaves way s g e =
-      unfolds (circuit n) n.ranks sound.ranks (steps_of way (circuit n)) (steps_feed way (circuit n)) (List ℕ) (leaves way (circuit n)) (λ t. t ∷ []) (λ f xs. flat_map f xs) flat_map_same (λ t. refl) (λ depth t. refl)
+  pub gate_leaves : (operand_order : OperandOrder) (s : ℕ) (g : GateLine) → find (λ x. x.out == s) n.gates ≡ Some g → below operand_order (circuit n) s ≡ flat_map (below operand_order (circuit n)) (in_walk_order operand_order (circuit n) g.operands)
+  gate_leaves operand_order s g e =
+      unfolds (circuit n) n.ranks sound.ranks (walk_operands operand_order (circuit n)) (steps_feed operand_order (circuit n)) (List ℕ) (leaves operand_order (circuit n)) (λ t. t ∷ []) (λ f xs. flat_map f xs) flat_map_same (λ t. refl) (λ depth t. refl)
       (length n.gates) s (deep n sound s) (no_input s g e) ∙
-      ap (λ f. flat_map (below way (circuit n)) (taken way (circuit n) (gate_operands f))) e
+      ap (λ f. flat_map (below operand_order (circuit n)) (in_walk_order operand_order (circuit n) (gate_operands f))) e
 
   -- walking a gate takes two steps beside those of its operands
-  pub gate_steps : (way : Way) (s : ℕ) (g : GateLine) → find (λ x. x.out == s) n.gates ≡ Some g → steps_below way (circuit n) s ≡ sum_by (steps_below way (circuit n)) (taken way (circuit n) g.operands) + 2
-  gate_steps way s g e =
-      unfolds (circuit n) n.ranks sound.ranks (steps_of way (circuit n)) (steps_feed way (circuit n)) ℕ (steps_within way (circuit n)) (λ t. 1) (λ f xs. sum_by f xs + 2) (λ f h xs same. ap (λ k. k + 2) (sum_by_same f h xs same)) (λ t. refl) (λ depth t. refl)
+  pub gate_steps : (operand_order : OperandOrder) (s : ℕ) (g : GateLine) → find (λ x. x.out == s) n.gates ≡ Some g → steps_below operand_order (circuit n) s ≡ sum_by (steps_below operand_order (circuit n)) (in_walk_order operand_order (circuit n) g.operands) + 2
+  gate_steps operand_order s g e =
+      unfolds (circuit n) n.ranks sound.ranks (walk_operands operand_order (circuit n)) (steps_feed operand_order (circuit n)) ℕ (steps_within operand_order (circuit n)) (λ t. 1) (λ f xs. sum_by f xs + 2) (λ f h xs same. ap (λ k. k + 2) (sum_by_same f h xs same)) (λ t. refl) (λ depth t. refl)
       (length n.gates) s (deep n sound s) (no_input s g e) ∙
-      ap (λ f. sum_by (steps_below way (circuit n)) (taken way (circuit n) (gate_operands f)) + 2) e
+      ap (λ f. sum_by (steps_below operand_order (circuit n)) (in_walk_order operand_order (circuit n) (gate_operands f)) + 2) e
 
   pub gate_inside : (s : ℕ) (g : GateLine) → find (λ x. x.out == s) n.gates ≡ Some g → All (λ o. o < length n.names) g.operands
   gate_inside s g e =
       let a = found_gate s n.gates g e in
       subst (λ x. All (λ o. o < length n.names) x.operands) a.0.2 (sound.operands a.0.0 g a.0.1).0
 
-  pub steps_inside : (way : Way) (s : ℕ) (g : GateLine) → find (λ x. x.out == s) n.gates ≡ Some g → All (λ o. o < length n.names) (taken way (circuit n) g.operands)
-  steps_inside way s g e = taken_all way (circuit n) (λ o. o < length n.names) g.operands (gate_inside s g e)
+  pub steps_inside : (operand_order : OperandOrder) (s : ℕ) (g : GateLine) → find (λ x. x.out == s) n.gates ≡ Some g → All (λ o. o < length n.names) (in_walk_order operand_order (circuit n) g.operands)
+  steps_inside operand_order s g e = taken_all operand_order (circuit n) (λ o. o < length n.names) g.operands (gate_inside s g e)
 
   none_here : (b : Bool) (h : GateLine) (x : Option GateLine) → cond b (Some h) x ≡ None → b ≡ false
   none_here true h x e = cc
@@ -192,18 +192,18 @@ module _ (n : Net) (sound : IsNet n) where
         | inr (g, among, out) ↦ absurd (none_left n.gates s g e among.0 among.1 among.2 out)
       ]
 
-  leaf : (way : Way) (depth s : ℕ) → is_member s (variables_of (circuit n)) ≡ true → leaves way (circuit n) depth s ≡ s ∷ []
-  leaf way zero s e = ap (λ b. cond b (s ∷ []) []) e
-  leaf way (suc depth) s e = ap (λ b. cond b (s ∷ []) (flat_map (leaves way (circuit n) depth) (steps_of way (circuit n) s))) e
+  leaf : (operand_order : OperandOrder) (depth s : ℕ) → is_member s (variables_of (circuit n)) ≡ true → leaves operand_order (circuit n) depth s ≡ s ∷ []
+  leaf operand_order zero s e = ap (λ b. cond b (s ∷ []) []) e
+  leaf operand_order (suc depth) s e = ap (λ b. cond b (s ∷ []) (flat_map (leaves operand_order (circuit n) depth) (walk_operands operand_order (circuit n) s))) e
 
   -- an input is its own leaf
-  pub input_leaves : (way : Way) (s : ℕ) → s < length n.names → find (λ x. x.out == s) n.gates ≡ None → below way (circuit n) s ≡ s ∷ []
-  input_leaves way s low e = leaf way (length n.gates) s (is_input s low e)
+  pub input_leaves : (operand_order : OperandOrder) (s : ℕ) → s < length n.names → find (λ x. x.out == s) n.gates ≡ None → below operand_order (circuit n) s ≡ s ∷ []
+  input_leaves operand_order s low e = leaf operand_order (length n.gates) s (is_input s low e)
 
 at_least_one : (b : Bool) (k : ℕ) → 0 < cond b 1 (k + 2)
 at_least_one true k = omega arith
 at_least_one false k = omega arith
 
-pub some_steps : (way : Way) (c : Circuit) (depth s : ℕ) → 0 < steps_within way c depth s
-some_steps way c zero s = at_least_one (is_member s (variables_of c)) 0
-some_steps way c (suc depth) s = at_least_one (is_member s (variables_of c)) (sum_by (steps_within way c depth) (steps_of way c s))
+pub some_steps : (operand_order : OperandOrder) (c : Circuit) (depth s : ℕ) → 0 < steps_within operand_order c depth s
+some_steps operand_order c zero s = at_least_one (is_member s (variables_of c)) 0
+some_steps operand_order c (suc depth) s = at_least_one (is_member s (variables_of c)) (sum_by (steps_within operand_order c depth) (walk_operands operand_order c s))

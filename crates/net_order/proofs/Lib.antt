@@ -11,8 +11,8 @@ pub mod Walks
 pub mod Different
 pub mod Members
 pub mod AllNames
-pub mod Weaving
-pub mod Woven
+pub mod Interleaving
+pub mod InterleavedNumbers
 pub mod Indexing
 pub mod Forcing
 pub mod Orders

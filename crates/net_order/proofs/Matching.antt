@@ -6,7 +6,7 @@ use Rattle.net_bench.proofs.Numbers.{or_left, or_right}
 use Rattle.net_order.specs.declared.order.Match.{Match}
 use Rattle.net_order.specs.declared.order.Match.TheVariants.{Name, Position}
 use Rattle.net_order.specs.declared.order.Order.{Order}
-use Rattle.net_order.specs.Order.{is_member, IsNaming, Paired, name_of, signal_named, where_among, pairs_by_name, with_pair, unmatched, without_pair, matched, only_in, registers_of}
+use Rattle.net_order.specs.Order.{is_member, IsNaming, NamingModel, name_of, signal_named, where_among, pairs_by_name, with_pair, unmatched, without_pair, matched, only_in, registers_of}
 use Rattle.net_order.proofs.AllNames.{registers_low}
 use Rattle.net_order.proofs.Leaves.{member_at}
 
@@ -61,33 +61,33 @@ module _ (a b : Circuit) (ss ts : List ℕ) where
       one_pair s (signal_named b ts (name_of a s)) (pairs_by_name a b ts xs) (h 0 s (omega arith)) (λ u e. named_in ts (find b.names (name_of a s)) u e)
       (named_pairs xs (λ i d low. h (suc i) d (omega arith)))
 
-  zipped : (xs ys : List ℕ) → All (IsIn ss) xs → All (IsIn ts) ys → All (AreIn ss ts) (zip xs ys)
-  zipped [] ys h k = all_nil (AreIn ss ts)
-  zipped (s ∷ xs) [] h k = all_nil (AreIn ss ts)
-  zipped (s ∷ xs) (t ∷ ys) h k =
-      all_cons (AreIn ss ts) (s, t) (zip xs ys) (h 0 s (omega arith), k 0 t (omega arith)) (zipped xs ys (λ i d low. h (suc i) d (omega arith)) (λ i d low. k (suc i) d (omega arith)))
+  paired_by_position : (xs ys : List ℕ) → All (IsIn ss) xs → All (IsIn ts) ys → All (AreIn ss ts) (zip xs ys)
+  paired_by_position [] ys h k = all_nil (AreIn ss ts)
+  paired_by_position (s ∷ xs) [] h k = all_nil (AreIn ss ts)
+  paired_by_position (s ∷ xs) (t ∷ ys) h k =
+      all_cons (AreIn ss ts) (s, t) (zip xs ys) (h 0 s (omega arith), k 0 t (omega arith)) (paired_by_position xs ys (λ i d low. h (suc i) d (omega arith)) (λ i d low. k (suc i) d (omega arith)))
 
   pub matched_in : (how : Match) → All (AreIn ss ts) (matched how a b ss ts)
   matched_in Name = named_pairs ss (themselves ss)
-  matched_in Position = zipped ss ts (themselves ss) (themselves ts)
+  matched_in Position = paired_by_position ss ts (themselves ss) (themselves ts)
 
-  one_lone : (s : ℕ) (o : Option ℕ) (xs : List ℕ) → IsIn ss s → All (IsIn ss) xs → All (IsIn ss) (without_pair s o xs)
-  one_lone s None xs h rest = all_cons (IsIn ss) s xs h rest
-  one_lone s (Some t) xs h rest = rest
+  one_without_partner : (s : ℕ) (o : Option ℕ) (xs : List ℕ) → IsIn ss s → All (IsIn ss) xs → All (IsIn ss) (without_pair s o xs)
+  one_without_partner s None xs h rest = all_cons (IsIn ss) s xs h rest
+  one_without_partner s (Some t) xs h rest = rest
 
-  lone : (xs : List ℕ) → All (IsIn ss) xs → All (IsIn ss) (unmatched a b ts xs)
-  lone [] h = all_nil (IsIn ss)
-  lone (s ∷ xs) h = one_lone s (signal_named b ts (name_of a s)) (unmatched a b ts xs) (h 0 s (omega arith)) (lone xs (λ i d low. h (suc i) d (omega arith)))
+  without_partner : (xs : List ℕ) → All (IsIn ss) xs → All (IsIn ss) (unmatched a b ts xs)
+  without_partner [] h = all_nil (IsIn ss)
+  without_partner (s ∷ xs) h = one_without_partner s (signal_named b ts (name_of a s)) (unmatched a b ts xs) (h 0 s (omega arith)) (without_partner xs (λ i d low. h (suc i) d (omega arith)))
 
-  pub lone_in : (how : Match) → All (IsIn ss) (only_in how a b ss ts)
-  lone_in Name = lone ss (themselves ss)
-  lone_in Position = all_nil (IsIn ss)
+  pub without_partner_in : (how : Match) → All (IsIn ss) (only_in how a b ss ts)
+  without_partner_in Name = without_partner ss (themselves ss)
+  without_partner_in Position = all_nil (IsIn ss)
 
 -- what holds of all of the signals holds of each that is one of them
 pub one_of : (P : ℕ → Type 0) (ss : List ℕ) (s : ℕ) → All P ss → IsIn ss s → P s
 one_of P ss s h e = let at = member_at s ss e in subst P at.2 (h at.0 s at.1)
 
-module _ (how : Match) (n m : Net) (given : Option Circuit) (order : Order) (p : Paired) (first : IsNet n) (second : IsNet m) (h : IsNaming how (circuit n) (circuit m) given order p) where
+module _ (how : Match) (n m : Net) (given : Option Circuit) (order : Order) (p : NamingModel) (first : IsNet n) (second : IsNet m) (h : IsNaming how (circuit n) (circuit m) given order p) where
   abbrev Low : ℕ → Type 0
   Low s = s < length n.names
 
@@ -107,12 +107,12 @@ module _ (how : Match) (n m : Net) (given : Option Circuit) (order : Order) (p :
   pub only_first_inside : All (λ s. s < length n.names) p.outputs.only_first
   only_first_inside =
       all_along (IsIn n.outputs) Low p.outputs.only_first (λ s k. one_of Low n.outputs s first.outputs k)
-      (subst (All (IsIn n.outputs)) (sym (ap (λ c. c.only_first) h.outputs)) (lone_in (circuit n) (circuit m) n.outputs m.outputs how))
+      (subst (All (IsIn n.outputs)) (sym (ap (λ c. c.only_first) h.outputs)) (without_partner_in (circuit n) (circuit m) n.outputs m.outputs how))
 
   pub only_second_inside : All (λ s. s < length m.names) p.outputs.only_second
   only_second_inside =
       all_along (IsIn m.outputs) High p.outputs.only_second (λ s k. one_of High m.outputs s second.outputs k)
-      (subst (All (IsIn m.outputs)) (sym (ap (λ c. c.only_second) h.outputs)) (lone_in (circuit m) (circuit n) m.outputs n.outputs how))
+      (subst (All (IsIn m.outputs)) (sym (ap (λ c. c.only_second) h.outputs)) (without_partner_in (circuit m) (circuit n) m.outputs n.outputs how))
 
   -- ---- registers
 
@@ -131,9 +131,9 @@ module _ (how : Match) (n m : Net) (given : Option Circuit) (order : Order) (p :
   pub only_first_next_inside : All (λ s. s < length n.names) p.registers.only_first
   only_first_next_inside =
       all_along (IsIn ours) Low p.registers.only_first (λ s k. one_of Low ours s (registers_low n first) k)
-      (subst (All (IsIn ours)) (sym (ap (λ c. c.only_first) h.registers)) (lone_in (circuit n) (circuit m) ours theirs how))
+      (subst (All (IsIn ours)) (sym (ap (λ c. c.only_first) h.registers)) (without_partner_in (circuit n) (circuit m) ours theirs how))
 
   pub only_second_next_inside : All (λ s. s < length m.names) p.registers.only_second
   only_second_next_inside =
       all_along (IsIn theirs) High p.registers.only_second (λ s k. one_of High theirs s (registers_low m second) k)
-      (subst (All (IsIn theirs)) (sym (ap (λ c. c.only_second) h.registers)) (lone_in (circuit m) (circuit n) theirs ours how))
+      (subst (All (IsIn theirs)) (sym (ap (λ c. c.only_second) h.registers)) (without_partner_in (circuit m) (circuit n) theirs ours how))

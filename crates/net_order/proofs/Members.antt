@@ -4,10 +4,10 @@ use Rattle.std.specs.Prelude.{cond, ◌||◌, ◌==◌, flat_map, fold, bytes_eq
 use Rattle.std.proofs.lemmas.List.Folds.{list_any-append}
 use Rattle.net_bench.specs.Circuit.{Circuit, Net, IsNet, circuit, is_name_in, distinct, variables_of}
 use Rattle.net_bench.proofs.Numbers.{name_itself, in_distinct, or_left, or_right, or_cases}
-use Rattle.net_order.specs.declared.walk.Way.{Way}
-use Rattle.net_order.specs.declared.walk.Way.TheVariants.{Written}
-use Rattle.net_order.specs.Order.{is_member, leaves, below, with_number, met, met_below, roots, steps_of}
-use Rattle.net_order.specs.Walk.{Among}
+use Rattle.net_order.specs.declared.walk.OperandOrder.{OperandOrder}
+use Rattle.net_order.specs.declared.walk.OperandOrder.TheVariants.{Written}
+use Rattle.net_order.specs.Order.{is_member, leaves, below, with_number, met, met_below, roots, walk_operands}
+use Rattle.net_order.specs.Walk.{IsSubset}
 use Rattle.net_order.proofs.Walking.{in_append}
 use Rattle.net_order.proofs.Leaves.{member_at}
 use Rattle.net_order.proofs.Different.{AmongNames}
@@ -17,52 +17,52 @@ use Rattle.net_order.proofs.Different.{AmongNames}
 pub no_true : false ≡ true → ⊥
 no_true e = cc
 
-pub joined_among : (xs ys zs : List ℕ) → Among xs zs → Among ys zs → Among (xs ++ ys) zs
+pub joined_among : (xs ys zs : List ℕ) → IsSubset xs zs → IsSubset ys zs → IsSubset (xs ++ ys) zs
 joined_among xs ys zs h k x e = elim (or_cases (is_member x xs) (is_member x ys) (sym (in_append x xs ys) ∙ e)) [ inl l ↦ h x l | inr r ↦ k x r ]
 
-flat_among : (f : ℕ → List ℕ) (xs zs : List ℕ) → ((x : ℕ) → Among (f x) zs) → Among (flat_map f xs) zs
+flat_among : (f : ℕ → List ℕ) (xs zs : List ℕ) → ((x : ℕ) → IsSubset (f x) zs) → IsSubset (flat_map f xs) zs
 flat_among f [] zs h x e = absurd (no_true e)
 flat_among f (y ∷ xs) zs h x e = joined_among (f y) (flat_map f xs) zs (h y) (flat_among f xs zs h) x e
 
-either_list : (b : Bool) (xs ys zs : List ℕ) → (b ≡ true → Among xs zs) → Among ys zs → Among (cond b xs ys) zs
+either_list : (b : Bool) (xs ys zs : List ℕ) → (b ≡ true → IsSubset xs zs) → IsSubset ys zs → IsSubset (cond b xs ys) zs
 either_list true xs ys zs h k = h refl
 either_list false xs ys zs h k = k
 
 pub equal_numbers : (x y : ℕ) → (x == y) ≡ true → x ≡ y
 equal_numbers x y e = grind arith
 
-pub itself : (s : ℕ) (zs : List ℕ) → is_member s zs ≡ true → Among (s ∷ []) zs
+pub itself : (s : ℕ) (zs : List ℕ) → is_member s zs ≡ true → IsSubset (s ∷ []) zs
 itself s zs h x e = elim (or_cases (s == x) false e) [
   | inl same ↦ ap (λ t. is_member t zs) (sym (equal_numbers s x same)) ∙ h
   | inr none ↦ absurd (no_true none)
 ]
 
-leaves_inputs : (way : Way) (c : Circuit) (depth s : ℕ) → Among (leaves way c depth s) (variables_of c)
-leaves_inputs way c zero s = either_list (is_member s (variables_of c)) (s ∷ []) [] (variables_of c) (itself s (variables_of c)) (λ x e. absurd (no_true e))
-leaves_inputs way c (suc depth) s =
-    either_list (is_member s (variables_of c)) (s ∷ []) (flat_map (leaves way c depth) (steps_of way c s)) (variables_of c) (itself s (variables_of c))
-    (flat_among (leaves way c depth) (steps_of way c s) (variables_of c) (leaves_inputs way c depth))
+leaves_inputs : (operand_order : OperandOrder) (c : Circuit) (depth s : ℕ) → IsSubset (leaves operand_order c depth s) (variables_of c)
+leaves_inputs operand_order c zero s = either_list (is_member s (variables_of c)) (s ∷ []) [] (variables_of c) (itself s (variables_of c)) (λ x e. absurd (no_true e))
+leaves_inputs operand_order c (suc depth) s =
+    either_list (is_member s (variables_of c)) (s ∷ []) (flat_map (leaves operand_order c depth) (walk_operands operand_order c s)) (variables_of c) (itself s (variables_of c))
+    (flat_among (leaves operand_order c depth) (walk_operands operand_order c s) (variables_of c) (leaves_inputs operand_order c depth))
 
-pub with_among : (found zs : List ℕ) (s : ℕ) → Among found zs → is_member s zs ≡ true → Among (with_number found s) zs
+pub with_among : (found zs : List ℕ) (s : ℕ) → IsSubset found zs → is_member s zs ≡ true → IsSubset (with_number found s) zs
 with_among found zs s h e = either_list (is_member s found) found (found ++ s ∷ []) zs (λ k. h) (joined_among found (s ∷ []) zs h (itself s zs e))
 
 pub member_head : (x : ℕ) (xs : List ℕ) → is_member x (x ∷ xs) ≡ true
 member_head x xs = let same : (x == x) ≡ true = grind arith in or_left (x == x) (is_member x xs) same
 
-pub fold_among : (xs found zs : List ℕ) → Among found zs → Among xs zs → Among (fold with_number found xs) zs
+pub fold_among : (xs found zs : List ℕ) → IsSubset found zs → IsSubset xs zs → IsSubset (fold with_number found xs) zs
 fold_among [] found zs h k = h
 fold_among (x ∷ xs) found zs h k =
     fold_among xs (with_number found x) zs (with_among found zs x h (k x (member_head x xs))) (λ y e. k y (or_right (x == y) (is_member y xs) e))
 
-pub met_inputs : (c : Circuit) → Among (met c) (variables_of c)
+pub met_inputs : (c : Circuit) → IsSubset (met c) (variables_of c)
 met_inputs c =
     fold_among (flat_map (below Written c) (roots c)) [] (variables_of c) (λ x e. absurd (no_true e)) (flat_among (below Written c) (roots c) (variables_of c) (leaves_inputs Written c (length c.gates)))
 
-pub below_inputs : (way : Way) (c : Circuit) (s : ℕ) → Among (below way c s) (variables_of c)
-below_inputs way c s = leaves_inputs way c (length c.gates) s
+pub below_inputs : (operand_order : OperandOrder) (c : Circuit) (s : ℕ) → IsSubset (below operand_order c s) (variables_of c)
+below_inputs operand_order c s = leaves_inputs operand_order c (length c.gates) s
 
-pub met_below_inputs : (way : Way) (c : Circuit) (s : ℕ) → Among (met_below way c s) (variables_of c)
-met_below_inputs way c s = fold_among (below way c s) [] (variables_of c) (λ x e. absurd (no_true e)) (below_inputs way c s)
+pub met_below_inputs : (operand_order : OperandOrder) (c : Circuit) (s : ℕ) → IsSubset (met_below operand_order c s) (variables_of c)
+met_below_inputs operand_order c s = fold_among (below operand_order c s) [] (variables_of c) (λ x e. absurd (no_true e)) (below_inputs operand_order c s)
 
 pub at_place : (xs : List ℕ) (i d : ℕ) → i < length xs → is_member (get_or xs i d) xs ≡ true
 at_place [] i d low = absurd (omega arith)

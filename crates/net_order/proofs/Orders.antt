@@ -8,12 +8,12 @@ use Rattle.net_bench.proofs.Numbers.{name_itself, in_distinct, or_left, or_right
 use Rattle.net_order.specs.declared.order.Order.{Order}
 use Rattle.net_order.specs.declared.order.Order.TheVariants.{Declared, Depth, Interleave, Index, Force, Listed, Extended}
 use Rattle.std.specs.List.{slice_index_or}
-use Rattle.net_order.specs.Order.{Sided, by_index, extended, forced, forced_back, met, all_names, declared, by_depth, interleaved, woven, numbered, ordered, names_of_sides, bad_place, IsListing, IsFit}
+use Rattle.net_order.specs.Order.{NamedNetlistModel, by_index, extended, forced, force_numbers, met, all_names, declared, by_depth, interleaved, interleaved_numbers, numbered, ordered, names_of_sides, bad_place, HasEachVariableOnce, IsFit}
 use Rattle.net_order.specs.Tables.{with_names}
 use Rattle.net_order.proofs.Named.{joined}
-use Rattle.net_order.proofs.AllNames.{known_declared, known_met, known_sides, told_names}
+use Rattle.net_order.proofs.AllNames.{known_declared, known_met, known_sides, known_names}
 use Rattle.net_order.proofs.Members.{joined_names, right_names, distinct_names, no_true}
-use Rattle.net_order.proofs.Woven.{woven_low}
+use Rattle.net_order.proofs.InterleavedNumbers.{interleaved_low}
 use Rattle.net_order.proofs.Indexing.{indexed_all, indexed_different, indexed_known}
 use Rattle.net_order.proofs.Forcing.{forced_low}
 use Rattle.net_order.proofs.Different.{AmongNames, no_more, all_different, all_there}
@@ -38,7 +38,7 @@ filter_among variables ys [] h m e = absurd (no_true e)
 filter_among variables ys (n ∷ names) h m e =
     either_among (is_name_in variables n) n (filter (is_name_in variables) names) ys (h n) (filter_among variables ys names h) m e
 
-module _ (sides given : List Sided) where
+module _ (sides given : List NamedNetlistModel) where
   depth_among : AmongNames (names_of_sides met sides) (all_names sides given)
   depth_among = known_met (all_names sides given) sides (known_sides sides given)
 
@@ -50,14 +50,14 @@ module _ (sides given : List Sided) where
   at_declared : (v : ℕ) → v < length (declared sides given) → is_name_in (all_names sides given) (slice_index_or (declared sides given) v []) ≡ true
   at_declared v low = sym (in_distinct (all_names sides given) (slice_index_or (declared sides given) v [])) ∙ name_there (declared sides given) v low
 
-  woven_among : AmongNames (numbered (declared sides given) (woven (declared sides given) sides)) (all_names sides given)
-  woven_among =
-      told_names (λ v. slice_index_or (declared sides given) v []) (woven (declared sides given) sides) (all_names sides given)
-      (λ v e. at_declared v (woven_low (declared sides given) sides (known_declared sides given) v e))
+  interleaved_among : AmongNames (numbered (declared sides given) (interleaved_numbers (declared sides given) sides)) (all_names sides given)
+  interleaved_among =
+      known_names (λ v. slice_index_or (declared sides given) v []) (interleaved_numbers (declared sides given) sides) (all_names sides given)
+      (λ v e. at_declared v (interleaved_low (declared sides given) sides (known_declared sides given) v e))
 
-  forced_among : AmongNames (numbered (by_index sides given) (forced_back (by_index sides given) sides given)) (all_names sides given)
+  forced_among : AmongNames (numbered (by_index sides given) (force_numbers (by_index sides given) sides given)) (all_names sides given)
   forced_among =
-      told_names (λ v. slice_index_or (by_index sides given) v []) (forced_back (by_index sides given) sides given) (all_names sides given)
+      known_names (λ v. slice_index_or (by_index sides given) v []) (force_numbers (by_index sides given) sides given) (all_names sides given)
       (λ v e.
       let n = slice_index_or (by_index sides given) v [] in
       sym (in_distinct (all_names sides given) n) ∙ indexed_known sides given n (name_there (by_index sides given) v (forced_low (by_index sides given) sides given v e)))
@@ -78,10 +78,10 @@ module _ (sides given : List Sided) where
   depth_all_few = whole_few (names_of_sides met sides) depth_among
 
   pub interleaved_few : length (interleaved sides given) ≤ length (declared sides given)
-  interleaved_few = whole_few (numbered (declared sides given) (woven (declared sides given) sides)) woven_among
+  interleaved_few = whole_few (numbered (declared sides given) (interleaved_numbers (declared sides given) sides)) interleaved_among
 
   pub forced_all_few : length (forced sides given) ≤ length (declared sides given)
-  forced_all_few = whole_few (numbered (by_index sides given) (forced_back (by_index sides given) sides given)) forced_among
+  forced_all_few = whole_few (numbered (by_index sides given) (force_numbers (by_index sides given) sides given)) forced_among
 
   -- those names of a list that are variables
   known_among : (names : List (List ℕ)) → AmongNames (filter (is_name_in (declared sides given)) names) (all_names sides given)
@@ -97,18 +97,18 @@ module _ (sides given : List Sided) where
       grown ∙ ap (λ (z : List (List ℕ)). with_names z (filter (is_name_in variables) names)) is_empty ∙ ap (λ (z : List (List ℕ)). with_names [] (filter (is_name_in z) names)) all
 
   -- the table of the order that FORCE gives, before the others are put behind
-  pub forced_made : (empty names new : List (List ℕ)) (vs : List ℕ) → empty ≡ [] → names ≡ by_index sides given → vs ≡ forced_back names sides given → new ≡ with_names empty (numbered names vs) →
-      new ≡ distinct (numbered (by_index sides given) (forced_back (by_index sides given) sides given))
+  pub forced_made : (empty names new : List (List ℕ)) (vs : List ℕ) → empty ≡ [] → names ≡ by_index sides given → vs ≡ force_numbers names sides given → new ≡ with_names empty (numbered names vs) →
+      new ≡ distinct (numbered (by_index sides given) (force_numbers (by_index sides given) sides given))
   forced_made empty names new vs is_empty all is grown =
       grown ∙ ap (λ (z : List (List ℕ)). with_names z (numbered names vs)) is_empty ∙ ap (λ zs. with_names [] (numbered names zs)) is ∙
-      ap (λ (z : List (List ℕ)). with_names [] (numbered z (forced_back z sides given))) all
+      ap (λ (z : List (List ℕ)). with_names [] (numbered z (force_numbers z sides given))) all
 
   -- the table of interleaved order, before the others are put behind
-  pub woven_table : (empty variables new : List (List ℕ)) (vs : List ℕ) → empty ≡ [] → variables ≡ declared sides given → vs ≡ woven variables sides → new ≡ with_names empty (numbered variables vs) →
-      new ≡ distinct (numbered (declared sides given) (woven (declared sides given) sides))
-  woven_table empty variables new vs is_empty all is grown =
+  pub interleaved_names : (empty variables new : List (List ℕ)) (vs : List ℕ) → empty ≡ [] → variables ≡ declared sides given → vs ≡ interleaved_numbers variables sides → new ≡ with_names empty (numbered variables vs) →
+      new ≡ distinct (numbered (declared sides given) (interleaved_numbers (declared sides given) sides))
+  interleaved_names empty variables new vs is_empty all is grown =
       grown ∙ ap (λ (z : List (List ℕ)). with_names z (numbered variables vs)) is_empty ∙ ap (λ zs. with_names [] (numbered variables zs)) is ∙
-      ap (λ (z : List (List ℕ)). with_names [] (numbered z (woven z sides))) all
+      ap (λ (z : List (List ℕ)). with_names [] (numbered z (interleaved_numbers z sides))) all
 
   -- all names on top of others
   pub all_table : (new : List (List ℕ)) (xs : List (List ℕ)) → new ≡ distinct xs → with_names new (all_names sides given) ≡ distinct (xs ++ all_names sides given)
@@ -163,17 +163,17 @@ listing_few variables names h =
 
 -- ---- the names in the order that is asked for
 
-module _ (sides given : List Sided) where
-  pub listed_different : (names : List (List ℕ)) → IsListing (declared sides given) names → IsDistinct bytes_eq names
+module _ (sides given : List NamedNetlistModel) where
+  pub listed_different : (names : List (List ℕ)) → HasEachVariableOnce (declared sides given) names → IsDistinct bytes_eq names
   listed_different names h = subst (IsDistinct bytes_eq) (fitting (declared sides given) [] names 1 h).once (all_different names)
 
   -- no name stands twice
   pub ordered_different : (order : Order) → IsFit (declared sides given) order → IsDistinct bytes_eq (ordered sides given order)
   ordered_different Declared fit = all_different (all_names sides given)
   ordered_different Depth fit = all_different (names_of_sides met sides ++ all_names sides given)
-  ordered_different Interleave fit = all_different (numbered (declared sides given) (woven (declared sides given) sides) ++ all_names sides given)
+  ordered_different Interleave fit = all_different (numbered (declared sides given) (interleaved_numbers (declared sides given) sides) ++ all_names sides given)
   ordered_different Index fit = indexed_different sides given
-  ordered_different Force fit = all_different (numbered (by_index sides given) (forced_back (by_index sides given) sides given) ++ all_names sides given)
+  ordered_different Force fit = all_different (numbered (by_index sides given) (force_numbers (by_index sides given) sides given) ++ all_names sides given)
   ordered_different (Listed names) fit = listed_different names fit
   ordered_different (Extended names) fit = all_different (filter (is_name_in (declared sides given)) names ++ all_names sides given)
 
@@ -183,12 +183,12 @@ module _ (sides given : List Sided) where
   ordered_known Depth fit n e =
       distinct_names (names_of_sides met sides ++ all_names sides given) (all_names sides given) (with_all sides given (names_of_sides met sides) (depth_among sides given)) n e
   ordered_known Interleave fit n e =
-      distinct_names (numbered (declared sides given) (woven (declared sides given) sides) ++ all_names sides given) (all_names sides given)
-      (with_all sides given (numbered (declared sides given) (woven (declared sides given) sides)) (woven_among sides given)) n e
+      distinct_names (numbered (declared sides given) (interleaved_numbers (declared sides given) sides) ++ all_names sides given) (all_names sides given)
+      (with_all sides given (numbered (declared sides given) (interleaved_numbers (declared sides given) sides)) (interleaved_among sides given)) n e
   ordered_known Index fit n e = indexed_known sides given n e
   ordered_known Force fit n e =
-      distinct_names (numbered (by_index sides given) (forced_back (by_index sides given) sides given) ++ all_names sides given) (all_names sides given)
-      (with_all sides given (numbered (by_index sides given) (forced_back (by_index sides given) sides given)) (forced_among sides given)) n e
+      distinct_names (numbered (by_index sides given) (force_numbers (by_index sides given) sides given) ++ all_names sides given) (all_names sides given)
+      (with_all sides given (numbered (by_index sides given) (force_numbers (by_index sides given) sides given)) (forced_among sides given)) n e
   ordered_known (Listed names) fit n e = (fitting (declared sides given) [] names 1 fit).known n e
   ordered_known (Extended names) fit n e =
       distinct_names (filter (is_name_in (declared sides given)) names ++ all_names sides given) (all_names sides given)
@@ -198,9 +198,9 @@ module _ (sides given : List Sided) where
   pub ordered_all : (order : Order) → IsFit (declared sides given) order → AmongNames (declared sides given) (ordered sides given order)
   ordered_all Declared fit n e = e
   ordered_all Depth fit n e = has_all sides given (names_of_sides met sides) n e
-  ordered_all Interleave fit n e = has_all sides given (numbered (declared sides given) (woven (declared sides given) sides)) n e
+  ordered_all Interleave fit n e = has_all sides given (numbered (declared sides given) (interleaved_numbers (declared sides given) sides)) n e
   ordered_all Index fit n e = indexed_all sides given n e
-  ordered_all Force fit n e = has_all sides given (numbered (by_index sides given) (forced_back (by_index sides given) sides given)) n e
+  ordered_all Force fit n e = has_all sides given (numbered (by_index sides given) (force_numbers (by_index sides given) sides given)) n e
   ordered_all (Listed names) fit n e =
       all_there names (declared sides given) (listed_different names fit) (ordered_known (Listed names) fit) (fitting (declared sides given) [] names 1 fit).many n e
   ordered_all (Extended names) fit n e = has_all sides given (filter (is_name_in (declared sides given)) names) n e

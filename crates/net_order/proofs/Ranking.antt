@@ -50,12 +50,12 @@ module _ (n : Net) (sound : IsNet n) where
         | true ↦ λ e. input_rank s e
         | false ↦ λ e.
             let gate = gate_there s low e (find (λ x. x.out == s) n.gates) refl in
-            let inside : All (λ o. o < length n.names) (operands_of (circuit n) s) = subst (λ f. All (λ o. o < length n.names) (gate_operands f)) (sym gate.1) (gate_inside n sound s gate.0 gate.1) in
+            let in_bounds : All (λ o. o < length n.names) (operands_of (circuit n) s) = subst (λ f. All (λ o. o < length n.names) (gate_operands f)) (sym gate.1) (gate_inside n sound s gate.0 gate.1) in
             ap (λ rs. greatest rs + 1)
             (map_same (rank_within (circuit n) depth) (slice_index n.ranks) (operands_of (circuit n) s)
             (λ o among.
             let under : slice_index n.ranks o < slice_index n.ranks s = lower (circuit n) n.ranks sound.ranks o s (feeds_of (circuit n) s o among) in
-            rank_same depth o (at_contained (λ t. t < length n.names) (operands_of (circuit n) s) o inside among) (omega arith))) ∙
+            rank_same depth o (at_contained (λ t. t < length n.names) (operands_of (circuit n) s) o in_bounds among) (omega arith))) ∙
             sym (gate_is s gate.0 gate.1)
       ] refl
 
@@ -64,14 +64,14 @@ module _ (n : Net) (sound : IsNet n) where
   rank_is s low = rank_same (length n.gates) s low (deep n sound s)
 
   pub falling_is : (xs ys : List ℕ) → All (λ s. s < length n.names) xs → ys ≡ falling (slice_index n.ranks) xs → ys ≡ falling (rank_of (circuit n)) xs
-  falling_is xs ys inside e =
-      e ∙ sym (falling_same (rank_of (circuit n)) (slice_index n.ranks) xs (λ o among. rank_is o (at_contained (λ t. t < length n.names) xs o inside among)))
+  falling_is xs ys in_bounds e =
+      e ∙ sym (falling_same (rank_of (circuit n)) (slice_index n.ranks) xs (λ o among. rank_is o (at_contained (λ t. t < length n.names) xs o in_bounds among)))
 
   gates_ranked : (gs : List GateLine) → All (λ g. g.out < length n.names) gs → map (λ g. slice_index n.ranks g.out) gs ≡ map (λ g. rank_of (circuit n) g.out) gs
-  gates_ranked [] inside = refl
-  gates_ranked (g ∷ gs) inside =
-      ap (λ r. r ∷ map (λ h. slice_index n.ranks h.out) gs) (sym (rank_is g.out (inside 0 g (omega arith)))) ∙
-      ap (λ rs. rank_of (circuit n) g.out ∷ rs) (gates_ranked gs (λ i d low. inside (suc i) d (omega (arith, low))))
+  gates_ranked [] in_bounds = refl
+  gates_ranked (g ∷ gs) in_bounds =
+      ap (λ r. r ∷ map (λ h. slice_index n.ranks h.out) gs) (sym (rank_is g.out (in_bounds 0 g (omega arith)))) ∙
+      ap (λ rs. rank_of (circuit n) g.out ∷ rs) (gates_ranked gs (λ i d low. in_bounds (suc i) d (omega (arith, low))))
 
   -- the ranks of gates, in their order
   pub gate_ranks_are : map (λ g. slice_index n.ranks g.out) n.gates ≡ map (λ g. rank_of (circuit n) g.out) n.gates

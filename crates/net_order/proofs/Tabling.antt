@@ -7,7 +7,7 @@ use Rattle.std.proofs.lemmas.List.{drop_more, take_more, get_or-set_other, get_o
 use Rattle.net_bench.specs.Circuit.{Circuit, Net, circuit, variables_of}
 use Rattle.net_order.specs.declared.order.Match.{Match}
 use Rattle.net_order.specs.declared.order.Match.TheVariants.{Name, Position}
-use Rattle.net_order.specs.Order.{Sided, is_member, name_by, name_of, names_of_sides, names_on, partner}
+use Rattle.net_order.specs.Order.{NamedNetlistModel, is_member, name_by, name_of, names_of_sides, names_on, partner}
 use Rattle.net_order.specs.Tables.{AreMatched, ArePartners, IsSide, with_names}
 use Rattle.net_order.proofs.Members.{at_inputs}
 use Rattle.net_order.proofs.Named.{joined, name_is}
@@ -28,12 +28,12 @@ partner_in P (x ∷ xs) (t ∷ ts) s ps e h =
 
 -- ---- side after side
 
-sides_here : (which : Circuit → List ℕ) (sides : List Sided) (i : ℕ) (side : Sided) → i < length sides → side ≡ get_or sides i side →
+sides_here : (which : Circuit → List ℕ) (sides : List NamedNetlistModel) (i : ℕ) (side : NamedNetlistModel) → i < length sides → side ≡ get_or sides i side →
     names_of_sides which (drop i sides) ≡ names_on side (which side.net) ++ names_of_sides which (drop (i + 1) sides)
 sides_here which sides i side low at = ap (names_of_sides which) (drop_more sides i side low ∙ ap (λ x. x ∷ drop (i + 1) sides) (sym at))
 
 -- the names of one more side
-pub more_sides : (which : Circuit → List ℕ) (sides : List Sided) (i : ℕ) (side : Sided) (old new total : List (List ℕ)) → i < length sides → side ≡ get_or sides i side → new ≡ with_names old (names_on side (which side.net)) →
+pub more_sides : (which : Circuit → List ℕ) (sides : List NamedNetlistModel) (i : ℕ) (side : NamedNetlistModel) (old new total : List (List ℕ)) → i < length sides → side ≡ get_or sides i side → new ≡ with_names old (names_on side (which side.net)) →
     with_names old (names_of_sides which (drop i sides)) ≡ total → with_names new (names_of_sides which (drop (i + 1) sides)) ≡ total
 more_sides which sides i side old new total low at grown e =
     ap (λ t. with_names t (names_of_sides which (drop (i + 1) sides))) grown ∙ joined old (names_on side (which side.net)) (names_of_sides which (drop (i + 1) sides)) ∙
@@ -44,9 +44,9 @@ more_sides which sides i side old new total low at grown e =
 -- the level of one more variable
 pub level_kept : (f : ℕ → ℕ) (variables levels : List ℕ) (i s w : ℕ) → s ≡ get_or variables i 0 → w ≡ f s → s < length levels →
     ((k : ℕ) → k < i → get_or levels (get_or variables k 0) 0 ≡ f (get_or variables k 0)) → (k : ℕ) → k < i + 1 → get_or (set levels s w) (get_or variables k 0) 0 ≡ f (get_or variables k 0)
-level_kept f variables levels i s w is_s is_w inside each k h =
+level_kept f variables levels i s w is_s is_w in_bounds each k h =
     elim (cases_eq (get_or variables k 0) s) [
-      | inl e ↦ ap (λ j. get_or (set levels s w) j 0) e ∙ get_or-set_same levels s w 0 inside ∙ is_w ∙ ap f (sym e)
+      | inl e ↦ ap (λ j. get_or (set levels s w) j 0) e ∙ get_or-set_same levels s w 0 in_bounds ∙ is_w ∙ ap f (sym e)
       | inr ne ↦
           let other : k ≡ i → ⊥ = λ e. ne (ap (λ j. get_or variables j 0) e ∙ sym is_s) in
           let low : k < i = omega arith in
@@ -65,23 +65,23 @@ zip_more R xs ys i x y low at h r = subst (λ zs. AllZip R zs (ys ++ y ∷ [])) 
 
 -- ---- the name of a side's variable
 
-module _ (how : Match) (namer net : Net) (partners : List ℕ) (h : IsSide how namer net partners) (s : ℕ) (e : is_member s (variables_of (circuit net)) ≡ true) where
+module _ (how : Match) (name_source net : Net) (partners : List ℕ) (h : IsSide how name_source net partners) (s : ℕ) (e : is_member s (variables_of (circuit net)) ≡ true) where
   pub variable_low : s < length net.names
   variable_low = at_inputs (λ x. x < length net.names) (variables_of (circuit net)) h.sound.variables s e
 
   pub partners_len : how ≡ Position → length partners ≡ length net.names
-  partners_len is = (subst (λ m. ArePartners m (circuit namer) (circuit net) partners) is h.table).0
+  partners_len is = (subst (λ m. ArePartners m (circuit name_source) (circuit net) partners) is h.table).0
 
-  partner_is : how ≡ Position → get_or partners s 0 ≡ partner (variables_of (circuit net)) (variables_of (circuit namer)) s
-  partner_is is = (subst (λ m. ArePartners m (circuit namer) (circuit net) partners) is h.table).1 s variable_low
+  partner_is : how ≡ Position → get_or partners s 0 ≡ partner (variables_of (circuit net)) (variables_of (circuit name_source)) s
+  partner_is is = (subst (λ m. ArePartners m (circuit name_source) (circuit net) partners) is h.table).1 s variable_low
 
-  pub partner_low : how ≡ Position → get_or partners s 0 < length namer.names
+  pub partner_low : how ≡ Position → get_or partners s 0 < length name_source.names
   partner_low is =
-      subst (λ k. k < length namer.names) (sym (partner_is is))
-      (partner_in (λ k. k < length namer.names) (variables_of (circuit net)) (variables_of (circuit namer)) s h.naming.variables (subst (λ m. AreMatched m (circuit namer) (circuit net)) is h.matched) e)
+      subst (λ k. k < length name_source.names) (sym (partner_is is))
+      (partner_in (λ k. k < length name_source.names) (variables_of (circuit net)) (variables_of (circuit name_source)) s h.naming.variables (subst (λ m. AreMatched m (circuit name_source) (circuit net)) is h.matched) e)
 
-  pub own_is : (n : List ℕ) → how ≡ Name → slice_get net.names s ≡ Some n → n ≡ name_by how (circuit namer) (circuit net) s
-  own_is n is at = sym (name_is (circuit net) s n at) ∙ ap (λ m. name_by m (circuit namer) (circuit net) s) (sym is)
+  pub own_is : (n : List ℕ) → how ≡ Name → slice_get net.names s ≡ Some n → n ≡ name_by how (circuit name_source) (circuit net) s
+  own_is n is at = sym (name_is (circuit net) s n at) ∙ ap (λ m. name_by m (circuit name_source) (circuit net) s) (sym is)
 
-  pub other_is : (p : ℕ) (n : List ℕ) → how ≡ Position → p ≡ get_or partners s 0 → slice_get namer.names p ≡ Some n → n ≡ name_by how (circuit namer) (circuit net) s
-  other_is p n is is_p at = sym (name_is (circuit namer) p n at) ∙ ap (name_of (circuit namer)) (is_p ∙ partner_is is) ∙ ap (λ m. name_by m (circuit namer) (circuit net) s) (sym is)
+  pub other_is : (p : ℕ) (n : List ℕ) → how ≡ Position → p ≡ get_or partners s 0 → slice_get name_source.names p ≡ Some n → n ≡ name_by how (circuit name_source) (circuit net) s
+  other_is p n is is_p at = sym (name_is (circuit name_source) p n at) ∙ ap (name_of (circuit name_source)) (is_p ∙ partner_is is) ∙ ap (λ m. name_by m (circuit name_source) (circuit net) s) (sym is)

@@ -7,7 +7,7 @@ use Rattle.std.proofs.lemmas.List.{append-nil}
 use Rattle.net_bench.specs.Circuit.{is_name_in, with_name}
 use Rattle.net_bench.proofs.Numbers.{name_itself, or_cases, or_left, or_right, same_name}
 use Rattle.net_order.specs.declared.unfit.Misfit.TheVariants.{Foreign, Repeated, Missing}
-use Rattle.net_order.specs.Order.{Sided, all_names, declared, bad_place, IsListing}
+use Rattle.net_order.specs.Order.{NamedNetlistModel, all_names, declared, bad_place, HasEachVariableOnce}
 use Rattle.net_order.specs.Tables.{with_names}
 use Rattle.net_order.specs.Unfit.{Unfit, first_missing, unfit_from}
 use Rattle.net_order.proofs.Different.{AmongNames, no_more, all_different, all_there}
@@ -104,8 +104,8 @@ none_from variables before (n ∷ names) place e all =
     ap (λ b. cond b (Some (record { why = Repeated; name = n })) (unfit_from variables (before ++ n ∷ []) names)) parts.1 ∙
     none_from variables (before ++ n ∷ []) names (place + 1) parts.2 (subst (AmongNames variables) (sym (append_assoc before (n ∷ []) names)) all)
 
-pub unfit_none : (sides given : List Sided) (names : List (List ℕ)) (u : Option Unfit) → u ≡ unfit_from (declared sides given) [] names →
-    (u ≡ None → IsListing (declared sides given) names) × (IsListing (declared sides given) names → u ≡ None)
+pub unfit_none : (sides given : List NamedNetlistModel) (names : List (List ℕ)) (u : Option Unfit) → u ≡ unfit_from (declared sides given) [] names →
+    (u ≡ None → HasEachVariableOnce (declared sides given) names) × (HasEachVariableOnce (declared sides given) names → u ≡ None)
 unfit_none sides given names u is = (
   λ none. fits_from (declared sides given) [] names 1 (all_different (all_names sides given)) (sym is ∙ none),
   λ fit.

@@ -9,7 +9,7 @@ use Rattle.std.proofs.lemmas.List.{get_or-set_other, get_or-set_same}
 use Rattle.net_order.specs.declared.walk.Frame.{Frame}
 use Rattle.net_order.specs.declared.walk.Frame.TheVariants.{Enter, Leave}
 use Rattle.net_order.specs.Order.{is_member, with_number}
-use Rattle.net_order.specs.Walk.{Among, pending, IsWell, entered, signal_of, IsWalking}
+use Rattle.net_order.specs.Walk.{IsSubset, pending, LeftAreFound, entered, signal_of, IsWalkState}
 
 or_cases : (a b : Bool) → (a || b) ≡ true → (a ≡ true) ⊎ (b ≡ true)
 or_cases true b e = inl refl
@@ -25,10 +25,10 @@ or_right false b e = e
 pub in_append : (x : ℕ) (xs ys : List ℕ) → is_member x (xs ++ ys) ≡ (is_member x xs || is_member x ys)
 in_append x xs ys = list_any-append (λ t. t == x) xs ys
 
-pub among_same : (xs : List ℕ) → Among xs xs
+pub among_same : (xs : List ℕ) → IsSubset xs xs
 among_same xs x h = h
 
-pub among_more : (xs ys zs : List ℕ) → Among xs ys → Among (xs ++ zs) (ys ++ zs)
+pub among_more : (xs ys zs : List ℕ) → IsSubset xs ys → IsSubset (xs ++ zs) (ys ++ zs)
 among_more xs ys zs h x e =
     in_append x ys zs ∙
     elim (or_cases (is_member x xs) (is_member x zs) (sym (in_append x xs zs) ∙ e)) [
@@ -37,20 +37,20 @@ among_more xs ys zs h x e =
     ]
 
 -- what was there already adds nothing
-pub among_joined : (xs ys : List ℕ) → Among ys xs → Among (xs ++ ys) xs
+pub among_joined : (xs ys : List ℕ) → IsSubset ys xs → IsSubset (xs ++ ys) xs
 among_joined xs ys h x e =
     elim (or_cases (is_member x xs) (is_member x ys) (sym (in_append x xs ys) ∙ e)) [ inl l ↦ l | inr r ↦ h x r ]
 
-pub among_right : (xs ys : List ℕ) → Among ys (xs ++ ys)
+pub among_right : (xs ys : List ℕ) → IsSubset ys (xs ++ ys)
 among_right xs ys x e = in_append x xs ys ∙ or_right (is_member x xs) (is_member x ys) e
 
-pub among_left : (xs ys : List ℕ) → Among xs (xs ++ ys)
+pub among_left : (xs ys : List ℕ) → IsSubset xs (xs ++ ys)
 among_left xs ys x e = in_append x xs ys ∙ or_left (is_member x xs) (is_member x ys) e
 
 same_number : (x : ℕ) → (x == x) ≡ true
 same_number x = grind arith
 
-pub nothing_new : (found xs : List ℕ) → Among xs found → fold with_number found xs ≡ found
+pub nothing_new : (found xs : List ℕ) → IsSubset xs found → fold with_number found xs ≡ found
 nothing_new found [] h = refl
 nothing_new found (x ∷ xs) h =
     let there : is_member x found ≡ true = h x (or_left (x == x) (is_member x xs) (same_number x)) in
@@ -74,16 +74,16 @@ no_true : false ≡ true → ⊥
 no_true e = cc
 
 module _ (leaves : ℕ → List ℕ) where
-  pub wider : (todo : List Frame) (xs ys : List ℕ) → Among xs ys → IsWell leaves todo xs → IsWell leaves todo ys
+  pub wider : (todo : List Frame) (xs ys : List ℕ) → IsSubset xs ys → LeftAreFound leaves todo xs → LeftAreFound leaves todo ys
   wider [] xs ys h w = tt
   wider (Enter s ∷ todo) xs ys h w = wider todo (xs ++ leaves s) (ys ++ leaves s) (among_more xs ys (leaves s) h) w
   wider (Leave s ∷ todo) xs ys h (a, w) = (λ x e. h x (a x e), wider todo xs ys h w)
 
   -- a signal whose leaves have been found is passed
-  pub passed_well : (s : ℕ) (todo : List Frame) (found : List ℕ) → Among (leaves s) found → IsWell leaves (Enter s ∷ todo) found → IsWell leaves todo found
+  pub passed_well : (s : ℕ) (todo : List Frame) (found : List ℕ) → IsSubset (leaves s) found → LeftAreFound leaves (Enter s ∷ todo) found → LeftAreFound leaves todo found
   passed_well s todo found h w = wider todo (found ++ leaves s) found (among_joined found (leaves s) h) w
 
-  pub passed_rest : (s : ℕ) (todo : List Frame) (found : List ℕ) → Among (leaves s) found → fold with_number found (pending leaves (Enter s ∷ todo)) ≡ fold with_number found (pending leaves todo)
+  pub passed_rest : (s : ℕ) (todo : List Frame) (found : List ℕ) → IsSubset (leaves s) found → fold with_number found (pending leaves (Enter s ∷ todo)) ≡ fold with_number found (pending leaves todo)
   passed_rest s todo found h =
       fold-append with_number found (leaves s) (pending leaves todo) ∙ ap (λ f. fold with_number f (pending leaves todo)) (nothing_new found (leaves s) h)
 
@@ -91,16 +91,16 @@ module _ (leaves : ℕ → List ℕ) where
   entered_pending [] todo = refl
   entered_pending (o ∷ os) todo = ap (λ xs. leaves o ++ xs) (entered_pending os todo) ∙ sym (append_assoc (leaves o) (flat_map leaves os) (pending leaves todo))
 
-  pub entered_well : (os : List ℕ) (todo : List Frame) (found : List ℕ) → IsWell leaves todo (found ++ flat_map leaves os) → IsWell leaves (entered os todo) found
+  pub entered_well : (os : List ℕ) (todo : List Frame) (found : List ℕ) → LeftAreFound leaves todo (found ++ flat_map leaves os) → LeftAreFound leaves (entered os todo) found
   entered_well [] todo found w = wider todo (found ++ []) found (among_joined found [] (λ x e. elim (no_true e) [ ])) w
   entered_well (o ∷ os) todo found w =
-      entered_well os todo (found ++ leaves o) (subst (IsWell leaves todo) (sym (append_assoc found (leaves o) (flat_map leaves os))) w)
+      entered_well os todo (found ++ leaves o) (subst (LeftAreFound leaves todo) (sym (append_assoc found (leaves o) (flat_map leaves os))) w)
 
   -- a gate: its operands, and then the mark
-  pub opened_well : (s : ℕ) (os : List ℕ) (todo : List Frame) (found : List ℕ) → leaves s ≡ flat_map leaves os → IsWell leaves (Enter s ∷ todo) found → IsWell leaves (entered os (Leave s ∷ todo)) found
+  pub opened_well : (s : ℕ) (os : List ℕ) (todo : List Frame) (found : List ℕ) → leaves s ≡ flat_map leaves os → LeftAreFound leaves (Enter s ∷ todo) found → LeftAreFound leaves (entered os (Leave s ∷ todo)) found
   opened_well s os todo found e w =
       entered_well os (Leave s ∷ todo) found
-      (subst (λ xs. Among (leaves s) (found ++ xs)) e (among_right found (leaves s)), subst (λ xs. IsWell leaves todo (found ++ xs)) e w)
+      (subst (λ xs. IsSubset (leaves s) (found ++ xs)) e (among_right found (leaves s)), subst (λ xs. LeftAreFound leaves todo (found ++ xs)) e w)
 
   pub opened_rest : (s : ℕ) (os : List ℕ) (todo : List Frame) (found : List ℕ) → leaves s ≡ flat_map leaves os →
       fold with_number found (pending leaves (entered os (Leave s ∷ todo))) ≡ fold with_number found (pending leaves (Enter s ∷ todo))
@@ -124,36 +124,36 @@ module _ (leaves : ℕ → List ℕ) where
 
     -- a signal is left: it is visited
     pub left : (found : List ℕ) (seen : List Bool) (s : ℕ) (todo : List Frame) →
-        IsWalking leaves count goal found seen (Leave s ∷ todo) → IsWalking leaves count goal found (set seen s true) todo
+        IsWalkState leaves count goal found seen (Leave s ∷ todo) → IsWalkState leaves count goal found (set seen s true) todo
     left found seen s todo w =
-        let in_seen : s < length seen = omega (arith, w.len, top_inside (Leave s) todo w.inside) in
+        let in_seen : s < length seen = omega (arith, w.len, top_inside (Leave s) todo w.in_bounds) in
         record {
           len = length-set seen s true ∙ w.len;
-          leads = w.leads;
+          reaches_goal = w.reaches_goal;
           visited = λ t low e. elim (cases_eq t s) [
-            | inl same ↦ subst (λ x. Among (leaves x) found) (sym same) w.well.0
+            | inl same ↦ subst (λ x. IsSubset (leaves x) found) (sym same) w.left_are_found.0
             | inr ne ↦ w.visited t low (sym (get_or-set_other seen s t true false ne) ∙ e)
           ];
           kept = λ t low e. elim (cases_eq t s) [
             | inl same ↦ ap (λ x. get_or (set seen s true) x false) same ∙ get_or-set_same seen s true false in_seen
             | inr ne ↦ get_or-set_other seen s t true false ne ∙ w.kept t low e
           ];
-          well = w.well.1;
-          inside = rest_inside (Leave s) todo w.inside;
+          left_are_found = w.left_are_found.1;
+          in_bounds = rest_inside (Leave s) todo w.in_bounds;
         }
 
     -- a signal with a mark is passed
     pub passed : (found : List ℕ) (seen : List Bool) (s : ℕ) (todo : List Frame) → get_or seen s false ≡ true →
-        IsWalking leaves count goal found seen (Enter s ∷ todo) → IsWalking leaves count goal found seen todo
+        IsWalkState leaves count goal found seen (Enter s ∷ todo) → IsWalkState leaves count goal found seen todo
     passed found seen s todo e w =
-        let there : Among (leaves s) found = w.visited s (top_inside (Enter s) todo w.inside) e in
+        let there : IsSubset (leaves s) found = w.visited s (top_inside (Enter s) todo w.in_bounds) e in
         record {
           len = w.len;
-          leads = sym (passed_rest s todo found there) ∙ w.leads;
+          reaches_goal = sym (passed_rest s todo found there) ∙ w.reaches_goal;
           visited = w.visited;
           kept = w.kept;
-          well = passed_well s todo found there w.well;
-          inside = rest_inside (Enter s) todo w.inside;
+          left_are_found = passed_well s todo found there w.left_are_found;
+          in_bounds = rest_inside (Enter s) todo w.in_bounds;
         }
 
     entered_inside : (os : List ℕ) (todo : List Frame) → All (λ o. o < count) os → Inside todo → Inside (entered os todo)
@@ -168,22 +168,22 @@ module _ (leaves : ℕ → List ℕ) where
 
     -- a gate is opened: its operands are entered, and then it is left
     pub opened : (found : List ℕ) (seen : List Bool) (s : ℕ) (os : List ℕ) (todo : List Frame) → leaves s ≡ flat_map leaves os → All (λ o. o < count) os →
-        IsWalking leaves count goal found seen (Enter s ∷ todo) → IsWalking leaves count goal found seen (entered os (Leave s ∷ todo))
+        IsWalkState leaves count goal found seen (Enter s ∷ todo) → IsWalkState leaves count goal found seen (entered os (Leave s ∷ todo))
     opened found seen s os todo e low w = record {
       len = w.len;
-      leads = opened_rest s os todo found e ∙ w.leads;
+      reaches_goal = opened_rest s os todo found e ∙ w.reaches_goal;
       visited = w.visited;
       kept = w.kept;
-      well = opened_well s os todo found e w.well;
-      inside = entered_inside os (Leave s ∷ todo) low (left_inside s todo w.inside);
+      left_are_found = opened_well s os todo found e w.left_are_found;
+      in_bounds = entered_inside os (Leave s ∷ todo) low (left_inside s todo w.in_bounds);
     }
 
     -- an input without a mark has not been found
     met_rest : (found : List ℕ) (seen : List Bool) (s : ℕ) (todo : List Frame) → leaves s ≡ s ∷ [] → get_or seen s false ≡ false →
-        IsWalking leaves count goal found seen (Enter s ∷ todo) →
+        IsWalkState leaves count goal found seen (Enter s ∷ todo) →
         fold with_number (found ++ s ∷ []) (pending leaves todo) ≡ fold with_number found (pending leaves (Enter s ∷ todo))
     met_rest found seen s todo e h w =
-        let new : is_member s found ≡ false = not_yes (is_member s found) (λ yes. no_true (sym h ∙ w.kept s (top_inside (Enter s) todo w.inside) yes)) in
+        let new : is_member s found ≡ false = not_yes (is_member s found) (λ yes. no_true (sym h ∙ w.kept s (top_inside (Enter s) todo w.in_bounds) yes)) in
         sym (
         ap (λ xs. fold with_number found (xs ++ pending leaves todo)) e ∙
         ap (λ b. fold with_number (cond b found (found ++ s ∷ [])) (pending leaves todo)) new
@@ -191,22 +191,22 @@ module _ (leaves : ℕ → List ℕ) where
 
     -- an input without a mark is put at the end of what has been found, and visited
     pub found_input : (found : List ℕ) (seen : List Bool) (s : ℕ) (todo : List Frame) → leaves s ≡ s ∷ [] → get_or seen s false ≡ false →
-        IsWalking leaves count goal found seen (Enter s ∷ todo) → IsWalking leaves count goal (found ++ s ∷ []) (set seen s true) todo
+        IsWalkState leaves count goal found seen (Enter s ∷ todo) → IsWalkState leaves count goal (found ++ s ∷ []) (set seen s true) todo
     found_input found seen s todo e h w =
-        let in_seen : s < length seen = omega (arith, w.len, top_inside (Enter s) todo w.inside) in
+        let in_seen : s < length seen = omega (arith, w.len, top_inside (Enter s) todo w.in_bounds) in
         record {
           len = length-set seen s true ∙ w.len;
-          leads = met_rest found seen s todo e h w ∙ w.leads;
+          reaches_goal = met_rest found seen s todo e h w ∙ w.reaches_goal;
           visited = λ t low k. elim (cases_eq t s) [
-            | inl same ↦ subst (λ xs. Among xs (found ++ s ∷ [])) (sym e ∙ ap leaves (sym same)) (among_right found (s ∷ []))
+            | inl same ↦ subst (λ xs. IsSubset xs (found ++ s ∷ [])) (sym e ∙ ap leaves (sym same)) (among_right found (s ∷ []))
             | inr ne ↦ λ x j. among_left found (s ∷ []) x (w.visited t low (sym (get_or-set_other seen s t true false ne) ∙ k) x j)
           ];
           kept = λ t low k. elim (cases_eq t s) [
             | inl same ↦ ap (λ x. get_or (set seen s true) x false) same ∙ get_or-set_same seen s true false in_seen
             | inr ne ↦ get_or-set_other seen s t true false ne ∙ w.kept t low (old_one t s found ne k)
           ];
-          well = subst (λ xs. IsWell leaves todo (found ++ xs)) e w.well;
-          inside = rest_inside (Enter s) todo w.inside;
+          left_are_found = subst (λ xs. LeftAreFound leaves todo (found ++ xs)) e w.left_are_found;
+          in_bounds = rest_inside (Enter s) todo w.in_bounds;
         }
 
     not_seen : (n s : ℕ) → get_or (replicate n false) s false ≡ true → ⊥
@@ -216,14 +216,14 @@ module _ (leaves : ℕ → List ℕ) where
 
     -- nothing has been found, and the outputs are to be entered
     pub started : (outs : List ℕ) → fold with_number [] (flat_map leaves outs) ≡ goal → All (λ s. s < count) outs →
-        IsWalking leaves count goal [] (replicate count false) (entered outs [])
-    started outs e inside = record {
+        IsWalkState leaves count goal [] (replicate count false) (entered outs [])
+    started outs e in_bounds = record {
       len = length-replicate count false;
-      leads = ap (fold with_number []) (entered_pending outs [] ∙ append-nil (flat_map leaves outs)) ∙ e;
+      reaches_goal = ap (fold with_number []) (entered_pending outs [] ∙ append-nil (flat_map leaves outs)) ∙ e;
       visited = λ s low h. absurd (not_seen count s h);
       kept = λ s low h. absurd (no_true h);
-      well = entered_well outs [] [] tt;
-      inside = entered_inside outs [] inside (λ i d low. absurd (omega arith));
+      left_are_found = entered_well outs [] [] tt;
+      in_bounds = entered_inside outs [] in_bounds (λ i d low. absurd (omega arith));
     }
 
 -- ---- seen and frames

@@ -10,10 +10,10 @@ use Rattle.net_bench.specs.declared.netlist.GateLine.{GateLine}
 use Rattle.net_bench.specs.Circuit.{Circuit, Net, IsNet, circuit}
 use Rattle.net_order.specs.declared.walk.Frame.{Frame}
 use Rattle.net_order.specs.declared.walk.Frame.TheVariants.{Enter, Leave}
-use Rattle.net_order.specs.declared.walk.Way.{Way}
-use Rattle.net_order.specs.declared.walk.Way.TheVariants.{ByRank}
-use Rattle.net_order.specs.Order.{below, taken, with_number}
-use Rattle.net_order.specs.Walk.{ArePaths, IsGoing, IsSettled, IsStepsOf, IsWalk, entered, frame_steps, outcome, steps_below, steps_left}
+use Rattle.net_order.specs.declared.walk.OperandOrder.{OperandOrder}
+use Rattle.net_order.specs.declared.walk.OperandOrder.TheVariants.{ByRank}
+use Rattle.net_order.specs.Order.{below, in_walk_order, with_number}
+use Rattle.net_order.specs.Walk.{AreOrderedOperands, IsWalkToOutcome, IsBetweenWalks, IsStepsOf, IsWalk, entered, frame_steps, outcome, steps_below, steps_left}
 use Rattle.net_order.proofs.Leaves.{gate_leaves, steps_inside, gate_steps, input_leaves, some_steps, taken_all}
 use Rattle.net_order.proofs.Walking.{started, left, passed, opened, found_input, same_visit, top_low}
 
@@ -40,124 +40,124 @@ no_list_at f (g ∷ gates) zero e = absurd (no_list (f g) (sym e))
 no_list_at f (g ∷ gates) (suc k) e = no_list_at f gates k e
 
 -- the role names the gate whose operands are these
-pub listed_steps : (way : Way) (n : Net) (lists : List (List ℕ)) → ArePaths way n lists → (s place : ℕ) (os : List ℕ) → find (λ g. g.out == s) n.gates ≡ slice_get n.gates place →
-    slice_get lists place ≡ Some os → IsStepsOf way (circuit n) s os
-listed_steps way n lists h s place os gate e =
-    let here = list_at (λ g. taken way (circuit n) g.operands) n.gates place os (subst (λ xs. slice_get xs place ≡ Some os) h.each e) in
+pub listed_steps : (operand_order : OperandOrder) (n : Net) (lists : List (List ℕ)) → AreOrderedOperands operand_order n lists → (s place : ℕ) (os : List ℕ) → find (λ g. g.out == s) n.gates ≡ slice_get n.gates place →
+    slice_get lists place ≡ Some os → IsStepsOf operand_order (circuit n) s os
+listed_steps operand_order n lists h s place os gate e =
+    let here = list_at (λ g. in_walk_order operand_order (circuit n) g.operands) n.gates place os (subst (λ xs. slice_get xs place ≡ Some os) h.each e) in
     record { gate = here.0; found = gate ∙ here.1; is = here.2 }
 
-pub no_steps : (way : Way) (n : Net) (lists : List (List ℕ)) → ArePaths way n lists → (s place : ℕ) → find (λ g. g.out == s) n.gates ≡ slice_get n.gates place →
+pub no_steps : (operand_order : OperandOrder) (n : Net) (lists : List (List ℕ)) → AreOrderedOperands operand_order n lists → (s place : ℕ) → find (λ g. g.out == s) n.gates ≡ slice_get n.gates place →
     slice_get lists place ≡ None → find (λ g. g.out == s) n.gates ≡ None
-no_steps way n lists h s place gate e =
-    gate ∙ no_list_at (λ g. taken way (circuit n) g.operands) n.gates place (subst (λ xs. slice_get xs place ≡ None) h.each e)
+no_steps operand_order n lists h s place gate e =
+    gate ∙ no_list_at (λ g. in_walk_order operand_order (circuit n) g.operands) n.gates place (subst (λ xs. slice_get xs place ≡ None) h.each e)
 
-module _ (way : Way) where
+module _ (operand_order : OperandOrder) where
   -- ---- steps
 
-  steps_more : (c : Circuit) (f : Frame) (todo : List Frame) → steps_left way c (f ∷ todo) ≡ frame_steps (steps_below way c) f + steps_left way c todo
-  steps_more c f todo = sum_by-cons (frame_steps (steps_below way c)) f todo
+  steps_more : (c : Circuit) (f : Frame) (todo : List Frame) → steps_left operand_order c (f ∷ todo) ≡ frame_steps (steps_below operand_order c) f + steps_left operand_order c todo
+  steps_more c f todo = sum_by-cons (frame_steps (steps_below operand_order c)) f todo
 
-  steps_entered : (c : Circuit) (os : List ℕ) (todo : List Frame) → steps_left way c (entered os todo) ≡ sum_by (steps_below way c) os + steps_left way c todo
+  steps_entered : (c : Circuit) (os : List ℕ) (todo : List Frame) → steps_left operand_order c (entered os todo) ≡ sum_by (steps_below operand_order c) os + steps_left operand_order c todo
   steps_entered c [] todo = omega arith
-  steps_entered c (o ∷ os) todo = omega (arith, steps_more c (Enter o) (entered os todo), steps_entered c os todo, sum_by-cons (steps_below way c) o os)
+  steps_entered c (o ∷ os) todo = omega (arith, steps_more c (Enter o) (entered os todo), steps_entered c os todo, sum_by-cons (steps_below operand_order c) o os)
 
   -- what was to be entered or left is gone
-  pub fewer : (c : Circuit) (f : Frame) (todo : List Frame) → steps_left way c todo < steps_left way c (f ∷ todo)
-  fewer c (Enter s) todo = omega (arith, steps_more c (Enter s) todo, some_steps way c (length c.gates) s)
+  pub fewer : (c : Circuit) (f : Frame) (todo : List Frame) → steps_left operand_order c todo < steps_left operand_order c (f ∷ todo)
+  fewer c (Enter s) todo = omega (arith, steps_more c (Enter s) todo, some_steps operand_order c (length c.gates) s)
   fewer c (Leave s) todo = omega (arith, steps_more c (Leave s) todo)
 
   -- ---- what is to be found
 
   -- a walk finds what is left to be found
-  pub going : (c : Circuit) (goal found : List ℕ) (seen : List Bool) (todo : List Frame) → IsWalk way c goal found seen todo → IsGoing way c found seen todo
-  going c goal found seen todo w = subst (λ g. IsWalk way c g found seen todo) (sym w.leads) w
+  pub going : (c : Circuit) (goal found : List ℕ) (seen : List Bool) (todo : List Frame) → IsWalk operand_order c goal found seen todo → IsWalkToOutcome operand_order c found seen todo
+  going c goal found seen todo w = subst (λ g. IsWalk operand_order c g found seen todo) (sym w.reaches_goal) w
 
-  pub towards : (c : Circuit) (goal old found : List ℕ) (seen was : List Bool) (before todo : List Frame) → IsWalk way c goal old was before → IsWalk way c (outcome way c old before) found seen todo → IsWalk way c goal found seen todo
-  towards c goal old found seen was before todo w v = subst (λ g. IsWalk way c g found seen todo) w.leads v
+  pub towards : (c : Circuit) (goal old found : List ℕ) (seen was : List Bool) (before todo : List Frame) → IsWalk operand_order c goal old was before → IsWalk operand_order c (outcome operand_order c old before) found seen todo → IsWalk operand_order c goal found seen todo
+  towards c goal old found seen was before todo w v = subst (λ g. IsWalk operand_order c g found seen todo) w.reaches_goal v
 
   -- ---- the three ways to enter a signal
 
-  visit_is : (c : Circuit) (goal found : List ℕ) (seen : List Bool) (s : ℕ) (todo : List Frame) → IsWalk way c goal found seen (Enter s ∷ todo) →
+  visit_is : (c : Circuit) (goal found : List ℕ) (seen : List Bool) (s : ℕ) (todo : List Frame) → IsWalk operand_order c goal found seen (Enter s ∷ todo) →
       (r : Bool) → r ≡ get_or seen s r → r ≡ get_or seen s false
   visit_is c goal found seen s todo w r at =
-      let low : s < length c.names = w.inside 0 (Enter s) (omega arith) in
+      let low : s < length c.names = w.in_bounds 0 (Enter s) (omega arith) in
       at ∙ same_visit seen s r false (omega (arith, w.len, low))
 
   -- a signal with a mark is passed
-  pub enter_visited : (c : Circuit) (goal found : List ℕ) (seen : List Bool) (s : ℕ) (todo : List Frame) → IsWalk way c goal found seen (Enter s ∷ todo) →
-      (r : Bool) → r ≡ get_or seen s r → r ≡ true → IsWalk way c goal found seen todo
-  enter_visited c goal found seen s todo w r at e = passed (below way c) (length c.names) goal found seen s todo (sym (visit_is c goal found seen s todo w r at) ∙ e) w
+  pub enter_visited : (c : Circuit) (goal found : List ℕ) (seen : List Bool) (s : ℕ) (todo : List Frame) → IsWalk operand_order c goal found seen (Enter s ∷ todo) →
+      (r : Bool) → r ≡ get_or seen s r → r ≡ true → IsWalk operand_order c goal found seen todo
+  enter_visited c goal found seen s todo w r at e = passed (below operand_order c) (length c.names) goal found seen s todo (sym (visit_is c goal found seen s todo w r at) ∙ e) w
 
-  module _ (n : Net) (sound : IsNet n) (goal found : List ℕ) (seen : List Bool) (s : ℕ) (todo : List Frame) (w : IsWalk way (circuit n) goal found seen (Enter s ∷ todo)) where
+  module _ (n : Net) (sound : IsNet n) (goal found : List ℕ) (seen : List Bool) (s : ℕ) (todo : List Frame) (w : IsWalk operand_order (circuit n) goal found seen (Enter s ∷ todo)) where
     abbrev c : Circuit
     c = circuit n
 
     -- an input without a mark is found
     pub enter_input : (r : Bool) → r ≡ get_or seen s r → r ≡ false → find (λ x. x.out == s) n.gates ≡ None → (new : List ℕ) → new ≡ found ++ s ∷ [] →
-        IsWalk way c goal new (set seen s true) todo
+        IsWalk operand_order c goal new (set seen s true) todo
     enter_input r at e none new grown =
-        let low : s < length n.names = w.inside 0 (Enter s) (omega arith) in
-        subst (λ xs. IsWalk way c goal xs (set seen s true) todo) (sym grown)
-        (found_input (below way c) (length n.names) goal found seen s todo (input_leaves n sound way s low none) (sym (visit_is c goal found seen s todo w r at) ∙ e) w)
+        let low : s < length n.names = w.in_bounds 0 (Enter s) (omega arith) in
+        subst (λ xs. IsWalk operand_order c goal xs (set seen s true) todo) (sym grown)
+        (found_input (below operand_order c) (length n.names) goal found seen s todo (input_leaves n sound operand_order s low none) (sym (visit_is c goal found seen s todo w r at) ∙ e) w)
 
-    module _ (os : List ℕ) (steps : IsStepsOf way (circuit n) s os) (old pushed new : List Frame) (is_old : reverse old ≡ todo) (is_pushed : pushed ≡ old ++ Leave s ∷ [])
+    module _ (os : List ℕ) (steps : IsStepsOf operand_order (circuit n) s os) (old pushed new : List Frame) (is_old : reverse old ≡ todo) (is_pushed : pushed ≡ old ++ Leave s ∷ [])
         (is_new : reverse new ≡ entered os (reverse pushed)) where
-      stack_is : entered (taken way c steps.gate.operands) (Leave s ∷ todo) ≡ reverse new
+      stack_is : entered (in_walk_order operand_order c steps.gate.operands) (Leave s ∷ todo) ≡ reverse new
       stack_is =
-          ap (λ t. entered (taken way c steps.gate.operands) (Leave s ∷ t)) (sym is_old) ∙
-          sym (is_new ∙ ap (λ xs. entered xs (reverse pushed)) steps.is ∙ ap (λ t. entered (taken way c steps.gate.operands) (reverse t)) is_pushed ∙ ap (entered (taken way c steps.gate.operands)) (reverse-append old (Leave s ∷ [])))
+          ap (λ t. entered (in_walk_order operand_order c steps.gate.operands) (Leave s ∷ t)) (sym is_old) ∙
+          sym (is_new ∙ ap (λ xs. entered xs (reverse pushed)) steps.is ∙ ap (λ t. entered (in_walk_order operand_order c steps.gate.operands) (reverse t)) is_pushed ∙ ap (entered (in_walk_order operand_order c steps.gate.operands)) (reverse-append old (Leave s ∷ [])))
 
       -- a gate is opened
-      pub enter_gate : IsWalk way c goal found seen (reverse new)
+      pub enter_gate : IsWalk operand_order c goal found seen (reverse new)
       enter_gate =
-          subst (IsWalk way c goal found seen) stack_is
-          (opened (below way c) (length n.names) goal found seen s (taken way c steps.gate.operands) todo (gate_leaves n sound way s steps.gate steps.found) (steps_inside n sound way s steps.gate steps.found) w)
+          subst (IsWalk operand_order c goal found seen) stack_is
+          (opened (below operand_order c) (length n.names) goal found seen s (in_walk_order operand_order c steps.gate.operands) todo (gate_leaves n sound operand_order s steps.gate steps.found) (steps_inside n sound operand_order s steps.gate steps.found) w)
 
       -- a gate stands for more steps than its operands and its end
-      pub fewer_opened : steps_left way c (reverse new) < steps_left way c (Enter s ∷ todo)
+      pub fewer_opened : steps_left operand_order c (reverse new) < steps_left operand_order c (Enter s ∷ todo)
       fewer_opened =
-          subst (λ t. steps_left way c t < steps_left way c (Enter s ∷ todo)) stack_is
-          (omega (arith, steps_more c (Enter s) todo, steps_entered c (taken way c steps.gate.operands) (Leave s ∷ todo), steps_more c (Leave s) todo, gate_steps n sound way s steps.gate steps.found))
+          subst (λ t. steps_left operand_order c t < steps_left operand_order c (Enter s ∷ todo)) stack_is
+          (omega (arith, steps_more c (Enter s) todo, steps_entered c (in_walk_order operand_order c steps.gate.operands) (Leave s ∷ todo), steps_more c (Leave s) todo, gate_steps n sound operand_order s steps.gate steps.found))
 
   -- ---- the start, a frame that is taken, and the end
 
   -- a signal is to be walked
-  pub rooted : (c : Circuit) (found : List ℕ) (seen : List Bool) (s : ℕ) (stack new : List Frame) → IsSettled way c found seen → s < length c.names → stack ≡ [] → new ≡ stack ++ Enter s ∷ [] →
-      IsWalk way c (fold with_number found (below way c s)) found seen (reverse new)
+  pub rooted : (c : Circuit) (found : List ℕ) (seen : List Bool) (s : ℕ) (stack new : List Frame) → IsBetweenWalks operand_order c found seen → s < length c.names → stack ≡ [] → new ≡ stack ++ Enter s ∷ [] →
+      IsWalk operand_order c (fold with_number found (below operand_order c s)) found seen (reverse new)
   rooted c found seen s stack new w low is_stack is_new =
       let todo : Enter s ∷ [] ≡ reverse new = ap reverse (sym (is_new ∙ ap (λ t. t ++ Enter s ∷ []) is_stack)) in
-      subst (IsWalk way c (fold with_number found (below way c s)) found seen) todo
+      subst (IsWalk operand_order c (fold with_number found (below operand_order c s)) found seen) todo
       (record {
         len = w.len;
-        leads = ap (fold with_number found) (append-nil (below way c s));
+        reaches_goal = ap (fold with_number found) (append-nil (below operand_order c s));
         visited = w.visited;
         kept = w.kept;
-        well = tt;
-        inside = λ i d h. top_low (length c.names) s low i d h;
+        left_are_found = tt;
+        in_bounds = λ i d h. top_low (length c.names) s low i d h;
       })
 
   -- nothing is to do any more
-  pub ended : (c : Circuit) (goal found : List ℕ) (seen : List Bool) (stack : List Frame) → stack ≡ [] → IsWalk way c goal found seen (reverse stack) → IsSettled way c found seen × (found ≡ goal)
+  pub ended : (c : Circuit) (goal found : List ℕ) (seen : List Bool) (stack : List Frame) → stack ≡ [] → IsWalk operand_order c goal found seen (reverse stack) → IsBetweenWalks operand_order c found seen × (found ≡ goal)
   ended c goal found seen stack e w =
-      let v = subst (λ t. IsWalk way c goal found seen (reverse t)) e w in
-      (subst (λ g. IsWalk way c g found seen []) (sym v.leads) v, v.leads)
+      let v = subst (λ t. IsWalk operand_order c goal found seen (reverse t)) e w in
+      (subst (λ g. IsWalk operand_order c g found seen []) (sym v.reaches_goal) v, v.reaches_goal)
 
   -- no walk has begun
-  pub fresh : (c : Circuit) (seen : List Bool) → seen ≡ replicate (length c.names) false → IsSettled way c [] seen
-  fresh c seen e = subst (IsSettled way c []) (sym e) (started (below way c) (length c.names) [] [] refl (λ i d low. absurd (omega (arith, low))))
+  pub fresh : (c : Circuit) (seen : List Bool) → seen ≡ replicate (length c.names) false → IsBetweenWalks operand_order c [] seen
+  fresh c seen e = subst (IsBetweenWalks operand_order c []) (sym e) (started (below operand_order c) (length c.names) [] [] refl (λ i d low. absurd (omega (arith, low))))
 
-  pub taken_frame : (c : Circuit) (goal found : List ℕ) (seen : List Bool) (old new : List Frame) (f g : Frame) → old ≡ new ++ f ∷ [] → f ≡ g → IsWalk way c goal found seen (reverse old) → IsWalk way c goal found seen (g ∷ reverse new)
+  pub taken_frame : (c : Circuit) (goal found : List ℕ) (seen : List Bool) (old new : List Frame) (f g : Frame) → old ≡ new ++ f ∷ [] → f ≡ g → IsWalk operand_order c goal found seen (reverse old) → IsWalk operand_order c goal found seen (g ∷ reverse new)
   taken_frame c goal found seen old new f g e same w =
-      subst (IsWalk way c goal found seen) (ap reverse e ∙ reverse-append new (f ∷ []) ∙ ap (λ h. h ∷ reverse new) same) w
+      subst (IsWalk operand_order c goal found seen) (ap reverse e ∙ reverse-append new (f ∷ []) ∙ ap (λ h. h ∷ reverse new) same) w
 
-  pub visited_left : (c : Circuit) (goal found : List ℕ) (seen : List Bool) (s : ℕ) (todo : List Frame) → IsWalk way c goal found seen (Leave s ∷ todo) → IsWalk way c goal found (set seen s true) todo
-  visited_left c goal found seen s todo w = left (below way c) (length c.names) goal found seen s todo w
+  pub visited_left : (c : Circuit) (goal found : List ℕ) (seen : List Bool) (s : ℕ) (todo : List Frame) → IsWalk operand_order c goal found seen (Leave s ∷ todo) → IsWalk operand_order c goal found (set seen s true) todo
+  visited_left c goal found seen s todo w = left (below operand_order c) (length c.names) goal found seen s todo w
 
-  pub leave_low : (c : Circuit) (goal found : List ℕ) (seen : List Bool) (s : ℕ) (todo : List Frame) → IsWalk way c goal found seen (Leave s ∷ todo) → s < length seen
-  leave_low c goal found seen s todo w = let low : s < length c.names = w.inside 0 (Leave s) (omega arith) in omega (arith, low, w.len)
+  pub leave_low : (c : Circuit) (goal found : List ℕ) (seen : List Bool) (s : ℕ) (todo : List Frame) → IsWalk operand_order c goal found seen (Leave s ∷ todo) → s < length seen
+  leave_low c goal found seen s todo w = let low : s < length c.names = w.in_bounds 0 (Leave s) (omega arith) in omega (arith, low, w.len)
 
-  pub enter_low : (c : Circuit) (goal found : List ℕ) (seen : List Bool) (s : ℕ) (todo : List Frame) → IsWalk way c goal found seen (Enter s ∷ todo) → s < length seen
-  enter_low c goal found seen s todo w = let low : s < length c.names = w.inside 0 (Enter s) (omega arith) in omega (arith, low, w.len)
+  pub enter_low : (c : Circuit) (goal found : List ℕ) (seen : List Bool) (s : ℕ) (todo : List Frame) → IsWalk operand_order c goal found seen (Enter s ∷ todo) → s < length seen
+  enter_low c goal found seen s todo w = let low : s < length c.names = w.in_bounds 0 (Enter s) (omega arith) in omega (arith, low, w.len)
 
 -- ---- lists of operands, gate by gate
 
@@ -202,7 +202,7 @@ next_output below_it outs found new total i s low at is_new e =
     ap (λ xs. fold with_number xs (flat_map below_it (drop (i + 1) outs))) is_new ∙ sym (fold-append with_number found (below_it s) (flat_map below_it (drop (i + 1) outs))) ∙
     sym (ap (λ xs. fold with_number found (flat_map below_it xs)) (drop_more outs i s low ∙ ap (λ x. x ∷ drop (i + 1) outs) (sym at))) ∙ e
 
-pub low_ranked : (n : Net) (outs ranked listed : List ℕ) (i s v count : ℕ) → All (λ t. t < length n.names) outs → ranked ≡ taken ByRank (circuit n) outs → listed ≡ ranked → i < length listed → s ≡ get_or listed i s → v ≡ s →
+pub low_ranked : (n : Net) (outs ranked listed : List ℕ) (i s v count : ℕ) → All (λ t. t < length n.names) outs → ranked ≡ in_walk_order ByRank (circuit n) outs → listed ≡ ranked → i < length listed → s ≡ get_or listed i s → v ≡ s →
     count ≡ length n.names → v < count
 low_ranked n outs ranked listed i s v count low_outs is_ranked is_listed low at is_v is_count =
     let all : All (λ t. t < length n.names) listed =

@@ -6,7 +6,7 @@ use Rattle.net_bench.specs.Statement.{Statement}
 use Rattle.net_bench.specs.Circuit.{Circuit, circuit_of}
 use Rattle.net_bench.specs.Judge.{judge, answer}
 use Rattle.net_order.specs.declared.order.Match.TheVariants.{Name, Position}
-use Rattle.net_order.specs.Order.{both, declared, extended, given_side, by_depth, bad_place, IsListing, matched, only_in, registers_of}
+use Rattle.net_order.specs.Order.{both, declared, extended, given_side, by_depth, bad_place, HasEachVariableOnce, matched, only_in, registers_of}
 use Rattle.net_order.specs.declared.unfit.Misfit.TheVariants.{Foreign, Missing}
 use Rattle.net_order.specs.Unfit.{unfit_from}
 
@@ -66,13 +66,13 @@ two = netlist (codes "INPUT(a) OUTPUT(a) OUTPUT(b) b = NOT(a)")
 abbrev other : Circuit
 other = netlist (codes "INPUT(a) OUTPUT(c) OUTPUT(a) c = NOT(a)")
 
-lone : matched Name two other two.outputs other.outputs ≡ (0, 0) ∷ []
+without_partner : matched Name two other two.outputs other.outputs ≡ (0, 0) ∷ []
 unfolding tokens_in pieces_in judge
-lone = refl
+without_partner = refl
 
-lone_first : only_in Name two other two.outputs other.outputs ≡ 1 ∷ []
+first_without_partner : only_in Name two other two.outputs other.outputs ≡ 1 ∷ []
 unfolding tokens_in pieces_in judge
-lone_first = refl
+first_without_partner = refl
 
 -- registers stand behind the inputs of both netlists
 abbrev one_register : Circuit
@@ -113,7 +113,7 @@ short = refl
 long : bad_place six [] (map (λ d. 120 ∷ d ∷ []) (codes "1234561")) 1 ≡ Some 7
 long = refl
 
-fits : IsListing six (map (λ d. 120 ∷ d ∷ []) (codes "135246"))
+fits : HasEachVariableOnce six (map (λ d. 120 ∷ d ∷ []) (codes "135246"))
 fits = refl
 
 -- the first name that is none of them, though another is missing

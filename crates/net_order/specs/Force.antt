@@ -29,16 +29,16 @@ abbrev pub edge_of : List ℕ → GateLine → List ℕ
 edge_of table g = map (slice_index table) g.operands ++ slice_index table g.out ∷ []
 
 -- An edge for each gate, and the rank of each vertex.
-pub record Graph : Type 0 where
+pub record Hypergraph : Type 0 where
   pub edges : List (List ℕ)
   pub ranks : List ℕ
 
 -- The graph of so many variables and no gates.
-abbrev pub variables_alone : ℕ → Graph
-variables_alone count = record { edges = []; ranks = replicate count 0 }
+abbrev pub graph_without_gates : ℕ → Hypergraph
+graph_without_gates count = record { edges = []; ranks = replicate count 0 }
 
 -- The gates of one more netlist.
-abbrev pub with_gates : Circuit → (rank variable : ℕ → ℕ) → Graph → Graph
+abbrev pub with_gates : Circuit → (rank variable : ℕ → ℕ) → Hypergraph → Hypergraph
 with_gates c rank variable graph = record {
   edges = graph.edges ++ map (edge_of (vertices c variable (length graph.ranks))) c.gates;
   ranks = graph.ranks ++ map (λ g. rank g.out) c.gates;
@@ -55,66 +55,66 @@ abbrev pub last_below : ℕ → List (List ℕ) → List ℕ → ℕ → ℕ
 last_below variables edges table v = if nat_lt v variables then v else greatest_at table (slice_index_or edges (v - variables) [])
 
 -- The same by vertex: operands come before gates.
-unfoldable pub lasts : ℕ → List (List ℕ) → List ℕ → List ℕ
-lasts variables edges by_rank = fold (λ t v. slice_set t v (last_below variables edges t v)) (replicate (length by_rank) 0) by_rank
+unfoldable pub last_variables : ℕ → List (List ℕ) → List ℕ → List ℕ
+last_variables variables edges by_rank = fold (λ t v. slice_set t v (last_below variables edges t v)) (replicate (length by_rank) 0) by_rank
 
 -- Each gate stands right behind the last variable below it, those behind one variable by rising rank.
-unfoldable pub first_order : ℕ → List (List ℕ) → List ℕ → List ℕ
-first_order variables edges by_rank = rising (slice_index (lasts variables edges by_rank)) by_rank
+unfoldable pub initial_order : ℕ → List (List ℕ) → List ℕ → List ℕ
+initial_order variables edges by_rank = rising (slice_index (last_variables variables edges by_rank)) by_rank
 
 -- ---- one step
 
 -- No sum passes this one.
-abbrev pub most : ℕ
-most = 2 ^ 64 - 1
+abbrev pub u64_max : ℕ
+u64_max = 2 ^ 64 - 1
 
 -- Places are counted in so many parts of a place.
-abbrev pub parts : ℕ
-parts = 65536
+abbrev pub place_unit : ℕ
+place_unit = 65536
 
 -- A share is counted in so many parts.
-abbrev pub whole : ℕ
-whole = 16777216
+abbrev pub share_unit : ℕ
+share_unit = 16777216
 
 -- The share that each of so many numbers has in their mean.
 abbrev pub share_of : ℕ → ℕ
-share_of count = if count == 0 then 0 else whole / count
+share_of count = if count == 0 then 0 else share_unit / count
 
 -- The mean of numbers that have this sum, each with this share in it.
 abbrev pub mean_of : (sum share : ℕ) → ℕ
-mean_of sum share = min (sum * share) most / whole
+mean_of sum share = min (sum * share) u64_max / share_unit
 
 -- By vertex, its place in the order.
 unfoldable pub places_of : List ℕ → List ℕ
-places_of order = map (λ place. min (place * parts) most) (counted_from 0 (replicate (length order) 0) order)
+places_of order = map (λ place. min (place * place_unit) u64_max) (counted_from 0 (replicate (length order) 0) order)
 
 -- The centre of an edge: the mean of its vertices' places.
 unfoldable pub centre_of : List ℕ → List ℕ → ℕ
-centre_of places edge = mean_of (fold (λ sum v. min (sum + slice_index places v) most) 0 edge) (share_of (length edge))
+centre_of places edge = mean_of (fold (λ sum v. min (sum + slice_index places v) u64_max) 0 edge) (share_of (length edge))
 
 -- The table with so much more at the places of an edge.
-abbrev pub with_more : ℕ → List ℕ → List ℕ → List ℕ
-with_more amount table edge = fold (λ t v. slice_set t v (min (slice_index t v + amount) most)) table edge
+abbrev pub with_added : ℕ → List ℕ → List ℕ → List ℕ
+with_added amount table edge = fold (λ t v. slice_set t v (min (slice_index t v + amount) u64_max)) table edge
 
 -- By vertex, the sum of the centres of its edges.
 unfoldable pub totals_of : List ℕ → List (List ℕ) → List ℕ
-totals_of places edges = fold (λ t edge. with_more (centre_of places edge) t edge) (replicate (length places) 0) edges
+totals_of places edges = fold (λ t edge. with_added (centre_of places edge) t edge) (replicate (length places) 0) edges
 
 -- By vertex, how many edges it has.
 unfoldable pub degrees_of : ℕ → List (List ℕ) → List ℕ
-degrees_of count edges = fold (with_more 1) (replicate count 0) edges
+degrees_of count edges = fold (with_added 1) (replicate count 0) edges
 
 -- By vertex, the share that each of its edges has in its place.
 unfoldable pub shares_of : ℕ → List (List ℕ) → List ℕ
 shares_of count edges = map share_of (degrees_of count edges)
 
 -- Where a vertex is drawn to: the mean of its edges' centres, and its own place where it has no edges.
-abbrev pub drawn_to : (total share place : ℕ) → ℕ
-drawn_to total share place = if share == 0 then place else mean_of total share
+abbrev pub new_place : (total share place : ℕ) → ℕ
+new_place total share place = if share == 0 then place else mean_of total share
 
 -- By vertex, where it is drawn to.
 unfoldable pub step : List (List ℕ) → List ℕ → List ℕ → List ℕ
-step edges shares places = map (λ v. drawn_to (slice_index (totals_of places edges) v) (slice_index shares v) (slice_index places v))
+step edges shares places = map (λ v. new_place (slice_index (totals_of places edges) v) (slice_index shares v) (slice_index places v))
     (numbers_below (length places))
 
 -- By vertex, where so many steps draw it to.
@@ -131,12 +131,12 @@ unfoldable pub round : List (List ℕ) → List ℕ → List ℕ → List ℕ
 round edges shares order = rising (slice_index (steps_of edges shares (steps_for (length order)) (places_of order))) order
 
 -- Where two rounds end, which begin with each gate right behind the last variable below it.
-unfoldable pub moved : ℕ → Graph → List ℕ
-moved variables graph =
+unfoldable pub force_order : ℕ → Hypergraph → List ℕ
+force_order variables graph =
     let shares = shares_of (length graph.ranks) graph.edges in
-    round graph.edges shares (round graph.edges shares (first_order variables graph.edges
+    round graph.edges shares (round graph.edges shares (initial_order variables graph.edges
     (rising (slice_index graph.ranks) (numbers_below (length graph.ranks)))))
 
 -- The variables alone, the last one first.
-abbrev pub variables_back : ℕ → List ℕ → List ℕ
-variables_back variables order = filter (λ v. nat_lt v variables) (reverse order)
+abbrev pub variables_reversed : ℕ → List ℕ → List ℕ
+variables_reversed variables order = filter (λ v. nat_lt v variables) (reverse order)

@@ -1,46 +1,46 @@
 -- The number at the end of a name, and a stable sort by a key.
 use Rattle.std.specs.Prelude.{ℕ, ◌+◌, ◌-◌, ◌*◌, min, nat_le, if◌then◌else◌, List, [], ◌∷◌, fold}
 use Rattle.std.specs.Char.{is_ascii_digit, is_ascii_alphabetic}
-use Rattle.net_order.specs.declared.trailing.Trailing.{Trailing}
-use Rattle.net_order.specs.declared.trailing.Trailing.TheVariants.{Nothing, Digits, Marked}
+use Rattle.net_order.specs.declared.trailing_number.TrailingNumber.{TrailingNumber}
+use Rattle.net_order.specs.declared.trailing_number.TrailingNumber.TheVariants.{Nothing, Digits, DigitsThenOther}
 
 -- A greater number counts as this one.
 abbrev pub max_number : ℕ
 max_number = 1000000000000000000
 
 -- The number with one more digit.
-abbrev pub lengthened : ℕ → ℕ → ℕ
-lengthened n digit = min (n * 10 + digit) max_number
+abbrev pub with_appended_digit : ℕ → ℕ → ℕ
+with_appended_digit n digit = min (n * 10 + digit) max_number
 
 -- A digit behind a digit lengthens the number, any other begins one.
-abbrev pub with_digit : Trailing → ℕ → Trailing
+abbrev pub with_digit : TrailingNumber → ℕ → TrailingNumber
 with_digit Nothing digit = Digits digit
-with_digit (Digits n) digit = Digits (lengthened n digit)
-with_digit (Marked n) digit = Digits digit
+with_digit (Digits n) digit = Digits (with_appended_digit n digit)
+with_digit (DigitsThenOther n) digit = Digits digit
 
 -- A mark, as a bracket, leaves the number where it is.
-abbrev pub with_mark : Trailing → Trailing
-with_mark Nothing = Nothing
-with_mark (Digits n) = Marked n
-with_mark (Marked n) = Marked n
+abbrev pub with_other_byte : TrailingNumber → TrailingNumber
+with_other_byte Nothing = Nothing
+with_other_byte (Digits n) = DigitsThenOther n
+with_other_byte (DigitsThenOther n) = DigitsThenOther n
 
 -- What a name has at its end when one more byte of it has been read: a letter leaves no number.
-abbrev pub with_byte : Trailing → ℕ → Trailing
-with_byte t byte = if is_ascii_digit byte then with_digit t (byte - 48) else (if is_ascii_alphabetic byte then Nothing else with_mark t)
+abbrev pub with_byte : TrailingNumber → ℕ → TrailingNumber
+with_byte t byte = if is_ascii_digit byte then with_digit t (byte - 48) else (if is_ascii_alphabetic byte then Nothing else with_other_byte t)
 
 -- What a name has at its end: a number, marks behind a number, or neither.
-abbrev pub trailing : List ℕ → Trailing
+abbrev pub trailing : List ℕ → TrailingNumber
 trailing name = fold with_byte Nothing name
 
 -- No number comes before each number.
-abbrev pub rank_of_end : Trailing → ℕ
-rank_of_end Nothing = 0
-rank_of_end (Digits n) = n + 1
-rank_of_end (Marked n) = n + 1
+abbrev pub key_of_end : TrailingNumber → ℕ
+key_of_end Nothing = 0
+key_of_end (Digits n) = n + 1
+key_of_end (DigitsThenOther n) = n + 1
 
 -- The key of a name: 0 where no number is at its end, else one more than the number.
 abbrev pub index_key : List ℕ → ℕ
-index_key name = rank_of_end (trailing name)
+index_key name = key_of_end (trailing name)
 
 -- The item before the first one of the list whose key is not less.
 abbrev pub put_by_key : {X : Type 0} → (X → ℕ) → X → List X → List X

@@ -12,10 +12,10 @@ use Rattle.net_order.specs.declared.order.Order.TheVariants.{Declared, Depth, In
 use Rattle.net_order.specs.declared.order.OrderFault.{OrderFault}
 use Rattle.net_order.specs.declared.order.OrderFault.TheVariants.{CountsDiffer, NotAPermutation, TooManyInputs, OutOfMemory, BadName}
 use Rattle.net_order.specs.declared.order.OrderFault.TheVariants.{TooLong, Read}
-use Rattle.net_order.specs.Force.{Graph, moved, variables_alone, variables_back, with_gates}
+use Rattle.net_order.specs.Force.{Hypergraph, force_order, graph_without_gates, variables_reversed, with_gates}
 use Rattle.net_order.specs.Index.{index_key, rising}
-use Rattle.net_order.specs.declared.walk.Way.{Way}
-use Rattle.net_order.specs.declared.walk.Way.TheVariants.{Written, ByRank}
+use Rattle.net_order.specs.declared.walk.OperandOrder.{OperandOrder}
+use Rattle.net_order.specs.declared.walk.OperandOrder.TheVariants.{Written, ByRank}
 
 -- The name of a signal.
 abbrev pub name_of : Circuit → ℕ → List ℕ
@@ -68,30 +68,30 @@ falling rank [] = []
 falling rank (s ∷ ss) = put_by_rank rank s (falling rank ss)
 
 -- Operands as a walk takes them: from left to right as they are written, or by falling rank.
-abbrev pub taken : Way → Circuit → List ℕ → List ℕ
-taken Written c os = os
-taken ByRank c os = falling (rank_of c) os
+abbrev pub in_walk_order : OperandOrder → Circuit → List ℕ → List ℕ
+in_walk_order Written c os = os
+in_walk_order ByRank c os = falling (rank_of c) os
 
 -- The operands of the signal's gate as a walk takes them, none for an input or register.
-abbrev pub steps_of : Way → Circuit → ℕ → List ℕ
-steps_of way c s = taken way c (operands_of c s)
+abbrev pub walk_operands : OperandOrder → Circuit → ℕ → List ℕ
+walk_operands operand_order c s = in_walk_order operand_order c (operands_of c s)
 
 -- The variables below a signal, as often as a walk meets them. The first number bounds the depth.
-abbrev pub leaves : Way → Circuit → ℕ → ℕ → List ℕ
-leaves way c zero s = if is_variable c s then s ∷ [] else []
-leaves way c (suc depth) s = if is_variable c s then s ∷ [] else flat_map (leaves way c depth) (steps_of way c s)
+abbrev pub leaves : OperandOrder → Circuit → ℕ → ℕ → List ℕ
+leaves operand_order c zero s = if is_variable c s then s ∷ [] else []
+leaves operand_order c (suc depth) s = if is_variable c s then s ∷ [] else flat_map (leaves operand_order c depth) (walk_operands operand_order c s)
 
 -- The variables below a signal: no chain of operands is longer than the number of gates.
-abbrev pub below : Way → Circuit → ℕ → List ℕ
-below way c s = leaves way c (length c.gates) s
+abbrev pub below : OperandOrder → Circuit → ℕ → List ℕ
+below operand_order c s = leaves operand_order c (length c.gates) s
 
 -- The list with the number at its end, unless it is there.
 abbrev pub with_number : List ℕ → ℕ → List ℕ
 with_number ss s = if is_member s ss then ss else ss ++ s ∷ []
 
 -- The variables below one signal, each where a walk meets it first.
-abbrev pub met_below : Way → Circuit → ℕ → List ℕ
-met_below way c s = fold with_number [] (below way c s)
+abbrev pub met_below : OperandOrder → Circuit → ℕ → List ℕ
+met_below operand_order c s = fold with_number [] (below operand_order c s)
 
 -- Where walks begin: at the outputs, then at the registers' operands, which are their next states.
 abbrev pub roots : Circuit → List ℕ
@@ -120,26 +120,26 @@ name_by Name a c s = name_of c s
 name_by Position a c s = name_of a (partner (variables_of c) (variables_of a) s)
 
 -- A side of a pairing: a netlist, how its variables are matched, and the netlist that names them by position.
-pub record Sided : Type 0 where
+pub record NamedNetlistModel : Type 0 where
   pub how : Match
-  pub namer : Circuit
+  pub name_source : Circuit
   pub net : Circuit
 
 -- The name of a variable of one side.
-abbrev pub named : Sided → ℕ → List ℕ
-named side s = name_by side.how side.namer side.net s
+abbrev pub named : NamedNetlistModel → ℕ → List ℕ
+named side s = name_by side.how side.name_source side.net s
 
 -- The names of variables of one side, in their order.
-abbrev pub names_on : Sided → List ℕ → List (List ℕ)
+abbrev pub names_on : NamedNetlistModel → List ℕ → List (List ℕ)
 names_on side ss = map (named side) ss
 
 -- A netlist whose variables go by their own names.
-abbrev pub own : Circuit → Sided
-own c = record { how = Name; namer = c; net = c }
+abbrev pub own : Circuit → NamedNetlistModel
+own c = record { how = Name; name_source = c; net = c }
 
 -- The two netlists that are compared.
-abbrev pub both : Match → Circuit → Circuit → List Sided
-both how a b = own a ∷ record { how = how; namer = a; net = b } ∷ []
+abbrev pub both : Match → Circuit → Circuit → List NamedNetlistModel
+both how a b = own a ∷ record { how = how; name_source = a; net = b } ∷ []
 
 -- The circuit of a condition, where there is one.
 abbrev pub condition : Option (Bor Net) → Option Circuit
@@ -147,30 +147,30 @@ condition None = None
 condition (Some net) = Some (circuit net.now)
 
 -- A condition, where there is one. Its variables go by their names, also by position.
-abbrev pub given_side : Option Circuit → List Sided
+abbrev pub given_side : Option Circuit → List NamedNetlistModel
 given_side None = []
 given_side (Some c) = own c ∷ []
 
 -- Side after side, the names of those of its variables that the function tells.
-abbrev pub names_of_sides : (Circuit → List ℕ) → List Sided → List (List ℕ)
+abbrev pub names_of_sides : (Circuit → List ℕ) → List NamedNetlistModel → List (List ℕ)
 names_of_sides which [] = []
 names_of_sides which (side ∷ sides) = names_on side (which side.net) ++ names_of_sides which sides
 
 -- The names of all variables of sides, as often as they stand: the inputs of each, then the registers of each.
-abbrev pub names_in : List Sided → List (List ℕ)
+abbrev pub names_in : List NamedNetlistModel → List (List ℕ)
 names_in sides = names_of_sides (λ c. c.inputs) sides ++ names_of_sides registers_of sides
 
 -- The names of all variables, as often as they stand: those of both netlists, and last those of the condition.
-abbrev pub all_names : List Sided → List Sided → List (List ℕ)
+abbrev pub all_names : List NamedNetlistModel → List NamedNetlistModel → List (List ℕ)
 all_names sides given = names_in sides ++ names_in given
 
 -- The variables as they are declared, each at its first place: those of the condition alone stand behind all others.
-abbrev pub declared : List Sided → List Sided → List (List ℕ)
+abbrev pub declared : List NamedNetlistModel → List NamedNetlistModel → List (List ℕ)
 declared sides given = distinct (all_names sides given)
 
 -- The variables as they are met below the first netlist's outputs and next states, then below the second's, then the others as they
 -- are declared.
-abbrev pub by_depth : List Sided → List Sided → List (List ℕ)
+abbrev pub by_depth : List NamedNetlistModel → List NamedNetlistModel → List (List ℕ)
 by_depth sides given = distinct (names_of_sides met sides ++ all_names sides given)
 
 -- A variable's level in an order of names is its place among them.
@@ -180,80 +180,80 @@ level_of names n = unwrap_or (number names n) 0
 -- ---- interleaving: after Fujii, Ootomo and Hori, ICCAD 1993
 
 -- The variable right behind the other one, or at the front where there is none.
-abbrev pub put_behind : Option ℕ → ℕ → List ℕ → List ℕ
-put_behind None v order = v ∷ order
-put_behind (Some last) v [] = v ∷ []
-put_behind (Some last) v (x ∷ order) = if x == last then x ∷ v ∷ order else x ∷ put_behind (Some last) v order
+abbrev pub put_after : Option ℕ → ℕ → List ℕ → List ℕ
+put_after None v order = v ∷ order
+put_after (Some last) v [] = v ∷ []
+put_after (Some last) v (x ∷ order) = if x == last then x ∷ v ∷ order else x ∷ put_after (Some last) v order
 
 -- The order with a variable, unless it is there: right behind the other one, or at the front.
 abbrev pub with_variable : Option ℕ → ℕ → List ℕ → List ℕ
-with_variable last v order = if is_member v order then order else put_behind last v order
+with_variable last v order = if is_member v order then order else put_after last v order
 
 -- What a walk meets is put into an order: a variable that is not there yet goes right behind the one that the walk met before it,
 -- whether that was new or not, and to the front where it is the walk's first.
-abbrev pub weave : List ℕ → Option ℕ → List ℕ → List ℕ
-weave order last [] = order
-weave order last (v ∷ vs) = weave (with_variable last v order) (Some v) vs
+abbrev pub interleave_walk : List ℕ → Option ℕ → List ℕ → List ℕ
+interleave_walk order last [] = order
+interleave_walk order last (v ∷ vs) = interleave_walk (with_variable last v order) (Some v) vs
 
 -- A netlist is woven into an order: one walk below each output and next state, these and the operands of each gate by falling rank.
 -- The function gives a signal's variable.
-abbrev pub weave_below : Circuit → (ℕ → ℕ) → List ℕ → ℕ → List ℕ
-weave_below c variable order s = weave order None (map variable (met_below ByRank c s))
+abbrev pub interleave_below : Circuit → (ℕ → ℕ) → List ℕ → ℕ → List ℕ
+interleave_below c variable order s = interleave_walk order None (map variable (met_below ByRank c s))
 
-abbrev pub weave_netlist : Circuit → (ℕ → ℕ) → List ℕ → List ℕ
-weave_netlist c variable order = fold (weave_below c variable) order (falling (rank_of c) (roots c))
+abbrev pub interleave_netlist : Circuit → (ℕ → ℕ) → List ℕ → List ℕ
+interleave_netlist c variable order = fold (interleave_below c variable) order (falling (rank_of c) (roots c))
 
 -- A side is woven into an order. A variable's number is its place among the declared ones.
-abbrev pub weave_side : List (List ℕ) → List ℕ → Sided → List ℕ
-weave_side names order side = weave_netlist side.net (λ s. level_of names (named side s)) order
+abbrev pub interleave_side : List (List ℕ) → List ℕ → NamedNetlistModel → List ℕ
+interleave_side names order side = interleave_netlist side.net (λ s. level_of names (named side s)) order
 
 -- The variables that walks meet, by number: the first netlist is woven into the empty order, then the second.
-abbrev pub woven : List (List ℕ) → List Sided → List ℕ
-woven names sides = fold (weave_side names) [] sides
+abbrev pub interleaved_numbers : List (List ℕ) → List NamedNetlistModel → List ℕ
+interleaved_numbers names sides = fold (interleave_side names) [] sides
 
 -- The names of variables, by number.
 abbrev pub numbered : List (List ℕ) → List ℕ → List (List ℕ)
 numbered names vs = map (λ v. slice_index_or names v []) vs
 
 -- The variables that walks meet, then the others as they are declared.
-abbrev pub interleaved : List Sided → List Sided → List (List ℕ)
-interleaved sides given = distinct (numbered (declared sides given) (woven (declared sides given) sides) ++ all_names sides given)
+abbrev pub interleaved : List NamedNetlistModel → List NamedNetlistModel → List (List ℕ)
+interleaved sides given = distinct (numbered (declared sides given) (interleaved_numbers (declared sides given) sides) ++ all_names sides given)
 
 -- ---- by the numbers at the end of names
 
 -- The variables by rising number at the end of their names, those without one first, equal numbers as they are declared.
-abbrev pub by_index : List Sided → List Sided → List (List ℕ)
+abbrev pub by_index : List NamedNetlistModel → List NamedNetlistModel → List (List ℕ)
 by_index sides given = rising index_key (declared sides given)
 
 -- ---- FORCE
 
 -- The gates of one more side, whose variables are the vertices of their levels in these names.
-abbrev pub with_side : List (List ℕ) → Graph → Sided → Graph
+abbrev pub with_side : List (List ℕ) → Hypergraph → NamedNetlistModel → Hypergraph
 with_side names graph side = with_gates side.net (rank_of side.net) (λ s. level_of names (named side s)) graph
 
 -- The graph of all netlists, whose first vertices are the variables of these names.
-unfoldable pub graph_of : List (List ℕ) → List Sided → List Sided → Graph
-graph_of names sides given = fold (with_side names) (fold (with_side names) (variables_alone (length names)) sides) given
+unfoldable pub graph_of : List (List ℕ) → List NamedNetlistModel → List NamedNetlistModel → Hypergraph
+graph_of names sides given = fold (with_side names) (fold (with_side names) (graph_without_gates (length names)) sides) given
 
 -- The numbers of the variables as FORCE leaves them, from the last one back.
-unfoldable pub forced_back : List (List ℕ) → List Sided → List Sided → List ℕ
-forced_back names sides given = variables_back (length names) (moved (length names) (graph_of names sides given))
+unfoldable pub force_numbers : List (List ℕ) → List NamedNetlistModel → List NamedNetlistModel → List ℕ
+force_numbers names sides given = variables_reversed (length names) (force_order (length names) (graph_of names sides given))
 
 -- The variables as FORCE leaves them when they begin by rising number at the end of their names, the last one first. No variable is
 -- left out there; any that were would follow as they are declared.
-abbrev pub forced : List Sided → List Sided → List (List ℕ)
-forced sides given = distinct (numbered (by_index sides given) (forced_back (by_index sides given) sides given) ++ all_names sides given)
+abbrev pub forced : List NamedNetlistModel → List NamedNetlistModel → List (List ℕ)
+forced sides given = distinct (numbered (by_index sides given) (force_numbers (by_index sides given) sides given) ++ all_names sides given)
 
 -- ---- a list that may have names that are no variables, and may lack variables
 
 -- The names of the list that are variables, each at its first place, then the others as they are declared.
-abbrev pub extended : List Sided → List Sided → List (List ℕ) → List (List ℕ)
+abbrev pub extended : List NamedNetlistModel → List NamedNetlistModel → List (List ℕ) → List (List ℕ)
 extended sides given names = distinct (filter (is_name_in (declared sides given)) names ++ all_names sides given)
 
 -- ---- the orders
 
 -- The names of the variables in the order that is asked for, from level 0 on.
-abbrev pub ordered : List Sided → List Sided → Order → List (List ℕ)
+abbrev pub ordered : List NamedNetlistModel → List NamedNetlistModel → Order → List (List ℕ)
 ordered sides given Declared = declared sides given
 ordered sides given Depth = by_depth sides given
 ordered sides given Interleave = interleaved sides given
@@ -272,8 +272,8 @@ bad_place variables before (n ∷ ns) place =
     if is_name_in variables n && not (is_name_in before n) then bad_place variables (before ++ n ∷ []) ns (place + 1) else Some place
 
 -- The list has each variable's name exactly once.
-abbrev pub IsListing : List (List ℕ) → List (List ℕ) → Type 0
-IsListing variables names = bad_place variables [] names 1 ≡ None
+abbrev pub HasEachVariableOnce : List (List ℕ) → List (List ℕ) → Type 0
+HasEachVariableOnce variables names = bad_place variables [] names 1 ≡ None
 
 -- ---- what is compared
 
@@ -317,13 +317,13 @@ only_in Name a b ss ts = unmatched a b ts ss
 only_in Position a b ss ts = []
 
 -- Signals of two netlists that are compared: the pairs, in the first netlist's order, and those of either that are in none.
-pub record Corresponding : Type 0 where
+pub record CorrespondenceModel : Type 0 where
   pub pairs : List (ℕ × ℕ)
   pub only_first : List ℕ
   pub only_second : List ℕ
 
 -- How these signals of the one netlist correspond to these of the other.
-abbrev pub correspondence : Match → Circuit → Circuit → List ℕ → List ℕ → Corresponding
+abbrev pub correspondence : Match → Circuit → Circuit → List ℕ → List ℕ → CorrespondenceModel
 correspondence how a b ss ts = record {
   pairs = matched how a b ss ts;
   only_first = only_in how a b ss ts;
@@ -333,13 +333,13 @@ correspondence how a b ss ts = record {
 -- ---- what is answered
 
 -- By position, there are as many of the one as of the other.
-abbrev pub AreAsMany : Match → List ℕ → List ℕ → Type 0
-AreAsMany Name ss ts = Unit {0}
-AreAsMany Position ss ts = length ss ≡ length ts
+abbrev pub HaveEqualLength : Match → List ℕ → List ℕ → Type 0
+HaveEqualLength Name ss ts = Unit {0}
+HaveEqualLength Position ss ts = length ss ≡ length ts
 
 -- By position, the numbers of inputs, of outputs and of registers agree.
-abbrev pub AreCounted : Match → Circuit → Circuit → Type 0
-AreCounted how a b = AreAsMany how a.inputs b.inputs × AreAsMany how a.outputs b.outputs × AreAsMany how (registers_of a) (registers_of b)
+abbrev pub HaveEqualCounts : Match → Circuit → Circuit → Type 0
+HaveEqualCounts how a b = HaveEqualLength how a.inputs b.inputs × HaveEqualLength how a.outputs b.outputs × HaveEqualLength how (registers_of a) (registers_of b)
 
 -- A list that is asked for has each variable's name exactly once.
 abbrev pub IsFit : List (List ℕ) → Order → Type 0
@@ -348,33 +348,33 @@ IsFit variables Depth = Unit {0}
 IsFit variables Interleave = Unit {0}
 IsFit variables Index = Unit {0}
 IsFit variables Force = Unit {0}
-IsFit variables (Listed names) = IsListing variables names
+IsFit variables (Listed names) = HasEachVariableOnce variables names
 IsFit variables (Extended names) = Unit {0}
 
 -- A naming, or a pairing, as its users see it: the variables by level, by signal the level of an input or register of each netlist and of
 -- the condition, and which outputs and which registers are compared.
-pub record Paired : Type 0 where
+pub record NamingModel : Type 0 where
   pub names : List (List ℕ)
   pub first : List ℕ
   pub second : List ℕ
   pub given : List ℕ
-  pub outputs : Corresponding
-  pub registers : Corresponding
+  pub outputs : CorrespondenceModel
+  pub registers : CorrespondenceModel
 
 -- the level of an input or register of the first netlist
-abbrev pub first_level : Paired → ℕ → ℕ
+abbrev pub first_level : NamingModel → ℕ → ℕ
 first_level p s = slice_index p.first s
 
 -- the level of an input or register of the second netlist
-abbrev pub second_level : Paired → ℕ → ℕ
+abbrev pub second_level : NamingModel → ℕ → ℕ
 second_level p s = slice_index p.second s
 
 -- the level of an input or register of the condition
-abbrev pub given_level : Paired → ℕ → ℕ
+abbrev pub given_level : NamingModel → ℕ → ℕ
 given_level p s = slice_index p.given s
 
 -- By signal, the levels of one side's variables in an order of names.
-abbrev pub HasLevels : List (List ℕ) → Sided → List ℕ → Type 0
+abbrev pub HasLevels : List (List ℕ) → NamedNetlistModel → List ℕ → Type 0
 HasLevels names side levels = All (λ s. slice_index levels s ≡ level_of names (named side s)) (variables_of side.net)
 
 -- The names of the variables of a pairing in the order that is asked for.
@@ -387,27 +387,27 @@ variables_in how a b given = declared (both how a b) (given_side given)
 
 -- This is the naming of two netlists, with a condition or without: its variables are in the order that is asked for, each input or register
 -- has its variable's level, and outputs correspond to outputs, registers to registers.
-pub record IsNaming (how : Match) (a b : Circuit) (given : Option Circuit) (order : Order) (p : Paired) : Type 0 where
-  pub counted : AreCounted how a b
+pub record IsNaming (how : Match) (a b : Circuit) (given : Option Circuit) (order : Order) (p : NamingModel) : Type 0 where
+  pub counted : HaveEqualCounts how a b
   pub fit : IsFit (variables_in how a b given) order
   pub names : p.names ≡ names_by how a b given order
   pub first : HasLevels (names_by how a b given order) (own a) p.first
-  pub second : HasLevels (names_by how a b given order) (record { how = how; namer = a; net = b }) p.second
+  pub second : HasLevels (names_by how a b given order) (record { how = how; name_source = a; net = b }) p.second
   pub conditional : IfSome given (λ c. HasLevels (names_by how a b given order) (own c) p.given)
   pub outputs : p.outputs ≡ correspondence how a b a.outputs b.outputs
   pub registers : p.registers ≡ correspondence how a b (registers_of a) (registers_of b)
 
 -- This is their pairing: the naming, of variables that are few.
-pub record IsPairing (how : Match) (a b : Circuit) (given : Option Circuit) (order : Order) (p : Paired) : Type 0 where
+pub record IsPairing (how : Match) (a b : Circuit) (given : Option Circuit) (order : Order) (p : NamingModel) : Type 0 where
   pub naming : IsNaming how a b given order p
   pub few : length (variables_in how a b given) ≤ max_variables
 
 -- Why there is no pairing, each cause only where none comes before it. Want of memory is said apart.
 abbrev pub IsRefused : Match → Circuit → Circuit → Option Circuit → Order → OrderFault → Type 0
-IsRefused how a b given order CountsDiffer = AreCounted how a b → ⊥
-IsRefused how a b given order TooManyInputs = AreCounted how a b × (max_variables < length (variables_in how a b given))
+IsRefused how a b given order CountsDiffer = HaveEqualCounts how a b → ⊥
+IsRefused how a b given order TooManyInputs = HaveEqualCounts how a b × (max_variables < length (variables_in how a b given))
 IsRefused how a b given order (NotAPermutation place) =
-    AreCounted how a b × (length (variables_in how a b given) ≤ max_variables) ×
+    HaveEqualCounts how a b × (length (variables_in how a b given) ≤ max_variables) ×
     ((names : List (List ℕ)) × (order ≡ Listed names) × (bad_place (variables_in how a b given) [] names 1 ≡ Some place))
 IsRefused how a b given order OutOfMemory = ⊥
 IsRefused how a b given order (BadName line) = ⊥

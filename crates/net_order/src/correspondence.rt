@@ -1,7 +1,7 @@
 //! Signals that two netlists have, and those that only one has.
 ghost use Rattle.std.specs.Prelude.{IfOk, ◌≡◌, ℕ, ◌<◌, length, false, All, slice_index, slice_index_or, zip};
 ghost use Rattle.net_bench.specs.Circuit.{circuit};
-ghost use Rattle.net_order.specs.Order.{AreAsMany, correspondence, is_member, name_of, pairs_by_name, signal_named, unmatched};
+ghost use Rattle.net_order.specs.Order.{HaveEqualLength, correspondence, is_member, name_of, pairs_by_name, signal_named, unmatched};
 
 use crate::order::Match;
 use net_bench::netlist::{Netlist, Signal};
@@ -17,9 +17,9 @@ pub struct Correspondence {
 }
 
 impl Model for Correspondence {
-    ghost use Rattle.net_order.specs.Order.{Corresponding};
+    ghost use Rattle.net_order.specs.Order.{CorrespondenceModel};
 
-    ghost Value = { Corresponding };
+    ghost Value = { CorrespondenceModel };
 
     ghost view = { λ a. record {
       pairs = a.pairs.items;
@@ -53,25 +53,25 @@ impl Correspondence {
 
 /// Signals of one netlist that are to be compared, with a mark for each of its signals that is one of them.
 #[derive(Drop)]
-struct Chosen<'a> {
+struct ComparedSignals<'a> {
     net: &'a Netlist,
     signals: &'a [Signal],
     seen: Vec<bool>,
 }
 
-impl<'a> Model for Chosen<'a> {
+impl<'a> Model for ComparedSignals<'a> {
     ghost use Rattle.net_bench.specs.Circuit.{circuit};
-    ghost use Rattle.net_order.specs.Tables.{AreChosen, IsChosen};
+    ghost use Rattle.net_order.specs.Tables.{ComparedSignalsModel, AreComparedSignals};
 
-    ghost Value = { AreChosen };
+    ghost Value = { ComparedSignalsModel };
 
     ghost view = { λ c. record { net = circuit c.net.now; signals = c.signals.now } };
 
-    ghost invariant = { λ c. IsChosen c.net.now c.signals.now c.seen.items };
+    ghost invariant = { λ c. AreComparedSignals c.net.now c.signals.now c.seen.items };
 }
 
 /// For each signal below `count` whether it is among these.
-fn visited(alloc: Global, count: usize, signals: &[Signal]) -> Result<Vec<bool>, AllocError>
+fn membership_of(alloc: Global, count: usize, signals: &[Signal]) -> Result<Vec<bool>, AllocError>
     requires { All (λ s. s < count) signals.now }
     ensures len { IfOk result (λ v. length v.items ≡ count) }
     ensures seen { IfOk result (λ v. (s : ℕ) → s < count → slice_index_or v.items s false ≡ is_member s signals.now) }
@@ -83,14 +83,18 @@ fn visited(alloc: Global, count: usize, signals: &[Signal]) -> Result<Vec<bool>,
     Ok(seen)
 }
 
-impl<'a> Chosen<'a> {
+impl<'a> ComparedSignals<'a> {
     /// These signals of a netlist.
-    fn new(alloc: Global, net: &'a Netlist, signals: &'a [Signal]) -> Result<Chosen<'a>, AllocError>
+    fn new(
+        alloc: Global,
+        net: &'a Netlist,
+        signals: &'a [Signal],
+    ) -> Result<ComparedSignals<'a>, AllocError>
         requires { All (λ s. s < length net.now.names) signals.now }
         ensures { IfOk result (λ c. c ≡ record { net = circuit net.entry.now; signals = signals.entry.now }) }
     {
-        let seen = visited(alloc, net.count(), signals)?;
-        Ok(Chosen { net, signals, seen })
+        let seen = membership_of(alloc, net.count(), signals)?;
+        Ok(ComparedSignals { net, signals, seen })
     }
 
     /// The signals.
@@ -109,7 +113,7 @@ impl<'a> Chosen<'a> {
     }
 
     /// The signal of this name among them.
-    fn named(&self, name: &[u8]) -> Option<Signal>
+    fn find_named(&self, name: &[u8]) -> Option<Signal>
         ensures { result ≡ signal_named self.now.net self.now.signals name.now }
     {
         match self.net.find(name) {
@@ -126,15 +130,15 @@ impl<'a> Chosen<'a> {
 /// Each of the signals with the one of its name among those of the other netlist.
 fn pairs_of(
     alloc: Global,
-    ours: &Chosen<'_>,
-    theirs: &Chosen<'_>,
+    ours: &ComparedSignals<'_>,
+    theirs: &ComparedSignals<'_>,
 ) -> Result<Vec<(Signal, Signal)>, AllocError>
     ensures { IfOk result (λ v. v.items ≡ pairs_by_name ours.now.net theirs.now.net theirs.now.signals ours.now.signals) }
 {
     let mut pairs = Vec::new(alloc);
     let signals = ours.signals();
     for i in 0..signals.len() {
-        match theirs.named(ours.name_at(i)) {
+        match theirs.find_named(ours.name_at(i)) {
             Some(other) => pairs.push((signals[i], other))?,
             None => {}
         }
@@ -143,22 +147,26 @@ fn pairs_of(
 }
 
 /// The signals whose name none of those of the other netlist has.
-fn lone(alloc: Global, ours: &Chosen<'_>, theirs: &Chosen<'_>) -> Result<Vec<Signal>, AllocError>
+fn without_partner(
+    alloc: Global,
+    ours: &ComparedSignals<'_>,
+    theirs: &ComparedSignals<'_>,
+) -> Result<Vec<Signal>, AllocError>
     ensures { IfOk result (λ v. v.items ≡ unmatched ours.now.net theirs.now.net theirs.now.signals ours.now.signals) }
 {
-    let mut lone = Vec::new(alloc);
+    let mut without_partner = Vec::new(alloc);
     let signals = ours.signals();
     for i in 0..signals.len() {
-        match theirs.named(ours.name_at(i)) {
+        match theirs.find_named(ours.name_at(i)) {
             Some(_) => {}
-            None => lone.push(signals[i])?,
+            None => without_partner.push(signals[i])?,
         }
     }
-    Ok(lone)
+    Ok(without_partner)
 }
 
 /// Signal i of both.
-fn zipped(
+fn paired_by_position(
     alloc: Global,
     left: &[Signal],
     right: &[Signal],
@@ -182,18 +190,18 @@ pub fn correspond(
     signals: &[Signal],
     others: &[Signal],
 ) -> Result<Correspondence, AllocError>
-    requires counted { AreAsMany how signals.now others.now }
+    requires counted { HaveEqualLength how signals.now others.now }
     requires first_known { All (λ s. s < length first.now.names) signals.now }
     requires second_known { All (λ s. s < length second.now.names) others.now }
     ensures { IfOk result (λ c. c ≡ correspondence how (circuit first.now) (circuit second.now) signals.now others.now) }
 {
     match how {
         Match::Name => {
-            let ours = Chosen::new(alloc, first, signals)?;
-            let theirs = Chosen::new(alloc, second, others)?;
+            let ours = ComparedSignals::new(alloc, first, signals)?;
+            let theirs = ComparedSignals::new(alloc, second, others)?;
             let pairs = pairs_of(alloc, &ours, &theirs)?;
-            let only_first = lone(alloc, &ours, &theirs)?;
-            let only_second = lone(alloc, &theirs, &ours)?;
+            let only_first = without_partner(alloc, &ours, &theirs)?;
+            let only_second = without_partner(alloc, &theirs, &ours)?;
             Ok(Correspondence {
                 pairs,
                 only_first,
@@ -201,7 +209,7 @@ pub fn correspond(
             })
         }
         Match::Position => {
-            let pairs = zipped(alloc, signals, others)?;
+            let pairs = paired_by_position(alloc, signals, others)?;
             Ok(Correspondence {
                 pairs,
                 only_first: Vec::new(alloc),

@@ -5,13 +5,13 @@ ghost use Rattle.net_order.specs.Force.{share_of};
 use std::marker::Model;
 
 /// A share is counted in so many parts.
-pub const WHOLE: u64 = 16_777_216;
+pub const SHARE_UNIT: u64 = 16_777_216;
 
 /// The share that each of so many numbers has in their mean.
 pub fn share_of(count: u64) -> u64
     ensures { result ≡ share_of count }
 {
-    if count == 0 { 0 } else { WHOLE / count }
+    if count == 0 { 0 } else { SHARE_UNIT / count }
 }
 
 /// The vertices of a gate's operands, and last its own.

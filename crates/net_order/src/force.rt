@@ -1,14 +1,14 @@
 //! Variables moved towards what they are joined with. After Aloul, Markov and Sakallah, "FORCE: a fast and easy-to-implement
 //! variable-ordering heuristic", GLSVLSI 2003.
 ghost use Rattle.std.specs.Prelude.{◌≡◌, ◌<◌, ◌≤◌, All, length, IfErr, IfOk, OnOk};
-ghost use Rattle.net_order.specs.Force.{first_order, greatest_at, last_below, lasts, moved, variables_back};
-ghost use Rattle.net_order.specs.Order.{declared, forced, forced_back, numbered};
+ghost use Rattle.net_order.specs.Force.{initial_order, greatest_at, last_below, last_variables, force_order, variables_reversed};
+ghost use Rattle.net_order.specs.Order.{declared, forced, force_numbers, numbered};
 ghost use Rattle.net_order.specs.Tables.{with_names};
 
-use crate::drawing::{do_round, shares_of, sort_by_table};
 use crate::edge::Edge;
-use crate::hypergraph::{Graph, number_at, numbers_below, put};
-use crate::indexed::indexed_table;
+use crate::force_step::{run_round, shares_of, sort_by_table};
+use crate::hypergraph::{Hypergraph, number_at, numbers_below, put};
+use crate::index_order::indexed_table;
 use crate::order::OrderFault;
 use crate::side::NamedNetlist;
 use crate::variables::{MAX_VARIABLES, add_all};
@@ -38,14 +38,14 @@ fn last_below(variables: usize, edges: &[Edge], table: &[u64], vertex: usize) ->
 }
 
 /// By vertex, the last variable below it. The vertices come by rising rank.
-#[tactic(auto, unfolding(crate::specs::Force::lasts))]
-fn lasts(
+#[tactic(auto, unfolding(crate::specs::Force::last_variables))]
+fn last_variables(
     alloc: Global,
     variables: usize,
     edges: &[Edge],
     by_rank: &[usize],
 ) -> Result<Vec<u64>, AllocError>
-    ensures { IfOk result (λ v. v.items ≡ lasts variables edges.now by_rank.now) }
+    ensures { IfOk result (λ v. v.items ≡ last_variables variables edges.now by_rank.now) }
 {
     let mut table = Vec::from_elem(alloc, 0u64, by_rank.len())?;
     for vertex in by_rank {
@@ -56,44 +56,48 @@ fn lasts(
 }
 
 /// Each gate right behind the last variable below it, those behind one variable by rising rank.
-#[tactic(auto, unfolding(crate::specs::Force::first_order))]
-fn first_order(
+#[tactic(auto, unfolding(crate::specs::Force::initial_order))]
+fn initial_order(
     alloc: Global,
     variables: usize,
     edges: &[Edge],
     by_rank: Vec<usize>,
 ) -> Result<Vec<usize>, AllocError>
-    ensures { IfOk result (λ v. v.items ≡ first_order variables edges.now by_rank.items) }
+    ensures { IfOk result (λ v. v.items ≡ initial_order variables edges.now by_rank.items) }
 {
-    let table = lasts(alloc, variables, edges, by_rank.as_slice())?;
+    let table = last_variables(alloc, variables, edges, by_rank.as_slice())?;
     let mut order = by_rank;
     sort_by_table(&mut order, table.as_slice())?;
     Ok(order)
 }
 
 /// Where two rounds end, which begin with each gate right behind the last variable below it.
-#[tactic(auto, unfolding(crate::specs::Force::moved))]
-fn moved(alloc: Global, variables: usize, graph: &Graph) -> Result<Vec<usize>, AllocError>
-    ensures { IfOk result (λ v. v.items ≡ moved variables graph.now) }
+#[tactic(auto, unfolding(crate::specs::Force::force_order))]
+fn force_order(
+    alloc: Global,
+    variables: usize,
+    graph: &Hypergraph,
+) -> Result<Vec<usize>, AllocError>
+    ensures { IfOk result (λ v. v.items ≡ force_order variables graph.now) }
 {
     let edges = graph.edges();
     let count = graph.ranks().len();
     let mut by_rank = numbers_below(alloc, count)?;
     sort_by_table(&mut by_rank, graph.ranks())?;
-    let mut order = first_order(alloc, variables, edges, by_rank)?;
+    let mut order = initial_order(alloc, variables, edges, by_rank)?;
     let shares = shares_of(alloc, count, edges)?;
-    do_round(alloc, edges, shares.as_slice(), &mut order)?;
-    do_round(alloc, edges, shares.as_slice(), &mut order)?;
+    run_round(alloc, edges, shares.as_slice(), &mut order)?;
+    run_round(alloc, edges, shares.as_slice(), &mut order)?;
     Ok(order)
 }
 
 /// Those vertices that are variables, from the last one back.
-fn variables_back(
+fn variables_reversed(
     alloc: Global,
     variables: usize,
     order: &[usize],
 ) -> Result<Vec<usize>, AllocError>
-    ensures { IfOk result (λ v. v.items ≡ variables_back variables order.now) }
+    ensures { IfOk result (λ v. v.items ≡ variables_reversed variables order.now) }
 {
     order
         .iter()
@@ -104,18 +108,18 @@ fn variables_back(
 }
 
 /// The numbers of the variables as FORCE leaves them, from the last one back.
-#[tactic(auto, unfolding(crate::specs::Order::forced_back))]
-fn forced_back(
+#[tactic(auto, unfolding(crate::specs::Order::force_numbers))]
+fn force_numbers(
     alloc: Global,
     names: &NameTable,
     sides: &[NamedNetlist<'_>],
     given: &[NamedNetlist<'_>],
 ) -> Result<Vec<usize>, AllocError>
-    ensures { IfOk result (λ v. v.items ≡ forced_back names.now sides.now given.now) }
+    ensures { IfOk result (λ v. v.items ≡ force_numbers names.now sides.now given.now) }
 {
-    let graph = Graph::new(alloc, names, sides, given)?;
-    let order = moved(alloc, names.len(), &graph)?;
-    let back = variables_back(alloc, names.len(), order.as_slice())?;
+    let graph = Hypergraph::new(alloc, names, sides, given)?;
+    let order = force_order(alloc, names.len(), &graph)?;
+    let back = variables_reversed(alloc, names.len(), order.as_slice())?;
     Ok(back)
 }
 
@@ -130,7 +134,7 @@ fn add_numbered(
     ensures { OnOk result (table.new ≡ with_names table.old (numbered names.now numbers.now)) }
 {
     for number in numbers {
-        table.count(alloc, names.name_at(*number))?;
+        table.intern(alloc, names.name_at(*number))?;
     }
     Ok(())
 }
@@ -149,7 +153,7 @@ pub fn forced_table(
     ensures err { IfErr result (λ fault. fault ≡ OrderFault.OutOfMemory) }
 {
     let names = indexed_table(alloc, variables)?;
-    let numbers = forced_back(alloc, &names, sides, given)?;
+    let numbers = force_numbers(alloc, &names, sides, given)?;
     let mut table = NameTable::new(alloc);
     add_numbered(alloc, &mut table, &names, numbers.as_slice())?;
     add_all(alloc, &mut table, sides, given)?;

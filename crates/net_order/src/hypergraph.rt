@@ -5,7 +5,7 @@ ghost use Rattle.net_order.specs.Force.{counted_from, edge_of, numbers_below, ve
 ghost use Rattle.net_order.specs.Order.{graph_of, level_of, named, rank_of, with_side};
 
 use crate::edge::Edge;
-use crate::ranked::rank_at;
+use crate::falling_rank::rank_at;
 use crate::side::NamedNetlist;
 use net_bench::name_table::NameTable;
 use net_bench::netlist::{GateLine, Netlist, Signal};
@@ -111,17 +111,17 @@ fn edge_of(alloc: Global, vertices: &[u64], gate: &GateLine) -> Result<Edge, All
 
 /// Variables and gates as vertices.
 #[derive(Drop)]
-pub struct Graph {
+pub struct Hypergraph {
     /// For each gate the vertices of its operands, and its own.
     edges: Vec<Edge>,
     /// By vertex.
     ranks: Vec<u64>,
 }
 
-impl Model for Graph {
-    ghost use Rattle.net_order.specs.Force.{Graph};
+impl Model for Hypergraph {
+    ghost use Rattle.net_order.specs.Force.{Hypergraph};
 
-    ghost Value = { Graph };
+    ghost Value = { Hypergraph };
 
     ghost view = { λ g. record { edges = g.edges.items; ranks = g.ranks.items } };
 }
@@ -193,7 +193,7 @@ fn add_sides(
     Ok(())
 }
 
-impl Graph {
+impl Hypergraph {
     /// The graph of all sides, whose first vertices are the variables of these names.
     #[tactic(auto, unfolding(crate::specs::Order::graph_of))]
     pub fn new(
@@ -201,14 +201,14 @@ impl Graph {
         names: &NameTable,
         sides: &[NamedNetlist<'_>],
         given: &[NamedNetlist<'_>],
-    ) -> Result<Graph, AllocError>
+    ) -> Result<Hypergraph, AllocError>
         ensures { IfOk result (λ g. g ≡ graph_of names.now sides.now given.now) }
     {
         let mut edges = Vec::new(alloc);
         let mut ranks = Vec::from_elem(alloc, 0u64, names.len())?;
         add_sides(alloc, &mut edges, &mut ranks, names, sides)?;
         add_sides(alloc, &mut edges, &mut ranks, names, given)?;
-        Ok(Graph { edges, ranks })
+        Ok(Hypergraph { edges, ranks })
     }
 
     /// For each gate the vertices of its operands, and its own.

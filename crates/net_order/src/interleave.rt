@@ -2,24 +2,24 @@
 //! "Interleaving based variable ordering methods for ordered binary decision diagrams", ICCAD 1993.
 ghost use Rattle.std.specs.Prelude.{◌≡◌, ℕ, ◌<◌, ◌≤◌, [], length, map, All, OnOk, IfOk, IfErr, Some, None, insert, slice_index};
 ghost use Rattle.net_bench.specs.Circuit.{circuit, variables_of};
-ghost use Rattle.net_order.specs.Order.{declared, interleaved, numbered, put_behind, weave, weave_netlist, with_variable, woven};
-ghost use Rattle.net_order.specs.Tables.{AreKnown, IsVisited, with_names};
+ghost use Rattle.net_order.specs.Order.{declared, interleaved, numbered, put_after, interleave_walk, interleave_netlist, with_variable, interleaved_numbers};
+ghost use Rattle.net_order.specs.Tables.{AreKnown, AreMembershipFlags, with_names};
 
+use crate::falling_rank::by_rank;
 use crate::levels::{Levels, levels_on};
 use crate::order::OrderFault;
-use crate::ranked::by_rank;
 use crate::roots::roots_of;
 use crate::side::NamedNetlist;
 use crate::variables::{MAX_VARIABLES, add_all};
-use crate::walk::{Way, met_below, none_seen, paths_of, walk_below};
+use crate::walk::{OperandOrder, met_below, none_seen, ordered_netlist, walk_below};
 use net_bench::name_table::NameTable;
 use net_bench::netlist::{Netlist, Signal};
 use std::alloc::{AllocError, Global};
 
 /// The place right behind a variable, or the end where it is not there.
-fn place_behind(order: &[u32], last: u32) -> usize
-    ensures inside { result ≤ length order.now }
-    ensures behind { (v : ℕ) → insert order.now result v ≡ put_behind (Some last) v order.now }
+fn place_after(order: &[u32], last: u32) -> usize
+    ensures in_bounds { result ≤ length order.now }
+    ensures inserts_after { (v : ℕ) → insert order.now result v ≡ put_after (Some last) v order.now }
 {
     for i in 0..order.len() {
         if order[i] == last {
@@ -30,11 +30,11 @@ fn place_behind(order: &[u32], last: u32) -> usize
 }
 
 /// Puts a variable right behind another, or to the front where there is none.
-fn put_behind(order: &mut Vec<u32>, last: Option<u32>, variable: u32) -> Result<(), AllocError>
-    ensures { OnOk result (order.new.items ≡ put_behind last variable order.old.items) }
+fn put_after(order: &mut Vec<u32>, last: Option<u32>, variable: u32) -> Result<(), AllocError>
+    ensures { OnOk result (order.new.items ≡ put_after last variable order.old.items) }
 {
     let place = match last {
-        Some(last) => place_behind(order.as_slice(), last),
+        Some(last) => place_after(order.as_slice(), last),
         None => 0,
     };
     match order.insert(place, variable) {
@@ -51,31 +51,31 @@ fn add(
     variable: u32,
 ) -> Result<(), AllocError>
     requires low { variable < length seen.old.items }
-    requires visited { IsVisited seen.old.items order.old.items }
-    ensures visited { OnOk result (IsVisited seen.new.items order.new.items) }
+    requires visited { AreMembershipFlags seen.old.items order.old.items }
+    ensures visited { OnOk result (AreMembershipFlags seen.new.items order.new.items) }
     ensures len { OnOk result (length seen.new.items ≡ length seen.old.items) }
     ensures added { OnOk result (order.new.items ≡ with_variable last variable order.old.items) }
 {
     if seen[variable as usize] {
         return Ok(());
     }
-    put_behind(order, last, variable)?;
+    put_after(order, last, variable)?;
     seen[variable as usize] = true;
     Ok(())
 }
 
 /// Puts the variables of one walk into the order. The seen say which variables are there.
-fn weave(
+fn interleave_walk(
     order: &mut Vec<u32>,
     seen: &mut Vec<bool>,
     variables: &Levels,
     met: &[Signal],
 ) -> Result<(), AllocError>
     requires low { All (λ s. slice_index variables.now s < length seen.old.items) met.now }
-    requires visited { IsVisited seen.old.items order.old.items }
-    ensures visited { OnOk result (IsVisited seen.new.items order.new.items) }
+    requires visited { AreMembershipFlags seen.old.items order.old.items }
+    ensures visited { OnOk result (AreMembershipFlags seen.new.items order.new.items) }
     ensures len { OnOk result (length seen.new.items ≡ length seen.old.items) }
-    ensures woven { OnOk result (order.new.items ≡ weave order.old.items None (map (slice_index variables.now) met.now)) }
+    ensures interleaved_numbers { OnOk result (order.new.items ≡ interleave_walk order.old.items None (map (slice_index variables.now) met.now)) }
 {
     let mut last = None;
     for signal in met {
@@ -88,7 +88,7 @@ fn weave(
 
 /// Weaves a netlist into the order. Only a walk that meets a variable that no walk before it has met is put in: any other
 /// would change nothing.
-fn weave_netlist(
+fn interleave_netlist(
     alloc: Global,
     order: &mut Vec<u32>,
     seen: &mut Vec<bool>,
@@ -96,23 +96,23 @@ fn weave_netlist(
     variables: &Levels,
 ) -> Result<(), AllocError>
     requires low { All (λ s. slice_index variables.now s < length seen.old.items) (variables_of (circuit net.now)) }
-    requires visited { IsVisited seen.old.items order.old.items }
-    ensures visited { OnOk result (IsVisited seen.new.items order.new.items) }
+    requires visited { AreMembershipFlags seen.old.items order.old.items }
+    ensures visited { OnOk result (AreMembershipFlags seen.new.items order.new.items) }
     ensures len { OnOk result (length seen.new.items ≡ length seen.old.items) }
-    ensures woven { OnOk result (order.new.items ≡ weave_netlist (circuit net.now) (slice_index variables.now) order.old.items) }
+    ensures interleaved_numbers { OnOk result (order.new.items ≡ interleave_netlist (circuit net.now) (slice_index variables.now) order.old.items) }
 {
-    let paths = paths_of(alloc, net, Way::ByRank)?;
+    let ordered_net = ordered_netlist(alloc, net, OperandOrder::ByRank)?;
     let roots = roots_of(alloc, net)?;
     let ranked = by_rank(alloc, net, roots.as_slice())?;
     let ranked = ranked.as_slice();
     let mut found = Vec::new(alloc);
-    let mut walked = none_seen(alloc, &paths)?;
+    let mut walked = none_seen(alloc, &ordered_net)?;
     for root in ranked {
         let before = found.len();
-        walk_below(alloc, &paths, &mut found, &mut walked, root.number())?;
+        walk_below(alloc, &ordered_net, &mut found, &mut walked, root.number())?;
         if found.len() > before {
-            let met = met_below(alloc, &paths, root.number())?;
-            weave(order, seen, variables, met.as_slice())?;
+            let met = met_below(alloc, &ordered_net, root.number())?;
+            interleave_walk(order, seen, variables, met.as_slice())?;
         }
     }
     Ok(())
@@ -129,19 +129,19 @@ fn add_variables(
     ensures { OnOk result (table.new ≡ with_names table.old (numbered variables.now order.now)) }
 {
     for variable in order {
-        table.count(alloc, variables.name(*variable))?;
+        table.intern(alloc, variables.name(*variable))?;
     }
     Ok(())
 }
 
 /// The numbers of the variables that walks meet, in interleaved order.
-fn woven(
+fn interleaved_numbers(
     alloc: Global,
     sides: &[NamedNetlist<'_>],
     variables: &NameTable,
 ) -> Result<Vec<u32>, AllocError>
     requires { AreKnown variables.now sides.now }
-    ensures woven { IfOk result (λ v. v.items ≡ woven variables.now sides.now) }
+    ensures interleaved_numbers { IfOk result (λ v. v.items ≡ interleaved_numbers variables.now sides.now) }
     ensures low { IfOk result (λ v. All (λ k. k < length variables.now) v.items) }
 {
     let mut order = Vec::new(alloc);
@@ -149,7 +149,7 @@ fn woven(
     for i in 0..sides.len() {
         let side = &sides[i];
         let numbers = levels_on(alloc, variables, side)?;
-        weave_netlist(alloc, &mut order, &mut seen, side.net(), &numbers)?;
+        interleave_netlist(alloc, &mut order, &mut seen, side.net(), &numbers)?;
     }
     Ok(order)
 }
@@ -167,7 +167,7 @@ pub fn interleaved_table(
     ensures few { IfOk result (λ t. length t ≤ MAX_VARIABLES) }
     ensures err { IfErr result (λ fault. fault ≡ OrderFault.OutOfMemory) }
 {
-    let order = woven(alloc, sides, variables)?;
+    let order = interleaved_numbers(alloc, sides, variables)?;
     let mut table = NameTable::new(alloc);
     add_variables(alloc, &mut table, variables, order.as_slice())?;
     add_all(alloc, &mut table, sides, given)?;

@@ -15,25 +15,25 @@
 #![tactic(auto)]
 
 mod correspondence;
-mod drawing;
 mod edge;
-mod extended;
+mod extended_order;
+mod falling_rank;
 mod force;
+mod force_step;
 mod hypergraph;
-mod indexed;
+mod index_order;
 mod interleave;
 mod levels;
-mod listed;
-mod listings;
+mod listed_order;
 pub mod names;
 pub mod naming;
 pub mod order;
 pub mod order_file;
 pub mod pairing;
-mod ranked;
 mod roots;
 mod side;
-mod trailing;
+mod trailing_number;
 pub mod unfit;
+mod variable_groups;
 mod variables;
 mod walk;

@@ -2,15 +2,15 @@
 ghost use Rattle.std.specs.Prelude.{◌≡◌, ◌⊎◌, ◌↔◌, length, IfOk, IfErr, IsTrue, slice_index};
 ghost use Rattle.net_bench.specs.Circuit.{circuit};
 ghost use Rattle.net_order.specs.declared.order.Order.TheVariants.{Declared};
-ghost use Rattle.net_order.specs.Order.{AreAsMany, AreCounted, IsNaming, condition, correspondence, registers_of};
+ghost use Rattle.net_order.specs.Order.{HaveEqualLength, HaveEqualCounts, IsNaming, condition, correspondence, registers_of};
 ghost use Rattle.net_order.specs.Tables.{AreLevels};
 
 use crate::correspondence::{Correspondence, correspond};
 use crate::levels::{Levels, all_levels, level_at};
-use crate::listings::registers_of;
 use crate::names::{MAX_NAMES, Names};
 use crate::order::{Match, OrderFault};
 use crate::side::{NamedNetlist, sides_of};
+use crate::variable_groups::registers_of;
 use crate::variables::all_variables;
 use net_bench::name_table::NameTable;
 use net_bench::netlist::{Netlist, Signal};
@@ -29,9 +29,9 @@ pub struct Naming {
 
 impl Model for Naming {
     ghost use Rattle.std.specs.Prelude.{[], slice_index_or};
-    ghost use Rattle.net_order.specs.Order.{Paired};
+    ghost use Rattle.net_order.specs.Order.{NamingModel};
 
-    ghost Value = { Paired };
+    ghost Value = { NamingModel };
 
     ghost view = { λ a. record {
       names = a.names;
@@ -116,8 +116,8 @@ impl Naming {
 }
 
 /// By position, whether there are as many of the one as of the other.
-fn are_as_many(how: Match, signals: &[Signal], others: &[Signal]) -> bool
-    ensures { IsTrue result ↔ AreAsMany how signals.now others.now }
+fn have_equal_length(how: Match, signals: &[Signal], others: &[Signal]) -> bool
+    ensures { IsTrue result ↔ HaveEqualLength how signals.now others.now }
 {
     match how {
         Match::Name => true,
@@ -126,16 +126,16 @@ fn are_as_many(how: Match, signals: &[Signal], others: &[Signal]) -> bool
 }
 
 /// By position, whether the numbers of inputs, of outputs and of registers agree.
-pub(crate) fn are_counted(first: &Netlist, second: &Netlist, how: Match) -> bool
-    ensures { IsTrue result ↔ AreCounted how (circuit first.now) (circuit second.now) }
+pub(crate) fn have_equal_counts(first: &Netlist, second: &Netlist, how: Match) -> bool
+    ensures { IsTrue result ↔ HaveEqualCounts how (circuit first.now) (circuit second.now) }
 {
-    are_as_many(how, first.inputs(), second.inputs())
-        && are_as_many(how, first.outputs(), second.outputs())
-        && are_as_many(how, registers_of(first), registers_of(second))
+    have_equal_length(how, first.inputs(), second.inputs())
+        && have_equal_length(how, first.outputs(), second.outputs())
+        && have_equal_length(how, registers_of(first), registers_of(second))
 }
 
 /// The naming whose names by level are these. No list of names is longer than an order file has any.
-pub(crate) fn finish(
+pub(crate) fn naming_of_table(
     alloc: Global,
     first: &Netlist,
     second: &Netlist,
@@ -143,7 +143,7 @@ pub(crate) fn finish(
     sides: &[NamedNetlist<'_>],
     table: NameTable,
 ) -> Result<Naming, AllocError>
-    requires { AreCounted how (circuit first.now) (circuit second.now) }
+    requires { HaveEqualCounts how (circuit first.now) (circuit second.now) }
     ensures names { IfOk result (λ p. p.names ≡ table) }
     ensures levels { IfOk result (AreLevels table sides.now) }
     ensures outputs { IfOk result (λ p. p.outputs ≡ correspondence how (circuit first.now)
@@ -186,9 +186,9 @@ pub fn naming_of(
     ensures named { IfOk result (λ p. IsNaming how (circuit first.now) (circuit second.now) (condition given.entry) Declared p) }
     // There is none where the netlists are not counted, or memory ran out.
     ensures refused { IfErr result (λ f. (f ≡ OrderFault.OutOfMemory)
-        ⊎ ((f ≡ OrderFault.CountsDiffer) × (AreCounted how (circuit first.now) (circuit second.now) → ⊥))) }
+        ⊎ ((f ≡ OrderFault.CountsDiffer) × (HaveEqualCounts how (circuit first.now) (circuit second.now) → ⊥))) }
 {
-    if !are_counted(first, second, how) {
+    if !have_equal_counts(first, second, how) {
         return Err(OrderFault::CountsDiffer);
     }
     let Ok(sides) = sides_of(alloc, first, second, given, how) else {
@@ -196,7 +196,7 @@ pub fn naming_of(
     };
     let (both, condition) = sides.as_slice().split_at(2);
     let table = all_variables(alloc, both, condition)?;
-    match finish(alloc, first, second, how, sides.as_slice(), table) {
+    match naming_of_table(alloc, first, second, how, sides.as_slice(), table) {
         Ok(naming) => Ok(naming),
         Err(_) => Err(OrderFault::OutOfMemory),
     }

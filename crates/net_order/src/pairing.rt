@@ -2,15 +2,15 @@
 ghost use Rattle.std.specs.Prelude.{◌≡◌, ◌<◌, ◌≤◌, ◌⊎◌, length, IfOk, IfErr};
 ghost use Rattle.net_bench.specs.Circuit.{circuit};
 ghost use Rattle.net_order.specs.Order.{IsFit, IsPairing, IsRefused, max_variables, condition, declared, ordered};
-ghost use Rattle.net_order.specs.Tables.{IsUnordered};
+ghost use Rattle.net_order.specs.Tables.{IsOrderingFault};
 
-use crate::extended::extended_table;
+use crate::extended_order::extended_table;
 use crate::force::forced_table;
-use crate::indexed::indexed_table;
+use crate::index_order::indexed_table;
 use crate::interleave::interleaved_table;
-use crate::listed::listed;
+use crate::listed_order::listed_table;
 use crate::names::Names;
-use crate::naming::{Naming, are_counted, finish};
+use crate::naming::{Naming, have_equal_counts, naming_of_table};
 use crate::order::{Match, Order, OrderFault};
 use crate::side::{NamedNetlist, sides_of};
 use crate::variables::{MAX_VARIABLES, declared_table, depth_table};
@@ -27,9 +27,9 @@ pub struct Pairing {
 
 impl Model for Pairing {
     ghost use Rattle.std.specs.Prelude.{◌≤◌, length};
-    ghost use Rattle.net_order.specs.Order.{Paired, max_variables};
+    ghost use Rattle.net_order.specs.Order.{NamingModel, max_variables};
 
-    ghost Value = { Paired };
+    ghost Value = { NamingModel };
 
     ghost view = { λ a. a.naming };
 
@@ -86,7 +86,7 @@ fn ordered_table(
     ensures ok { IfOk result (λ t. t ≡ ordered sides.now given.now order.now) }
     ensures fit { IfOk result (λ t. IsFit (declared sides.now given.now) order.now) }
     ensures few { IfOk result (λ t. length t ≤ max_variables) }
-    ensures err { IfErr result (IsUnordered (declared sides.now given.now) order.now) }
+    ensures err { IfErr result (IsOrderingFault (declared sides.now given.now) order.now) }
 {
     match order {
         Order::Declared => Ok(variables),
@@ -97,7 +97,7 @@ fn ordered_table(
             Ok(table)
         }
         Order::Force => forced_table(alloc, sides, given, &variables),
-        Order::Listed(list) => listed(alloc, &variables, list),
+        Order::Listed(list) => listed_table(alloc, &variables, list),
         Order::Extended(list) => extended_table(alloc, sides, given, &variables, list),
     }
 }
@@ -118,7 +118,7 @@ pub fn pair(
     ensures refused { IfErr result (λ f. (f ≡ OrderFault.OutOfMemory)
         ⊎ IsRefused how (circuit first.now) (circuit second.now) (condition given.entry) order.now f) }
 {
-    if !are_counted(first, second, how) {
+    if !have_equal_counts(first, second, how) {
         return Err(OrderFault::CountsDiffer);
     }
     let Ok(sides) = sides_of(alloc, first, second, given, how) else {
@@ -127,7 +127,7 @@ pub fn pair(
     let (both, condition) = sides.as_slice().split_at(2);
     let variables = declared_table(alloc, both, condition)?;
     let table = ordered_table(alloc, both, condition, order, variables)?;
-    match finish(alloc, first, second, how, sides.as_slice(), table) {
+    match naming_of_table(alloc, first, second, how, sides.as_slice(), table) {
         Ok(naming) => Ok(Pairing { naming }),
         Err(_) => Err(OrderFault::OutOfMemory),
     }

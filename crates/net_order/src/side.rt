@@ -1,7 +1,7 @@
 //! The netlists of a pairing, each with the names of its variables.
 ghost use Rattle.std.specs.Prelude.{◌≡◌, ◌++◌, ℕ, ◌<◌, length, All, IfOk, IsTrue, slice_index};
 ghost use Rattle.net_bench.specs.Circuit.{circuit, variables_of};
-ghost use Rattle.net_order.specs.Order.{AreCounted, Sided, both, condition, given_side, is_member, named, partner};
+ghost use Rattle.net_order.specs.Order.{HaveEqualCounts, NamedNetlistModel, both, condition, given_side, is_member, named, partner};
 ghost use Rattle.net_order.specs.Tables.{AreMatched};
 
 use crate::order::Match;
@@ -13,22 +13,22 @@ use std::marker::Model;
 #[derive(Drop)]
 pub struct NamedNetlist<'a> {
     net: &'a Netlist,
-    namer: &'a Netlist,
+    name_source: &'a Netlist,
     how: Match,
-    /// By position: by signal, for a variable, the one of `namer` that names it.
+    /// By position: by signal, for a variable, the one of `name_source` that names it.
     partners: Vec<u32>,
 }
 
 impl<'a> Model for NamedNetlist<'a> {
     ghost use Rattle.net_bench.specs.Circuit.{circuit};
-    ghost use Rattle.net_order.specs.Order.{Sided};
+    ghost use Rattle.net_order.specs.Order.{NamedNetlistModel};
     ghost use Rattle.net_order.specs.Tables.{IsSide};
 
-    ghost Value = { Sided };
+    ghost Value = { NamedNetlistModel };
 
-    ghost view = { λ s. record { how = s.how; namer = circuit s.namer.now; net = circuit s.net.now } };
+    ghost view = { λ s. record { how = s.how; name_source = circuit s.name_source.now; net = circuit s.net.now } };
 
-    ghost invariant = { λ s. IsSide s.how s.namer.now s.net.now s.partners.items };
+    ghost invariant = { λ s. IsSide s.how s.name_source.now s.net.now s.partners.items };
 }
 
 /// By signal below `count`, the number of its partner: the number in the one list at its first place in the other.
@@ -38,10 +38,10 @@ fn partner_table(
     from: &[Signal],
     to: &[Signal],
 ) -> Result<Vec<u32>, AllocError>
-    requires inside { All (λ s. s < count) from.now }
+    requires in_bounds { All (λ s. s < count) from.now }
     requires same { length from.now ≡ length to.now }
     ensures len { IfOk result (λ v. length v.items ≡ count) }
-    ensures each { IfOk result (λ v. (s : ℕ) → s < count → slice_index v.items s ≡ partner from.now to.now s) }
+    ensures partners_are_right { IfOk result (λ v. (s : ℕ) → s < count → slice_index v.items s ≡ partner from.now to.now s) }
 {
     let mut table = Vec::from_elem(alloc, 0u32, count)?;
     let mut i = from.len();
@@ -57,21 +57,21 @@ impl<'a> NamedNetlist<'a> {
     fn new(
         alloc: Global,
         net: &'a Netlist,
-        namer: &'a Netlist,
+        name_source: &'a Netlist,
         how: Match,
     ) -> Result<NamedNetlist<'a>, AllocError>
-        requires { AreMatched how (circuit namer.now) (circuit net.now) }
-        ensures { IfOk result (λ side. side ≡ record { how = how; namer = circuit namer.entry.now; net = circuit net.entry.now }) }
+        requires { AreMatched how (circuit name_source.now) (circuit net.now) }
+        ensures { IfOk result (λ side. side ≡ record { how = how; name_source = circuit name_source.entry.now; net = circuit net.entry.now }) }
     {
         let variables = net.variables();
-        let names = namer.variables();
+        let names = name_source.variables();
         let partners = match how {
             Match::Name => Vec::new(alloc),
             Match::Position => partner_table(alloc, net.count(), variables, names)?,
         };
         Ok(NamedNetlist {
             net,
-            namer,
+            name_source,
             how,
             partners,
         })
@@ -93,7 +93,7 @@ impl<'a> NamedNetlist<'a> {
             Match::Name => self.net.name(variable),
             Match::Position => {
                 let partner = Signal::of(self.partners[variable.number() as usize]);
-                self.namer.name(partner)
+                self.name_source.name(partner)
             }
         }
     }
@@ -107,7 +107,7 @@ pub fn sides_of<'a>(
     given: Option<&'a Netlist>,
     how: Match,
 ) -> Result<Vec<NamedNetlist<'a>>, AllocError>
-    requires { AreCounted how (circuit first.now) (circuit second.now) }
+    requires { HaveEqualCounts how (circuit first.now) (circuit second.now) }
     ensures { IfOk result (λ sides. sides.items ≡ both how (circuit first.entry.now) (circuit second.entry.now)
         ++ given_side (condition given.entry)) }
 {

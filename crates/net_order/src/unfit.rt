@@ -1,11 +1,11 @@
 //! The name for which a list is no order of the variables of two netlists.
 ghost use Rattle.std.specs.Prelude.{◌≡◌, ◌⊎◌, ◌↔◌, [], IfErr, IfOk, None};
 ghost use Rattle.net_bench.specs.Circuit.{circuit};
-ghost use Rattle.net_order.specs.Order.{IsListing, IsRefused, condition, variables_in};
+ghost use Rattle.net_order.specs.Order.{HasEachVariableOnce, IsRefused, condition, variables_in};
 ghost use Rattle.net_order.specs.Unfit.{first_missing, unfit_from};
 
 use crate::names::Names;
-use crate::naming::are_counted;
+use crate::naming::have_equal_counts;
 use crate::order::{Match, Order, OrderFault};
 use crate::side::sides_of;
 use crate::variables::declared_table;
@@ -101,7 +101,7 @@ fn unfit_among(
             let unfit = Unfit::of(alloc, Misfit::Repeated, name)?;
             return Ok(Some(unfit));
         }
-        before.count(alloc, name)?;
+        before.intern(alloc, name)?;
     }
     first_missing(alloc, variables, &before)
 }
@@ -116,16 +116,16 @@ pub fn unfit_name(
     how: Match,
     list: &Names,
 ) -> Result<Option<Unfit>, OrderFault>
-    ensures told { IfOk result (λ u. u ≡ unfit_from (variables_in how (circuit first.now) (circuit second.now)
+    ensures first_misfit { IfOk result (λ u. u ≡ unfit_from (variables_in how (circuit first.now) (circuit second.now)
         (condition given.entry)) [] list.now) }
     // There is none where `pair` accepts the list, and nowhere else.
-    ensures none { IfOk result (λ u. (u ≡ None) ↔ IsListing
+    ensures none { IfOk result (λ u. (u ≡ None) ↔ HasEachVariableOnce
         (variables_in how (circuit first.now) (circuit second.now) (condition given.entry)) list.now) }
     // What is refused has the cause that `pair` tells for any other order.
     ensures refused { IfErr result (λ f. (f ≡ OrderFault.OutOfMemory)
         ⊎ IsRefused how (circuit first.now) (circuit second.now) (condition given.entry) Order.Declared f) }
 {
-    if !are_counted(first, second, how) {
+    if !have_equal_counts(first, second, how) {
         return Err(OrderFault::CountsDiffer);
     }
     let Ok(sides) = sides_of(alloc, first, second, given, how) else {

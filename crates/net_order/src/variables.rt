@@ -1,12 +1,12 @@
 //! The variables of the netlists of a pairing, as they are declared and as they are met below outputs and next states.
 ghost use Rattle.std.specs.Prelude.{◌≡◌, ◌≤◌, length, All, IsTrue, OnOk, IfOk, IfErr};
 ghost use Rattle.net_bench.specs.Circuit.{variables_of};
-ghost use Rattle.net_order.specs.Order.{Sided, all_names, by_depth, declared, is_member, names_in, names_of_sides, names_on};
-ghost use Rattle.net_order.specs.Tables.{IsOverflow, listed_of, with_names};
+ghost use Rattle.net_order.specs.Order.{NamedNetlistModel, all_names, by_depth, declared, is_member, names_in, names_of_sides, names_on};
+ghost use Rattle.net_order.specs.Tables.{IsOverflow, group_variables, with_names};
 
-use crate::listings::{Listing, listed_of};
 use crate::order::OrderFault;
 use crate::side::NamedNetlist;
+use crate::variable_groups::{VariableGroup, group_variables};
 use net_bench::name_table::NameTable;
 use net_bench::netlist::Signal;
 use std::alloc::{AllocError, Global};
@@ -25,7 +25,7 @@ fn add_names(
     ensures { OnOk result (table.new ≡ with_names table.old (names_on side.now variables.now)) }
 {
     for variable in variables {
-        table.count(alloc, side.name(*variable))?;
+        table.intern(alloc, side.name(*variable))?;
     }
     Ok(())
 }
@@ -35,11 +35,11 @@ fn add_side(
     alloc: Global,
     table: &mut NameTable,
     side: &NamedNetlist<'_>,
-    listing: Listing,
+    listing: VariableGroup,
 ) -> Result<(), AllocError>
-    ensures { OnOk result (table.new ≡ with_names table.old (names_on side.now (listed_of listing side.now.net))) }
+    ensures { OnOk result (table.new ≡ with_names table.old (names_on side.now (group_variables listing side.now.net))) }
 {
-    let variables = listed_of(alloc, side.net(), listing)?;
+    let variables = group_variables(alloc, side.net(), listing)?;
     add_names(alloc, table, side, variables.as_slice())
 }
 
@@ -48,9 +48,9 @@ fn add_sides(
     alloc: Global,
     table: &mut NameTable,
     sides: &[NamedNetlist<'_>],
-    listing: Listing,
+    listing: VariableGroup,
 ) -> Result<(), AllocError>
-    ensures { OnOk result (table.new ≡ with_names table.old (names_of_sides (listed_of listing) sides.now)) }
+    ensures { OnOk result (table.new ≡ with_names table.old (names_of_sides (group_variables listing) sides.now)) }
 {
     for i in 0..sides.len() {
         let side = &sides[i];
@@ -67,8 +67,8 @@ fn add_declared(
 ) -> Result<(), AllocError>
     ensures { OnOk result (table.new ≡ with_names table.old (names_in sides.now)) }
 {
-    add_sides(alloc, table, sides, Listing::Inputs)?;
-    add_sides(alloc, table, sides, Listing::Registers)
+    add_sides(alloc, table, sides, VariableGroup::Inputs)?;
+    add_sides(alloc, table, sides, VariableGroup::Registers)
 }
 
 /// Puts all variables into the table, as they are declared: those of a condition last.
@@ -126,7 +126,7 @@ pub fn depth_table(
     ensures err { IfErr result (λ fault. fault ≡ OrderFault.OutOfMemory) }
 {
     let mut table = NameTable::new(alloc);
-    add_sides(alloc, &mut table, sides, Listing::Met)?;
+    add_sides(alloc, &mut table, sides, VariableGroup::BelowOutputs)?;
     add_all(alloc, &mut table, sides, given)?;
     Ok(table)
 }

@@ -2,17 +2,17 @@
 ghost use Rattle.std.specs.Prelude.{◌≡◌, ◌<◌, ◌==◌, ◌∷◌, ◌++◌, [], length, map, fold, find, reverse, OnOk, IfOk, MatchOption, All, IsTrue};
 ghost use Rattle.std.specs.Prelude.{None};
 ghost use Rattle.net_bench.specs.Circuit.{IsNet, circuit, variables_of};
-ghost use Rattle.net_order.specs.Order.{below, is_member, met, met_below, taken, with_number};
-ghost use Rattle.net_order.specs.Walk.{ArePaths, IsGoing, IsSettled, IsStepsOf, IsWalk, entered, outcome, steps_left};
+ghost use Rattle.net_order.specs.Order.{below, is_member, met, met_below, in_walk_order, with_number};
+ghost use Rattle.net_order.specs.Walk.{AreOrderedOperands, IsWalkToOutcome, IsBetweenWalks, IsStepsOf, IsWalk, entered, outcome, steps_left};
 
-use crate::ranked::by_rank;
+use crate::falling_rank::by_rank;
 use crate::roots::roots_of;
 use net_bench::netlist::{Netlist, Role, Signal};
 use std::alloc::{AllocError, Global};
 
 /// How a walk takes the operands of a gate.
 #[derive(Clone, Copy, Debug, PartialEq, Eq)]
-pub enum Way {
+pub enum OperandOrder {
     /// From left to right.
     Written,
     /// By falling rank, equal ranks from left to right.
@@ -28,26 +28,26 @@ pub enum Frame {
 
 /// A netlist as walks take it.
 #[derive(Drop)]
-pub struct Paths<'a> {
+pub struct OrderedNetlist<'a> {
     pub net: &'a Netlist,
-    pub way: Way,
+    pub operand_order: OperandOrder,
     /// By gate, its operands in the order in which walks take them.
     pub steps: Vec<Vec<Signal>>,
 }
 
 /// The operands of a gate as walks take them.
-fn taken(
+fn in_walk_order(
     alloc: Global,
     net: &Netlist,
-    way: Way,
+    operand_order: OperandOrder,
     operands: &[Signal],
 ) -> Result<Vec<Signal>, AllocError>
     requires { All (λ s. s < length net.now.names) operands.now }
-    ensures { IfOk result (λ v. v.items ≡ taken way (circuit net.now) operands.now) }
+    ensures { IfOk result (λ v. v.items ≡ in_walk_order operand_order (circuit net.now) operands.now) }
 {
-    match way {
-        Way::Written => Vec::from_slice(alloc, operands),
-        Way::ByRank => by_rank(alloc, net, operands),
+    match operand_order {
+        OperandOrder::Written => Vec::from_slice(alloc, operands),
+        OperandOrder::ByRank => by_rank(alloc, net, operands),
     }
 }
 
@@ -60,27 +60,39 @@ fn push_list(lists: &mut Vec<Vec<Signal>>, list: Vec<Signal>) -> Result<(), Allo
 }
 
 /// By gate, its operands in the order in which walks take them.
-fn all_taken(alloc: Global, net: &Netlist, way: Way) -> Result<Vec<Vec<Signal>>, AllocError>
+fn all_in_walk_order(
+    alloc: Global,
+    net: &Netlist,
+    operand_order: OperandOrder,
+) -> Result<Vec<Vec<Signal>>, AllocError>
     ensures sound { IsNet net.now }
-    ensures lists { IfOk result (λ v. map (λ l. l.items) v.items ≡ map (λ g. taken way (circuit net.now) g.operands) net.now.gates) }
+    ensures lists { IfOk result (λ v. map (λ l. l.items) v.items ≡ map (λ g. in_walk_order operand_order (circuit net.now) g.operands) net.now.gates) }
 {
     let mut steps = Vec::new(alloc);
     let gates = net.gates();
     for gate in gates {
-        let list = taken(alloc, net, way, gate.operands.as_slice())?;
+        let list = in_walk_order(alloc, net, operand_order, gate.operands.as_slice())?;
         push_list(&mut steps, list)?;
     }
     Ok(steps)
 }
 
 /// The netlist as walks of this way take it.
-pub fn paths_of<'a>(alloc: Global, net: &'a Netlist, way: Way) -> Result<Paths<'a>, AllocError>
+pub fn ordered_netlist<'a>(
+    alloc: Global,
+    net: &'a Netlist,
+    operand_order: OperandOrder,
+) -> Result<OrderedNetlist<'a>, AllocError>
     ensures net { IfOk result (λ p. p.net.now ≡ net.now) }
-    ensures way { IfOk result (λ p. p.way ≡ way) }
-    ensures paths { IfOk result (λ p. ArePaths way net.now (map (λ l. l.items) p.steps.items)) }
+    ensures operand_order { IfOk result (λ p. p.operand_order ≡ operand_order) }
+    ensures ordered_net { IfOk result (λ p. AreOrderedOperands operand_order net.now (map (λ l. l.items) p.steps.items)) }
 {
-    let steps = all_taken(alloc, net, way)?;
-    Ok(Paths { net, way, steps })
+    let steps = all_in_walk_order(alloc, net, operand_order)?;
+    Ok(OrderedNetlist {
+        net,
+        operand_order,
+        steps,
+    })
 }
 
 /// Puts the operands on the stack, the first on top.
@@ -96,16 +108,16 @@ fn push_operands(stack: &mut Vec<Frame>, operands: &[Signal]) -> Result<(), Allo
 }
 
 /// The operands of the signal's gate as walks take them, none for a variable.
-fn steps_of<'a>(paths: &'a Paths<'_>, signal: u32) -> Option<&'a [Signal]>
-    requires inside { signal < length paths.now.net.now.names }
-    requires paths { ArePaths paths.now.way paths.now.net.now (map (λ l. l.items) paths.now.steps.items) }
-    ensures { MatchOption result (find (λ g. g.out == signal) paths.now.net.now.gates ≡ None)
-        (λ os. IsStepsOf paths.now.way (circuit paths.now.net.now) signal os.now) }
+fn walk_operands<'a>(ordered_net: &'a OrderedNetlist<'_>, signal: u32) -> Option<&'a [Signal]>
+    requires in_bounds { signal < length ordered_net.now.net.now.names }
+    requires ordered_net { AreOrderedOperands ordered_net.now.operand_order ordered_net.now.net.now (map (λ l. l.items) ordered_net.now.steps.items) }
+    ensures { MatchOption result (find (λ g. g.out == signal) ordered_net.now.net.now.gates ≡ None)
+        (λ os. IsStepsOf ordered_net.now.operand_order (circuit ordered_net.now.net.now) signal os.now) }
 {
-    let Role::Gate(place) = paths.net.role(Signal::of(signal)) else {
+    let Role::Gate(place) = ordered_net.net.role(Signal::of(signal)) else {
         return None;
     };
-    match paths.steps.get(place as usize) {
+    match ordered_net.steps.get(place as usize) {
         Some(list) => Some(list.as_slice()),
         None => None,
     }
@@ -113,25 +125,25 @@ fn steps_of<'a>(paths: &'a Paths<'_>, signal: u32) -> Option<&'a [Signal]>
 
 /// Enters a signal: passes it where it has been walked, and else puts a variable among those found, or opens a gate.
 fn enter(
-    paths: &Paths<'_>,
+    ordered_net: &OrderedNetlist<'_>,
     found: &mut Vec<Signal>,
     seen: &mut Vec<bool>,
     stack: &mut Vec<Frame>,
     signal: u32,
 ) -> Result<(), AllocError>
-    requires paths { ArePaths paths.now.way paths.now.net.now (map (λ l. l.items) paths.now.steps.items) }
-    requires walking { IsGoing paths.now.way (circuit paths.now.net.now) found.old.items seen.old.items
+    requires ordered_net { AreOrderedOperands ordered_net.now.operand_order ordered_net.now.net.now (map (λ l. l.items) ordered_net.now.steps.items) }
+    requires walking { IsWalkToOutcome ordered_net.now.operand_order (circuit ordered_net.now.net.now) found.old.items seen.old.items
         (Frame.Enter signal ∷ reverse stack.old.items) }
-    ensures walking { OnOk result (IsWalk paths.now.way (circuit paths.now.net.now)
-        (outcome paths.now.way (circuit paths.now.net.now) found.old.items
+    ensures walking { OnOk result (IsWalk ordered_net.now.operand_order (circuit ordered_net.now.net.now)
+        (outcome ordered_net.now.operand_order (circuit ordered_net.now.net.now) found.old.items
         (Frame.Enter signal ∷ reverse stack.old.items)) found.new.items seen.new.items (reverse stack.new.items)) }
-    ensures fewer { OnOk result (steps_left paths.now.way (circuit paths.now.net.now) (reverse stack.new.items) < steps_left paths.now.way
-        (circuit paths.now.net.now) (Frame.Enter signal ∷ reverse stack.old.items)) }
+    ensures fewer_steps_left { OnOk result (steps_left ordered_net.now.operand_order (circuit ordered_net.now.net.now) (reverse stack.new.items) < steps_left ordered_net.now.operand_order
+        (circuit ordered_net.now.net.now) (Frame.Enter signal ∷ reverse stack.old.items)) }
 {
     if seen[signal as usize] {
         return Ok(());
     }
-    match steps_of(paths, signal) {
+    match walk_operands(ordered_net, signal) {
         None => {
             found.push(Signal::of(signal))?;
             seen[signal as usize] = true;
@@ -148,24 +160,24 @@ fn enter(
 /// Walks below a signal: puts the variables that are met for the first time behind those that were found before.
 pub fn walk_below(
     alloc: Global,
-    paths: &Paths<'_>,
+    ordered_net: &OrderedNetlist<'_>,
     found: &mut Vec<Signal>,
     seen: &mut Vec<bool>,
     root: u32,
 ) -> Result<(), AllocError>
-    requires paths { ArePaths paths.now.way paths.now.net.now (map (λ l. l.items) paths.now.steps.items) }
-    requires inside { root < length paths.now.net.now.names }
-    requires settled { IsSettled paths.now.way (circuit paths.now.net.now) found.old.items seen.old.items }
-    ensures settled { OnOk result (IsSettled paths.now.way (circuit paths.now.net.now) found.new.items seen.new.items) }
+    requires ordered_net { AreOrderedOperands ordered_net.now.operand_order ordered_net.now.net.now (map (λ l. l.items) ordered_net.now.steps.items) }
+    requires in_bounds { root < length ordered_net.now.net.now.names }
+    requires between_walks { IsBetweenWalks ordered_net.now.operand_order (circuit ordered_net.now.net.now) found.old.items seen.old.items }
+    ensures between_walks { OnOk result (IsBetweenWalks ordered_net.now.operand_order (circuit ordered_net.now.net.now) found.new.items seen.new.items) }
     ensures found { OnOk result (found.new.items ≡ fold with_number found.old.items
-        (below paths.now.way (circuit paths.now.net.now) root)) }
+        (below ordered_net.now.operand_order (circuit ordered_net.now.net.now) root)) }
 {
     let mut stack = Vec::new(alloc);
     stack.push(Frame::Enter(root))?;
     while let Some(frame) = stack.pop() {
         match frame {
             Frame::Enter(signal) => {
-                enter(paths, found, seen, &mut stack, signal)?;
+                enter(ordered_net, found, seen, &mut stack, signal)?;
             }
             Frame::Leave(signal) => seen[signal as usize] = true,
         }
@@ -174,21 +186,25 @@ pub fn walk_below(
 }
 
 /// What was visited by a walk that has not begun.
-pub fn none_seen(alloc: Global, paths: &Paths<'_>) -> Result<Vec<bool>, AllocError>
-    ensures { IfOk result (λ v. IsSettled paths.now.way (circuit paths.now.net.now) [] v.items) }
+pub fn none_seen(alloc: Global, ordered_net: &OrderedNetlist<'_>) -> Result<Vec<bool>, AllocError>
+    ensures { IfOk result (λ v. IsBetweenWalks ordered_net.now.operand_order (circuit ordered_net.now.net.now) [] v.items) }
 {
-    Vec::from_elem(alloc, false, paths.net.count())
+    Vec::from_elem(alloc, false, ordered_net.net.count())
 }
 
 /// The variables below one signal, each where a walk meets it first.
-pub fn met_below(alloc: Global, paths: &Paths<'_>, root: u32) -> Result<Vec<Signal>, AllocError>
-    requires paths { ArePaths paths.now.way paths.now.net.now (map (λ l. l.items) paths.now.steps.items) }
-    requires inside { root < length paths.now.net.now.names }
-    ensures { IfOk result (λ v. v.items ≡ met_below paths.now.way (circuit paths.now.net.now) root) }
+pub fn met_below(
+    alloc: Global,
+    ordered_net: &OrderedNetlist<'_>,
+    root: u32,
+) -> Result<Vec<Signal>, AllocError>
+    requires ordered_net { AreOrderedOperands ordered_net.now.operand_order ordered_net.now.net.now (map (λ l. l.items) ordered_net.now.steps.items) }
+    requires in_bounds { root < length ordered_net.now.net.now.names }
+    ensures { IfOk result (λ v. v.items ≡ met_below ordered_net.now.operand_order (circuit ordered_net.now.net.now) root) }
 {
     let mut found = Vec::new(alloc);
-    let mut seen = none_seen(alloc, paths)?;
-    walk_below(alloc, paths, &mut found, &mut seen, root)?;
+    let mut seen = none_seen(alloc, ordered_net)?;
+    walk_below(alloc, ordered_net, &mut found, &mut seen, root)?;
     Ok(found)
 }
 
@@ -198,13 +214,13 @@ pub fn met(alloc: Global, net: &Netlist) -> Result<Vec<Signal>, AllocError>
     ensures known { IfOk result (λ v. All (λ s. s < length net.now.names) v.items) }
     ensures variables { IfOk result (λ v. All (λ s. IsTrue (is_member s (variables_of (circuit net.now)))) v.items) }
 {
-    let paths = paths_of(alloc, net, Way::Written)?;
+    let ordered_net = ordered_netlist(alloc, net, OperandOrder::Written)?;
     let mut found = Vec::new(alloc);
-    let mut seen = none_seen(alloc, &paths)?;
+    let mut seen = none_seen(alloc, &ordered_net)?;
     let roots = roots_of(alloc, net)?;
     let roots = roots.as_slice();
     for root in roots {
-        walk_below(alloc, &paths, &mut found, &mut seen, root.number())?;
+        walk_below(alloc, &ordered_net, &mut found, &mut seen, root.number())?;
     }
     Ok(found)
 }

@@ -52,15 +52,15 @@ impl Source for Endless {
 
 /// A reader and writer of std each call of which fails.
 #[derive(Drop)]
-pub struct Refusing;
+pub struct AlwaysFailing;
 
-impl io::Read for Refusing {
+impl io::Read for AlwaysFailing {
     fn read(&mut self, _buf: &mut [u8]) -> io::Result<usize> {
         Err(io::Error::from(io::ErrorKind::ConnectionReset))
     }
 }
 
-impl io::Write for Refusing {
+impl io::Write for AlwaysFailing {
     fn write(&mut self, _buf: &[u8]) -> io::Result<usize> {
         Err(io::Error::from(io::ErrorKind::ConnectionReset))
     }

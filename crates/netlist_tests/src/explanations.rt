@@ -1,7 +1,7 @@
 // Explanations of a difference, and the values as a VCD: texts for a few netlists, with ample memory.
 use net_bench::netlist::{Netlist, Signal};
 use net_bench::reader::parse_bench;
-use net_explain::{Half, explain, explanation_of, values, vcd_of};
+use net_explain::{WhichNetlist, explain, explanation_of, values, vcd_of};
 use net_order::naming::{Naming, naming_of};
 use net_order::order::Match;
 use std::alloc::Global;
@@ -110,7 +110,7 @@ fn kinds_of_gates(rt: HostRuntime) -> Result<(), Fail> {
         rt.alloc(),
         &nets.first,
         &nets.naming,
-        Half::First,
+        WhichNetlist::First,
         &[true, false, true],
     )?;
     let names = ["g1", "g2", "g3", "g4", "g5", "g6", "g7", "g8"];
@@ -127,8 +127,20 @@ fn kinds_of_gates(rt: HostRuntime) -> Result<(), Fail> {
 fn values_as_vcd(rt: HostRuntime) -> Result<(), Fail> {
     let nets = nets_of(rt.alloc(), TOGGLED, HELD)?;
     let at = [true, false];
-    let first = values(rt.alloc(), &nets.first, &nets.naming, Half::First, &at)?;
-    let second = values(rt.alloc(), &nets.second, &nets.naming, Half::Second, &at)?;
+    let first = values(
+        rt.alloc(),
+        &nets.first,
+        &nets.naming,
+        WhichNetlist::First,
+        &at,
+    )?;
+    let second = values(
+        rt.alloc(),
+        &nets.second,
+        &nets.naming,
+        WhichNetlist::Second,
+        &at,
+    )?;
     if first.len() != nets.first.count() || second.len() != nets.second.count() {
         return Ok(());
     }

@@ -1,6 +1,6 @@
 // Of the reader, what no contract says: that each call succeeds with ample memory, and what devices that drip, fail or never end come to.
-use crate::devices::{Endless, OneByte, Refusing};
-use net_bench::device::{Failed, InMemory, Sink, TextFault, Through, read_text};
+use crate::devices::{AlwaysFailing, Endless, OneByte};
+use net_bench::device::{Failed, InMemory, Sink, StdDevice, TextFault, read_text};
 use net_bench::fault::BenchFault;
 use net_bench::name_table::NameTable;
 use net_bench::netlist::{Netlist, Signal};
@@ -25,8 +25,8 @@ fn fault_of(alloc: Global, text: &str) -> Option<BenchFault> {
 
 #[test]
 fn undefined_and_cycle(rt: HostRuntime) -> Result<(), Fail> {
-    let alone = fault_of(rt.alloc(), "OUTPUT(z)");
-    assert!(rt; alone == Some(BenchFault::Undefined { line: 1 }));
+    let undefined = fault_of(rt.alloc(), "OUTPUT(z)");
+    assert!(rt; undefined == Some(BenchFault::Undefined { line: 1 }));
     let round = fault_of(rt.alloc(), LOOP);
     assert!(rt; round == Some(BenchFault::Cycle { line: 3 }));
     let both = fault_of(rt.alloc(), LOOP_AND_MORE);
@@ -56,7 +56,7 @@ fn c17_read(rt: HostRuntime) -> Result<(), Fail> {
 }
 
 /// The fault of a text that drips from a device, which fails where so many bytes are left.
-fn dripping_fault(alloc: Global, text: &str, fails_at: usize) -> Option<BenchFault> {
+fn fault_when_failing_at(alloc: Global, text: &str, fails_at: usize) -> Option<BenchFault> {
     let mut device = OneByte {
         left: text.as_bytes(),
         fails_at,
@@ -67,11 +67,11 @@ fn dripping_fault(alloc: Global, text: &str, fails_at: usize) -> Option<BenchFau
 
 #[test]
 fn devices(rt: HostRuntime) -> Result<(), Fail> {
-    let mut whole = Through::new(C17.as_bytes());
+    let mut whole = StdDevice::new(C17.as_bytes());
     assert!(rt; read_bench(rt.alloc(), &mut whole)?.count() == 11);
-    assert!(rt; dripping_fault(rt.alloc(), C17, 1000).is_none());
+    assert!(rt; fault_when_failing_at(rt.alloc(), C17, 1000).is_none());
     for fails_at in 0..C17.len() + 1 {
-        let fault = dripping_fault(rt.alloc(), C17, fails_at);
+        let fault = fault_when_failing_at(rt.alloc(), C17, fails_at);
         assert!(rt;
             fault == Some(BenchFault::Read),
             "with {fails_at} bytes left"
@@ -91,11 +91,11 @@ fn texts_in_memory(rt: HostRuntime) -> Result<(), Fail> {
 
 #[test]
 fn failing_devices(rt: HostRuntime) -> Result<(), Fail> {
-    let read = read_bench(rt.alloc(), &mut Through::new(Refusing));
+    let read = read_bench(rt.alloc(), &mut StdDevice::new(AlwaysFailing));
     assert!(rt; read.err() == Some(BenchFault::Read));
-    let mut sink = Through::new(Refusing);
+    let mut sink = StdDevice::new(AlwaysFailing);
     assert!(rt; sink.write(b"ab") == Err(Failed));
-    assert!(rt; Through::new(Refusing).flush() == Err(Failed));
+    assert!(rt; StdDevice::new(AlwaysFailing).flush() == Err(Failed));
     Ok(())
 }
 
@@ -113,7 +113,7 @@ fn name_tables(rt: HostRuntime) -> Result<(), Fail> {
     let alloc = rt.alloc();
     let mut table = NameTable::new(alloc);
     for (name, number) in [("b", 0), ("a", 1), ("b", 0)] {
-        assert!(rt; table.count(alloc, name.as_bytes())? == number);
+        assert!(rt; table.intern(alloc, name.as_bytes())? == number);
     }
     let names = table.to_names(alloc)?;
     assert!(rt; names.len() == 2);

@@ -1,7 +1,7 @@
 // Pairs and order files: that each call succeeds with ample memory, and what devices that fail or never end come to.
 use crate::devices::{Endless, OneByte};
 use crate::netlists::C17;
-use net_bench::device::Through;
+use net_bench::device::StdDevice;
 use net_bench::netlist::{Netlist, Signal};
 use net_bench::reader::parse_bench;
 use net_order::order::{Match, Order, OrderFault};
@@ -29,7 +29,7 @@ fn netlist(alloc: Global, text: &str) -> Result<Netlist, OrderFault> {
 }
 
 /// Two texts paired.
-fn paired(
+fn pair_texts(
     alloc: Global,
     first: &str,
     second: &str,
@@ -43,8 +43,8 @@ fn paired(
 
 /// The names of the variables of a text against itself, in the order of the file, a line each.
 fn listed(alloc: Global, file: &str) -> Result<Vec<u8>, OrderFault> {
-    let names = read_order(alloc, &mut Through::new(file.as_bytes()))?;
-    let pairing = paired(alloc, PAIRS, PAIRS, Match::Name, &Order::Listed(names))?;
+    let names = read_order(alloc, &mut StdDevice::new(file.as_bytes()))?;
+    let pairing = pair_texts(alloc, PAIRS, PAIRS, Match::Name, &Order::Listed(names))?;
     Ok(order_text(alloc, pairing.names())?)
 }
 
@@ -59,8 +59,8 @@ fn listed_orders(rt: HostRuntime) -> Result<(), Fail> {
 
 /// The names of the variables of a text against itself, in the order that the file gives as far as it goes, a line each.
 fn extended(alloc: Global, file: &str) -> Result<Vec<u8>, OrderFault> {
-    let names = read_order(alloc, &mut Through::new(file.as_bytes()))?;
-    let pairing = paired(alloc, PAIRS, PAIRS, Match::Name, &Order::Extended(names))?;
+    let names = read_order(alloc, &mut StdDevice::new(file.as_bytes()))?;
+    let pairing = pair_texts(alloc, PAIRS, PAIRS, Match::Name, &Order::Extended(names))?;
     Ok(order_text(alloc, pairing.names())?)
 }
 
@@ -80,7 +80,7 @@ fn extended_orders(rt: HostRuntime) -> Result<(), Fail> {
 
 /// The first name for which the file is no order of the variables of a text against itself.
 fn unfit(alloc: Global, file: &str) -> Result<Option<Unfit>, OrderFault> {
-    let names = read_order(alloc, &mut Through::new(file.as_bytes()))?;
+    let names = read_order(alloc, &mut StdDevice::new(file.as_bytes()))?;
     let net = netlist(alloc, PAIRS)?;
     unfit_name(alloc, &net, &net, None, Match::Name, &names)
 }
@@ -95,11 +95,11 @@ fn unfit_names(rt: HostRuntime) -> Result<(), Fail> {
     ];
     for (file, why, name) in rows {
         let found = unfit(rt.alloc(), file)?;
-        let is_told = match &found {
+        let is_expected = match &found {
             Some(unfit) => unfit.why() == why && unfit.name() == name.as_bytes(),
             None => false,
         };
-        assert!(rt; is_told);
+        assert!(rt; is_expected);
     }
     let fits = unfit(rt.alloc(), "x6 x5 x4 x3 x2 x1")?;
     assert!(rt; fits.is_none());
@@ -113,7 +113,7 @@ fn is_only(signals: &[Signal], number: u32) -> bool {
 
 #[test]
 fn outputs(rt: HostRuntime) -> Result<(), Fail> {
-    let pairing = paired(rt.alloc(), C17, C17C, Match::Name, &Order::Declared)?;
+    let pairing = pair_texts(rt.alloc(), C17, C17C, Match::Name, &Order::Declared)?;
     let naming = pairing.naming();
     assert!(rt; naming.output_pairs().len() == 1);
     assert!(rt; is_only(naming.only_first(), 6) && is_only(naming.only_second(), 6));
@@ -122,12 +122,12 @@ fn outputs(rt: HostRuntime) -> Result<(), Fail> {
 
 #[test]
 fn counts_differ(rt: HostRuntime) {
-    let short = paired(rt.alloc(), C17, C17_SHORT, Match::Position, &Order::Depth);
+    let short = pair_texts(rt.alloc(), C17, C17_SHORT, Match::Position, &Order::Depth);
     assert!(rt; short.err() == Some(OrderFault::CountsDiffer));
 }
 
 /// The fault of an order file that drips from a device, which fails where so many bytes are left.
-fn dripping_fault(alloc: Global, file: &str, fails_at: usize) -> Option<OrderFault> {
+fn fault_when_failing_at(alloc: Global, file: &str, fails_at: usize) -> Option<OrderFault> {
     let mut device = OneByte {
         left: file.as_bytes(),
         fails_at,
@@ -139,9 +139,9 @@ fn dripping_fault(alloc: Global, file: &str, fails_at: usize) -> Option<OrderFau
 #[test]
 fn order_devices(rt: HostRuntime) -> Result<(), Fail> {
     let file = "x1 x3\nx5";
-    assert!(rt; dripping_fault(rt.alloc(), file, 1000).is_none());
+    assert!(rt; fault_when_failing_at(rt.alloc(), file, 1000).is_none());
     for fails_at in 0..file.len() + 1 {
-        let fault = dripping_fault(rt.alloc(), file, fails_at);
+        let fault = fault_when_failing_at(rt.alloc(), file, fails_at);
         assert!(rt;
             fault == Some(OrderFault::Read),
             "with {fails_at} bytes left"

@@ -5,11 +5,11 @@ use Rattle.dd_store.specs.Nodes.{Nodes, IsSound, count_of}
 use Rattle.dd_store.proofs.View.{keeps-trans}
 use Rattle.expand_work.specs.declared.fault.WaveFault.{WaveFault}
 use Rattle.req_table.specs.declared.Key.{Key}
-use Rattle.req_table.specs.declared.placed.Placed.{Placed}
+use Rattle.req_table.specs.declared.packed_child.PackedChild.{PackedChild}
 use Rattle.req_table.specs.Places.{row, AreNone, IsLastLevel}
 use Rattle.reduce_up.specs.OverParts.{level_over, over_parts}
 use Rattle.reduce_up.specs.Reducing.{AddsDescribed}
-use Rattle.reduce_up.specs.Up.{IsReadyAt, AskedAt, IsLevelReduced, IsLevelFault, AreReducedBelow, AreMore, AreCounted, MayReduce}
+use Rattle.reduce_up.specs.ReductionPhase.{IsReadyAt, AskedAt, IsLevelReduced, IsLevelFault, AreReducedBelow, AreMore, AreCounted, MayReduce}
 use Rattle.reduce_up.specs.Waves.{Entry, IsWanted, IsWaveFault}
 use Rattle.reduce_up.proofs.OverParts.{over_at}
 use Rattle.reduce_up.proofs.Raising.{none_split, last_left, level_ready, level_next, levels_left, level_refused}
@@ -21,14 +21,14 @@ use Rattle.reduce_up.proofs.Wanted.{level_adds}
 pub record OnTheWay : Type 0 where
   pub S : Nodes
   pub sound : IsSound S
-  pub first : List (List (List (Placed × Placed)))
+  pub first : List (List (List (PackedChild × PackedChild)))
   pub from : ℕ
   pub within : from ≤ S.levels
   pub entries : List Entry
   pub tables : List (List Key)
   pub known : List (List Ref)
   pub may : MayReduce S entries from (over_parts S.levels first) known tables
-  pub parts : List (List (List (Placed × Placed)))
+  pub parts : List (List (List (PackedChild × PackedChild)))
   pub end : ℕ
   pub bound : end ≤ from
   pub left : (w : ℕ) → w < end → level_over parts w ≡ level_over first w
@@ -37,7 +37,7 @@ pub record OnTheWay : Type 0 where
   pub reduced : AreReducedBelow S entries tables end s answers
 
 module _ (o : OnTheWay) where
-  abbrev rows : List (List (Placed × Placed))
+  abbrev rows : List (List (PackedChild × PackedChild))
   rows = over_parts o.S.levels o.first
 
   same : (w : ℕ) → w < o.end → row (over_parts o.S.levels o.parts) w ≡ row rows w
@@ -80,10 +80,10 @@ module _ (o : OnTheWay) where
 
     -- it has requests, and can be reduced
     pub some_over : 0 < length (level_over o.parts v)
-    some_over = subst (λ (z : List (Placed × Placed)). 0 < length z) read (last (Some v) h).1
+    some_over = subst (λ (z : List (PackedChild × PackedChild)). 0 < length z) read (last (Some v) h).1
 
     pub ready_over : IsReadyAt o.s o.tables (level_over o.parts v) o.answers v
-    ready_over = subst (λ (z : List (Placed × Placed)). IsReadyAt o.s o.tables z o.answers v) read
+    ready_over = subst (λ (z : List (PackedChild × PackedChild)). IsReadyAt o.s o.tables z o.answers v) read
         (level_ready _ o.sound _ o.may.operands _ _ _ _ o.may.ready.expanded v o.s o.answers lt fit below)
 
     -- what it adds, and why it is refused

@@ -7,7 +7,7 @@ use Rattle.std.proofs.Math.ListN.{length-take, length-drop}
 use Rattle.dd_store.specs.declared.reference.Ref.{Ref}
 use Rattle.dd_store.specs.Functions.{Agree, IsFixedSomehow, DependsOn}
 use Rattle.dd_store.specs.Nodes.{Nodes, IsSound, den}
-use Rattle.dd_store.specs.Parts.{Met}
+use Rattle.dd_store.specs.Parts.{IsReachable}
 use Rattle.dd_store.specs.Parts.Part.{node}
 use Rattle.dd_store.specs.View.{part, Has, IsOneNode}
 use Rattle.dd_store.proofs.References.{node_for, NodeOf, reads, canonical}
@@ -34,16 +34,16 @@ module _ (S : Nodes) (w : IsSound S) where
   node_reads m v lo hi h e = reads Ref same_ref S.levels (part S) (Has S) (den S) (parts S w) (denotes S w) m v lo hi h e
 
   -- a node that denotes a reference's function with the bits before its level fixed lies below the reference
-  pub lies_below : (r m : Ref) (v : ℕ) (lo hi : Ref) → Has S r → Has S m → part S m ≡ node v lo hi → IsFixedSomehow S.levels v (den S r) (den S m) → Met (part S) r m
+  pub lies_below : (r m : Ref) (v : ℕ) (lo hi : Ref) → Has S r → Has S m → part S m ≡ node v lo hi → IsFixedSomehow S.levels v (den S r) (den S m) → IsReachable (part S) r m
   lies_below r m v lo hi hr hm e f =
       let lt : v < S.levels = (parts S w).level m v lo hi hm e in
       let at : (m' : Ref) × NodeOf Ref same_ref S.levels (part S) (Has S) (den S) (parts S w) (denotes S w) r v (den S m) m' =
       node_for Ref same_ref S.levels (part S) (Has S) (den S) (parts S w) (denotes S w) r v (den S m) hr f (node_reads m v lo hi hm e) in
-      subst (λ z. Met (part S) r z)
+      subst (λ z. IsReachable (part S) r z)
       (canonical Ref same_ref S.levels (part S) (Has S) (den S) (parts S w) (denotes S w) at.0 m at.1.has hm (in_parts S.levels v (omega arith) (den S at.0) (den S m) at.1.value)) at.1.reached
 
   -- below a reference stands the complement of a node that denotes the complement of its function with the bits before the node's level fixed
-  pub complement_below : (r m : Ref) (v : ℕ) (lo hi : Ref) → Has S r → Has S m → part S m ≡ node v lo hi → IsFixedSomehow S.levels v (den S r) (λ x. not (den S m x)) → (c : Ref) × Met (part S) r c × IsOneNode S m c
+  pub complement_below : (r m : Ref) (v : ℕ) (lo hi : Ref) → Has S r → Has S m → part S m ≡ node v lo hi → IsFixedSomehow S.levels v (den S r) (λ x. not (den S m x)) → (c : Ref) × IsReachable (part S) r c × IsOneNode S m c
   complement_below r m v lo hi hr hm e f =
       let opposite : List Bool → Bool = λ (x : List Bool). not (den S m x) in
       let lt : v < S.levels = (parts S w).level m v lo hi hm e in

@@ -10,7 +10,7 @@ use Rattle.req_table.specs.Keys.{IsKey, level_of, child_of, wave_of}
 use Rattle.req_table.specs.Reached.{IsReached, root, child}
 use Rattle.req_table.specs.Settled.{IsClosure, key_of}
 use Rattle.req_table.proofs.Lists as lists
-use Rattle.req_table.proofs.Waved.{told, deeper, held, bounded, asked_meaning, done_meaning, done_low, seam_bit}
+use Rattle.req_table.proofs.Waved.{child_level, deeper, held, bounded, asked_meaning, done_meaning, done_low, seam_bit}
 use Rattle.reduce_up.specs.Reducing.{IsKeyAt, IsChild, IsRecordAt}
 use Rattle.req_table.specs.Tables.{row_at}
 use Rattle.reduce_up.specs.Levels.{IsAsked, AreRecords}
@@ -32,7 +32,7 @@ module _ (S : Nodes) (w : IsSound S) (workers : ℕ) (roots : List Key) (good : 
     denotes = λ q x hq hx. done_meaning S w k b r i e (q ++ b ∷ x) (seam_bit S w k b q x hq);
   }
   right k b (Ask l c m) i e =
-      let t : l ≡ level_of S c = told S w k c b l m e in
+      let t : l ≡ level_of S c = child_level S w k c b l m e in
       let h : IsKey S c = held S w k c b l m i e in
       let d : level_of S k < level_of S c = deeper S w k c b l m i e in (
         subst (λ z. level_of S k < z) (sym t) d,
@@ -49,7 +49,7 @@ module _ (S : Nodes) (w : IsSound S) (workers : ℕ) (roots : List Key) (good : 
     asked_here : (k : Key) (b : Bool) (c : Child) → IsReached (wave_of S workers) roots k → child_of S k b ≡ c → IsAsked rows c
     asked_here k b (Done r) i e = tt
     asked_here k b (Ask l c m) i e =
-        let t : l ≡ level_of S c = told S w k c b l m e in
+        let t : l ≡ level_of S c = child_level S w k c b l m e in
         subst (λ z. (r : Record) × Contains (row_at rows z) r × (r.key ≡ c)) (sym t) (recorded c (child b l m i e))
 
     pub reached_at : (v : ℕ) (r : Record) → v < S.levels → Contains (row_at rows v) r → IsReached (wave_of S workers) roots r.key

@@ -5,7 +5,7 @@ use Rattle.std.proofs.Math.ListN.{get_or-eq_default}
 use Rattle.std.proofs.lemmas.List.{map-set, length-map}
 use Rattle.std.proofs.lemmas.List.Elements.{Contains-push, Contains-push_cases, Contains-append_left}
 use Rattle.dd_store.specs.Graph.{Pair}
-use Rattle.dd_store.specs.Codes.{shard_of_pair}
+use Rattle.dd_store.specs.Hashes.{shard_of_pair}
 use Rattle.dd_store.specs.Growing.{IsIn}
 use Rattle.dd_store.specs.Levels.{list_at}
 use Rattle.dd_store.proofs.Places.{slice_get-push, slice_get-append, slice_get_cases-push}

@@ -14,7 +14,7 @@ use native.Mathlib.Decide.{ℕ_discrete}
 use Rattle.slot_table.proofs.Listing.{in_either}
 use Rattle.dd_store.specs.declared.reference.Ref.{Ref}
 use Rattle.dd_store.specs.Graph.{Pair}
-use Rattle.dd_store.specs.Codes.{shard_of_pair}
+use Rattle.dd_store.specs.Hashes.{shard_of_pair}
 use Rattle.dd_store.specs.Growing.{IsIn}
 use Rattle.dd_store.specs.Levels.{list_at, all_at, refs_at}
 use Rattle.dd_store.specs.Nodes.{Nodes, IsThere}
@@ -24,20 +24,20 @@ use Rattle.dd_store.proofs.Places.{slice_get-append}
 use Rattle.dd_store.proofs.Noting.{zip_append}
 use Rattle.expand_work.proofs.Teams.{first_of}
 use Rattle.expand_work.proofs.Zips.{zip_long}
-use Rattle.req_table.specs.declared.placed.Placed.{Placed}
+use Rattle.req_table.specs.declared.packed_child.PackedChild.{PackedChild}
 use Rattle.req_table.specs.Places.{row}
-use Rattle.reduce_up.specs.declared.division.Divided.{Divided}
-use Rattle.reduce_up.specs.declared.division.Homes.{Homes}
-use Rattle.reduce_up.specs.declared.reads.ReadShare.{ReadShare}
-use Rattle.reduce_up.specs.declared.picking.PickShare.{PickShare}
-use Rattle.reduce_up.specs.declared.up.Level.{Level}
+use Rattle.reduce_up.specs.declared.division.PairsByShard.{PairsByShard}
+use Rattle.reduce_up.specs.declared.division.Origins.{Origins}
+use Rattle.reduce_up.specs.declared.reads.ReadTask.{ReadTask}
+use Rattle.reduce_up.specs.declared.picking.PickTask.{PickTask}
+use Rattle.reduce_up.specs.declared.up.LevelToReduce.{LevelToReduce}
 use Rattle.reduce_up.specs.OverParts.{level_over}
-use Rattle.reduce_up.specs.Up.{children_of}
-use Rattle.reduce_up.specs.Placed.{joined}
-use Rattle.reduce_up.specs.Division.{chosen, span, source, begin_of, twice, IsPicked, IsPickedOf, ArePicked, AreHomes, AreRefsOf, AreInTurn, HaveSixteen, MayPick}
-use Rattle.reduce_up.specs.Steps.{BothComeTo, IsMadeOf, IsPartRead, IsShareRead, AreAllRead, AreRead, IsSharePicked, AreAllPicked}
+use Rattle.reduce_up.specs.ReductionPhase.{children_of}
+use Rattle.reduce_up.specs.AnswersByLevel.{joined}
+use Rattle.reduce_up.specs.Division.{chosen, span, source, begin_of, twice, IsPicked, IsPickedOf, ArePicked, AreOrigins, AreRefsOf, AreInPartOrder, HaveSixteen, MayPick}
+use Rattle.reduce_up.specs.Steps.{BothResolveTo, IsMadeOf, IsPartRead, IsTaskRead, AreAllRead, AreRead, IsTaskPicked, AreAllPicked}
 use Rattle.reduce_up.proofs.Shared.{zip_right, zip_through}
-use Rattle.reduce_up.proofs.Parted.{homes_of}
+use Rattle.reduce_up.proofs.Parted.{origins_of}
 use Rattle.reduce_up.proofs.OverParts.{slice_get-behind}
 use Rattle.reduce_up.proofs.Parting.{chosen-in, chosen-many, zip_chosen, zip_span}
 
@@ -110,8 +110,8 @@ over_all R (p ∷ ps) v (a ∷ answers) e f =
     zip_append R (row p v) (level_over ps v) a (joined answers) (f zero (omega arith)) (over_all R ps v answers (omega (arith, e)) (λ k l. f (suc k) (omega (arith, l))))
 
 -- ---- what is in the lists
-abbrev pub AreListed : List (List Ref) → List (Placed × Placed) → (ℕ → List Pair) → Type 0
-AreListed A children lists = (s : ℕ) (q : Pair) → IsIn (lists s) q → (i : ℕ) × (d : Placed × Placed) × (slice_get children i ≡ Some d) × BothComeTo A d q × (q.0 ≢ q.1) × (shard_of_pair q.0 q.1 ≡ s)
+abbrev pub AreListed : List (List Ref) → List (PackedChild × PackedChild) → (ℕ → List Pair) → Type 0
+AreListed A children lists = (s : ℕ) (q : Pair) → IsIn (lists s) q → (i : ℕ) × (d : PackedChild × PackedChild) × (slice_get children i ≡ Some d) × BothResolveTo A d q × (q.0 ≢ q.1) × (shard_of_pair q.0 q.1 ≡ s)
 
 pub in_list : {X : Type 0} (xs : List X) (i : ℕ) (x : X) → slice_get xs i ≡ Some x → Contains xs x
 in_list xs i x e = (i, slice_get_within xs i x e, get_or_from_slice_get xs i x x e)
@@ -121,45 +121,45 @@ zip_twice : (T : Nodes) (v : ℕ) (rs : List Ref) → AllZip (λ (q : Pair) r. I
 zip_twice T v [] = tt
 zip_twice T v (r ∷ rs) = (inl (refl, refl), zip_twice T v rs)
 
-listed_part : (A : List (List Ref)) (children : List (Placed × Placed)) (lists : Vec (Vec Pair Global) Global) (homes : Homes) → IsPartRead A children lists homes → AreListed A children (list_at lists.items)
-listed_part A children lists homes r s q w =
+listed_part : (A : List (List Ref)) (children : List (PackedChild × PackedChild)) (lists : Vec (Vec Pair Global) Global) (origins : Origins) → IsPartRead A children lists origins → AreListed A children (list_at lists.items)
+listed_part A children lists origins r s q w =
     let own = r.divided.own s q w in
     let sb : s < 16 = subst (λ z. z < 16) own.1 (small_shard q.0 q.1) in
-    let chose : List Pair = chosen s homes.numbers.items r.pairs in
+    let chose : List Pair = chosen s origins.numbers.items r.pairs in
     let among : Contains chose q = subst (λ (z : List Pair). Contains z q) (sym {a = chose} {b = list_at lists.items s} (r.divided.differ s sb)) (in_list (list_at lists.items s) w.0 q w.1) in
-    let z = zip_right (BothComeTo A) children r.pairs r.read q (chosen-in s homes.numbers.items r.pairs q among) in
+    let z = zip_right (BothResolveTo A) children r.pairs r.read q (chosen-in s origins.numbers.items r.pairs q among) in
     (z.1.0, z.0, slice_get_read children (length children) z.1.0 z.0 refl z.1.1 (sym z.1.2), z.2, own.0, own.1)
 
 -- the parts of a level were read and divided
-module _ (L : Level) (parts : List (Vec (Vec Pair Global) Global)) (homes : List Homes) (D : AreRead L (length L.parts.now) parts homes) where
+module _ (L : LevelToReduce) (parts : List (Vec (Vec Pair Global) Global)) (origins : List Origins) (D : AreRead L (length L.parts.now) parts origins) where
   pub listed_level : AreListed L.answers.now (children_of L) (all_at parts)
   listed_level s q w =
       let m = part_in parts s q w in
       let k : ℕ = m.0 in
       let kb : k < length L.parts.now = (let e = D.many_lists in let l = m.1 in omega (arith, e, l)) in
       let d = first_of parts (let l = m.1 in omega (arith, l)) in
-      let h = first_of homes (let e = D.many_homes in omega (arith, e, kb)) in
-      let o = listed_part L.answers.now (row (row L.parts.now k) L.number) (get_or parts k d) (get_or homes k h) (D.each k d h kb) s q (m.2 d) in
+      let h = first_of origins (let e = D.many_origins in omega (arith, e, kb)) in
+      let o = listed_part L.answers.now (row (row L.parts.now k) L.number) (get_or parts k d) (get_or origins k h) (D.each k d h kb) s q (m.2 d) in
       let at = over_in L.parts.now k L.number o.0 o.1 kb o.2 in
       (at.0, o.1, at.1, o.3, o.4, o.5)
 
   pub all_sixteen : HaveSixteen parts
-  all_sixteen k d l = let lb : k < length L.parts.now = (let e = D.many_lists in omega (arith, e, l)) in (D.each k d (first_of homes (let e = D.many_homes in omega (arith, e, lb))) lb).sixteen
+  all_sixteen k d l = let lb : k < length L.parts.now = (let e = D.many_lists in omega (arith, e, l)) in (D.each k d (first_of origins (let e = D.many_origins in omega (arith, e, lb))) lb).sixteen
 
-  all_homes : (k : ℕ) (d : Vec (Vec Pair Global) Global) (h : Homes) → k < length homes → AreHomes (get_or homes k h) (list_at (get_or parts k d).items)
-  all_homes k d h l = let r = D.each k d h (let e = D.many_homes in omega (arith, e, l)) in homes_of r.pairs (get_or homes k h) (list_at (get_or parts k d).items) r.divided
+  all_origins : (k : ℕ) (d : Vec (Vec Pair Global) Global) (h : Origins) → k < length origins → AreOrigins (get_or origins k h) (list_at (get_or parts k d).items)
+  all_origins k d h l = let r = D.each k d h (let e = D.many_origins in omega (arith, e, l)) in origins_of r.pairs (get_or origins k h) (list_at (get_or parts k d).items) r.divided
 
   module _ (T : Nodes) (refs : List (Vec Ref Global)) (sixteen : length refs ≡ 16) (there : (s : ℕ) → s < 16 → AllZip (λ (q : Pair) r. IsThere T L.number q.0 q.1 r) (all_at parts s) (refs_at refs s)) where
-    pub may_pick : MayPick parts homes refs
+    pub may_pick : MayPick parts origins refs
     may_pick = record {
-      many = D.many_lists ∙ sym D.many_homes;
+      many = D.many_lists ∙ sym D.many_origins;
       sixteen = all_sixteen;
       refs_of = record { sixteen = sixteen; many = λ s l. sym (zip_long (λ (q : Pair) r. IsThere T L.number q.0 q.1 r) (all_at parts s) (refs_at refs s) (there s l)) };
-      homes_of = all_homes;
+      origins_of = all_origins;
     }
 
     -- the diagrams that were picked of one part
-    module _ (k : ℕ) (kb : k < length L.parts.now) (h : Homes) (h-is : (e : Homes) → get_or homes k e ≡ h) (answers : List Ref) (picked : IsPickedOf parts refs k h answers) where
+    module _ (k : ℕ) (kb : k < length L.parts.now) (h : Origins) (h-is : (e : Origins) → get_or origins k e ≡ h) (answers : List Ref) (picked : IsPickedOf parts refs k h answers) where
       abbrev hs : List ℕ
       hs = h.numbers.items
 
@@ -203,17 +203,17 @@ module _ (L : Level) (parts : List (Vec (Vec Pair Global) Global)) (homes : List
           (subst (λ z. AllZip (λ (q : Pair) r. IsThere T L.number q.0 q.1 r) z equal) (sym own_part.divided.same) (zip_twice T L.number equal))
 
       part_made : AllZip (IsMadeOf L.answers.now T L.number) (row (row L.parts.now k) L.number) answers
-      part_made = zip_through (BothComeTo L.answers.now) (λ (q : Pair) r. IsThere T L.number q.0 q.1 r) (row (row L.parts.now k) L.number) own_part.pairs answers own_part.read
+      part_made = zip_through (BothResolveTo L.answers.now) (λ (q : Pair) r. IsThere T L.number q.0 q.1 r) (row (row L.parts.now k) L.number) own_part.pairs answers own_part.read
           (zip_chosen (λ (q : Pair) r. IsThere T L.number q.0 q.1 r) hs own_part.pairs answers (sym own_part.divided.long) picked.long own_part.divided.within
           (λ s l. dite (ℕ_discrete s 16) (λ e. subst (λ z. AllZip (λ (q : Pair) r. IsThere T L.number q.0 q.1 r) (chosen z hs own_part.pairs) (chosen z hs answers)) (sym e) of_equal) (λ m. of_shard s (grind (arith, l, m)))))
 
     -- the diagrams that were picked of all parts
-    pub all_made : (own : List Ref) → AreInTurn parts homes refs own → AllZip (IsMadeOf L.answers.now T L.number) (children_of L) own
+    pub all_made : (own : List Ref) → AreInPartOrder parts origins refs own → AllZip (IsMadeOf L.answers.now T L.number) (children_of L) own
     all_made own (answers, q, is) = subst (λ z. AllZip (IsMadeOf L.answers.now T L.number) (children_of L) z) (sym is)
-        (over_all (IsMadeOf L.answers.now T L.number) L.parts.now L.number answers (q.long ∙ D.many_homes) (λ k l.
-        let lh : k < length homes = (let e = D.many_homes in omega (arith, e, l)) in
-        let h = get_or homes k (first_of homes (omega (arith, lh))) in
-        part_made k l h (λ e. get_or_default homes k e (first_of homes (omega (arith, lh))) lh) (get_or answers k []) (q.each k [] (first_of homes (omega (arith, lh))) lh)))
+        (over_all (IsMadeOf L.answers.now T L.number) L.parts.now L.number answers (q.long ∙ D.many_origins) (λ k l.
+        let lh : k < length origins = (let e = D.many_origins in omega (arith, e, l)) in
+        let h = get_or origins k (first_of origins (omega (arith, lh))) in
+        part_made k l h (λ e. get_or_default origins k e (first_of origins (omega (arith, lh))) lh) (get_or answers k []) (q.each k [] (first_of origins (omega (arith, lh))) lh)))
 
 -- one list more behind
 pub turn_more : (lists : List (List Ref)) (xs : List Ref) → joined (lists ++ xs ∷ []) ≡ joined lists ++ xs
@@ -221,7 +221,7 @@ turn_more [] xs = append-nil xs
 turn_more (y ∷ lists) xs = ap (λ z. y ++ z) (turn_more lists xs) ∙ sym (append_assoc y (joined lists) xs)
 
 -- a part's references are among those of all
-pub pick_room : (parts : List (Vec (Vec Pair Global) Global)) (refs : List (Vec Ref Global)) (k : ℕ) (h : Homes) (p : Vec (Vec Pair Global) Global) → k < length parts → HaveSixteen parts → AreRefsOf parts refs → AreHomes h (list_at (get_or parts k p).items)
+pub pick_room : (parts : List (Vec (Vec Pair Global) Global)) (refs : List (Vec Ref Global)) (k : ℕ) (h : Origins) (p : Vec (Vec Pair Global) Global) → k < length parts → HaveSixteen parts → AreRefsOf parts refs → AreOrigins h (list_at (get_or parts k p).items)
     → (s : ℕ) → s ≤ 16 → begin_of parts k s + length (chosen s h.numbers.items h.numbers.items) ≤ length (source refs h s)
 pick_room parts refs k h p l all r are s sb = dite (ℕ_discrete s 16)
     (λ e. subst (λ z. begin_of parts k z + length (chosen z h.numbers.items h.numbers.items) ≤ length (source refs h z)) (sym e) (let a = begin_none parts k all in let b = are.same in omega (arith, a, b)))
@@ -233,7 +233,7 @@ pick_room parts refs k h p l all r are s sb = dite (ℕ_discrete s 16)
     let all-refs = r.many s lt in
     subst (λ z. begin_of parts k s + length (chosen s h.numbers.items h.numbers.items) ≤ length z) from (omega (arith, room, many, all-refs)))
 
-pub picked_from : (parts : List (Vec (Vec Pair Global) Global)) (refs : List (Vec Ref Global)) (k : ℕ) (h : Homes) (starts : List ℕ) → ((s : ℕ) → s ≤ 16 → get_or starts s 0 ≡ begin_of parts k s) → (slice : List ℕ) → slice ≡ starts → (answers : List Ref) (r : Result (Unit {0}) AllocError)
+pub picked_from : (parts : List (Vec (Vec Pair Global) Global)) (refs : List (Vec Ref Global)) (k : ℕ) (h : Origins) (starts : List ℕ) → ((s : ℕ) → s ≤ 16 → get_or starts s 0 ≡ begin_of parts k s) → (slice : List ℕ) → slice ≡ starts → (answers : List Ref) (r : Result (Unit {0}) AllocError)
     → OnOk r (IsPicked h.numbers.items (λ s. get_or slice s 0) (source refs h) answers) → OnOk r (IsPickedOf parts refs k h answers)
 picked_from parts refs k h starts each slice is answers (Ok x) o = record {
   long = o.long;
@@ -250,16 +250,16 @@ at_left xs xs' x d m s e l is = ap (λ z. get_or z s d) is ∙ get_or_append_lef
 one_longer : {X : Type 0} (xs xs' : List X) (x : X) (m : ℕ) → length xs ≡ m → xs' ≡ xs ++ x ∷ [] → length xs' ≡ m + 1
 one_longer xs xs' x m e is = ap (λ z. length z) is ∙ length-append xs (x ∷ []) ∙ ap (λ z. z + 1) e
 
-pub reads_more : (L : Level) (m : ℕ) (parts : List (Vec (Vec Pair Global) Global)) (homes : List Homes) → AreRead L m parts homes
-    → (d : Divided) → IsPartRead L.answers.now (row (row L.parts.now m) L.number) d.lists d.homes → (parts' : List (Vec (Vec Pair Global) Global)) (homes' : List Homes) → parts' ≡ parts ++ d.lists ∷ [] → homes' ≡ homes ++ d.homes ∷ [] → AreRead L (m + 1) parts' homes'
-reads_more L m parts homes o d r parts' homes' x y = record {
+pub reads_more : (L : LevelToReduce) (m : ℕ) (parts : List (Vec (Vec Pair Global) Global)) (origins : List Origins) → AreRead L m parts origins
+    → (d : PairsByShard) → IsPartRead L.answers.now (row (row L.parts.now m) L.number) d.lists d.origins → (parts' : List (Vec (Vec Pair Global) Global)) (origins' : List Origins) → parts' ≡ parts ++ d.lists ∷ [] → origins' ≡ origins ++ d.origins ∷ [] → AreRead L (m + 1) parts' origins'
+reads_more L m parts origins o d r parts' origins' x y = record {
   many_lists = one_longer parts parts' d.lists m o.many_lists x;
-  many_homes = one_longer homes homes' d.homes m o.many_homes y;
+  many_origins = one_longer origins origins' d.origins m o.many_origins y;
   each = λ s e h l. dite (ℕ_discrete s m)
-      (λ q. subst (λ k. IsPartRead L.answers.now (row (row L.parts.now k) L.number) (get_or parts' k e) (get_or homes' k h)) (sym q)
-      (subst (λ (u : Homes × Vec (Vec Pair Global) Global). IsPartRead L.answers.now (row (row L.parts.now m) L.number) u.1 u.0) (λ i. (sym (at_seam homes homes' d.homes h m o.many_homes y) i, sym (at_seam parts parts' d.lists e m o.many_lists x) i)) r))
+      (λ q. subst (λ k. IsPartRead L.answers.now (row (row L.parts.now k) L.number) (get_or parts' k e) (get_or origins' k h)) (sym q)
+      (subst (λ (u : Origins × Vec (Vec Pair Global) Global). IsPartRead L.answers.now (row (row L.parts.now m) L.number) u.1 u.0) (λ i. (sym (at_seam origins origins' d.origins h m o.many_origins y) i, sym (at_seam parts parts' d.lists e m o.many_lists x) i)) r))
       (λ q. let lt : s < m = grind (arith, l, q) in
-      subst (λ (u : Homes × Vec (Vec Pair Global) Global). IsPartRead L.answers.now (row (row L.parts.now s) L.number) u.1 u.0) (λ i. (sym (at_left homes homes' d.homes h m s o.many_homes lt y) i, sym (at_left parts parts' d.lists e m s o.many_lists lt x) i)) (o.each s e h lt));
+      subst (λ (u : Origins × Vec (Vec Pair Global) Global). IsPartRead L.answers.now (row (row L.parts.now s) L.number) u.1 u.0) (λ i. (sym (at_left origins origins' d.origins h m s o.many_origins lt y) i, sym (at_left parts parts' d.lists e m s o.many_lists lt x) i)) (o.each s e h lt));
 }
 
 -- what holds of the items of a list holds of one that stands behind so many
@@ -270,21 +270,21 @@ each_here {X} P xs done rest t f whole =
     subst (P (length done)) (ap (λ (z : List X). get_or z (length done) t) at ∙ get_or-append_seam done t rest t) (f (length done) t (omega (arith, long)))
 
 -- what was read of one part
-pub read_one : (L : Level) (shares done rest : List ReadShare) (t : ReadShare) (x : Unit {0})
-    → AreAllRead L shares → (done ++ t ∷ []) ++ rest ≡ shares → t.done ≡ Ok x → IsPartRead L.answers.now (row (row L.parts.now (length done)) L.number) t.divided.lists t.divided.homes
-read_one L shares done rest t x f whole is =
-    subst (λ (z : Result (Unit {0}) AllocError). OnOk z (IsPartRead L.answers.now (row (row L.parts.now (length done)) L.number) t.divided.lists t.divided.homes)) is (each_here (IsShareRead L) shares done rest t f whole)
+pub read_one : (L : LevelToReduce) (tasks done rest : List ReadTask) (t : ReadTask) (x : Unit {0})
+    → AreAllRead L tasks → (done ++ t ∷ []) ++ rest ≡ tasks → t.done ≡ Ok x → IsPartRead L.answers.now (row (row L.parts.now (length done)) L.number) t.divided.lists t.divided.origins
+read_one L tasks done rest t x f whole is =
+    subst (λ (z : Result (Unit {0}) AllocError). OnOk z (IsPartRead L.answers.now (row (row L.parts.now (length done)) L.number) t.divided.lists t.divided.origins)) is (each_here (IsTaskRead L) tasks done rest t f whole)
 
-pub picked_more : (parts : List (Vec (Vec Pair Global) Global)) (homes : List Homes) (refs : List (Vec Ref Global)) (m : ℕ) (answers answers' : List (List Ref)) (x : List Ref) → ArePicked parts homes refs m answers → ((h : Homes) → IsPickedOf parts refs m (get_or homes m h) x) → answers' ≡ answers ++ x ∷ [] → ArePicked parts homes refs (m + 1) answers'
-picked_more parts homes refs m answers answers' x o own is = record {
+pub picked_more : (parts : List (Vec (Vec Pair Global) Global)) (origins : List Origins) (refs : List (Vec Ref Global)) (m : ℕ) (answers answers' : List (List Ref)) (x : List Ref) → ArePicked parts origins refs m answers → ((h : Origins) → IsPickedOf parts refs m (get_or origins m h) x) → answers' ≡ answers ++ x ∷ [] → ArePicked parts origins refs (m + 1) answers'
+picked_more parts origins refs m answers answers' x o own is = record {
   long = one_longer answers answers' x m o.long is;
   each = λ k d h l. dite (ℕ_discrete k m)
-      (λ q. subst (λ j. IsPickedOf parts refs j (get_or homes j h) (get_or answers' j d)) (sym q) (subst (λ (u : List Ref). IsPickedOf parts refs m (get_or homes m h) u) (sym (at_seam answers answers' x d m o.long is)) (own h)))
-      (λ q. let lt : k < m = grind (arith, l, q) in subst (λ (u : List Ref). IsPickedOf parts refs k (get_or homes k h) u) (sym (at_left answers answers' x d m k o.long lt is)) (o.each k d h lt));
+      (λ q. subst (λ j. IsPickedOf parts refs j (get_or origins j h) (get_or answers' j d)) (sym q) (subst (λ (u : List Ref). IsPickedOf parts refs m (get_or origins m h) u) (sym (at_seam answers answers' x d m o.long is)) (own h)))
+      (λ q. let lt : k < m = grind (arith, l, q) in subst (λ (u : List Ref). IsPickedOf parts refs k (get_or origins k h) u) (sym (at_left answers answers' x d m k o.long lt is)) (o.each k d h lt));
 }
 
 -- one of the parts' answers
-pub picked_one : (parts : List (Vec (Vec Pair Global) Global)) (homes : List Homes) (refs : List (Vec Ref Global)) (shares done rest : List PickShare) (t : PickShare) (x : Unit {0})
-    → AreAllPicked parts homes refs shares → (done ++ t ∷ []) ++ rest ≡ shares → t.done ≡ Ok x → (h : Homes) → IsPickedOf parts refs (length done) (get_or homes (length done) h) t.answers
-picked_one parts homes refs shares done rest t x f whole is h =
-    subst (λ (z : Result (Unit {0}) AllocError). OnOk z (IsPickedOf parts refs (length done) (get_or homes (length done) h) t.answers)) is (each_here (IsSharePicked parts homes refs) shares done rest t f whole h)
+pub picked_one : (parts : List (Vec (Vec Pair Global) Global)) (origins : List Origins) (refs : List (Vec Ref Global)) (tasks done rest : List PickTask) (t : PickTask) (x : Unit {0})
+    → AreAllPicked parts origins refs tasks → (done ++ t ∷ []) ++ rest ≡ tasks → t.done ≡ Ok x → (h : Origins) → IsPickedOf parts refs (length done) (get_or origins (length done) h) t.answers
+picked_one parts origins refs tasks done rest t x f whole is h =
+    subst (λ (z : Result (Unit {0}) AllocError). OnOk z (IsPickedOf parts refs (length done) (get_or origins (length done) h) t.answers)) is (each_here (IsTaskPicked parts origins refs) tasks done rest t f whole h)

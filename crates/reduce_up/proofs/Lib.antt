@@ -12,7 +12,7 @@ pub mod Below
 pub mod Adding
 pub mod Rooted
 pub mod Waving
-pub mod Known
+pub mod Probing
 pub mod OverParts
 pub mod Parting
 pub mod Parted

@@ -13,7 +13,7 @@ use Rattle.dd_store.specs.declared.StoreFault.TheVariants.{Full, OutOfMemory}
 use Rattle.dd_store.specs.Graph.{Pair}
 use Rattle.dd_store.specs.Functions.{Agree, OfEither}
 use Rattle.dd_store.specs.Growing.{IsIn}
-use Rattle.dd_store.specs.Levels.{all_at, plain_lists}
+use Rattle.dd_store.specs.Levels.{all_at, regular_lists}
 use Rattle.dd_store.specs.Parts.Part.{node}
 use Rattle.dd_store.specs.Nodes.{Nodes, IsSound, den, shard_at, count_of}
 use Rattle.dd_store.specs.View.{part, Has, Keeps}
@@ -24,15 +24,15 @@ use Rattle.dd_store.proofs.View.{keeps, absent}
 use Rattle.expand_work.specs.Fault.{wave_fault}
 use Rattle.expand_work.proofs.Zips.{zip_long}
 use Rattle.req_table.specs.declared.Key.{Key}
-use Rattle.req_table.specs.declared.placed.Placed.{Placed}
-use Rattle.req_table.specs.Places.{row, StandsAt}
-use Rattle.req_table.proofs.Standing.{some_same, stands_some}
-use Rattle.reduce_up.specs.declared.division.Homes.{Homes}
+use Rattle.req_table.specs.declared.packed_child.PackedChild.{PackedChild}
+use Rattle.req_table.specs.Places.{row, IsAtPlace}
+use Rattle.req_table.proofs.AtPlace.{some_same, at_place_some}
+use Rattle.reduce_up.specs.declared.division.Origins.{Origins}
 use Rattle.reduce_up.specs.Reducing.{IsAnswer, IsAnswerAt, IsRecordAt, AddsDescribed}
 use Rattle.reduce_up.specs.Sharing.{IsOfPair}
-use Rattle.reduce_up.specs.declared.up.Level.{Level}
-use Rattle.reduce_up.specs.Up.{children_of, AskedAt, IsReadyAt, IsLevelReduced, IsLevelFault, ReducesLevel}
-use Rattle.reduce_up.specs.Steps.{BothComeTo, IsMadeOf, MayReadLevel, AreRead}
+use Rattle.reduce_up.specs.declared.up.LevelToReduce.{LevelToReduce}
+use Rattle.reduce_up.specs.ReductionPhase.{children_of, AskedAt, IsReadyAt, IsLevelReduced, IsLevelFault, ReducesLevel}
+use Rattle.reduce_up.specs.Steps.{BothResolveTo, IsMadeOf, MayReadLevel, AreRead}
 use Rattle.reduce_up.proofs.Naming.{grown_of_pair, there_part}
 use Rattle.reduce_up.proofs.Opposite.{one_node_either, one_node_part}
 use Rattle.reduce_up.proofs.Reduction.{made_answer, kept_meaning, record_kept}
@@ -49,22 +49,22 @@ zip_beside R (x ∷ xs) (z ∷ ys) zero y h e = (x, refl, subst (R x) (some_same
 zip_beside R (x ∷ xs) (z ∷ ys) (suc i) y h e = zip_beside R xs ys i y h.1 e
 
 -- Of a level that is ready.
-module _ (S : Nodes) (T : List (List Key)) (L : Level) (R : IsReadyAt S T (children_of L) L.answers.now L.number) where
+module _ (S : Nodes) (T : List (List Key)) (L : LevelToReduce) (R : IsReadyAt S T (children_of L) L.answers.now L.number) where
   abbrev A : List (List Ref)
   A = L.answers.now
 
   abbrev v : ℕ
   v = L.number
 
-  abbrev children : List (Placed × Placed)
+  abbrev children : List (PackedChild × PackedChild)
   children = children_of L
 
   -- the request at a place
-  key_at : (i : ℕ) (d : Placed × Placed) → slice_get children i ≡ Some d → (k : Key) × StandsAt T v i k
-  key_at i d at = stands_some (row T v) i (let e = R.counts in let l = slice_get_within children i d at in omega (arith, e, l))
+  key_at : (i : ℕ) (d : PackedChild × PackedChild) → slice_get children i ≡ Some d → (k : Key) × IsAtPlace T v i k
+  key_at i d at = at_place_some (row T v) i (let e = R.counts in let l = slice_get_within children i d at in omega (arith, e, l))
 
   -- what its children come to makes a record of it
-  record_at : (i : ℕ) (d : Placed × Placed) (q : Pair) (k : Key) → slice_get children i ≡ Some d → StandsAt T v i k → BothComeTo A d q → IsRecordAt S v (rec k q.0 q.1)
+  record_at : (i : ℕ) (d : PackedChild × PackedChild) (q : Pair) (k : Key) → slice_get children i ≡ Some d → IsAtPlace T v i k → BothResolveTo A d q → IsRecordAt S v (rec k q.0 q.1)
   record_at i d q k at st of =
       let low = R.low i k d st at in
       let high = R.high i k d st at in
@@ -74,7 +74,7 @@ module _ (S : Nodes) (T : List (List Key)) (L : Level) (R : IsReadyAt S T (child
         high = subst (IsAnswerAt S v k true) (one_answer A d.1 high.1.0 q.1 high.1.1 of.1) high.1.2;
       }
 
-  pub comes : (i : ℕ) (d : Placed × Placed) → slice_get children i ≡ Some d → (p : Pair) × BothComeTo A d p
+  pub comes : (i : ℕ) (d : PackedChild × PackedChild) → slice_get children i ≡ Some d → (p : Pair) × BothResolveTo A d p
   comes i d at =
       let k = key_at i d at in
       let low = R.low i k.0 d k.1 at in
@@ -82,15 +82,15 @@ module _ (S : Nodes) (T : List (List Key)) (L : Level) (R : IsReadyAt S T (child
       ((low.1.0, high.1.0), (low.1.1, high.1.1))
 
   -- its parts were read and divided
-  module _ (parts : List (Vec (Vec Pair Global) Global)) (homes : List Homes) (D : AreRead L (length L.parts.now) parts homes) where
+  module _ (parts : List (Vec (Vec Pair Global) Global)) (origins : List Origins) (D : AreRead L (length L.parts.now) parts origins) where
     abbrev lists : ℕ → List Pair
     lists = all_at parts
 
     are : AreListed A children lists
-    are = listed_level L parts homes D
+    are = listed_level L parts origins D
 
     -- a listed pair makes a record of a request
-    of_list : (s : ℕ) (p : Pair) → IsIn (lists s) p → (i : ℕ) × (k : Key) × StandsAt T v i k × IsRecordAt S v (rec k p.0 p.1)
+    of_list : (s : ℕ) (p : Pair) → IsIn (lists s) p → (i : ℕ) × (k : Key) × IsAtPlace T v i k × IsRecordAt S v (rec k p.0 p.1)
     of_list s p w =
         let o = are s p w in
         let k = key_at o.0 o.1 o.2 in
@@ -100,16 +100,16 @@ module _ (S : Nodes) (T : List (List Key)) (L : Level) (R : IsReadyAt S T (child
     ready_all = record {
       level = R.bounded;
       differ = λ s p w. (are s p w).4;
-      lo_here = λ s p w. (of_list s p w).3.low.has;
-      hi_here = λ s p w. (of_list s p w).3.high.has;
+      lo_in_store = λ s p w. (of_list s p w).3.low.has;
+      hi_in_store = λ s p w. (of_list s p w).3.high.has;
       above = λ s p w. ((of_list s p w).3.low.below, (of_list s p w).3.high.below);
       sharded = λ s p l w. (are s p w).5;
     }
 
     -- nodes of listed pairs are made
-    module _ (U : Nodes) (held : IsSound S) (sound : IsSound U) (grows : GrowsLevel S U v (plain_lists lists)) where
+    module _ (U : Nodes) (held : IsSound S) (sound : IsSound U) (grows : GrowsLevel S U v (regular_lists lists)) where
       kept : Keeps S U
-      kept = keeps S U (Extends-grown S U v (plain_lists lists) grows)
+      kept = keeps S U (Extends-grown S U v (regular_lists lists) grows)
 
       -- what stands for a record's children is its answer
       answered : (k : Key) (p : Pair) (m : Ref) → IsRecordAt S v (rec k p.0 p.1) → Has U m → ((p.0 ≡ p.1) × (m ≡ p.0)) ⊎ ((p.0 ≢ p.1) × (part U m ≡ node v p.0 p.1)) → IsAnswer U k m
@@ -135,10 +135,10 @@ module _ (S : Nodes) (T : List (List Key)) (L : Level) (R : IsReadyAt S T (child
       }
 
       -- or why some are missing
-      pub refused_all : (own : List Ref) (f : StoreFault) → IsMakeFault U v (plain_lists lists) f → ReducesLevel S T v (Err (wave_fault f)) U own
+      pub refused_all : (own : List Ref) (f : StoreFault) → IsMakeFault U v (regular_lists lists) f → ReducesLevel S T v (Err (wave_fault f)) U own
       refused_all own f h = record { adds = adds_all; whole = tt; fault = by f h }
         where
-          by : (f : StoreFault) → IsMakeFault U v (plain_lists lists) f → IsLevelFault U T v (wave_fault f)
+          by : (f : StoreFault) → IsMakeFault U v (regular_lists lists) f → IsLevelFault U T v (wave_fault f)
           by OutOfMemory h = tt
           by Full h =
               let s : ℕ = h.0 in
@@ -160,22 +160,22 @@ module _ (S : Nodes) (T : List (List Key)) (L : Level) (R : IsReadyAt S T (child
         answered = λ q k r st g. by q k r st (zip_beside (IsMadeOf A U v) children own q r made g);
       }
         where
-          by : (q : ℕ) (k : Key) (r : Ref) → StandsAt T v q k → (d : Placed × Placed) × (slice_get children q ≡ Some d) × IsMadeOf A U v d r → IsAnswer U k r
+          by : (q : ℕ) (k : Key) (r : Ref) → IsAtPlace T v q k → (d : PackedChild × PackedChild) × (slice_get children q ≡ Some d) × IsMadeOf A U v d r → IsAnswer U k r
           by q k r st (d, at, (p, of, t)) =
               let i = record_at q d p k at st of in
               let h = there_part U v p.0 p.1 r (kept.has p.0 i.low.has) t in
               answered k p r i h.0 h.1
 
 -- a level that is ready may be read, part by part
-pub may_read : (S : Nodes) (T : List (List Key)) (L : Level) → IsReadyAt S T (children_of L) L.answers.now L.number → All (λ (part : List (List (Placed × Placed))). L.number < length part) L.parts.now → MayReadLevel L
-may_read S T L R levels k d l = record { level = levels k d l; come = come }
+pub may_read : (S : Nodes) (T : List (List Key)) (L : LevelToReduce) → IsReadyAt S T (children_of L) L.answers.now L.number → All (λ (part : List (List (PackedChild × PackedChild))). L.number < length part) L.parts.now → MayReadLevel L
+may_read S T L R levels k d l = record { level = levels k d l; resolvable = resolvable }
   where
     same : get_or L.parts.now k d ≡ row L.parts.now k
     same = get_or_default L.parts.now k d [] l
 
-    come : (j : ℕ) (e : Placed × Placed) → j < length (row (get_or L.parts.now k d) L.number) → (p : Pair) × BothComeTo L.answers.now (get_or (row (get_or L.parts.now k d) L.number) j e) p
-    come j e lj =
+    resolvable : (j : ℕ) (e : PackedChild × PackedChild) → j < length (row (get_or L.parts.now k d) L.number) → (p : Pair) × BothResolveTo L.answers.now (get_or (row (get_or L.parts.now k d) L.number) j e) p
+    resolvable j e lj =
         let at : slice_get (row (row L.parts.now k) L.number) j ≡ Some (get_or (row (get_or L.parts.now k d) L.number) j e) =
-        subst (λ (z : List (List (Placed × Placed))). slice_get (row z L.number) j ≡ Some (get_or (row (get_or L.parts.now k d) L.number) j e)) same (slice_get-get_or (row (get_or L.parts.now k d) L.number) j e lj) in
+        subst (λ (z : List (List (PackedChild × PackedChild))). slice_get (row z L.number) j ≡ Some (get_or (row (get_or L.parts.now k d) L.number) j e)) same (slice_get-get_or (row (get_or L.parts.now k d) L.number) j e lj) in
         let w = over_in L.parts.now k L.number j (get_or (row (get_or L.parts.now k d) L.number) j e) l at in
         comes S T L R w.0 (get_or (row (get_or L.parts.now k d) L.number) j e) w.1

@@ -10,14 +10,14 @@ use Rattle.std.proofs.Math.Nat.{mod-lt, mul-le-mul_right}
 use Rattle.std.proofs.Math.Seq.{get_or-append_seam, drop-length}
 use mathlib.Core.Logic.{dite}
 use native.Mathlib.Decide.{ℕ_discrete}
-use Rattle.dd_store.specs.Codes.{code_of}
+use Rattle.dd_store.specs.Hashes.{ref_hash_of}
 use Rattle.dd_store.specs.Nodes.{Nodes, IsSound}
 use Rattle.req_table.specs.declared.Key.{Key}
 use Rattle.req_table.specs.declared.Child.{Child}
 use Rattle.req_table.specs.declared.Child.TheVariants.{Done, Ask}
 use Rattle.req_table.specs.declared.Record.{Record}
-use Rattle.req_table.specs.declared.placed.Placed.{Placed}
-use Rattle.req_table.specs.declared.placed.PlacedChild.TheVariants as by_number
+use Rattle.req_table.specs.declared.packed_child.PackedChild.{PackedChild}
+use Rattle.req_table.specs.declared.packed_child.PlacedChild.TheVariants as by_number
 use Rattle.req_table.specs.TerminalCase.{op_number}
 use Rattle.req_table.specs.Keys.{level_of, owner, child_of, wave_of}
 use Rattle.req_table.specs.Places.{row, IsPlaced}
@@ -25,15 +25,15 @@ use Rattle.req_table.specs.Reached.{IsReached}
 use Rattle.req_table.specs.Settled.{IsClosure, IsSplit, key_of, asked, asked_by, level_of_rows}
 use Rattle.req_table.specs.Wave.{Wave}
 use Rattle.req_table.proofs.Waved as waved
-use Rattle.expand_work.specs.Expanded.{row_of}
-use Rattle.expand_work.specs.Gathered.{PartsView, AreParts}
-use Rattle.expand_work.specs.Lean.{lean, lean_row, AreLean}
+use Rattle.expand_work.specs.WavePorts.{row_of}
+use Rattle.expand_work.specs.WaveParts.{PartsView, AreParts}
+use Rattle.expand_work.specs.OwnerRows.{by_owner, row_by_owner, AreRowsByOwner}
 use Rattle.std.proofs.Math.ListN as listn
 use Rattle.expand_work.specs.Work.{owned_by}
 use Rattle.expand_work.proofs.Zips.{zip_grown}
-use Rattle.reduce_up.specs.declared.numbers.Field.{Field}
-use Rattle.reduce_up.specs.declared.numbers.Share.{Share}
-use Rattle.reduce_up.specs.Numbers.{keys_at, keys_of, keys_in, starts_at, starts_below, IsTold, AreTold, IsField, IsSender, StandsWith, AreNext, IsNext, IsNumbered, IsRowNumbered, IsNumberedTo, asked_up, asked_from}
+use Rattle.reduce_up.specs.declared.numbers.NumberingInput.{NumberingInput}
+use Rattle.reduce_up.specs.declared.numbers.NumberingTask.{NumberingTask}
+use Rattle.reduce_up.specs.Numbers.{keys_at, keys_of, keys_in, starts_at, starts_below, HasItsLevel, HaveTheirLevels, IsNumberingInput, IsSender, HasPlaceOf, AreNext, IsNext, IsNumbered, IsRowNumbered, IsNumberedTo, asked_up, asked_from}
 use Rattle.dd_store.proofs.Places.{mapped, slice_get-append}
 use Rattle.reduce_up.proofs.OverParts.{slice_get-behind}
 use Rattle.reduce_up.proofs.Placing.{in_left, in_right}
@@ -63,17 +63,17 @@ module _ (w : Wave) (rows records : ℕ → List Record) (same : (v : ℕ) → v
     once = λ v vb. subst (AllPairs (λ (a b : Record). ¬ (a.key ≡ b.key))) (sym (same v vb)) (c.once v vb);
   }
 
--- ---- children are told with the levels of their requests
-told_child : (S : Nodes) → IsSound S → (k : Key) (b : Bool) (c : Child) → c ≡ child_of S k b → IsTold S c
-told_child S w k b (Done r) e = tt
-told_child S w k b (Ask l x m) e = waved.told S w k x b l m (sym e)
+-- ---- children are levels_match with the levels of their requests
+child_level_matches : (S : Nodes) → IsSound S → (k : Key) (b : Bool) (c : Child) → c ≡ child_of S k b → HasItsLevel S c
+child_level_matches S w k b (Done r) e = tt
+child_level_matches S w k b (Ask l x m) e = waved.child_level S w k x b l m (sym e)
 
-pub told_rows : (S : Nodes) (n : ℕ) (roots : List Key) (p : PartsView) → IsSound S → AreParts S n roots p → (k v : ℕ) → k < n → v < S.levels → All (AreTold S) (row_of p.rows k v)
-told_rows S n roots p sound a k v kb vb =
-    all_of (AreTold S) (row_of p.rows k v)
+pub rows_have_levels : (S : Nodes) (n : ℕ) (roots : List Key) (p : PartsView) → IsSound S → AreParts S n roots p → (k v : ℕ) → k < n → v < S.levels → All (HaveTheirLevels S) (row_of p.rows k v)
+rows_have_levels S n roots p sound a k v kb vb =
+    all_of (HaveTheirLevels S) (row_of p.rows k v)
     (λ r c.
     let split : IsSplit (wave_of S n) r = All-contains (IsSplit (wave_of S n)) (level_of_rows n (row_of p.rows) v) r (a.closure.split v vb) (in_team n p v k r kb c) in
-    (told_child S sound r.key false r.low split.0, told_child S sound r.key true r.high split.1))
+    (child_level_matches S sound r.key false r.low split.0, child_level_matches S sound r.key true r.high split.1))
 
 -- ---- places of a level
 -- where a worker's request stands among those of its level
@@ -146,28 +146,28 @@ starts_more rows v k before starts starts' start is start-is more =
     more ∙ ap (λ z. z ++ start ∷ []) is ∙ ap (λ z. (before ++ starts_at k rows v) ++ z ∷ []) start-is
     ∙ append_assoc before (starts_at k rows v) (length (level_of_rows k rows v) ∷ []) ∙ ap (λ z. before ++ starts_at z rows v) up
 
-pub start_more : (rows : ℕ → ℕ → List Record) (v k start count n : ℕ) (own : List (Placed × Placed)) → start ≡ length (level_of_rows k rows v) → own ≡ lean_row n (rows k v) → count ≡ length own → start + count ≡ length (level_of_rows (k + 1) rows v)
+pub start_more : (rows : ℕ → ℕ → List Record) (v k start count n : ℕ) (own : List (PackedChild × PackedChild)) → start ≡ length (level_of_rows k rows v) → own ≡ row_by_owner n (rows k v) → count ≡ length own → start + count ≡ length (level_of_rows (k + 1) rows v)
 start_more rows v k start count n own start-is own-is count-is =
     let up : suc k ≡ k + 1 = omega arith in
-    let many : count ≡ length (rows k v) = count-is ∙ ap length own-is ∙ length-map {B = Placed × Placed} (rows k v) (λ (r : Record). (lean n r.low, lean n r.high)) in
+    let many : count ≡ length (rows k v) = count-is ∙ ap length own-is ∙ length-map {B = PackedChild × PackedChild} (rows k v) (λ (r : Record). (by_owner n r.low, by_owner n r.high)) in
     let both = length-append (level_of_rows k rows v) (rows k v) in
     let here : start + count ≡ length (level_of_rows (suc k) rows v) = omega (arith, start-is, many, both) in
     here ∙ ap (λ z. length (level_of_rows z rows v)) up
 
 -- a worker's lean row of a level
-pub lean_at : (records : List (List (List Record))) (rows : List (List (List (Placed × Placed)))) → AreLean records rows → (k v : ℕ) (own : List (List (Placed × Placed))) → k < length rows → own ≡ get_or rows k own → row own v ≡ lean_row (length records) (row_of records k v)
-lean_at records rows lean k v own kb is =
+pub by_owner_at : (records : List (List (List Record))) (rows : List (List (List (PackedChild × PackedChild)))) → AreRowsByOwner records rows → (k v : ℕ) (own : List (List (PackedChild × PackedChild))) → k < length rows → own ≡ get_or rows k own → row own v ≡ row_by_owner (length records) (row_of records k v)
+by_owner_at records rows by_owner k v own kb is =
     let n = length records in
-    ap (λ (z : List (List (Placed × Placed))). row z v) (is ∙ get_or_default rows k own [] kb ∙ ap (λ (z : List (List (List (Placed × Placed)))). get_or z k []) lean ∙ listn.get_or-map (map (lean_row n)) records k [])
-    ∙ listn.get_or-map (lean_row n) (get_or records k []) v []
+    ap (λ (z : List (List (PackedChild × PackedChild))). row z v) (is ∙ get_or_default rows k own [] kb ∙ ap (λ (z : List (List (List (PackedChild × PackedChild)))). get_or z k []) by_owner ∙ listn.get_or-map (map (row_by_owner n)) records k [])
+    ∙ listn.get_or-map (row_by_owner n) (get_or records k []) v []
 
 -- each worker has as many rows as it has levels
-pub lean_levels : (records : List (List (List Record))) (rows : List (List (List (Placed × Placed)))) → AreLean records rows → (m : ℕ) → ((k : ℕ) → k < length records → length (get_or records k []) ≡ m) → All (λ (own : List (List (Placed × Placed))). length own ≡ m) rows
-lean_levels records rows lean m each k d kb =
+pub by_owner_levels : (records : List (List (List Record))) (rows : List (List (List (PackedChild × PackedChild)))) → AreRowsByOwner records rows → (m : ℕ) → ((k : ℕ) → k < length records → length (get_or records k []) ≡ m) → All (λ (own : List (List (PackedChild × PackedChild))). length own ≡ m) rows
+by_owner_levels records rows by_owner m each k d kb =
     let n = length records in
-    let long : length rows ≡ n = ap (λ (z : List (List (List (Placed × Placed)))). length z) lean ∙ length-map records (map (lean_row n)) in
-    ap (λ (z : List (List (Placed × Placed))). length z) (get_or_default rows k d [] kb ∙ ap (λ (z : List (List (List (Placed × Placed)))). get_or z k []) lean ∙ listn.get_or-map (map (lean_row n)) records k [])
-    ∙ length-map (get_or records k []) (lean_row n) ∙ each k (omega (arith, kb, long))
+    let long : length rows ≡ n = ap (λ (z : List (List (List (PackedChild × PackedChild)))). length z) by_owner ∙ length-map records (map (row_by_owner n)) in
+    ap (λ (z : List (List (PackedChild × PackedChild))). length z) (get_or_default rows k d [] kb ∙ ap (λ (z : List (List (List (PackedChild × PackedChild)))). get_or z k []) by_owner ∙ listn.get_or-map (map (row_by_owner n)) records k [])
+    ∙ length-map (get_or records k []) (row_by_owner n) ∙ each k (omega (arith, kb, long))
 
 -- ---- what is asked for next
 zip_next : {A B : Type 0} (R : A → B → Type 0) (x : A) (xs : List A) (ys : List B) → AllZip R (x ∷ xs) ys → (y : B) × (slice_get ys 0 ≡ Some y) × R x y × AllZip R xs (drop 1 ys)
@@ -175,7 +175,7 @@ zip_next R x xs [] h = absurd h
 zip_next R x xs (y ∷ ys) h = (y, refl, h.0, h.1)
 
 pub owned_within : (n : ℕ) (x : Key) → 0 < n → owner n x < n
-owned_within n x some = mod-lt (op_number x.op + 3 * code_of x.f + 5 * code_of x.g) some
+owned_within n x some = mod-lt (op_number x.op + 3 * ref_hash_of x.f + 5 * ref_hash_of x.g) some
 
 -- a level that has a request is one of the worker's
 row_there : {X : Type 0} (xs : List (List X)) (l place : ℕ) → place < length (get_or xs l []) → l < length xs
@@ -185,15 +185,15 @@ row_there (x ∷ xs) zero place b = omega arith
 row_there (x ∷ xs) (suc l) place b = let z = row_there xs l place b in omega (arith, z)
 
 -- ---- a child in eight bytes
-pub asked_child : (n : ℕ) (e : Placed) (c : Child) (level k : ℕ) (m : Bool) → e ≡ by_number.Ask level k m → e ≡ lean n c → (x : Key) × (c ≡ Ask level x m) × (k ≡ owner n x)
+pub asked_child : (n : ℕ) (e : PackedChild) (c : Child) (level k : ℕ) (m : Bool) → e ≡ by_number.Ask level k m → e ≡ by_owner n c → (x : Key) × (c ≡ Ask level x m) × (k ≡ owner n x)
 asked_child n e (Done r) level k m is f = absurd (let z = sym is ∙ f in cc)
 asked_child n e (Ask l x b) level k m is f =
     let z : by_number.Ask level k m ≡ by_number.Ask l (owner n x) b = sym is ∙ f in
-    let at : level ≡ l = cc in let own : k ≡ owner n x = cc in let mark : m ≡ b = cc in
-    (x, (λ i. Ask (sym at i) x (sym mark i)), own)
+    let at : level ≡ l = cc in let own : k ≡ owner n x = cc in let complement : m ≡ b = cc in
+    (x, (λ i. Ask (sym at i) x (sym complement i)), own)
 
 -- a child that asks worker k at level l, which noted these places of what is left to ask
-module _ (f : Field) (F : IsField f) (left : List (Bor (List ℕ))) (child : Placed) (c : Child) (rest : List Key) (i : IsNext f left child c rest)
+module _ (f : NumberingInput) (F : IsNumberingInput f) (left : List (Bor (List ℕ))) (child : PackedChild) (c : Child) (rest : List Key) (i : IsNext f left child c rest)
     (l k : ℕ) (m : Bool) (is : child ≡ by_number.Ask l k m) (noted : Bor (List ℕ)) (noted-is : noted ≡ get_or left k noted) where
   abbrev place : ℕ
   place = get_or noted.now 0 0
@@ -207,8 +207,8 @@ module _ (f : Field) (F : IsField f) (left : List (Bor (List ℕ))) (child : Pla
   k-is : k ≡ owner f.workers x
   k-is = asks.2
 
-  asks_told : l ≡ level_of f.store.now x
-  asks_told = subst (IsTold f.store.now) asks.1 i.told
+  asks_have_levels : l ≡ level_of f.store.now x
+  asks_have_levels = subst (HasItsLevel f.store.now) asks.1 i.levels_match
 
   asks_next : AreNext f (x ∷ rest) left
   asks_next = subst (λ z. AreNext f (asked z ++ rest) left) asks.1 i.places
@@ -219,16 +219,16 @@ module _ (f : Field) (F : IsField f) (left : List (Bor (List ℕ))) (child : Pla
   mine : owned_by f.workers k x ≡ true
   mine = eq-eqb (owner f.workers x) k (sym k-is)
 
-  found : (y : ℕ) × (slice_get noted.now 0 ≡ Some y) × StandsWith f k x y × AllZip (StandsWith f k) (filter (owned_by f.workers k) rest) (drop 1 noted.now)
-  found = zip_next (StandsWith f k) x (filter (owned_by f.workers k) rest) noted.now
-      (subst (λ (z : Bor (List ℕ)). AllZip (StandsWith f k) (x ∷ filter (owned_by f.workers k) rest) z.now) (sym noted-is)
-      (subst (λ b. AllZip (StandsWith f k) (cond b (x ∷ filter (owned_by f.workers k) rest) (filter (owned_by f.workers k) rest)) (get_or left k noted).now) mine (asks_next.each k noted owner_within)))
+  found : (y : ℕ) × (slice_get noted.now 0 ≡ Some y) × HasPlaceOf f k x y × AllZip (HasPlaceOf f k) (filter (owned_by f.workers k) rest) (drop 1 noted.now)
+  found = zip_next (HasPlaceOf f k) x (filter (owned_by f.workers k) rest) noted.now
+      (subst (λ (z : Bor (List ℕ)). AllZip (HasPlaceOf f k) (x ∷ filter (owned_by f.workers k) rest) z.now) (sym noted-is)
+      (subst (λ b. AllZip (HasPlaceOf f k) (cond b (x ∷ filter (owned_by f.workers k) rest) (filter (owned_by f.workers k) rest)) (get_or left k noted).now) mine (asks_next.each k noted owner_within)))
 
   place-is : place ≡ found.0
   place-is = get_or_from_slice_get noted.now 0 found.0 0 found.1
 
   stands : slice_get (map key_of (row_of f.notes.now.rows k l)) place ≡ Some x
-  stands = subst (λ (z : ℕ × ℕ). slice_get (map key_of (row_of f.notes.now.rows k z.0)) z.1 ≡ Some x) (λ i. (sym asks_told i, sym place-is i)) found.2
+  stands = subst (λ (z : ℕ × ℕ). slice_get (map key_of (row_of f.notes.now.rows k z.0)) z.1 ≡ Some x) (λ i. (sym asks_have_levels i, sym place-is i)) found.2
 
   pub level_within : l < f.store.now.levels
   level_within = subst (λ z. l < z) (F.levels k owner_within)
@@ -259,13 +259,13 @@ module _ (f : Field) (F : IsField f) (left : List (Bor (List ℕ))) (child : Pla
     each = λ j d jb. dite (ℕ_discrete j k)
         (λ e.
         let at : get_or (set left k behind) j d ≡ behind = ap (λ z. get_or (set left k behind) z d) e ∙ get_or-set_same left k behind d (subst (λ z. k < z) (sym asks_next.long) owner_within) in
-        subst (λ (z : Bor (List ℕ)). AllZip (StandsWith f j) (filter (owned_by f.workers j) rest) z.now) (sym at)
-        (subst (λ z. AllZip (StandsWith f z) (filter (owned_by f.workers z) rest) behind.now) (sym e)
-        (subst (λ (z : List ℕ). AllZip (StandsWith f k) (filter (owned_by f.workers k) rest) z) (sym behind-is) found.3)))
+        subst (λ (z : Bor (List ℕ)). AllZip (HasPlaceOf f j) (filter (owned_by f.workers j) rest) z.now) (sym at)
+        (subst (λ z. AllZip (HasPlaceOf f z) (filter (owned_by f.workers z) rest) behind.now) (sym e)
+        (subst (λ (z : List ℕ). AllZip (HasPlaceOf f k) (filter (owned_by f.workers k) rest) z) (sym behind-is) found.3)))
         (λ o.
         let other : owned_by f.workers j x ≡ false = ne_eqb (owner f.workers x) j (λ e. o (sym (k-is ∙ e))) in
-        subst (λ (z : Bor (List ℕ)). AllZip (StandsWith f j) (filter (owned_by f.workers j) rest) z.now) (sym (get_or-set_other left k j behind d o))
-        (subst (λ b. AllZip (StandsWith f j) (cond b (x ∷ filter (owned_by f.workers j) rest) (filter (owned_by f.workers j) rest)) (get_or left j d).now) other (asks_next.each j d jb)));
+        subst (λ (z : Bor (List ℕ)). AllZip (HasPlaceOf f j) (filter (owned_by f.workers j) rest) z.now) (sym (get_or-set_other left k j behind d o))
+        (subst (λ b. AllZip (HasPlaceOf f j) (cond b (x ∷ filter (owned_by f.workers j) rest) (filter (owned_by f.workers j) rest)) (get_or left j d).now) other (asks_next.each j d jb)));
   }
 
 -- ---- records and their pairs
@@ -278,7 +278,7 @@ ends_with : {X : Type 0} (xs : List X) (i : ℕ) (x : X) → slice_get xs i ≡ 
 ends_with xs i x e = take_more xs i x (slice_get_within xs i x e) ∙ ap (λ z. take i xs ++ z ∷ []) (get_or_from_slice_get xs i x x e)
 
 -- what a level asks for is asked for before what is below it
-pub asked_first : (f : Field) (s v : ℕ) → v < f.store.now.levels → asked_from f s v ≡ asked_by (row_of f.notes.now.rows s v) ++ asked_from f s (v + 1)
+pub asked_first : (f : NumberingInput) (s v : ℕ) → v < f.store.now.levels → asked_from f s v ≡ asked_by (row_of f.notes.now.rows s v) ++ asked_from f s (v + 1)
 asked_first f s v l =
     let rows : ℕ → List Record = row_of f.notes.now.rows s in
     let one : f.store.now.levels - v ≡ suc (f.store.now.levels - (v + 1)) = omega (arith, l) in
@@ -290,19 +290,19 @@ record_first : (low high : List Key) (by later : List Key) → ((low ++ high) ++
 record_first low high by later = append_assoc (low ++ high) by later ∙ append_assoc low high (by ++ later)
 
 -- a record of worker s of level v, of which the pair e tells the owners
-module _ (f : Field) (s : ℕ) (sender : IsSender f s) (v : ℕ) (vb : v < f.store.now.levels) (pairs : List (Placed × Placed)) (pairs-are : pairs ≡ lean_row f.workers (row_of f.notes.now.rows s v))
-    (later : List Key) (i : ℕ) (e : Placed × Placed) (e-is : slice_get pairs i ≡ Some e) (next : List (Bor (List ℕ))) (a : AreNext f (asked_by (drop i (row_of f.notes.now.rows s v)) ++ later) next) where
+module _ (f : NumberingInput) (s : ℕ) (sender : IsSender f s) (v : ℕ) (vb : v < f.store.now.levels) (pairs : List (PackedChild × PackedChild)) (pairs-are : pairs ≡ row_by_owner f.workers (row_of f.notes.now.rows s v))
+    (later : List Key) (i : ℕ) (e : PackedChild × PackedChild) (e-is : slice_get pairs i ≡ Some e) (next : List (Bor (List ℕ))) (a : AreNext f (asked_by (drop i (row_of f.notes.now.rows s v)) ++ later) next) where
   abbrev records : List Record
   records = row_of f.notes.now.rows s v
 
-  pub read : (r : Record) × (slice_get records i ≡ Some r) × ((lean f.workers r.low, lean f.workers r.high) ≡ e)
-  read = mapped (λ (r : Record). (lean f.workers r.low, lean f.workers r.high)) records i e (subst (λ z. slice_get z i ≡ Some e) pairs-are e-is)
+  pub read : (r : Record) × (slice_get records i ≡ Some r) × ((by_owner f.workers r.low, by_owner f.workers r.high) ≡ e)
+  read = mapped (λ (r : Record). (by_owner f.workers r.low, by_owner f.workers r.high)) records i e (subst (λ z. slice_get z i ≡ Some e) pairs-are e-is)
 
   abbrev pub the_record : Record
   the_record = read.0
 
-  record_told : AreTold f.store.now the_record
-  record_told = subst (AreTold f.store.now) (get_or_from_slice_get records i the_record the_record read.1) (sender.field.told s v sender.within vb i the_record (slice_get_within records i the_record read.1))
+  record_has_levels : HaveTheirLevels f.store.now the_record
+  record_has_levels = subst (HaveTheirLevels f.store.now) (get_or_from_slice_get records i the_record the_record read.1) (sender.input.levels_match s v sender.within vb i the_record (slice_get_within records i the_record read.1))
 
   -- what is asked for behind the record, and behind its low child
   abbrev pub behind : List Key
@@ -314,34 +314,34 @@ module _ (f : Field) (s : ℕ) (sender : IsSender f s) (v : ℕ) (vb : v < f.sto
   pub low_next : IsNext f next e.0 the_record.low behind_low
   low_next = record {
     owned = sym (ap (λ z. z.0) read.2);
-    told = record_told.0;
+    levels_match = record_has_levels.0;
     places = subst (λ z. AreNext f z next) (ap (λ z. asked_by z ++ later) (goes_on records i the_record read.1) ∙ record_first (asked the_record.low) (asked the_record.high) (asked_by (drop (i + 1) records)) later) a;
   }
 
   pub high_next : (next' : List (Bor (List ℕ))) → AreNext f behind_low next' → IsNext f next' e.1 the_record.high behind
-  high_next next' b = record { owned = sym (ap (λ z. z.1) read.2); told = record_told.1; places = b }
+  high_next next' b = record { owned = sym (ap (λ z. z.1) read.2); levels_match = record_has_levels.1; places = b }
 
-  pub pair_more : (old new : List (Placed × Placed)) (low high : Placed) → AllZip (IsNumbered (keys_in f)) (take i records) old → IsPlaced (keys_in f) low the_record.low → IsPlaced (keys_in f) high the_record.high
+  pub pair_more : (old new : List (PackedChild × PackedChild)) (low high : PackedChild) → AllZip (IsNumbered (keys_in f)) (take i records) old → IsPlaced (keys_in f) low the_record.low → IsPlaced (keys_in f) high the_record.high
       → new ≡ old ++ (low, high) ∷ [] → AllZip (IsNumbered (keys_in f)) (take (i + 1) records) new
   pair_more old new low high z l h is = zip_grown (IsNumbered (keys_in f)) (take i records) (take (i + 1) records) old new the_record (low, high) (ends_with records i the_record read.1) is z (l, h)
 
 -- all records of a level are gone over
-module _ (f : Field) (s v : ℕ) (lean-pairs : List (Placed × Placed)) (lean-are : lean-pairs ≡ lean_row f.workers (row_of f.notes.now.rows s v)) (i : ℕ) (all : i ≡ length lean-pairs) where
+module _ (f : NumberingInput) (s v : ℕ) (by_owner-pairs : List (PackedChild × PackedChild)) (by_owner-are : by_owner-pairs ≡ row_by_owner f.workers (row_of f.notes.now.rows s v)) (i : ℕ) (all : i ≡ length by_owner-pairs) where
   i-is : i ≡ length (row_of f.notes.now.rows s v)
-  i-is = all ∙ ap length lean-are ∙ length-map (row_of f.notes.now.rows s v) (λ (r : Record). (lean f.workers r.low, lean f.workers r.high))
+  i-is = all ∙ ap length by_owner-are ∙ length-map (row_of f.notes.now.rows s v) (λ (r : Record). (by_owner f.workers r.low, by_owner f.workers r.high))
 
-  pub pairs_all : (pairs : List (Placed × Placed)) → AllZip (IsNumbered (keys_in f)) (take i (row_of f.notes.now.rows s v)) pairs → IsRowNumbered f s v pairs
+  pub pairs_all : (pairs : List (PackedChild × PackedChild)) → AllZip (IsNumbered (keys_in f)) (take i (row_of f.notes.now.rows s v)) pairs → IsRowNumbered f s v pairs
   pairs_all pairs z = subst (λ (rs : List Record). AllZip (IsNumbered (keys_in f)) rs pairs) (take_all i (row_of f.notes.now.rows s v) (omega (arith, i-is))) z
 
   pub asked_all : (later : List Key) (next : List (Bor (List ℕ))) → AreNext f (asked_by (drop i (row_of f.notes.now.rows s v)) ++ later) next → AreNext f later next
   asked_all later next a = subst (λ z. AreNext f (asked_by z ++ later) next) (ap (λ z. drop z (row_of f.notes.now.rows s v)) i-is ∙ drop-length (row_of f.notes.now.rows s v)) a
 
 -- a level is numbered
-module _ (f : Field) (s v : ℕ) (vb : v < f.store.now.levels) (old : Share) (a : IsNumberedTo f s v old) where
+module _ (f : NumberingInput) (s v : ℕ) (vb : v < f.store.now.levels) (old : NumberingTask) (a : IsNumberedTo f s v old) where
   -- it had no requests
   pub level_none : length (row old.rows v) ≡ 0 → IsNumberedTo f s (v + 1) old
   level_none e =
-      let none : row_of f.notes.now.rows s v ≡ [] = no_records (row_of f.notes.now.rows s v) (sym (length-map (row_of f.notes.now.rows s v) (λ (r : Record). (lean f.workers r.low, lean f.workers r.high))) ∙ ap length (sym (a.left v (omega arith) vb)) ∙ e) in
+      let none : row_of f.notes.now.rows s v ≡ [] = no_records (row_of f.notes.now.rows s v) (sym (length-map (row_of f.notes.now.rows s v) (λ (r : Record). (by_owner f.workers r.low, by_owner f.workers r.high))) ∙ ap length (sym (a.left v (omega arith) vb)) ∙ e) in
       record {
         levels = a.levels;
         done = λ u l. dite (ℕ_discrete u v)
@@ -351,13 +351,13 @@ module _ (f : Field) (s v : ℕ) (vb : v < f.store.now.levels) (old : Share) (a 
             (λ o. a.done u (grind (arith, l, o)));
         left = λ u l ub. a.left u (omega (arith, l)) ub;
         places = subst (λ z. AreNext f z old.left.items) (asked_first f s v vb ∙ ap (λ z. asked_by z ++ asked_from f s (v + 1)) none) a.places;
-        room = a.room;
+        spare_row = a.spare_row;
       }
     where
       no_records : (xs : List Record) → length xs ≡ 0 → xs ≡ []
       no_records [] e = refl
       no_records (x ∷ xs) e = absurd (omega (arith, e))
 
-      no_pairs : (xs : List (Placed × Placed)) → length xs ≡ 0 → xs ≡ []
+      no_pairs : (xs : List (PackedChild × PackedChild)) → length xs ≡ 0 → xs ≡ []
       no_pairs [] e = refl
       no_pairs (x ∷ xs) e = absurd (omega (arith, e))

@@ -4,7 +4,7 @@ use Rattle.std.specs.Prelude.{not}
 use Rattle.std.proofs.Math.Bool.{not-not}
 use Rattle.dd_store.specs.declared.reference.Ref.{Ref}
 use Rattle.dd_store.specs.Functions.{Agree, IsFixedSomehow, DependsOn, OfEither}
-use Rattle.dd_store.specs.Marks.{turned}
+use Rattle.dd_store.specs.Complements.{complemented}
 use Rattle.dd_store.specs.Nodes.{Nodes, IsSound, den}
 use Rattle.dd_store.specs.Parts.{Part, top_of}
 use Rattle.dd_store.specs.Parts.Part.{leaf, node}
@@ -24,9 +24,9 @@ either_either P f (inr (inl p)) = inr p
 either_either P f (inr (inr p)) = inl (subst P (λ i x. not-not (f x) i) p)
 
 -- the complement with its bits fixed is the complement of the function with its bits fixed
-pub fixed_turned : (n v : ℕ) (b : Bool) (f g : List Bool → Bool) → IsFixedSomehow n v (λ x. turned b (f x)) g → OfEither (IsFixedSomehow n v f) g
-fixed_turned n v false f g i = inl i
-fixed_turned n v true f g (p, long, same) = inr (p, long, λ q r hq hr. ap not (same q r hq hr) ∙ not-not (f (p ++ r)))
+pub fixed_complemented : (n v : ℕ) (b : Bool) (f g : List Bool → Bool) → IsFixedSomehow n v (λ x. complemented b (f x)) g → OfEither (IsFixedSomehow n v f) g
+fixed_complemented n v false f g i = inl i
+fixed_complemented n v true f g (p, long, same) = inr (p, long, λ q r hq hr. ap not (same q r hq hr) ∙ not-not (f (p ++ r)))
 
 -- the complement reads the same bits
 pub depends_not : (n v : ℕ) (f : List Bool → Bool) → DependsOn n v f → DependsOn n v (λ x. not (f x))

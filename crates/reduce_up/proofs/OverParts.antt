@@ -7,7 +7,7 @@ use native.Mathlib.Decide.{ℕ_discrete}
 use Rattle.slot_table.proofs.Listing.{in_either}
 use Rattle.dd_store.proofs.Places.{slice_get-append}
 use Rattle.req_table.specs.Places.{row, AreNone, IsLastLevel}
-use Rattle.req_table.proofs.Standing.{stands_none}
+use Rattle.req_table.proofs.AtPlace.{at_place_none}
 use Rattle.reduce_up.specs.OverParts.{level_over, over_parts, later_of}
 
 -- one part more
@@ -89,7 +89,7 @@ module _ {X : Type 0} (n end : ℕ) (ps : List (List (List X))) (p : List (List 
       )
 
 pub last_none : {X : Type 0} (n end : ℕ) → end ≤ n → IsLastLevel (over_parts {X = X} n []) end None
-last_none {X} n end le w q x ge lt h = stands_none (row (over_parts {X = X} n []) w) q x (over_at n [] w (omega (arith, lt, le))) h
+last_none {X} n end le w q x ge lt h = at_place_none (row (over_parts {X = X} n []) w) q x (over_at n [] w (omega (arith, lt, le))) h
 
 -- ---- a level that all parts leave
 pub left_more : {X : Type 0} (ps : List (List (List X))) (i : ℕ) (new : List (List X)) (w : ℕ) → i < length ps → row new w ≡ row (get_or ps i []) w → level_over (set ps i new) w ≡ level_over ps w

@@ -10,17 +10,17 @@ use mathlib.Core.Logic.{dite}
 use native.Mathlib.Decide.{ℕ_discrete}
 use Rattle.dd_store.specs.declared.reference.Ref.{Ref}
 use Rattle.dd_store.specs.Graph.{Pair}
-use Rattle.dd_store.specs.Codes.{shard_of_pair}
+use Rattle.dd_store.specs.Hashes.{shard_of_pair}
 use Rattle.dd_store.specs.Growing.{IsIn}
 use Rattle.dd_store.specs.Levels.{list_at}
 use Rattle.dd_store.proofs.Storing.{small_shard}
 use Rattle.dd_store.proofs.View.{same_ref}
 use Rattle.dd_store.proofs.Noting.{zip_push}
-use Rattle.req_table.specs.declared.placed.Placed.{Placed}
-use Rattle.reduce_up.specs.declared.division.Divided.{Divided}
-use Rattle.reduce_up.specs.declared.division.Homes.{Homes}
-use Rattle.reduce_up.specs.Division.{chosen, twice, IsDivided, IsPut, AreHomes}
-use Rattle.reduce_up.specs.Steps.{BothComeTo, IsPartRead}
+use Rattle.req_table.specs.declared.packed_child.PackedChild.{PackedChild}
+use Rattle.reduce_up.specs.declared.division.PairsByShard.{PairsByShard}
+use Rattle.reduce_up.specs.declared.division.Origins.{Origins}
+use Rattle.reduce_up.specs.Division.{chosen, twice, IsDivided, IsPut, AreOrigins}
+use Rattle.reduce_up.specs.Steps.{BothResolveTo, IsPartRead}
 use Rattle.reduce_up.proofs.Dividing.{came}
 use Rattle.reduce_up.proofs.Parting.{chosen-own, chosen-other, chosen-many}
 
@@ -29,8 +29,8 @@ no_items [] e = refl
 no_items (x ∷ xs) e = absurd (omega (arith, e))
 
 -- nothing is read
-divided_none : (homes : Homes) (lists : ℕ → List Pair) → homes.numbers.items ≡ [] → homes.equal.items ≡ [] → ((s : ℕ) → length (lists s) ≡ 0) → IsDivided [] homes lists
-divided_none homes lists a b e = record {
+divided_none : (origins : Origins) (lists : ℕ → List Pair) → origins.numbers.items ≡ [] → origins.equal.items ≡ [] → ((s : ℕ) → length (lists s) ≡ 0) → IsDivided [] origins lists
+divided_none origins lists a b e = record {
   long = ap (λ z. length z) a;
   within = subst (λ z. All (λ h. h ≤ 16) z) (sym a) (λ k d l. absurd (omega (arith, l)));
   differ = λ s l. ap (λ z. chosen {X = Pair} s z []) a ∙ sym (no_items (lists s) (e s));
@@ -39,9 +39,9 @@ divided_none homes lists a b e = record {
 }
 
 -- one pair more
-module _ (pairs : List Pair) (p : Pair) (old new : Divided) (o : IsDivided pairs old.homes (list_at old.lists.items)) (put : IsPut old p new) where
+module _ (pairs : List Pair) (p : Pair) (old new : PairsByShard) (o : IsDivided pairs old.origins (list_at old.lists.items)) (put : IsPut old p new) where
   abbrev hs : List ℕ
-  hs = old.homes.numbers.items
+  hs = old.origins.numbers.items
 
   abbrev was : ℕ → List Pair
   was = list_at old.lists.items
@@ -59,12 +59,12 @@ module _ (pairs : List Pair) (p : Pair) (old new : Divided) (o : IsDivided pairs
     | inr e ↦ subst (λ (z : Pair). (z.0 ≢ z.1) × (shard_of_pair z.0 z.1 ≡ s)) e.2 (e.0, e.1)
   ]
 
-  same_twice : p.0 ≡ p.1 → twice old.homes.equal.items ++ p ∷ [] ≡ twice (old.homes.equal.items ++ p.0 ∷ [])
+  same_twice : p.0 ≡ p.1 → twice old.origins.equal.items ++ p ∷ [] ≡ twice (old.origins.equal.items ++ p.0 ∷ [])
   same_twice e =
       let both : p ≡ (p.0, p.0) = ap (λ (z : Ref). (p.0, z)) (sym e) in
-      ap (λ z. twice old.homes.equal.items ++ z ∷ []) both ∙ sym (map-append (λ (r : Ref). (r, r)) old.homes.equal.items (p.0 ∷ []))
+      ap (λ z. twice old.origins.equal.items ++ z ∷ []) both ∙ sym (map-append (λ (r : Ref). (r, r)) old.origins.equal.items (p.0 ∷ []))
 
-  equal_more : p.0 ≡ p.1 → IsDivided (pairs ++ p ∷ []) new.homes (list_at new.lists.items)
+  equal_more : p.0 ≡ p.1 → IsDivided (pairs ++ p ∷ []) new.origins (list_at new.lists.items)
   equal_more e =
       let n = (put.same e).0 in
       let q = (put.same e).1 in
@@ -76,7 +76,7 @@ module _ (pairs : List Pair) (p : Pair) (old new : Divided) (o : IsDivided pairs
         own = owned;
       }
 
-  differ_more : p.0 ≢ p.1 → IsDivided (pairs ++ p ∷ []) new.homes (list_at new.lists.items)
+  differ_more : p.0 ≢ p.1 → IsDivided (pairs ++ p ∷ []) new.origins (list_at new.lists.items)
   differ_more m =
       let h = shard_of_pair p.0 p.1 in
       let small = small_shard p.0 p.1 in
@@ -92,30 +92,30 @@ module _ (pairs : List Pair) (p : Pair) (old new : Divided) (o : IsDivided pairs
         own = owned;
       }
 
-  divided_more : IsDivided (pairs ++ p ∷ []) new.homes (list_at new.lists.items)
+  divided_more : IsDivided (pairs ++ p ∷ []) new.origins (list_at new.lists.items)
   divided_more = elim (same_ref p.0 p.1) [ yes e ↦ equal_more e | no n ↦ differ_more n ]
 
 -- ---- a part that is read, from its first children on
-pub read_none : (A : List (List Ref)) (d : Divided) → length d.lists.items ≡ 16 → ((s : ℕ) → length (list_at d.lists.items s) ≡ 0) → d.homes.numbers.items ≡ [] → d.homes.equal.items ≡ [] → IsPartRead A [] d.lists d.homes
-read_none A d sixteen empty a b = record { pairs = []; read = tt; sixteen = sixteen; divided = divided_none d.homes (list_at d.lists.items) a b empty }
+pub read_none : (A : List (List Ref)) (d : PairsByShard) → length d.lists.items ≡ 16 → ((s : ℕ) → length (list_at d.lists.items s) ≡ 0) → d.origins.numbers.items ≡ [] → d.origins.equal.items ≡ [] → IsPartRead A [] d.lists d.origins
+read_none A d sixteen empty a b = record { pairs = []; read = tt; sixteen = sixteen; divided = divided_none d.origins (list_at d.lists.items) a b empty }
 
-pub read_more : (A : List (List Ref)) (children : List (Placed × Placed)) (i : ℕ) (x : Placed × Placed) (p : Pair) (old new : Divided) → slice_get children i ≡ Some x → BothComeTo A x p → IsPartRead A (take i children) old.lists old.homes → length new.lists.items ≡ 16 → IsPut old p new
-    → IsPartRead A (take (i + 1) children) new.lists new.homes
+pub read_more : (A : List (List Ref)) (children : List (PackedChild × PackedChild)) (i : ℕ) (x : PackedChild × PackedChild) (p : Pair) (old new : PairsByShard) → slice_get children i ≡ Some x → BothResolveTo A x p → IsPartRead A (take i children) old.lists old.origins → length new.lists.items ≡ 16 → IsPut old p new
+    → IsPartRead A (take (i + 1) children) new.lists new.origins
 read_more A children i x p old new at of o sixteen put = record {
   pairs = o.pairs ++ p ∷ [];
-  read = subst (λ z. AllZip (BothComeTo A) z (o.pairs ++ p ∷ [])) (sym (take_more children i x (slice_get_within children i x at) ∙ ap (λ z. take i children ++ z ∷ []) (get_or_from_slice_get children i x x at)))
-      (zip_push (BothComeTo A) (take i children) o.pairs x p o.read of);
+  read = subst (λ z. AllZip (BothResolveTo A) z (o.pairs ++ p ∷ [])) (sym (take_more children i x (slice_get_within children i x at) ∙ ap (λ z. take i children ++ z ∷ []) (get_or_from_slice_get children i x x at)))
+      (zip_push (BothResolveTo A) (take i children) o.pairs x p o.read of);
   sixteen = sixteen;
   divided = divided_more o.pairs p old new o.divided put;
 }
 
-pub read_whole : (A : List (List Ref)) (children : List (Placed × Placed)) (i : ℕ) (lists : Vec (Vec Pair Global) Global) (homes : Homes) → length children ≤ i → IsPartRead A (take i children) lists homes → IsPartRead A children lists homes
-read_whole A children i lists homes l r = subst (λ z. IsPartRead A z lists homes) (take_all i children l) r
+pub read_whole : (A : List (List Ref)) (children : List (PackedChild × PackedChild)) (i : ℕ) (lists : Vec (Vec Pair Global) Global) (origins : Origins) → length children ≤ i → IsPartRead A (take i children) lists origins → IsPartRead A children lists origins
+read_whole A children i lists origins l r = subst (λ z. IsPartRead A z lists origins) (take_all i children l) r
 
 -- how many there are of each home
-pub homes_of : (pairs : List Pair) (homes : Homes) (lists : ℕ → List Pair) → IsDivided pairs homes lists → AreHomes homes lists
-homes_of pairs homes lists d = record {
+pub origins_of : (pairs : List Pair) (origins : Origins) (lists : ℕ → List Pair) → IsDivided pairs origins lists → AreOrigins origins lists
+origins_of pairs origins lists d = record {
   within = d.within;
-  many = λ s l. chosen-many s homes.numbers.items homes.numbers.items pairs refl (sym d.long) ∙ ap (λ z. length z) (d.differ s l);
-  same = chosen-many 16 homes.numbers.items homes.numbers.items pairs refl (sym d.long) ∙ ap (λ z. length z) d.same ∙ length-map homes.equal.items (λ (r : Ref). (r, r));
+  many = λ s l. chosen-many s origins.numbers.items origins.numbers.items pairs refl (sym d.long) ∙ ap (λ z. length z) (d.differ s l);
+  same = chosen-many 16 origins.numbers.items origins.numbers.items pairs refl (sym d.long) ∙ ap (λ z. length z) d.same ∙ length-map origins.equal.items (λ (r : Ref). (r, r));
 }

@@ -22,54 +22,54 @@ picking_none starts sources answers long none = record {
   each = λ s l. refl;
 }
 
-module _ (homes : List ℕ) (i h : ℕ) (ib : i < length homes) (h-is : h ≡ get_or homes i h) (starts : ℕ → ℕ) (sources : ℕ → List Ref) (places : List ℕ) (answers : List Ref) (k : ArePicking (take i homes) starts sources places answers)
-    (within : All (λ h. h ≤ 16) homes) (room : (s : ℕ) → s ≤ 16 → starts s + length (chosen s homes homes) ≤ length (sources s)) where
+module _ (origins : List ℕ) (i h : ℕ) (ib : i < length origins) (h-is : h ≡ get_or origins i h) (starts : ℕ → ℕ) (sources : ℕ → List Ref) (places : List ℕ) (answers : List Ref) (k : ArePicking (take i origins) starts sources places answers)
+    (within : All (λ h. h ≤ 16) origins) (room : (s : ℕ) → s ≤ 16 → starts s + length (chosen s origins origins) ≤ length (sources s)) where
   pub small : h ≤ 16
   small = subst (λ z. z ≤ 16) (sym h-is) (within i h ib)
 
-  next_home : take (i + 1) homes ≡ take i homes ++ h ∷ []
-  next_home = take_more homes i h ib ∙ ap (λ z. take i homes ++ z ∷ []) (sym h-is)
+  next_origin : take (i + 1) origins ≡ take i origins ++ h ∷ []
+  next_origin = take_more origins i h ib ∙ ap (λ z. take i origins ++ z ∷ []) (sym h-is)
 
   -- one more than were picked
-  named : length (chosen h (take (i + 1) homes) (take (i + 1) homes)) ≡ length (chosen h (take i homes) answers) + 1
+  named : length (chosen h (take (i + 1) origins) (take (i + 1) origins)) ≡ length (chosen h (take i origins) answers) + 1
   named =
-      ap (λ z. length (chosen h z z)) next_home ∙ ap (λ z. length z) (chosen-own (take i homes) (take i homes) h h refl) ∙ length-append (chosen h (take i homes) (take i homes)) (h ∷ [])
-      ∙ ap (λ z. z + 1) (chosen-many h (take i homes) (take i homes) answers refl k.long)
+      ap (λ z. length (chosen h z z)) next_origin ∙ ap (λ z. length z) (chosen-own (take i origins) (take i origins) h h refl) ∙ length-append (chosen h (take i origins) (take i origins)) (h ∷ [])
+      ∙ ap (λ z. z + 1) (chosen-many h (take i origins) (take i origins) answers refl k.long)
 
   pub place_room : get_or places h 0 < length (sources h)
   place_room =
       let a = k.next h small in
       let b = room h small in
-      let c = chosen-fewer h homes (i + 1) in
+      let c = chosen-fewer h origins (i + 1) in
       let d = named in
       omega (arith, a, b, c, d)
 
-  pub picking_more : (answer : Ref) → slice_get (sources h) (get_or places h 0) ≡ Some answer → (places' : List ℕ) → places' ≡ set places h (get_or places h 0 + 1) → (answers' : List Ref) → answers' ≡ answers ++ answer ∷ [] → ArePicking (take (i + 1) homes) starts sources places' answers'
-  picking_more answer got places' p-is answers' a-is = subst (λ z. ArePicking z starts sources places' answers') (sym next_home) (subst (λ (z : List ℕ × List Ref). ArePicking (take i homes ++ h ∷ []) starts sources z.0 z.1) (λ j. (sym p-is j, sym a-is j)) more)
+  pub picking_more : (answer : Ref) → slice_get (sources h) (get_or places h 0) ≡ Some answer → (places' : List ℕ) → places' ≡ set places h (get_or places h 0 + 1) → (answers' : List Ref) → answers' ≡ answers ++ answer ∷ [] → ArePicking (take (i + 1) origins) starts sources places' answers'
+  picking_more answer got places' p-is answers' a-is = subst (λ z. ArePicking z starts sources places' answers') (sym next_origin) (subst (λ (z : List ℕ × List Ref). ArePicking (take i origins ++ h ∷ []) starts sources z.0 z.1) (λ j. (sym p-is j, sym a-is j)) more)
     where
-      own : chosen h (take i homes ++ h ∷ []) (answers ++ answer ∷ []) ≡ chosen h (take i homes) answers ++ answer ∷ []
-      own = chosen-own (take i homes) answers h answer (sym k.long)
+      own : chosen h (take i origins ++ h ∷ []) (answers ++ answer ∷ []) ≡ chosen h (take i origins) answers ++ answer ∷ []
+      own = chosen-own (take i origins) answers h answer (sym k.long)
 
-      own-many : length (chosen h (take i homes ++ h ∷ []) (answers ++ answer ∷ [])) ≡ length (chosen h (take i homes) answers) + 1
-      own-many = ap (λ z. length z) own ∙ length-append (chosen h (take i homes) answers) (answer ∷ [])
+      own-many : length (chosen h (take i origins ++ h ∷ []) (answers ++ answer ∷ [])) ≡ length (chosen h (take i origins) answers) + 1
+      own-many = ap (λ z. length z) own ∙ length-append (chosen h (take i origins) answers) (answer ∷ [])
 
-      other : (s : ℕ) → h ≢ s → chosen s (take i homes ++ h ∷ []) (answers ++ answer ∷ []) ≡ chosen s (take i homes) answers
-      other s n = chosen-other s (take i homes) answers h answer (sym k.long) n
+      other : (s : ℕ) → h ≢ s → chosen s (take i origins ++ h ∷ []) (answers ++ answer ∷ []) ≡ chosen s (take i origins) answers
+      other s n = chosen-other s (take i origins) answers h answer (sym k.long) n
 
-      own-each : chosen h (take i homes ++ h ∷ []) (answers ++ answer ∷ []) ≡ span (starts h) (length (chosen h (take i homes ++ h ∷ []) (answers ++ answer ∷ []))) (sources h)
+      own-each : chosen h (take i origins ++ h ∷ []) (answers ++ answer ∷ []) ≡ span (starts h) (length (chosen h (take i origins ++ h ∷ []) (answers ++ answer ∷ []))) (sources h)
       own-each = own ∙ ap (λ z. z ++ answer ∷ []) (k.each h small)
-          ∙ sym (span_more (starts h) (length (chosen h (take i homes) answers)) (sources h) answer (subst (λ z. slice_get (sources h) z ≡ Some answer) (k.next h small) got))
+          ∙ sym (span_more (starts h) (length (chosen h (take i origins) answers)) (sources h) answer (subst (λ z. slice_get (sources h) z ≡ Some answer) (k.next h small) got))
           ∙ ap (λ z. span (starts h) z (sources h)) (sym own-many)
 
-      more : ArePicking (take i homes ++ h ∷ []) starts sources (set places h (get_or places h 0 + 1)) (answers ++ answer ∷ [])
+      more : ArePicking (take i origins ++ h ∷ []) starts sources (set places h (get_or places h 0 + 1)) (answers ++ answer ∷ [])
       more = record {
-        long = (let a = length-append answers (answer ∷ []) in let b = length-append (take i homes) (h ∷ []) in let c = k.long in omega (arith, a, b, c));
+        long = (let a = length-append answers (answer ∷ []) in let b = length-append (take i origins) (h ∷ []) in let c = k.long in omega (arith, a, b, c));
         seventeen = length-set places h (get_or places h 0 + 1) ∙ k.seventeen;
         next = λ s l. dite (ℕ_discrete h s)
-            (λ e. subst (λ z. get_or (set places h (get_or places h 0 + 1)) z 0 ≡ starts z + length (chosen z (take i homes ++ h ∷ []) (answers ++ answer ∷ []))) e
+            (λ e. subst (λ z. get_or (set places h (get_or places h 0 + 1)) z 0 ≡ starts z + length (chosen z (take i origins ++ h ∷ []) (answers ++ answer ∷ []))) e
             (let a = get_or-set_same places h (get_or places h 0 + 1) 0 (let q = k.seventeen in let b = small in omega (arith, q, b)) in let b = k.next h small in let c = own-many in omega (arith, a, b, c)))
             (λ n. get_or-set_other places h s (get_or places h 0 + 1) 0 (λ e. n (sym e)) ∙ k.next s l ∙ ap (λ z. starts s + length z) (sym (other s n)));
         each = λ s l. dite (ℕ_discrete h s)
-            (λ e. subst (λ z. chosen z (take i homes ++ h ∷ []) (answers ++ answer ∷ []) ≡ span (starts z) (length (chosen z (take i homes ++ h ∷ []) (answers ++ answer ∷ []))) (sources z)) e own-each)
+            (λ e. subst (λ z. chosen z (take i origins ++ h ∷ []) (answers ++ answer ∷ []) ≡ span (starts z) (length (chosen z (take i origins ++ h ∷ []) (answers ++ answer ∷ []))) (sources z)) e own-each)
             (λ n. other s n ∙ k.each s l ∙ ap (λ z. span (starts s) (length z) (sources s)) (sym (other s n)));
       }

@@ -8,9 +8,9 @@ use Rattle.req_table.specs.declared.Key.{Key}
 use Rattle.req_table.specs.declared.Child.TheVariants.{Done}
 use Rattle.req_table.specs.declared.Record.{Record}
 use Rattle.req_table.specs.Settled.{key_of}
-use Rattle.reduce_up.specs.Reducing.{Notes}
+use Rattle.reduce_up.specs.Reducing.{NotesAnswer}
 use Rattle.reduce_up.specs.Sharing.{NotesFirst}
-use Rattle.reduce_up.specs.Placed.{place_of, paired, joined, ArePlaced}
+use Rattle.reduce_up.specs.AnswersByLevel.{place_of, paired, joined, ArePlaced}
 use Rattle.reduce_up.proofs.Noting.{nothing, head_in, tail_in, in_cases}
 
 -- ---- members of two lists
@@ -71,7 +71,7 @@ module _ (rows : List (List (Key × Ref))) (i : ℕ) (new : List (Key × Ref)) (
       ] refl
 
   -- what a row notes, all note
-  pub notes_row : (k : Key) (r : Ref) → Notes (get_or rows i []) k r new → Notes (joined rows) k r (joined (set rows i new))
+  pub notes_row : (k : Key) (r : Ref) → NotesAnswer (get_or rows i []) k r new → NotesAnswer (joined rows) k r (joined (set rows i new))
   notes_row k r n = record {
     noted = (n.noted.0, before_set (k, n.noted.0) n.noted.1);
     only = λ l a c. elim (after_set (l, a) c) [

@@ -8,7 +8,7 @@ use Rattle.std.proofs.lemmas.Option.{slice_get_within}
 use Rattle.dd_store.specs.declared.reference.Ref.{Ref}
 use Rattle.dd_store.specs.declared.StoreFault.{StoreFault}
 use Rattle.dd_store.specs.declared.StoreFault.TheVariants as store_faults
-use Rattle.dd_store.specs.Marks.{mark_by}
+use Rattle.dd_store.specs.Complements.{complement_by}
 use Rattle.dd_store.specs.Nodes.{Nodes, IsSound, count_of}
 use Rattle.dd_store.specs.View.{Keeps, IsMade, IsFull}
 use Rattle.dd_store.proofs.Places.{slice_get_cases-push}
@@ -28,12 +28,12 @@ use Rattle.reduce_up.proofs.Noting.{nothing, in_cases}
 use Rattle.reduce_up.proofs.Closed.{key_at, right}
 use Rattle.reduce_up.proofs.Adding.{adds_either, adds_then}
 use Rattle.reduce_up.proofs.Rooted.{requests_good}
-use Rattle.req_table.specs.declared.placed.Placed.{Placed}
-use Rattle.req_table.specs.declared.placed.PlacedChild.TheVariants.{Done, Ask}
-use Rattle.req_table.specs.Places.{row, StandsAt, IsPlaced, AreNone, IsLastLevel}
+use Rattle.req_table.specs.declared.packed_child.PackedChild.{PackedChild}
+use Rattle.req_table.specs.declared.packed_child.PlacedChild.TheVariants.{Done, Ask}
+use Rattle.req_table.specs.Places.{row, IsAtPlace, IsPlaced, AreNone, IsLastLevel}
 use Rattle.reduce_up.specs.ByPlace.{IsAdmitted, AreExpanded}
-use Rattle.reduce_up.specs.Up.{ComesTo, IsBelow, IsKnown, AskedAt, IsReadyAt, IsLevelReduced, IsLevelFault, ReducesLevel, AreReducedBelow}
-use Rattle.req_table.proofs.Standing.{some_same, stands_none, stands_some}
+use Rattle.reduce_up.specs.ReductionPhase.{ResolvesTo, IsBelow, IsKnown, AskedAt, IsReadyAt, IsLevelReduced, IsLevelFault, ReducesLevel, AreReducedBelow}
+use Rattle.req_table.proofs.AtPlace.{some_same, at_place_none, at_place_some}
 use Rattle.reduce_up.proofs.Wanted.{level_adds, has_request_of, lacks_wanted}
 
 -- a key with two answers as its children
@@ -41,17 +41,17 @@ abbrev pub rec : Key → Ref → Ref → Record
 rec k lo hi = record { key = k; low = child.Done lo; high = child.Done hi }
 
 -- what a child comes to is one reference
-pub one_answer : (A : List (List Ref)) (d : Placed) (r s : Ref) → ComesTo A d r → ComesTo A d s → r ≡ s
+pub one_answer : (A : List (List Ref)) (d : PackedChild) (r s : Ref) → ResolvesTo A d r → ResolvesTo A d s → r ≡ s
 one_answer A (Done x) r s e f = e ∙ sym f
-one_answer A (Ask l p m) r s e f = e.2 ∙ ap (mark_by m) (some_same (slice_get (row A l) p) e.0 f.0 e.1 f.1) ∙ sym f.2
+one_answer A (Ask l p m) r s e f = e.2 ∙ ap (complement_by m) (some_same (slice_get (row A l) p) e.0 f.0 e.1 f.1) ∙ sym f.2
 
 -- answers of another level leave it
-comes_on : (A B : List (List Ref)) (v : ℕ) → ((w : ℕ) → (w ≡ v → ⊥) → row B w ≡ row A w) → (d : Placed) → IsBelow v d → (r : Ref) → ComesTo A d r → ComesTo B d r
+comes_on : (A B : List (List Ref)) (v : ℕ) → ((w : ℕ) → (w ≡ v → ⊥) → row B w ≡ row A w) → (d : PackedChild) → IsBelow v d → (r : Ref) → ResolvesTo A d r → ResolvesTo B d r
 comes_on A B v same (Done x) b r c = c
 comes_on A B v same (Ask l p m) b r c = (c.0, subst (λ (z : List Ref). slice_get z p ≡ Some c.0) (sym (same l (λ e. omega (arith, e, b)))) c.1, c.2)
 
 -- answers of a level leave it ready
-pub ready_beside : (s : Nodes) (T : List (List Key)) (pairs : List (Placed × Placed)) (A B : List (List Ref)) (v : ℕ) → ((w : ℕ) → (w ≡ v → ⊥) → row B w ≡ row A w) → IsReadyAt s T pairs A v → IsReadyAt s T pairs B v
+pub ready_beside : (s : Nodes) (T : List (List Key)) (pairs : List (PackedChild × PackedChild)) (A B : List (List Ref)) (v : ℕ) → ((w : ℕ) → (w ≡ v → ⊥) → row B w ≡ row A w) → IsReadyAt s T pairs A v → IsReadyAt s T pairs B v
 ready_beside s T pairs A B v same R = record {
   bounded = R.bounded;
   counts = R.counts;
@@ -61,20 +61,20 @@ ready_beside s T pairs A B v same R = record {
 }
 
 -- Of level v the first i requests are reduced, and one more is to be.
-module _ (s0 : Nodes) (sound : IsSound s0) (T : List (List Key)) (pairs : List (Placed × Placed)) (A : List (List Ref)) (v : ℕ) (R : IsReadyAt s0 T pairs A v)
-    (i : ℕ) (s : Nodes) (own : List Ref) (so : IsLevelReduced s0 T v i s own) (d : Placed × Placed) (at : slice_get pairs i ≡ Some d) where
+module _ (s0 : Nodes) (sound : IsSound s0) (T : List (List Key)) (pairs : List (PackedChild × PackedChild)) (A : List (List Ref)) (v : ℕ) (R : IsReadyAt s0 T pairs A v)
+    (i : ℕ) (s : Nodes) (own : List Ref) (so : IsLevelReduced s0 T v i s own) (d : PackedChild × PackedChild) (at : slice_get pairs i ≡ Some d) where
   -- the request at that place
-  pub here : (k : Key) × StandsAt T v i k
-  here = stands_some (row T v) i (let e : length pairs ≡ length (row T v) = R.counts in let lt : i < length pairs = slice_get_within pairs i d at in omega (arith, e, lt))
+  pub here : (k : Key) × IsAtPlace T v i k
+  here = at_place_some (row T v) i (let e : length pairs ≡ length (row T v) = R.counts in let lt : i < length pairs = slice_get_within pairs i d at in omega (arith, e, lt))
 
-  pub low_comes : (r : Ref) × ComesTo A d.0 r
+  pub low_comes : (r : Ref) × ResolvesTo A d.0 r
   low_comes = let k = R.low i here.0 d here.1 at in (k.1.0, k.1.1)
 
-  pub high_comes : (r : Ref) × ComesTo A d.1 r
+  pub high_comes : (r : Ref) × ResolvesTo A d.1 r
   high_comes = let k = R.high i here.0 d here.1 at in (k.1.0, k.1.1)
 
   -- its children's answers
-  module _ (lo hi : Ref) (cl : ComesTo A d.0 lo) (ch : ComesTo A d.1 hi) where
+  module _ (lo hi : Ref) (cl : ResolvesTo A d.0 lo) (ch : ResolvesTo A d.1 hi) where
     -- they make a record of it
     pub is_record : IsRecordAt s v (rec here.0 lo hi)
     is_record =
@@ -136,18 +136,18 @@ module _ (s0 : Nodes) (sound : IsSound s0) (T : List (List Key)) (pairs : List (
         answered = λ q k x h g. by q k x h (slice_get_cases-push own r q x (subst (λ (z : List Ref). slice_get z q ≡ Some x) e g));
       }
         where
-          by : (q : ℕ) (k : Key) (x : Ref) → StandsAt T v q k → (slice_get own q ≡ Some x) ⊎ ((q ≡ length own) × (x ≡ r)) → IsAnswer u k x
+          by : (q : ℕ) (k : Key) (x : Ref) → IsAtPlace T v q k → (slice_get own q ≡ Some x) ⊎ ((q ≡ length own) × (x ≡ r)) → IsAnswer u k x
           by q k x h (inl g) = answer_kept s u so.held done.1.keeps k x (so.answered q k x h g)
           by q k x h (inr g) =
-              let k-is : here.0 ≡ k = some_same (slice_get (row T v) i) here.0 k here.1 (subst (λ z. StandsAt T v z k) (g.0 ∙ so.count) h) in
+              let k-is : here.0 ≡ k = some_same (slice_get (row T v) i) here.0 k here.1 (subst (λ z. IsAtPlace T v z k) (g.0 ∙ so.count) h) in
               subst (λ z. IsAnswer u z x) k-is (subst (IsAnswer u here.0) (sym g.1) done.0)
 
-pub level_start : (s : Nodes) (T : List (List Key)) (pairs : List (Placed × Placed)) (A : List (List Ref)) (v : ℕ) → IsSound s → IsReadyAt s T pairs A v → IsLevelReduced s T v 0 s []
+pub level_start : (s : Nodes) (T : List (List Key)) (pairs : List (PackedChild × PackedChild)) (A : List (List Ref)) (v : ℕ) → IsSound s → IsReadyAt s T pairs A v → IsLevelReduced s T v 0 s []
 level_start s T pairs A v S R = record {
   held = S;
   adds = adds_none s s (AskedAt s T v) refl;
   count = refl;
-  answered = λ q k r h g. absurd (stands_none [] q r refl g);
+  answered = λ q k r h g. absurd (at_place_none [] q r refl g);
 }
 
 -- what is left of a level that is given up, and of one whose keys all have their answers
@@ -158,20 +158,20 @@ pub level_whole : (s u : Nodes) (T : List (List Key)) (v : ℕ) (own : List Ref)
 level_whole s u T v own so = record { adds = so.adds; whole = so; fault = tt }
 
 -- a placed child whose request has its answer is known
-known : (s : Nodes) (T : List (List Key)) (A : List (List Ref)) (v : ℕ) (k : Key) (b : Bool) (d : Placed) (c : Child) → IsPlaced T d c → IsChild s v k b c →
-    ((w q : ℕ) (x : Key) → v < w → StandsAt T w q x → length (row A w) ≡ length (row T w)) → ((w q : ℕ) (x : Key) (r : Ref) → v < w → StandsAt T w q x → StandsAt A w q r → IsAnswer s x r) → IsKnown s A v k b d
+known : (s : Nodes) (T : List (List Key)) (A : List (List Ref)) (v : ℕ) (k : Key) (b : Bool) (d : PackedChild) (c : Child) → IsPlaced T d c → IsChild s v k b c →
+    ((w q : ℕ) (x : Key) → v < w → IsAtPlace T w q x → length (row A w) ≡ length (row T w)) → ((w q : ℕ) (x : Key) (r : Ref) → v < w → IsAtPlace T w q x → IsAtPlace A w q r → IsAnswer s x r) → IsKnown s A v k b d
 known s T A v k b (Done r) c p i counts answered = (tt, (r, refl, subst (IsChild s v k b) p i))
 known s T A v k b (Ask l p m) c h i counts answered =
     let x : Key = h.0 in
     let j : IsChild s v k b (child.Ask l x m) = subst (IsChild s v k b) h.2 i in
     let within : p < length (row T l) = slice_get_within (row T l) p x h.1 in
-    let a = stands_some (row A l) p (let e : length (row A l) ≡ length (row T l) = counts l p x j.0 h.1 in omega (arith, e, within)) in
+    let a = at_place_some (row A l) p (let e : length (row A l) ≡ length (row T l) = counts l p x j.0 h.1 in omega (arith, e, within)) in
     let answer : IsAnswer s x a.0 = answered l p x a.0 j.0 h.1 a.1 in
     let only : AreAnswers s ((x, a.0) ∷ []) = λ y r c. elim (in_cases {X = Key × Ref} (x, a.0) (y, r) [] c) [
       | inl e ↦ subst (λ (z : Key × Ref). IsAnswer s z.0 z.1) e answer
       | inr n ↦ absurd (nothing {X = Key × Ref} (y, r) n)
     ] in
-    (j.0, (mark_by m a.0, (a.0, a.1, refl), resolved s v k b (child.Ask l x m) ((x, a.0) ∷ []) (mark_by m a.0) j only (a.0, (0, omega arith, refl), refl)))
+    (j.0, (complement_by m a.0, (a.0, a.1, refl), resolved s v k b (child.Ask l x m) ((x, a.0) ∷ []) (complement_by m a.0) j only (a.0, (0, omega arith, refl), refl)))
 
 -- the last level of lists that are the same before a level is the last of the others
 pub last_left : {X : Type 0} (old new : List (List X)) (u : ℕ) → ((w : ℕ) → w < u → row new w ≡ row old w) → (found : Option ℕ) → IsLastLevel new u found → IsLastLevel old u found
@@ -183,7 +183,7 @@ last_left {X} old new u same (Some v) h = (
 )
 
 -- Of a wave over the store S.
-module _ (S : Nodes) (w : IsSound S) (entries : List Entry) (good : All (IsEntry S) entries) (roots : List Placed) (T : List (List Key)) (rows : List (List (Placed × Placed))) (from : ℕ) (E : AreExpanded S entries roots from T rows) where
+module _ (S : Nodes) (w : IsSound S) (entries : List Entry) (good : All (IsEntry S) entries) (roots : List PackedChild) (T : List (List Key)) (rows : List (List (PackedChild × PackedChild))) (from : ℕ) (E : AreExpanded S entries roots from T rows) where
   splits : (v : ℕ) (k : Key) → IsAdmitted S entries v k → IsRecordAt S v (record_of S k)
   splits v k a = subst (λ z. IsRecordAt S z (record_of S k)) a.level (record {
     key = key_at S w 1 (requests_of entries) (requests_good S entries good) k a.key;
@@ -196,7 +196,7 @@ module _ (S : Nodes) (w : IsSound S) (entries : List Entry) (good : All (IsEntry
   none_split v u le none w q k ge lt h =
       let c : length (row rows w) ≡ length (row T w) = E.counts w (omega (arith, lt, le)) in
       let within : q < length (row T w) = slice_get_within (row T w) q k h in
-      let d = stands_some (row rows w) q (omega (arith, c, within)) in
+      let d = at_place_some (row rows w) q (omega (arith, c, within)) in
       none w q d.0 ge lt d.1
 
   -- an expanded level whose deeper levels have their answers can be reduced
@@ -209,7 +209,7 @@ module _ (S : Nodes) (w : IsSound S) (entries : List Entry) (good : All (IsEntry
     high = λ q k p h g. known s T A v k true p.1 (child_of S k true) (E.split v q k p lt h g).1 (at q k h).high (λ u x y le. d.counts u x y (omega (arith, le))) (λ u x y r le. d.answered u x y r (omega (arith, le)));
   }
     where
-      at : (q : ℕ) (k : Key) → StandsAt T v q k → IsRecordAt s v (record_of S k)
+      at : (q : ℕ) (k : Key) → IsAtPlace T v q k → IsRecordAt s v (record_of S k)
       at q k h = record_kept S s w d.adds.keeps v (record_of S k) (splits v k (E.admitted.keys v q k h))
 
   -- one level more is reduced
@@ -224,7 +224,7 @@ module _ (S : Nodes) (w : IsSound S) (entries : List Entry) (good : All (IsEntry
       | inr l ↦ ap length (others x (λ e. omega (arith, e, l))) ∙ d.counts x q k (omega (arith, l)) h
     ];
     answered = λ x q k r le h g. elim (eq-or-lt_of_le le) [
-      | inl e ↦ so.answered q k r (subst (λ z. StandsAt T z q k) (sym e) h) (subst (λ (z : List Ref). slice_get z q ≡ Some r) here (subst (λ z. StandsAt B z q r) (sym e) g))
+      | inl e ↦ so.answered q k r (subst (λ z. IsAtPlace T z q k) (sym e) h) (subst (λ (z : List Ref). slice_get z q ≡ Some r) here (subst (λ z. IsAtPlace B z q r) (sym e) g))
       | inr l ↦ answer_kept s u d.held so.adds.keeps k r (d.answered x q k r (omega (arith, l)) h (subst (λ (z : List Ref). slice_get z q ≡ Some r) (others x (λ e. omega (arith, e, l))) g))
     ];
     within = inl within;
@@ -254,9 +254,9 @@ module _ (S : Nodes) (w : IsSound S) (entries : List Entry) (good : All (IsEntry
       (has_request_of S w entries good v x.1 a, elim x.3 [ inl over ↦ inl over | inr full ↦ inr (full.0, lacks_wanted S w entries good v x.1 s K a full.1) ])
 
 -- a level with requests, of which the store is past its limit
-pub past_fault : (s : Nodes) (T : List (List Key)) (pairs : List (Placed × Placed)) (A : List (List Ref)) (v : ℕ) → IsReadyAt s T pairs A v → 0 < length pairs → (u : Nodes) → u.limit < count_of u → IsLevelFault u T v wave_faults.Full
+pub past_fault : (s : Nodes) (T : List (List Key)) (pairs : List (PackedChild × PackedChild)) (A : List (List Ref)) (v : ℕ) → IsReadyAt s T pairs A v → 0 < length pairs → (u : Nodes) → u.limit < count_of u → IsLevelFault u T v wave_faults.Full
 past_fault s T pairs A v R some u over =
-    let k = stands_some (row T v) 0 (let e : length pairs ≡ length (row T v) = R.counts in omega (arith, e, some)) in
+    let k = at_place_some (row T v) 0 (let e : length pairs ≡ length (row T v) = R.counts in omega (arith, e, some)) in
     (0, k.0, k.1, inl over)
 
 -- a level is not refused for want of a worker, nor for too many requests

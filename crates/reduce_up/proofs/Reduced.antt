@@ -13,8 +13,8 @@ use Rattle.req_table.specs.Keys.{level_of}
 use Rattle.expand_work.proofs.Once.{append_cases, once_append}
 use Rattle.reduce_up.specs.Waves.{Entry}
 use Rattle.reduce_up.specs.ByPlace.{AreAdmitted}
-use Rattle.req_table.specs.Places.{row, StandsAt, AreNone}
-use Rattle.reduce_up.specs.Up.{AreMore, AreCounted}
+use Rattle.req_table.specs.Places.{row, IsAtPlace, AreNone}
+use Rattle.reduce_up.specs.ReductionPhase.{AreMore, AreCounted}
 use Rattle.slot_table.specs.Lists.{IsIn}
 
 -- before the last level nothing is reduced
@@ -43,7 +43,7 @@ level_reduced s entries T admitted u end v before after later m lt le none own b
     | inr g ↦ let x = m.stands k (g.0, g.2) in (x.0, x.1, (let ge : end ≤ x.0 = x.2 in omega (arith, ge, lt)), x.3, x.4)
   ];
   whole = λ w q k ge before h. elim (eq-or-lt_of_le ge) [
-    | inl e ↦ (q, slice_get-append (row T u) m.requests q k (subst (λ z. StandsAt T z q k) (sym e) h))
+    | inl e ↦ (q, slice_get-append (row T u) m.requests q k (subst (λ z. IsAtPlace T z q k) (sym e) h))
     | inr over ↦ elim (cases_lt w end) [
       | inl between ↦ absurd (none w q k (omega (arith, over)) between h)
       | inr from ↦ in_back (row T u) m.requests k (m.whole w q k from before h)

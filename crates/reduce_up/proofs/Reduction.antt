@@ -15,8 +15,8 @@ use Rattle.req_table.specs.declared.Child.TheVariants.{Done, Ask}
 use Rattle.req_table.specs.declared.Record.{Record}
 use Rattle.dd_store.specs.Functions.{Agree, OfEither}
 use Rattle.dd_store.specs.Nodes.{node as node_at}
-use Rattle.dd_store.specs.Marks.{mark_by, turned}
-use Rattle.dd_store.proofs.Marks.{top-mark_by, IsRef-mark_by, den-mark_by}
+use Rattle.dd_store.specs.Complements.{complement_by, complemented}
+use Rattle.dd_store.proofs.Complements.{top-complement_by, IsRef-complement_by, den-complement_by}
 use Rattle.dd_store.specs.Parts.Part.{node}
 use Rattle.dd_store.specs.Nodes.{Nodes, den, IsSound, IsDiagram, count_of}
 use Rattle.dd_store.specs.View.{part, Has, top, Keeps, IsOneNode, IsMade}
@@ -36,11 +36,11 @@ resolved s v k b (Ask l c m) pairs r i a (t, h, e) =
     let lt : v < l = i.0 in
     let level : min (top s c.f) (top s c.g) ≡ l = i.1.level in
     let above : min (top s c.f) (top s c.g) ≤ top s t = answer.not_above in
-    let same : top s (mark_by m t) ≡ top s t = top-mark_by s.levels m t in
+    let same : top s (complement_by m t) ≡ top s t = top-complement_by s.levels m t in
     subst (IsAnswerAt s v k b) (sym e) (record {
-      has = IsRef-mark_by (node_at s) m t answer.has;
+      has = IsRef-complement_by (node_at s) m t answer.has;
       below = omega arith;
-      denotes = λ q x hq hx. den-mark_by s m t (q ++ b ∷ x) ∙ ap (turned m) (answer.denotes (q ++ b ∷ x) (simp length-append (omega arith))) ∙ i.2 q x hq hx;
+      denotes = λ q x hq hx. den-complement_by s m t (q ++ b ∷ x) ∙ ap (complemented m) (answer.denotes (q ++ b ∷ x) (simp length-append (omega arith))) ∙ i.2 q x hq hx;
     })
 
 pub kept_meaning : (old new : Nodes) → IsSound old → Keeps old new → (k : Key) → Has old k.f → Has old k.g → (x : List Bool) → meaning new k x ≡ meaning old k x
@@ -167,7 +167,7 @@ child_kept a b S K v k bit (Done r) key i = record {
   denotes = λ q x hq hx. kept_den a b S K r i.has (q ++ bit ∷ x) ∙ i.denotes q x hq (hx ∙ K.levels) ∙ sym (kept_meaning a b S K k key.first key.second (q ++ bit ∷ x));
 }
 child_kept a b S K v k bit (Ask l c m) key i =
-    (i.0, key_kept a b K l c i.1, λ q x hq hx. ap (turned m) (kept_meaning a b S K c i.1.first i.1.second (q ++ bit ∷ x)) ∙ i.2 q x hq (hx ∙ K.levels) ∙ sym (kept_meaning a b S K k key.first key.second (q ++ bit ∷ x)))
+    (i.0, key_kept a b K l c i.1, λ q x hq hx. ap (complemented m) (kept_meaning a b S K c i.1.first i.1.second (q ++ bit ∷ x)) ∙ i.2 q x hq (hx ∙ K.levels) ∙ sym (kept_meaning a b S K k key.first key.second (q ++ bit ∷ x)))
 
 pub record_kept : (a b : Nodes) → IsSound a → Keeps a b → (v : ℕ) (r : Record) → IsRecordAt a v r → IsRecordAt b v r
 record_kept a b S K v r i = record {

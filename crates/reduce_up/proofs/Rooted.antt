@@ -5,7 +5,7 @@ use Rattle.std.proofs.lemmas.List.Elements.{Contains-append_left, Contains-appen
 use Rattle.dd_store.specs.declared.reference.Ref.{Ref}
 use Rattle.dd_store.specs.Nodes.{Nodes, IsDiagram, den}
 use Rattle.dd_store.specs.View.{Has}
-use Rattle.dd_store.specs.Marks.{turned}
+use Rattle.dd_store.specs.Complements.{complemented}
 use Rattle.dd_store.proofs.View.{has-negate}
 use Rattle.req_table.specs.declared.Key.{Key}
 use Rattle.req_table.specs.TerminalCase.{terminal_of}
@@ -55,7 +55,7 @@ requests_good S es h =
     subst (IsKey S) (sym e.3) (is_key S e.0.0 e.0.1 e.0.2 i.0 i.1 e.2))
 
 -- the normal key asks for what the entry asks for, or for its complement where it has a mark
-pub normal_means : (S : Nodes) (e : Entry) (x : List Bool) → turned (normal_of e.0 e.1 e.2).1 (meaning S (normal_of e.0 e.1 e.2).0 x) ≡ entry_value S e x
+pub normal_means : (S : Nodes) (e : Entry) (x : List Bool) → complemented (normal_of e.0 e.1 e.2).1 (meaning S (normal_of e.0 e.1 e.2).0 x) ≡ entry_value S e x
 normal_means S e x = meaning_normal S e.0 e.1 e.2 x
 
 -- a terminal case is the entry's diagram

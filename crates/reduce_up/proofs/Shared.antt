@@ -15,7 +15,7 @@ use Rattle.dd_store.specs.Nodes.{Nodes, den, IsSound}
 use Rattle.dd_store.specs.View.{part, Has}
 use Rattle.expand_work.proofs.Zips.{zip_at}
 use Rattle.reduce_up.specs.Reducing.{IsKeyAt, IsAnswer, IsAnswerAt, IsRecordAt, AreAnswers, AddsDescribed, AskedBy, IsRow, IsRowReduced, IsRowFault, wave_fault}
-use Rattle.reduce_up.specs.Sharing.{IsPairOf, IsAnswered, RowCanStand, IsOfPair, AddsRow, IsRowRefused, NotesFirst}
+use Rattle.reduce_up.specs.Sharing.{IsPairOf, IsAnswered, RowCanBeNodes, IsOfPair, AddsRow, IsRowRefused, NotesFirst}
 use Rattle.reduce_up.proofs.Naming.{there_part}
 use Rattle.reduce_up.proofs.Noting.{nothing, head_in, tail_in, in_cases}
 use Rattle.reduce_up.proofs.Opposite.{one_node_either, one_node_part}
@@ -49,7 +49,7 @@ module _ (S : Nodes) (before : List (Key × Ref)) (v : ℕ) (row : List Record) 
   high_of : (U : Nodes) (r : Record) (p : Pair) → AreAnswers U before → IsRecordAt U v r → IsPairOf before r p → IsAnswerAt U v r.key true p.1
   high_of U r p a i e = resolved U v r.key true r.high before p.1 i.high a e.1
 
-  pub stands : RowCanStand before S v row
+  pub stands : RowCanBeNodes before S v row
   stands d p c e =
       let low = low_of S d p answers (is_row.records d c) e in
       let high = high_of S d p answers (is_row.records d c) e in

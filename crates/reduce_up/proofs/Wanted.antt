@@ -7,8 +7,8 @@ use Rattle.dd_store.specs.declared.reference.Ref.{Ref}
 use Rattle.dd_store.specs.declared.reference.Reference.TheVariants.{False, True, Node}
 use Rattle.dd_store.specs.Parts.Part.{node}
 use Rattle.dd_store.specs.Graph.{Pair}
-use Rattle.dd_store.specs.Marks.{mark_both, negate_of, turned}
-use Rattle.dd_store.proofs.Marks.{not-not, turned-twice, den-negate}
+use Rattle.dd_store.specs.Complements.{complement_both, negate_of, complemented}
+use Rattle.dd_store.proofs.Complements.{not-not, complemented-twice, den-negate}
 use Rattle.dd_store.proofs.Storing.{children-of}
 use Rattle.dd_store.proofs.View.{kept_top, has-negate}
 use Rattle.dd_store.specs.Functions.{Agree, IsFixedSomehow, DependsOn, OfEither}
@@ -22,11 +22,11 @@ use Rattle.reduce_up.specs.Reducing.{AddsDescribed, IsAnswer, LacksAnswer}
 use Rattle.reduce_up.specs.Waves.{Entry, entry_value, IsEntry, IsWanted, LacksWanted, HasRequest, requests_of}
 use Rattle.reduce_up.proofs.Below.{fixed_of, fixed_as, node_reads}
 use Rattle.reduce_up.proofs.Adding.{adds_either, adds_reads, adds_then}
-use Rattle.reduce_up.proofs.Opposite.{either_more, either_either, fixed_turned, depends_not}
+use Rattle.reduce_up.proofs.Opposite.{either_more, either_either, fixed_complemented, depends_not}
 use Rattle.reduce_up.proofs.Rooted.{of_entry, requests_good, normal_means}
 use Rattle.reduce_up.proofs.Reduction.{kept_meaning}
 use Rattle.reduce_up.specs.ByPlace.{IsAdmitted, AreAdmitted}
-use Rattle.reduce_up.specs.Up.{AskedAt}
+use Rattle.reduce_up.specs.ReductionPhase.{AskedAt}
 
 -- fixing more bits of a function with bits fixed
 pub fixed_more : (n l v : ℕ) (f g h : List Bool → Bool) → l ≤ v → v ≤ n → IsFixedSomehow n l f g → IsFixedSomehow n v g h → IsFixedSomehow n v f h
@@ -59,14 +59,14 @@ module _ (S : Nodes) (w : IsSound S) (entries : List Entry) (good : All (IsEntry
       asks_for (wave_of S 1) (is_wave S w 1 (omega arith)) (part S) (Has S) (den S) (meaning S) (are_requests S w 1) (requests_of entries) (requests_good S entries good) k i.reached in
       let n : ℕ = S.levels in
       let root : List Bool → Bool = meaning S a.from in
-      let f : IsFixedSomehow n v (λ x. turned a.mark (root x)) (meaning S k) = subst (λ z. IsFixedSomehow n z (λ x. turned a.mark (root x)) (meaning S k)) i.level a.fixed in
+      let f : IsFixedSomehow n v (λ x. complemented a.complement (root x)) (meaning S k) = subst (λ z. IsFixedSomehow n z (λ x. complemented a.complement (root x)) (meaning S k)) i.level a.fixed in
       let e = of_entry entries a.from a.is_root in
       let m : Bool = (normal_of e.0.0 e.0.1 e.0.2).1 in
-      let asked : (x : List Bool) → turned m (entry_value S e.0 x) ≡ root x =
-      λ x. ap (turned m) (sym (normal_means S e.0 x)) ∙ turned-twice m (meaning S (normal_of e.0.0 e.0.1 e.0.2).0 x) ∙ ap (λ z. meaning S z x) (sym e.3) in
+      let asked : (x : List Bool) → complemented m (entry_value S e.0 x) ≡ root x =
+      λ x. ap (complemented m) (sym (normal_means S e.0 x)) ∙ complemented-twice m (meaning S (normal_of e.0.0 e.0.1 e.0.2).0 x) ∙ ap (λ z. meaning S z x) (sym e.3) in
       let of_root : (g : List Bool → Bool) → IsFixedSomehow n v root g → OfEither (IsFixedSomehow n v (entry_value S e.0)) g =
-      λ g h. fixed_turned n v m (entry_value S e.0) g (fixed_of n v (λ x. turned m (entry_value S e.0 x)) root g (λ x hx. asked x) h) in
-      (e.0, e.1, either_either (IsFixedSomehow n v (entry_value S e.0)) (meaning S k) (either_more (IsFixedSomehow n v root) (OfEither (IsFixedSomehow n v (entry_value S e.0))) of_root (meaning S k) (fixed_turned n v a.mark root (meaning S k) f)))
+      λ g h. fixed_complemented n v m (entry_value S e.0) g (fixed_of n v (λ x. complemented m (entry_value S e.0 x)) root g (λ x hx. asked x) h) in
+      (e.0, e.1, either_either (IsFixedSomehow n v (entry_value S e.0)) (meaning S k) (either_more (IsFixedSomehow n v root) (OfEither (IsFixedSomehow n v (entry_value S e.0))) of_root (meaning S k) (fixed_complemented n v a.complement root (meaning S k) f)))
 
   -- and an entry asks for it
   pub has_request_of : (v : ℕ) (k : Key) → IsAdmitted S entries v k → HasRequest entries
@@ -103,7 +103,7 @@ module _ (S : Nodes) (w : IsSound S) (entries : List Entry) (good : All (IsEntry
       let long : (b : Bool) → length (p ++ b ∷ take gap r) ≡ level_of S k = λ b. simp length-append (omega (arith, front, hp, at, lt)) in
       let all : level_of S k + length (drop gap r) ≡ S.levels = omega (arith, rest, at, fit, lt, hr) in
       ap (meaning S k) (joined false)
-      ∙ (are_requests S w 1).free k i.key (p ++ false ∷ take gap r) (p ++ true ∷ take gap r) (drop gap r) (long false) (long true) all
+      ∙ (are_requests S w 1).ignores_upper_bits k i.key (p ++ false ∷ take gap r) (p ++ true ∷ take gap r) (drop gap r) (long false) (long true) all
       ∙ sym (ap (meaning S k) (joined true))
 
   -- so with bits fixed it depends on no bit before its level
@@ -200,7 +200,7 @@ module _ (S : Nodes) (w : IsSound S) (entries : List Entry) (good : All (IsEntry
       too_high False h ag lt = omega (arith, fit, same, lt)
       too_high True h ag lt = omega (arith, fit, same, lt)
       too_high (Node n b) h ag lt =
-          let p : Pair = mark_both b h.0 in
+          let p : Pair = complement_both b h.0 in
           let at : part T (Node n b) ≡ node n.level p.0 p.1 = ap (part_of n) (children-of T n b h.0 h.1) in
           let x : DependsOn T.levels n.level (den T (Node n b)) = node_reads T u (Node n b) n.level p.0 p.1 h at in
           let hq : length x.0 ≡ n.level = x.2 in

@@ -7,7 +7,7 @@ use Rattle.std.specs.declared.alloc.Global.{Global}
 use Rattle.std.proofs.lemmas.Bool.{cases_lt}
 use Rattle.dd_store.specs.declared.reference.Ref.{Ref}
 use Rattle.dd_store.specs.Functions.{Agree, IsFixedSomehow, DependsOn, OfEither}
-use Rattle.dd_store.specs.Parts.{Met}
+use Rattle.dd_store.specs.Parts.{IsReachable}
 use Rattle.dd_store.specs.Parts.Part.{node}
 use Rattle.dd_store.specs.Nodes.{Nodes, IsSound, IsDiagram, den, count_of}
 use Rattle.dd_store.specs.View.{part, Has, IsOneNode}
@@ -15,8 +15,8 @@ use Rattle.dd_store.proofs.View.{keeps-refl, has-negate}
 use Rattle.expand_work.specs.declared.fault.WaveFault.{WaveFault}
 use Rattle.expand_work.specs.declared.fault.WaveFault.TheVariants.{OutOfMemory, NoWorker, Full, TooManyRequests}
 use Rattle.dd_store.specs.Nodes.{node as node_at}
-use Rattle.dd_store.specs.Marks.{negate_of, turned}
-use Rattle.dd_store.proofs.Marks.{not-not, IsRef-mark_by, den-mark_by, den-negate, turned-twice}
+use Rattle.dd_store.specs.Complements.{negate_of, complemented}
+use Rattle.dd_store.proofs.Complements.{not-not, IsRef-complement_by, den-complement_by, den-negate, complemented-twice}
 use Rattle.req_table.specs.declared.Key.{Key}
 use Rattle.req_table.specs.declared.Record.{Record}
 use Rattle.req_table.specs.Keys.{IsKey, meaning, level_of, normal_of, wave_of}
@@ -34,7 +34,7 @@ use Rattle.reduce_up.proofs.Closed.{reached_key, recorded, reached_at, placed_at
 use Rattle.reduce_up.proofs.Levelling.{past_rows}
 use Rattle.reduce_up.proofs.Noting.{nothing, head_in, tail_in, in_cases}
 use Rattle.reduce_up.proofs.Adding.{adds_reads}
-use Rattle.reduce_up.proofs.Opposite.{either_more, either_either, either_reads, fixed_turned}
+use Rattle.reduce_up.proofs.Opposite.{either_more, either_either, either_reads, fixed_complemented}
 use Rattle.reduce_up.proofs.Reduction.{kept_meaning, diagram_kept}
 use Rattle.reduce_up.proofs.Rooted.{all_of, of_entry, to_request, requests_good, normal_means, terminal_diagram}
 
@@ -49,10 +49,10 @@ module _ (S : Nodes) (w : IsSound S) (workers : ℕ) (some : 0 < workers) (roots
       let at : level_of S e.key ≡ v = placed_at S w workers roots good rows closed v e lt e_in in
       let a : AsksFor (wave_of S workers) (meaning S) roots e.key =
       asks_for (wave_of S workers) (is_wave S w workers some) (part S) (Has S) (den S) (meaning S) (are_requests S w workers) roots good e.key (reached_at S w workers roots good rows closed v e lt e_in) in
-      let source : List Bool → Bool = λ (x : List Bool). turned a.mark (meaning S a.from x) in
+      let source : List Bool → Bool = λ (x : List Bool). complemented a.complement (meaning S a.from x) in
       let g : IsFixedSomehow S.levels v source (meaning S e.key) = subst (λ z. IsFixedSomehow S.levels z source (meaning S e.key)) at a.fixed in
       either_more (IsFixedSomehow S.levels v (meaning S a.from)) (IsKeyFixed S roots v) (λ h i. (a.from, a.is_root, i)) f
-      (fixed_turned S.levels v a.mark (meaning S a.from) f (fixed_as S.levels v source (meaning S e.key) f same g))
+      (fixed_complemented S.levels v a.complement (meaning S a.from) f (fixed_as S.levels v source (meaning S e.key) f same g))
 
 -- the answer of an entry
 answer_for : (S T : Nodes) (es : List Entry) (answers : List Ref) → AnswersEach S es T answers → (e : Entry) → Contains es e → (r : Ref) × Contains answers r × IsDiagram T r (entry_value S e)
@@ -75,7 +75,7 @@ adds_below S entries T u adds answers z m h = by (adds.described m h)
         let fixed : IsFixedSomehow T.levels v (entry_value S wanted.entry) f = subst (λ n. IsFixedSomehow n v (entry_value S wanted.entry) f) (sym adds.keeps.levels) wanted.fixed in
         (a.0, a.1, a.2.0, fixed_of T.levels v (den T a.0) (entry_value S wanted.entry) f (λ x hx. a.2.1 x hx) fixed)
 
-    below : (v : ℕ) (lo hi : Ref) → part T m ≡ node v lo hi → OfEither (IsWanted S entries v) (den T m) → (r : Ref) × (c : Ref) × Contains answers r × Met (part T) r c × IsOneNode T m c
+    below : (v : ℕ) (lo hi : Ref) → part T m ≡ node v lo hi → OfEither (IsWanted S entries v) (den T m) → (r : Ref) × (c : Ref) × Contains answers r × IsReachable (part T) r c × IsOneNode T m c
     below v lo hi e (inl wanted) =
         let a = answer_fixed v (den T m) wanted in
         (a.0, m, a.1, lies_below T u a.0 m v lo hi a.2 h e a.3, inl refl)
@@ -84,7 +84,7 @@ adds_below S entries T u adds answers z m h = by (adds.described m h)
         let c = complement_below T u a.0 m v lo hi a.2 h e a.3 in
         (a.0, c.0, a.1, c.1, c.2)
 
-    by : Has S m ⊎ ((v : ℕ) × (lo : Ref) × (hi : Ref) × (part T m ≡ node v lo hi) × OfEither (IsWanted S entries v) (den T m)) → Has S m ⊎ ((r : Ref) × (c : Ref) × Contains answers r × Met (part T) r c × IsOneNode T m c)
+    by : Has S m ⊎ ((v : ℕ) × (lo : Ref) × (hi : Ref) × (part T m ≡ node v lo hi) × OfEither (IsWanted S entries v) (den T m)) → Has S m ⊎ ((r : Ref) × (c : Ref) × Contains answers r × IsReachable (part T) r c × IsOneNode T m c)
     by (inl old) = inl old
     by (inr new) = inr (below new.0 new.1 new.2 new.3 new.4)
 
@@ -110,10 +110,10 @@ module _ (S : Nodes) (w : IsSound S) (workers : ℕ) (some : 0 < workers) (entri
     wanted v f reads (k, k_in, fixed) =
         let e = of_entry entries k k_in in
         let m : Bool = (normal_of e.0.0 e.0.1 e.0.2).1 in
-        let source : List Bool → Bool = λ (x : List Bool). turned m (entry_value S e.0 x) in
-        let same : Agree S.levels source (meaning S k) = (λ x hx. ap (turned m) (sym (normal_means S e.0 x)) ∙ turned-twice m (meaning S (normal_of e.0.0 e.0.1 e.0.2).0 x) ∙ ap (λ z. meaning S z x) (sym e.3)) in
+        let source : List Bool → Bool = λ (x : List Bool). complemented m (entry_value S e.0 x) in
+        let same : Agree S.levels source (meaning S k) = (λ x hx. ap (complemented m) (sym (normal_means S e.0 x)) ∙ complemented-twice m (meaning S (normal_of e.0.0 e.0.1 e.0.2).0 x) ∙ ap (λ z. meaning S z x) (sym e.3)) in
         either_reads S.levels v (IsFixedSomehow S.levels v (entry_value S e.0)) (IsWanted S entries v) (λ g d i. record { entry = e.0; is_entry = e.1; fixed = i; depends = d }) f reads
-        (fixed_turned S.levels v m (entry_value S e.0) f (fixed_of S.levels v source (meaning S k) f same fixed))
+        (fixed_complemented S.levels v m (entry_value S e.0) f (fixed_of S.levels v source (meaning S k) f same fixed))
 
     -- and so of what is that or its complement
     wanted_either : (v : ℕ) (f : List Bool → Bool) → DependsOn S.levels v f → OfEither (IsKeyFixed S (requests_of entries) v) f → OfEither (IsWanted S entries v) f
@@ -133,8 +133,8 @@ module _ (S : Nodes) (w : IsSound S) (workers : ℕ) (some : 0 < workers) (entri
         let a : IsAnswer T k t = d.answers k t taken.1 in
         let key : IsKey S k = is_key S e.0 e.1 e.2 i.0 i.1 h in
         subst (λ z. IsDiagram T z (entry_value S e)) (sym taken.2) (
-          IsRef-mark_by (node_at T) m t a.has,
-          λ x hx. den-mark_by T m t x ∙ ap (turned m) (a.denotes x hx ∙ kept_meaning S T w adds.keeps k key.first key.second x) ∙ normal_means S e x,
+          IsRef-complement_by (node_at T) m t a.has,
+          λ x hx. den-complement_by T m t x ∙ ap (complemented m) (a.denotes x hx ∙ kept_meaning S T w adds.keeps k key.first key.second x) ∙ normal_means S e x,
         )
     entry_answered pairs d e i r (Some s) h taken =
         subst (λ z. IsDiagram T z (entry_value S e)) (sym taken) (diagram_kept S T w adds.keeps (entry_value S e) s (terminal_diagram S e i s h))

@@ -5,9 +5,9 @@ use Rattle.req_table.specs.declared.Key.{Key}
 use Rattle.dd_store.specs.Nodes.{Nodes}
 use Rattle.req_table.specs.Keys.{IsKey, level_of, child, child_of, wave_of}
 use Rattle.req_table.specs.Reached.{IsReached}
-use Rattle.req_table.specs.Places.{row, StandsAt, IsPlaced}
+use Rattle.req_table.specs.Places.{row, IsAtPlace, IsPlaced}
 use Rattle.reduce_up.specs.Waves.{Entry, requests_of}
-use Rattle.req_table.specs.declared.placed.Placed.{Placed}
+use Rattle.req_table.specs.declared.packed_child.PackedChild.{PackedChild}
 
 -- what stands at a place of level w is a key of the store of that level, which the entries ask for
 pub record IsAdmitted (s : Nodes) (entries : List Entry) (w : ℕ) (k : Key) : Type 0 where
@@ -18,17 +18,17 @@ pub record IsAdmitted (s : Nodes) (entries : List Entry) (w : ℕ) (k : Key) : T
 -- a table for each level, of such keys
 pub record AreAdmitted (s : Nodes) (entries : List Entry) (tables : List (List Key)) : Type 0 where
   pub levels : length tables ≡ s.levels
-  pub keys : (w q : ℕ) (k : Key) → StandsAt tables w q k → IsAdmitted s entries w k
+  pub keys : (w q : ℕ) (k : Key) → IsAtPlace tables w q k → IsAdmitted s entries w k
 
 -- the pair stands for the two children of the key
-abbrev pub IsSplitAt : Nodes → List (List Key) → Key → Placed × Placed → Type 0
+abbrev pub IsSplitAt : Nodes → List (List Key) → Key → PackedChild × PackedChild → Type 0
 IsSplitAt s tables k d = IsPlaced tables d.0 (child_of s k false) × IsPlaced tables d.1 (child_of s k true)
 
 -- the levels before v are expanded
-pub record AreExpanded (s : Nodes) (entries : List Entry) (roots : List Placed) (v : ℕ) (tables : List (List Key))
-    (rows : List (List (Placed × Placed))) : Type 0 where
+pub record AreExpanded (s : Nodes) (entries : List Entry) (roots : List PackedChild) (v : ℕ) (tables : List (List Key))
+    (rows : List (List (PackedChild × PackedChild))) : Type 0 where
   pub admitted : AreAdmitted s entries tables
   pub rooted : AllZip (λ e p. IsPlaced tables p (child s e.0 e.1 e.2)) entries roots
   pub levels : length rows ≡ s.levels
   pub counts : (w : ℕ) → w < v → length (row rows w) ≡ length (row tables w)
-  pub split : (w q : ℕ) (k : Key) (d : Placed × Placed) → w < v → StandsAt tables w q k → StandsAt rows w q d → IsSplitAt s tables k d
+  pub split : (w q : ℕ) (k : Key) (d : PackedChild × PackedChild) → w < v → IsAtPlace tables w q k → IsAtPlace rows w q d → IsSplitAt s tables k d

@@ -5,11 +5,11 @@ use Rattle.std.specs.declared.alloc.Global.{Global}
 use Rattle.dd_store.specs.Levels.{list_at, all_at, refs_at}
 use Rattle.dd_store.specs.declared.reference.Ref.{Ref}
 use Rattle.dd_store.specs.Graph.{Pair}
-use Rattle.dd_store.specs.Codes.{shard_of_pair}
+use Rattle.dd_store.specs.Hashes.{shard_of_pair}
 use Rattle.dd_store.specs.Growing.{IsIn}
-use Rattle.reduce_up.specs.declared.division.Divided.{Divided}
-use Rattle.reduce_up.specs.declared.division.Homes.{Homes}
-use Rattle.reduce_up.specs.Placed.{joined}
+use Rattle.reduce_up.specs.declared.division.PairsByShard.{PairsByShard}
+use Rattle.reduce_up.specs.declared.division.Origins.{Origins}
+use Rattle.reduce_up.specs.AnswersByLevel.{joined}
 use Rattle.reduce_up.specs.Sharing.{IsListed}
 
 -- the items whose number is s
@@ -28,54 +28,54 @@ twice rs = map (λ (r : Ref). (r, r)) rs
 
 -- A home for each pair that was read: its shard, or 16 where both are one diagram. Each list has the pairs of its shard, and `equal` of the
 -- homes these diagrams, in the order in which the pairs were read.
-pub record IsDivided (pairs : List Pair) (homes : Homes) (lists : ℕ → List Pair) : Type 0 where
-  pub long : length homes.numbers.items ≡ length pairs
-  pub within : All (λ h. h ≤ 16) homes.numbers.items
-  pub differ : (s : ℕ) → s < 16 → chosen s homes.numbers.items pairs ≡ lists s
-  pub same : chosen 16 homes.numbers.items pairs ≡ twice homes.equal.items
+pub record IsDivided (pairs : List Pair) (origins : Origins) (lists : ℕ → List Pair) : Type 0 where
+  pub long : length origins.numbers.items ≡ length pairs
+  pub within : All (λ h. h ≤ 16) origins.numbers.items
+  pub differ : (s : ℕ) → s < 16 → chosen s origins.numbers.items pairs ≡ lists s
+  pub same : chosen 16 origins.numbers.items pairs ≡ twice origins.equal.items
   pub own : (s : ℕ) (p : Pair) → IsIn (lists s) p → (p.0 ≢ p.1) × (shard_of_pair p.0 p.1 ≡ s)
 
 -- one pair more is read: a home for it, and the pair in the list of its shard, or the diagram that both its children are
-pub record IsPut (old : Divided) (p : Pair) (new : Divided) : Type 0 where
+pub record IsPut (old : PairsByShard) (p : Pair) (new : PairsByShard) : Type 0 where
   pub listed : IsListed (list_at old.lists.items) p (list_at new.lists.items)
-  pub same : p.0 ≡ p.1 → (new.homes.numbers.items ≡ old.homes.numbers.items ++ 16 ∷ [])
-      × (new.homes.equal.items ≡ old.homes.equal.items ++ p.0 ∷ [])
-  pub differ : p.0 ≢ p.1 → (new.homes.numbers.items ≡ old.homes.numbers.items ++ shard_of_pair p.0 p.1 ∷ [])
-      × (new.homes.equal.items ≡ old.homes.equal.items)
+  pub same : p.0 ≡ p.1 → (new.origins.numbers.items ≡ old.origins.numbers.items ++ 16 ∷ [])
+      × (new.origins.equal.items ≡ old.origins.equal.items ++ p.0 ∷ [])
+  pub differ : p.0 ≢ p.1 → (new.origins.numbers.items ≡ old.origins.numbers.items ++ shard_of_pair p.0 p.1 ∷ [])
+      × (new.origins.equal.items ≡ old.origins.equal.items)
 
 -- each list has as many items as there are homes that name it
-pub record AreHomes (homes : Homes) (lists : ℕ → List Pair) : Type 0 where
-  pub within : All (λ h. h ≤ 16) homes.numbers.items
-  pub many : (s : ℕ) → s < 16 → length (chosen s homes.numbers.items homes.numbers.items) ≡ length (lists s)
-  pub same : length (chosen 16 homes.numbers.items homes.numbers.items) ≡ length homes.equal.items
+pub record AreOrigins (origins : Origins) (lists : ℕ → List Pair) : Type 0 where
+  pub within : All (λ h. h ≤ 16) origins.numbers.items
+  pub many : (s : ℕ) → s < 16 → length (chosen s origins.numbers.items origins.numbers.items) ≡ length (lists s)
+  pub same : length (chosen 16 origins.numbers.items origins.numbers.items) ≡ length origins.equal.items
 
 -- where the diagrams of a home stand
-abbrev pub source : List (Vec Ref Global) → Homes → ℕ → List Ref
-source refs homes s = cond (s == 16) homes.equal.items (refs_at refs s)
+abbrev pub source : List (Vec Ref Global) → Origins → ℕ → List Ref
+source refs origins s = cond (s == 16) origins.equal.items (refs_at refs s)
 
 -- a diagram for each home: those of home s are the next of its diagrams from a place on, in order
-pub record IsPicked (homes : List ℕ) (starts : ℕ → ℕ) (sources : ℕ → List Ref) (answers : List Ref) : Type 0 where
-  pub long : length answers ≡ length homes
-  pub each : (s : ℕ) → s ≤ 16 → chosen s homes answers ≡ span (starts s) (length (chosen s homes answers)) (sources s)
+pub record IsPicked (origins : List ℕ) (starts : ℕ → ℕ) (sources : ℕ → List Ref) (answers : List Ref) : Type 0 where
+  pub long : length answers ≡ length origins
+  pub each : (s : ℕ) → s ≤ 16 → chosen s origins answers ≡ span (starts s) (length (chosen s origins answers)) (sources s)
 
 -- where the references of part k's pairs of shard s begin: behind those of the parts before it
 abbrev pub begin_of : List (Vec (Vec Pair Global) Global) → ℕ → ℕ → ℕ
 begin_of parts k s = length (all_at (take k parts) s)
 
 -- the answers of part k, in the order in which its pairs were read
-abbrev pub IsPickedOf : List (Vec (Vec Pair Global) Global) → List (Vec Ref Global) → ℕ → Homes → List Ref → Type 0
-IsPickedOf parts refs k homes answers = IsPicked homes.numbers.items (begin_of parts k) (source refs homes) answers
+abbrev pub IsPickedOf : List (Vec (Vec Pair Global) Global) → List (Vec Ref Global) → ℕ → Origins → List Ref → Type 0
+IsPickedOf parts refs k origins answers = IsPicked origins.numbers.items (begin_of parts k) (source refs origins) answers
 
 -- this is so of the first m parts
-pub record ArePicked (parts : List (Vec (Vec Pair Global) Global)) (homes : List Homes) (refs : List (Vec Ref Global)) (m : ℕ)
+pub record ArePicked (parts : List (Vec (Vec Pair Global) Global)) (origins : List Origins) (refs : List (Vec Ref Global)) (m : ℕ)
     (answers : List (List Ref)) : Type 0 where
   pub long : length answers ≡ m
-  pub each : (k : ℕ) (d : List Ref) (h : Homes) → k < m
-      → IsPickedOf parts refs k (slice_index_or homes k h) (slice_index_or answers k d)
+  pub each : (k : ℕ) (d : List Ref) (h : Origins) → k < m
+      → IsPickedOf parts refs k (slice_index_or origins k h) (slice_index_or answers k d)
 
 -- the answers of all parts, one part behind the other
-abbrev pub AreInTurn : List (Vec (Vec Pair Global) Global) → List Homes → List (Vec Ref Global) → List Ref → Type 0
-AreInTurn parts homes refs all = (answers : List (List Ref)) × ArePicked parts homes refs (length homes) answers × (all ≡ joined answers)
+abbrev pub AreInPartOrder : List (Vec (Vec Pair Global) Global) → List Origins → List (Vec Ref Global) → List Ref → Type 0
+AreInPartOrder parts origins refs all = (answers : List (List Ref)) × ArePicked parts origins refs (length origins) answers × (all ≡ joined answers)
 
 -- a reference for each pair, by shard
 pub record AreRefsOf (parts : List (Vec (Vec Pair Global) Global)) (refs : List (Vec Ref Global)) : Type 0 where
@@ -87,9 +87,9 @@ abbrev pub HaveSixteen : List (Vec (Vec Pair Global) Global) → Type 0
 HaveSixteen parts = All (λ part. length part.items ≡ 16) parts
 
 -- the answers of parts may be picked: each part has sixteen lists of pairs and a home for each pair, and each pair its reference
-pub record MayPick (parts : List (Vec (Vec Pair Global) Global)) (homes : List Homes) (refs : List (Vec Ref Global)) : Type 0 where
-  pub many : length parts ≡ length homes
+pub record MayPick (parts : List (Vec (Vec Pair Global) Global)) (origins : List Origins) (refs : List (Vec Ref Global)) : Type 0 where
+  pub many : length parts ≡ length origins
   pub sixteen : HaveSixteen parts
   pub refs_of : AreRefsOf parts refs
-  pub homes_of : (k : ℕ) (d : Vec (Vec Pair Global) Global) (h : Homes) → k < length homes
-      → AreHomes (slice_index_or homes k h) (list_at (slice_index_or parts k d).items)
+  pub origins_of : (k : ℕ) (d : Vec (Vec Pair Global) Global) (h : Origins) → k < length origins
+      → AreOrigins (slice_index_or origins k h) (list_at (slice_index_or parts k d).items)

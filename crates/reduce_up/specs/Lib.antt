@@ -4,10 +4,10 @@ pub mod Waves
 pub mod Sharing
 pub mod Division
 pub mod Steps
-pub mod Known
-pub mod Placed
+pub mod CacheProbe
+pub mod AnswersByLevel
 pub mod Forks
 pub mod ByPlace
-pub mod Up
+pub mod ReductionPhase
 pub mod OverParts
 pub mod Numbers

@@ -13,7 +13,7 @@ use Rattle.expand_work.specs.declared.fault.WaveFault.{WaveFault}
 use Rattle.expand_work.specs.declared.fault.WaveFault.TheVariants as wave_faults
 pub use Rattle.expand_work.specs.Fault.{wave_fault}
 use Rattle.dd_store.specs.Functions.{Agree, DependsOn, OfEither}
-use Rattle.dd_store.specs.Marks.{mark_by, turned}
+use Rattle.dd_store.specs.Complements.{complement_by, complemented}
 use Rattle.req_table.specs.Keys.{meaning}
 use Rattle.dd_store.specs.Parts.Part.{node}
 use Rattle.dd_store.specs.Nodes.{Nodes, den, IsSound, count_of}
@@ -44,7 +44,7 @@ pub record IsAnswerAt (s : Nodes) (v : ℕ) (k : Key) (b : Bool) (r : Ref) : Typ
 abbrev pub IsChild : Nodes → ℕ → Key → Bool → Child → Type 0
 IsChild s v k b (Done r) = IsAnswerAt s v k b r
 IsChild s v k b (Ask l c m) = (v < l) × IsKeyAt s l c × ((q x : List Bool) → length q ≡ v → v + suc (length x) ≡ s.levels
-    → turned m (meaning s c (q ++ b ∷ x)) ≡ meaning s k (q ++ b ∷ x))
+    → complemented m (meaning s c (q ++ b ∷ x)) ≡ meaning s k (q ++ b ∷ x))
 
 -- a record of level v
 pub record IsRecordAt (s : Nodes) (v : ℕ) (r : Record) : Type 0 where
@@ -61,7 +61,7 @@ abbrev pub HasAnswer : List (Key × Ref) → Key → Type 0
 HasAnswer pairs k = (r : Ref) × Contains pairs (k, r)
 
 -- the key has an answer in new, and each pair of new is one of old or the key with r; a key that has an answer keeps one
-pub record Notes (old : List (Key × Ref)) (k : Key) (r : Ref) (new : List (Key × Ref)) : Type 0 where
+pub record NotesAnswer (old : List (Key × Ref)) (k : Key) (r : Ref) (new : List (Key × Ref)) : Type 0 where
   pub noted : HasAnswer new k
   pub only : (l : Key) (a : Ref) → Contains new (l, a) → Contains old (l, a) ⊎ ((l ≡ k) × (a ≡ r))
   pub more : (l : Key) → HasAnswer old l → HasAnswer new l
@@ -74,7 +74,7 @@ IsReady pairs (Ask l k m) = HasAnswer pairs k
 -- what a child comes to: its answer, or that of what it asks for, complemented where it has a mark
 abbrev pub IsResolved : List (Key × Ref) → Child → Ref → Type 0
 IsResolved pairs (Done r) answer = answer ≡ r
-IsResolved pairs (Ask l k m) answer = (r : Ref) × Contains pairs (k, r) × (answer ≡ mark_by m r)
+IsResolved pairs (Ask l k m) answer = (r : Ref) × Contains pairs (k, r) × (answer ≡ complement_by m r)
 
 -- new keeps what old has, and each other node of new denotes a function that is described for the node's level, or the
 -- complement of one

@@ -7,7 +7,7 @@ use Rattle.dd_store.specs.declared.StoreFault.TheVariants.{Full, OutOfMemory}
 use Rattle.req_table.specs.declared.Key.{Key}
 use Rattle.req_table.specs.declared.Record.{Record}
 use Rattle.dd_store.specs.Graph.{Pair}
-use Rattle.dd_store.specs.Codes.{shard_of_pair}
+use Rattle.dd_store.specs.Hashes.{shard_of_pair}
 use Rattle.dd_store.specs.Growing.{IsIn}
 use Rattle.dd_store.specs.Nodes.{Nodes, IsThere}
 use Rattle.dd_store.specs.View.{Has, top, Keeps, IsNode, IsOneNode, IsFull}
@@ -22,7 +22,7 @@ abbrev pub IsAnswered : List (Key × Ref) → Nodes → ℕ → Record → Ref �
 IsAnswered results s v d r = (p : Pair) × IsPairOf results d p × IsThere s v p.0 p.1 r
 
 -- both are references of the store below level v
-pub record CanStand (s : Nodes) (v : ℕ) (p : Pair) : Type 0 where
+pub record CanBeNode (s : Nodes) (v : ℕ) (p : Pair) : Type 0 where
   pub has_low : Has s p.0
   pub has_high : Has s p.1
   pub below_low : v < top s p.0
@@ -44,8 +44,8 @@ abbrev pub IsOfPair : Nodes → ℕ → Pair → Ref → Type 0
 IsOfPair s v p m = (r : Ref) × IsNode s v p.0 p.1 r × IsOneNode s m r
 
 -- the pairs of all records of a row can stand at level v
-abbrev pub RowCanStand : List (Key × Ref) → Nodes → ℕ → List Record → Type 0
-RowCanStand results s v row = (d : Record) (p : Pair) → Contains row d → IsPairOf results d p → CanStand s v p
+abbrev pub RowCanBeNodes : List (Key × Ref) → Nodes → ℕ → List Record → Type 0
+RowCanBeNodes results s v row = (d : Record) (p : Pair) → Contains row d → IsPairOf results d p → CanBeNode s v p
 
 -- new keeps what old has, and each other node of new is one of level v for the pair of different children of a record, or the
 -- complement of one

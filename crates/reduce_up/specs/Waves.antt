@@ -6,13 +6,13 @@ use Rattle.std.specs.declared.vec.Vec.{Vec}
 use Rattle.std.specs.declared.alloc.Global.{Global}
 use Rattle.dd_store.specs.declared.reference.Ref.{Ref}
 use Rattle.dd_store.specs.Functions.{Agree, IsFixedSomehow, DependsOn}
-use Rattle.dd_store.specs.Parts.{Met}
+use Rattle.dd_store.specs.Parts.{IsReachable}
 use Rattle.dd_store.specs.Nodes.{Nodes, den, IsDiagram, IsSound, count_of}
 use Rattle.dd_store.specs.View.{part, Has, IsOneNode}
 use Rattle.req_table.specs.declared.Op.{Op}
 use Rattle.req_table.specs.declared.Key.{Key}
 use Rattle.req_table.specs.declared.Record.{Record}
-use Rattle.dd_store.specs.Marks.{mark_by}
+use Rattle.dd_store.specs.Complements.{complement_by}
 use Rattle.req_table.specs.Keys.{key, normal_of, meaning, wave_of}
 use Rattle.req_table.specs.Settled.{IsClosure}
 use Rattle.req_table.specs.Tables.{row_at}
@@ -47,7 +47,7 @@ pub record IsWanted (s : Nodes) (entries : List Entry) (v : ℕ) (f : List Bool 
 -- each node of `new` is one of `old`, or lies below an answer, or is the complement of one that does
 abbrev pub AddsBelow : Nodes → Nodes → List Ref → Type 0
 AddsBelow old new answers = (m : Ref) → Has new m → Has old m
-    ⊎ ((r : Ref) × (c : Ref) × Contains answers r × Met (part new) r c × IsOneNode new m c)
+    ⊎ ((r : Ref) × (c : Ref) × Contains answers r × IsReachable (part new) r c × IsOneNode new m c)
 
 -- a request as an entry
 abbrev pub entry_for : Key → Entry
@@ -100,7 +100,7 @@ requests_of (e ∷ es) = request_of (terminal_of e.0 e.1 e.2) e ++ requests_of e
 
 -- r is the terminal case of an entry, or what the pairs have for its request, complemented where it has a mark
 abbrev pub IsTakenFrom : List (Key × Ref) → Option Ref → Entry → Ref → Type 0
-IsTakenFrom pairs None e r = (a : Ref) × Contains pairs ((normal_of e.0 e.1 e.2).0, a) × (r ≡ mark_by (normal_of e.0 e.1 e.2).1 a)
+IsTakenFrom pairs None e r = (a : Ref) × Contains pairs ((normal_of e.0 e.1 e.2).0, a) × (r ≡ complement_by (normal_of e.0 e.1 e.2).1 a)
 IsTakenFrom pairs (Some s) e r = r ≡ s
 
 -- the roots' requests and all that they ask for, by level

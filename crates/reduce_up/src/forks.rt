@@ -23,7 +23,7 @@ pub fn fork_each<R: Threads + Sync, T: Send, F: Fn(usize, &mut T) + Sync>(
 }
 
 /// Calls `f` at each place of `s`, with the place: as `fork_each` does where there is much to do, and else on the caller's thread alone.
-pub(crate) fn fork_where_much<R: Threads + Sync, T: Send, F: Fn(usize, &mut T) + Sync>(
+pub(crate) fn fork_if_much<R: Threads + Sync, T: Send, F: Fn(usize, &mut T) + Sync>(
     rt: &R,
     much: bool,
     s: &mut [T],

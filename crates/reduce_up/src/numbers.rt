@@ -7,19 +7,19 @@ ghost use Rattle.req_table.specs.declared.Key.{Key as KeyValue};
 ghost use Rattle.req_table.specs.declared.Child.{Child as ChildValue};
 ghost use Rattle.req_table.specs.Keys.{IsKey};
 ghost use Rattle.req_table.specs.Places.{IsPlaced};
-ghost use Rattle.expand_work.specs.Expanded.{row_of};
-ghost use Rattle.expand_work.specs.Gathered.{AreParts};
-ghost use Rattle.expand_work.specs.Lean.{lean_row, AreLean};
-ghost use Rattle.reduce_up.specs.Numbers.{keys_in, asked_from, IsField, IsSender, IsNext, AreNext, AreNoted};
-ghost use Rattle.reduce_up.specs.Numbers.{IsRowNumbered, IsNumberedTo, IsShareNumbered, AreNew, AreShares, IsRootPlaced, MayNumberAll};
+ghost use Rattle.expand_work.specs.WavePorts.{row_of};
+ghost use Rattle.expand_work.specs.WaveParts.{AreParts};
+ghost use Rattle.expand_work.specs.OwnerRows.{row_by_owner, AreRowsByOwner};
+ghost use Rattle.reduce_up.specs.Numbers.{keys_in, asked_from, IsNumberingInput, IsSender, IsNext, AreNext, AreNoted};
+ghost use Rattle.reduce_up.specs.Numbers.{IsRowNumbered, IsNumberedTo, IsTaskNumbered, AreNew, AreTasks, IsRootPlaced, MayNumberAll};
 ghost use Rattle.reduce_up.specs.Numbers.{AreAllNumbered, AreRowsNumbered, AreNumbered};
 
-use crate::forks::fork_where_much;
+use crate::forks::fork_if_much;
 use crate::starts::{all_starts, are_many, worker_count};
 use dd_store::Store;
-use expand_work::Notes;
+use expand_work::WorkerNotes;
 use req_table::requests::{level_of, owner};
-use req_table::{Key, Placed, PlacedChild, Row, Rows};
+use req_table::{Key, PackedChild, PlacedChild, Row, Rows};
 use std::alloc::{AllocError, Global};
 use std::marker::Sync;
 use std::mem;
@@ -28,10 +28,10 @@ use std::thread::Threads;
 /// What is read while children are numbered: what the workers noted, and, level by level, how many requests of the level the workers
 /// before each have.
 #[derive(Clone, Copy)]
-pub(crate) struct Field<'a> {
+pub(crate) struct NumberingInput<'a> {
     alloc: Global,
     store: &'a Store,
-    notes: &'a Notes,
+    notes: &'a WorkerNotes,
     starts: &'a [u32],
     workers: u32,
 }
@@ -39,110 +39,126 @@ pub(crate) struct Field<'a> {
 /// A worker's share: its rows, what each worker noted of the requests that it has still to ask of it, an empty row for the next level, how
 /// many requests had their children in the memory of that row, and whether there was memory.
 #[derive(Drop)]
-pub(crate) struct Share<'a> {
+pub(crate) struct NumberingTask<'a> {
     rows: Rows,
     left: Vec<&'a [u32]>,
-    room: Row,
-    room_size: usize,
+    spare_row: Row,
+    spare_row_size: usize,
     done: Result<(), AllocError>,
 }
 
 /// A sender's child by its place: of what the sender asks of the child's owner it is the next.
 #[inline(always)]
-fn number<'a>(field: Field<'_>, left: &mut Vec<&'a [u32]>, child: Placed) -> Placed
-    requires field { IsField field }
-    requires child { (c : ChildValue) × (rest : List KeyValue) × IsNext field left.old.items child c rest }
-    ensures left { (c : ChildValue) (rest : List KeyValue) → IsNext field.entry left.old.items child c rest
-        → AreNext field.entry rest left.new.items }
-    ensures placed { (c : ChildValue) (rest : List KeyValue) → IsNext field.entry left.old.items child c rest
-        → IsPlaced (keys_in field.entry) result c }
+fn number<'a>(
+    input: NumberingInput<'_>,
+    left: &mut Vec<&'a [u32]>,
+    child: PackedChild,
+) -> PackedChild
+    requires input { IsNumberingInput input }
+    requires child { (c : ChildValue) × (rest : List KeyValue) × IsNext input left.old.items child c rest }
+    ensures left { (c : ChildValue) (rest : List KeyValue) → IsNext input.entry left.old.items child c rest
+        → AreNext input.entry rest left.new.items }
+    ensures placed { (c : ChildValue) (rest : List KeyValue) → IsNext input.entry left.old.items child c rest
+        → IsPlaced (keys_in input.entry) result c }
 {
     match child.view() {
         PlacedChild::Done(_) => child,
         PlacedChild::Ask {
             level,
             number: owner,
-            mark,
+            complement,
         } => {
             let noted = left[owner as usize];
             left[owner as usize] = &noted[1..];
-            let start = field.starts[level as usize * field.workers as usize + owner as usize];
-            Placed::ask(level, start + noted[0], mark)
+            let start = input.starts[level as usize * input.workers as usize + owner as usize];
+            PackedChild::ask(level, start + noted[0], complement)
         }
     }
 }
 
 /// The children of a sender's requests of a level by their places, put into an empty row.
 fn number_row<'a>(
-    field: Field<'_>,
+    input: NumberingInput<'_>,
     sender: u32,
     level: u16,
-    lean: &Row,
+    by_owner: &Row,
     left: &mut Vec<&'a [u32]>,
-    room: &mut Row,
+    spare_row: &mut Row,
 ) -> Result<(), AllocError>
-    requires sender { IsSender field sender }
-    requires level { level < field.store.now.levels }
-    requires lean { lean.now ≡ lean_row field.workers (row_of field.notes.now.rows sender level) }
-    requires left { AreNext field (asked_from field sender level) left.old.items }
-    requires room { room.old ≡ [] }
-    ensures row { OnOk result (IsRowNumbered field.entry sender level room.new) }
-    ensures left { OnOk result (AreNext field.entry (asked_from field.entry sender (level + 1)) left.new.items) }
+    requires sender { IsSender input sender }
+    requires level { level < input.store.now.levels }
+    requires by_owner { by_owner.now ≡ row_by_owner input.workers (row_of input.notes.now.rows sender level) }
+    requires left { AreNext input (asked_from input sender level) left.old.items }
+    requires spare_row { spare_row.old ≡ [] }
+    ensures row { OnOk result (IsRowNumbered input.entry sender level spare_row.new) }
+    ensures left { OnOk result (AreNext input.entry (asked_from input.entry sender (level + 1)) left.new.items) }
 {
     let _ = sender;
-    room.reserve(lean.len())?;
-    for place in 0..lean.len() {
-        let (low, high) = lean.at(place);
-        let low = number(field, left, low);
-        let high = number(field, left, high);
-        room.push((low, high))?;
+    spare_row.reserve(by_owner.len())?;
+    for place in 0..by_owner.len() {
+        let (low, high) = by_owner.at(place);
+        let low = number(input, left, low);
+        let high = number(input, left, high);
+        spare_row.push((low, high))?;
     }
     Ok(())
 }
 
 /// An empty row for so many requests: the room, unless its memory is that of a row more than twice as large, which a small level would
 /// keep in vain.
-fn fitting_room(alloc: Global, room: Row, size: usize, count: usize) -> Row
-    requires { room ≡ [] }
+fn fitting_row(alloc: Global, spare_row: Row, size: usize, count: usize) -> Row
+    requires { spare_row ≡ [] }
     ensures { result ≡ [] }
 {
     if size / 2 > count {
         return Row::new(alloc);
     }
-    room
+    spare_row
 }
 
-impl<'a> Share<'a> {
+impl<'a> NumberingTask<'a> {
     /// The children of a level by their places. The memory of its row is the next level's room.
-    fn number_level(&mut self, field: Field<'_>, sender: u32, level: u16) -> Result<(), AllocError>
-        requires sender { IsSender field sender }
-        requires level { level < field.store.now.levels }
-        requires share { IsNumberedTo field sender level self.old }
-        ensures { OnOk result (IsNumberedTo field.entry sender (level + 1) self.new) }
+    fn number_level(
+        &mut self,
+        input: NumberingInput<'_>,
+        sender: u32,
+        level: u16,
+    ) -> Result<(), AllocError>
+        requires sender { IsSender input sender }
+        requires level { level < input.store.now.levels }
+        requires task { IsNumberedTo input sender level self.old }
+        ensures { OnOk result (IsNumberedTo input.entry sender (level + 1) self.new) }
     {
         let count = self.rows.row(level).len();
         if count == 0 {
             return Ok(());
         }
-        let mut lean = self.rows.take(level);
-        let room = mem::replace(&mut self.room, Row::new(field.alloc));
-        let mut room = fitting_room(field.alloc, room, self.room_size, count);
-        number_row(field, sender, level, &lean, &mut self.left, &mut room)?;
-        self.rows.put(level, room);
-        lean.clear();
-        self.room = lean;
-        self.room_size = count;
+        let mut by_owner = self.rows.take(level);
+        let spare_row = mem::replace(&mut self.spare_row, Row::new(input.alloc));
+        let mut spare_row = fitting_row(input.alloc, spare_row, self.spare_row_size, count);
+        number_row(
+            input,
+            sender,
+            level,
+            &by_owner,
+            &mut self.left,
+            &mut spare_row,
+        )?;
+        self.rows.put(level, spare_row);
+        by_owner.clear();
+        self.spare_row = by_owner;
+        self.spare_row_size = count;
         Ok(())
     }
 
     /// The children of all levels by their places.
-    fn number_rows(&mut self, field: Field<'_>, sender: u32) -> Result<(), AllocError>
-        requires sender { IsSender field sender }
-        requires share { IsNumberedTo field sender 0 self.old }
-        ensures { OnOk result (IsNumberedTo field.entry sender field.entry.store.now.levels self.new) }
+    fn number_rows(&mut self, input: NumberingInput<'_>, sender: u32) -> Result<(), AllocError>
+        requires sender { IsSender input sender }
+        requires task { IsNumberedTo input sender 0 self.old }
+        ensures { OnOk result (IsNumberedTo input.entry sender input.entry.store.now.levels self.new) }
     {
-        for level in 0..field.store.levels() {
-            self.number_level(field, sender, level)?;
+        for level in 0..input.store.levels() {
+            self.number_level(input, sender, level)?;
         }
         Ok(())
     }
@@ -151,11 +167,11 @@ impl<'a> Share<'a> {
     fn into_rows(self) -> Result<Rows, AllocError>
         ensures { IfOk result (λ rows. (rows ≡ self.entry.rows) × IsOk self.entry.done) }
     {
-        let Share {
+        let NumberingTask {
             rows,
             left: _,
-            room: _,
-            room_size: _,
+            spare_row: _,
+            spare_row_size: _,
             done,
         } = self;
         done?;
@@ -168,94 +184,110 @@ impl<'a> Share<'a> {
 const LISTS_APART: usize = 8;
 
 /// What each worker noted of the requests that a sender asks of it.
-fn all_noted<'a>(field: Field<'a>, sender: u32) -> Result<Vec<&'a [u32]>, AllocError>
-    requires { IsSender field sender }
-    ensures { IfOk result (λ left. AreNoted field.entry sender left.items) }
+fn all_noted<'a>(input: NumberingInput<'a>, sender: u32) -> Result<Vec<&'a [u32]>, AllocError>
+    requires { IsSender input sender }
+    ensures { IfOk result (λ left. AreNoted input.entry sender left.items) }
 {
-    let mut left = Vec::with_capacity(field.alloc, field.workers as usize + LISTS_APART)?;
-    for owner in 0..field.workers {
-        left.push(field.notes.noted(owner, sender))?;
+    let mut left = Vec::with_capacity(input.alloc, input.workers as usize + LISTS_APART)?;
+    for owner in 0..input.workers {
+        left.push(input.notes.noted(owner, sender))?;
     }
     Ok(left)
 }
 
 /// A share for each worker, in which nothing is asked for yet.
-fn new_shares<'a>(field: Field<'a>, rows: Vec<Rows>) -> Result<Vec<Share<'a>>, AllocError>
-    requires field { IsField field }
-    requires many { length rows.items ≡ field.workers }
-    ensures { IfOk result (λ shares. AreNew field.entry (length rows.items) rows.items shares.items) }
+fn new_tasks<'a>(
+    input: NumberingInput<'a>,
+    rows: Vec<Rows>,
+) -> Result<Vec<NumberingTask<'a>>, AllocError>
+    requires input { IsNumberingInput input }
+    requires many { length rows.items ≡ input.workers }
+    ensures { IfOk result (λ tasks. AreNew input.entry (length rows.items) rows.items tasks.items) }
 {
-    let mut shares = Vec::with_capacity(field.alloc, rows.len())?;
+    let mut tasks = Vec::with_capacity(input.alloc, rows.len())?;
     let mut sender: u32 = 0;
     for own in rows {
-        let left = all_noted(field, sender)?;
-        shares.push(Share {
+        let left = all_noted(input, sender)?;
+        tasks.push(NumberingTask {
             rows: own,
             left,
-            room: Row::new(field.alloc),
-            room_size: 0,
+            spare_row: Row::new(input.alloc),
+            spare_row_size: 0,
             done: Err(AllocError),
         })?;
         sender += 1;
     }
-    Ok(shares)
+    Ok(tasks)
 }
 
 /// A root by its place: worker i modulo their number asks for root i.
-fn number_root(field: Field<'_>, roots: &[Key], root: usize, shares: &mut [Share<'_>]) -> Placed
-    requires field { IsField field }
+fn number_root(
+    input: NumberingInput<'_>,
+    roots: &[Key],
+    root: usize,
+    tasks: &mut [NumberingTask<'_>],
+) -> PackedChild
+    requires input { IsNumberingInput input }
     requires root { root < length roots.now }
-    requires shares { AreShares field roots.now root shares.old }
-    ensures shares { AreShares field.entry roots.now (root + 1) shares.new }
-    ensures placed { (x : KeyValue) → IsRootPlaced field.entry (slice_index_or roots.now root x) result }
+    requires tasks { AreTasks input roots.now root tasks.old }
+    ensures tasks { AreTasks input.entry roots.now (root + 1) tasks.new }
+    ensures placed { (x : KeyValue) → IsRootPlaced input.entry (slice_index_or roots.now root x) result }
 {
     let key = roots[root];
-    let sender = root % field.workers as usize;
-    let child = Placed::ask(level_of(field.store, key), owner(key, field.workers), false);
-    let share = &mut shares[sender];
-    number(field, &mut share.left, child)
+    let sender = root % input.workers as usize;
+    let child = PackedChild::ask(level_of(input.store, key), owner(key, input.workers), false);
+    let task = &mut tasks[sender];
+    number(input, &mut task.left, child)
 }
 
 /// The roots by their places.
 fn number_roots(
-    field: Field<'_>,
+    input: NumberingInput<'_>,
     roots: &[Key],
-    shares: &mut [Share<'_>],
-) -> Result<Vec<Placed>, AllocError>
-    requires field { IsField field }
-    requires shares { AreShares field roots.now 0 shares.old }
-    ensures shares { OnOk result (AreShares field.entry roots.now (length roots.now) shares.new) }
-    ensures placed { IfOk result (λ placed. AllZip (IsRootPlaced field.entry) roots.now placed.items) }
+    tasks: &mut [NumberingTask<'_>],
+) -> Result<Vec<PackedChild>, AllocError>
+    requires input { IsNumberingInput input }
+    requires tasks { AreTasks input roots.now 0 tasks.old }
+    ensures tasks { OnOk result (AreTasks input.entry roots.now (length roots.now) tasks.new) }
+    ensures placed { IfOk result (λ placed. AllZip (IsRootPlaced input.entry) roots.now placed.items) }
 {
-    let mut placed = Vec::with_capacity(field.alloc, roots.len())?;
+    let mut placed = Vec::with_capacity(input.alloc, roots.len())?;
     for root in 0..roots.len() {
-        let child = number_root(field, roots, root, shares);
+        let child = number_root(input, roots, root, tasks);
         placed.push(child)?;
     }
     Ok(placed)
 }
 
 /// Numbers the children of all workers, where there is much to do each worker's by a thread of its own.
-fn number_shares<R: Threads + Sync>(rt: &R, much: bool, field: Field<'_>, shares: &mut [Share<'_>])
-    requires field { IsField field }
-    requires shares { MayNumberAll field shares.old }
-    ensures { AreAllNumbered field.entry shares.new }
+fn number_tasks<R: Threads + Sync>(
+    rt: &R,
+    much: bool,
+    input: NumberingInput<'_>,
+    tasks: &mut [NumberingTask<'_>],
+)
+    requires input { IsNumberingInput input }
+    requires tasks { MayNumberAll input tasks.old }
+    ensures { AreAllNumbered input.entry tasks.new }
 {
-    let run = |sender: usize, share: &mut Share<'_>|
-        requires { IsSender field sender × (sender < 2 ^ 32) × IsNumberedTo field sender 0 share.now }
-        ensures { IsShareNumbered field.entry sender share.exit.now }
-    { share.done = share.number_rows(field, sender as u32) };
-    fork_where_much(rt, much, shares, &run);
+    let run = |sender: usize, task: &mut NumberingTask<'_>|
+        requires { IsSender input sender × (sender < 2 ^ 32) × IsNumberedTo input sender 0 task.now }
+        ensures { IsTaskNumbered input.entry sender task.exit.now }
+    { task.done = task.number_rows(input, sender as u32) };
+    fork_if_much(rt, much, tasks, &run);
 }
 
 /// The rows of the shares, where there was memory for all.
-fn shared_rows(field: Field<'_>, shares: Vec<Share<'_>>) -> Result<Vec<Rows>, AllocError>
-    requires { AreAllNumbered field shares.items }
-    ensures { IfOk result (λ rows. AreRowsNumbered field.entry field.entry.workers rows.items) }
+fn rows_of_tasks(
+    input: NumberingInput<'_>,
+    tasks: Vec<NumberingTask<'_>>,
+) -> Result<Vec<Rows>, AllocError>
+    requires { AreAllNumbered input tasks.items }
+    ensures { IfOk result (λ rows. AreRowsNumbered input.entry input.entry.workers rows.items) }
 {
-    let mut all = Vec::with_capacity(field.alloc, shares.len())?;
-    for share in shares {
-        all.push(share.into_rows()?)?;
+    let mut all = Vec::with_capacity(input.alloc, tasks.len())?;
+    for task in tasks {
+        all.push(task.into_rows()?)?;
     }
     Ok(all)
 }
@@ -267,19 +299,19 @@ pub(crate) fn number_all<R: Threads + Sync>(
     rt: &R,
     alloc: Global,
     store: &Store,
-    notes: &Notes,
+    notes: &WorkerNotes,
     roots: &[Key],
     rows: Vec<Rows>,
-) -> Result<(Vec<Rows>, Vec<Placed>), AllocError>
+) -> Result<(Vec<Rows>, Vec<PackedChild>), AllocError>
     requires roots { All (IsKey store.now) roots.now }
     requires some { 0 < length rows.items }
     requires parts { AreParts store.now (length rows.items) roots.now notes.now }
-    requires lean { AreLean notes.now.rows rows.items }
+    requires by_owner { AreRowsByOwner notes.now.rows rows.items }
     ensures { IfOk result (λ r. AreNumbered store.now (length rows.items) roots.now notes.now r.0.items r.1.items) }
 {
     let workers = worker_count(&rows)?;
     let starts = all_starts(alloc, rows.as_slice(), store.levels())?;
-    let field = Field {
+    let input = NumberingInput {
         alloc,
         store,
         notes,
@@ -287,9 +319,9 @@ pub(crate) fn number_all<R: Threads + Sync>(
         workers,
     };
     let much = are_many(rows.as_slice());
-    let mut shares = new_shares(field, rows)?;
-    let all = shares.as_mut_slice();
-    let placed = number_roots(field, roots, all)?;
-    number_shares(rt, much, field, all);
-    Ok((shared_rows(field, shares)?, placed))
+    let mut tasks = new_tasks(input, rows)?;
+    let all = tasks.as_mut_slice();
+    let placed = number_roots(input, roots, all)?;
+    number_tasks(rt, much, input, all);
+    Ok((rows_of_tasks(input, tasks)?, placed))
 }

@@ -36,6 +36,6 @@ pub(crate) fn leave_level(parts: &mut [Rows], level: u16)
     ensures others { (w : ℕ) → w ≢ level → level_over parts.new w ≡ level_over parts.old w }
 {
     for place in 0..parts.len() {
-        parts[place].leave(level);
+        parts[place].clear_level(level);
     }
 }

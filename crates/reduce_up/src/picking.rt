@@ -1,15 +1,15 @@
 //! The diagrams of a part of a level, picked from those of all parts' pairs.
 ghost use Rattle.std.specs.Prelude.{◌≡◌, ◌+◌, ◌<◌, ◌≤◌, ◌++◌, ℕ, length, slice_get, slice_index_or, Some, All, IfOk, OnOk};
 ghost use Rattle.dd_store.specs.Levels.{all_at};
-ghost use Rattle.reduce_up.specs.declared.division.Homes.{Homes as HomesValue};
-ghost use Rattle.reduce_up.specs.Division.{chosen, source, begin_of, IsPicked, IsPickedOf, ArePicked, AreInTurn};
+ghost use Rattle.reduce_up.specs.declared.division.Origins.{Origins as OriginsValue};
+ghost use Rattle.reduce_up.specs.Division.{chosen, source, begin_of, IsPicked, IsPickedOf, ArePicked, AreInPartOrder};
 ghost use Rattle.reduce_up.specs.Division.{AreRefsOf, HaveSixteen, MayPick};
-ghost use Rattle.reduce_up.specs.Placed.{joined};
-ghost use Rattle.reduce_up.specs.Steps.{IsSharePicked, AreAllPicked};
+ghost use Rattle.reduce_up.specs.AnswersByLevel.{joined};
+ghost use Rattle.reduce_up.specs.Steps.{IsTaskPicked, AreAllPicked};
 
-use crate::division::{EQUAL, Homes};
-use crate::forks::fork_where_much;
-use crate::spare::Spare;
+use crate::division::{Origins, REDUNDANT};
+use crate::forks::fork_if_much;
+use crate::list_pool::ListPool;
 use dd_store::{Ref, SHARDS};
 use req_table::Refs;
 use std::alloc::{AllocError, Global};
@@ -17,49 +17,49 @@ use std::thread::Threads;
 
 /// A part's share of a level: the diagrams of its requests, and whether there was memory to pick these.
 #[derive(Drop)]
-pub(crate) struct PickShare {
+pub(crate) struct PickTask {
     pub(crate) answers: Refs,
     pub(crate) done: Result<(), AllocError>,
 }
 
 /// The diagram at a place of a home's.
-fn diagram_at(homes: &Homes, refs: &[Vec<Ref>], home: u8, place: usize) -> Ref
+fn diagram_at(origins: &Origins, refs: &[Vec<Ref>], origin: u8, place: usize) -> Ref
     requires sixteen { length refs.now ≡ 16 }
-    requires home { home ≤ 16 }
-    requires place { place < length (source refs.now homes.now home) }
-    ensures { slice_get (source refs.now homes.now home) place ≡ Some result }
+    requires origin { origin ≤ 16 }
+    requires place { place < length (source refs.now origins.now origin) }
+    ensures { slice_get (source refs.now origins.now origin) place ≡ Some result }
 {
-    if home == EQUAL {
-        return homes.equal[place];
+    if origin == REDUNDANT {
+        return origins.equal[place];
     }
-    refs[home as usize][place]
+    refs[origin as usize][place]
 }
 
 /// A diagram for each home: the next of those of this home from a place on.
 fn pick(
-    homes: &Homes,
+    origins: &Origins,
     refs: &[Vec<Ref>],
     starts: &[usize],
     answers: &mut Refs,
 ) -> Result<(), AllocError>
     requires sixteen { length refs.now ≡ 16 }
     requires starts { length starts.now ≡ 17 }
-    requires homes { All (λ h. h ≤ 16) homes.now.numbers.items }
+    requires origins { All (λ h. h ≤ 16) origins.now.numbers.items }
     requires room { (s : ℕ) → s ≤ 16 → slice_index_or starts.now s 0 + length
-        (chosen s homes.now.numbers.items homes.now.numbers.items) ≤ length (source refs.now homes.now s) }
-    ensures { OnOk result (IsPicked homes.now.numbers.items (λ s. slice_index_or starts.now s 0) (source refs.now homes.now)
+        (chosen s origins.now.numbers.items origins.now.numbers.items) ≤ length (source refs.now origins.now s) }
+    ensures { OnOk result (IsPicked origins.now.numbers.items (λ s. slice_index_or starts.now s 0) (source refs.now origins.now)
         answers.new) }
 {
-    let mut places = Vec::with_capacity(*homes.numbers.allocator(), starts.len())?;
+    let mut places = Vec::with_capacity(*origins.numbers.allocator(), starts.len())?;
     places.extend_from_slice(starts)?;
-    answers.restart(homes.numbers.len())?;
-    for home in &homes.numbers {
-        let place = places[*home as usize];
+    answers.restart(origins.numbers.len())?;
+    for origin in &origins.numbers {
+        let place = places[*origin as usize];
         let Some(next) = place.checked_add(1) else {
             return Err(AllocError);
         };
-        places[*home as usize] = next;
-        answers.push(diagram_at(homes, refs, *home, place))?;
+        places[*origin as usize] = next;
+        answers.push(diagram_at(origins, refs, *origin, place))?;
     }
     Ok(())
 }
@@ -103,41 +103,45 @@ fn starts_of(
 /// The diagrams of a part's requests, in the order in which they stand.
 fn pick_part(
     parts: &[Vec<Vec<(Ref, Ref)>>],
-    homes: &[Homes],
+    origins: &[Origins],
     refs: &[Vec<Ref>],
     part: usize,
     answers: &mut Refs,
 ) -> Result<(), AllocError>
-    requires part { part < length homes.now }
-    requires may { MayPick parts.now homes.now refs.now }
-    ensures { (h : HomesValue) → OnOk result (IsPickedOf parts.now refs.now part (slice_index_or homes.now part h) answers.new) }
+    requires part { part < length origins.now }
+    requires may { MayPick parts.now origins.now refs.now }
+    ensures { (h : OriginsValue) → OnOk result (IsPickedOf parts.now refs.now part (slice_index_or origins.now part h) answers.new) }
 {
-    let own = &homes[part];
+    let own = &origins[part];
     let starts = starts_of(*own.numbers.allocator(), parts, part, refs)?;
     pick(own, refs, starts.as_slice(), answers)
 }
 
 /// A share for each part, in which nothing is picked yet.
-fn pick_shares(alloc: Global, parts: usize, spare: &mut Spare) -> Result<Vec<PickShare>, AllocError>
-    ensures { IfOk result (λ shares. length shares.items ≡ parts) }
+fn pick_tasks(
+    alloc: Global,
+    parts: usize,
+    spare: &mut ListPool,
+) -> Result<Vec<PickTask>, AllocError>
+    ensures { IfOk result (λ tasks. length tasks.items ≡ parts) }
 {
-    let mut shares = Vec::with_capacity(alloc, parts)?;
+    let mut tasks = Vec::with_capacity(alloc, parts)?;
     for _ in 0..parts {
-        shares.push(PickShare {
+        tasks.push(PickTask {
             answers: spare.picked(),
             done: Err(AllocError),
         })?;
     }
-    Ok(shares)
+    Ok(tasks)
 }
 
 /// The diagrams of fewer requests are picked on the caller's thread: to start the threads takes as long.
 const FEWEST_PICKED: usize = 1 << 16;
 
 /// How many requests there are, or as many as can be counted.
-fn request_count(homes: &[Homes]) -> usize {
+fn request_count(origins: &[Origins]) -> usize {
     let mut total: usize = 0;
-    for part in homes {
+    for part in origins {
         total = total.saturating_add(part.numbers.len());
     }
     total
@@ -147,38 +151,38 @@ fn request_count(homes: &[Homes]) -> usize {
 fn pick_each<R: Threads + Sync>(
     rt: &R,
     parts: &[Vec<Vec<(Ref, Ref)>>],
-    homes: &[Homes],
+    origins: &[Origins],
     refs: &[Vec<Ref>],
-    shares: &mut [PickShare],
+    tasks: &mut [PickTask],
 )
-    requires long { length shares.old ≡ length homes.now }
-    requires may { MayPick parts.now homes.now refs.now }
-    ensures { AreAllPicked parts.now homes.now refs.now shares.new }
+    requires long { length tasks.old ≡ length origins.now }
+    requires may { MayPick parts.now origins.now refs.now }
+    ensures { AreAllPicked parts.now origins.now refs.now tasks.new }
 {
-    let pick = |part: usize, share: &mut PickShare|
-        requires { (part < length homes.now) × MayPick parts.now homes.now refs.now }
-        ensures { IsSharePicked parts.entry.now homes.entry.now refs.entry.now part share.exit.now }
-    { share.done = pick_part(parts, homes, refs, part, &mut share.answers) };
-    fork_where_much(rt, request_count(homes) >= FEWEST_PICKED, shares, &pick);
+    let pick = |part: usize, task: &mut PickTask|
+        requires { (part < length origins.now) × MayPick parts.now origins.now refs.now }
+        ensures { IsTaskPicked parts.entry.now origins.entry.now refs.entry.now part task.exit.now }
+    { task.done = pick_part(parts, origins, refs, part, &mut task.answers) };
+    fork_if_much(rt, request_count(origins) >= FEWEST_PICKED, tasks, &pick);
 }
 
 /// The answers of all parts, where each had memory.
 fn join_picked(
     parts: &[Vec<Vec<(Ref, Ref)>>],
-    homes: &[Homes],
+    origins: &[Origins],
     refs: &[Vec<Ref>],
-    shares: Vec<PickShare>,
+    tasks: Vec<PickTask>,
 ) -> Result<Vec<Refs>, AllocError>
-    requires { AreAllPicked parts.now homes.now refs.now shares.items }
-    ensures { IfOk result (λ answers. ArePicked parts.now homes.now refs.now (length shares.items) answers.items) }
+    requires { AreAllPicked parts.now origins.now refs.now tasks.items }
+    ensures { IfOk result (λ answers. ArePicked parts.now origins.now refs.now (length tasks.items) answers.items) }
 {
-    let _ = (parts.len(), homes.len(), refs.len());
-    let mut answers = Vec::with_capacity(*shares.allocator(), shares.len())?;
-    for share in shares {
-        let PickShare {
+    let _ = (parts.len(), origins.len(), refs.len());
+    let mut answers = Vec::with_capacity(*tasks.allocator(), tasks.len())?;
+    for task in tasks {
+        let PickTask {
             answers: picked,
             done,
-        } = share;
+        } = task;
         done?;
         answers.push(picked)?;
     }
@@ -199,18 +203,18 @@ fn add_all(own: &mut Refs, picked: &[Refs]) -> Result<(), AllocError>
 pub(crate) fn pick_level<R: Threads + Sync>(
     rt: &R,
     parts: &[Vec<Vec<(Ref, Ref)>>],
-    homes: &[Homes],
+    origins: &[Origins],
     refs: &[Vec<Ref>],
     own: &mut Refs,
-    spare: &mut Spare,
+    spare: &mut ListPool,
 ) -> Result<(), AllocError>
-    requires may { MayPick parts.now homes.now refs.now }
-    ensures { OnOk result (AreInTurn parts.now homes.now refs.now own.new) }
+    requires may { MayPick parts.now origins.now refs.now }
+    ensures { OnOk result (AreInPartOrder parts.now origins.now refs.now own.new) }
 {
-    let mut shares = pick_shares(spare.allocator(), homes.len(), spare)?;
-    pick_each(rt, parts, homes, refs, shares.as_mut_slice());
-    let picked = join_picked(parts, homes, refs, shares)?;
-    own.restart(request_count(homes))?;
+    let mut tasks = pick_tasks(spare.allocator(), origins.len(), spare)?;
+    pick_each(rt, parts, origins, refs, tasks.as_mut_slice());
+    let picked = join_picked(parts, origins, refs, tasks)?;
+    own.restart(request_count(origins))?;
     add_all(own, picked.as_slice())?;
     for part in picked {
         spare.keep_picked(part);

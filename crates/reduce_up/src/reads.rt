@@ -2,12 +2,12 @@
 ghost use Rattle.std.specs.Prelude.{◌≡◌, ◌<◌, length, All, IfOk, OnOk};
 ghost use Rattle.dd_store.specs.Graph.{Pair};
 ghost use Rattle.req_table.specs.Places.{row};
-ghost use Rattle.reduce_up.specs.Steps.{BothComeTo, MayReadLevel, IsPartRead, IsShareRead, AreAllRead, AreRead};
+ghost use Rattle.reduce_up.specs.Steps.{BothResolveTo, MayReadLevel, IsPartRead, IsTaskRead, AreAllRead, AreRead};
 
-use crate::division::{Divided, Homes};
-use crate::forks::fork_where_much;
-use crate::spare::Spare;
-use crate::up::{Level, resolve};
+use crate::division::{Origins, PairsByShard};
+use crate::forks::fork_if_much;
+use crate::list_pool::ListPool;
+use crate::up::{LevelToReduce, resolve};
 use dd_store::Ref;
 use req_table::{Refs, Row};
 use std::alloc::{AllocError, Global};
@@ -15,8 +15,8 @@ use std::thread::Threads;
 
 /// A part's share of a level: the pairs that its children come to, and whether there was memory to read these.
 #[derive(Drop)]
-pub(crate) struct ReadShare {
-    pub(crate) divided: Divided,
+pub(crate) struct ReadTask {
+    pub(crate) divided: PairsByShard,
     pub(crate) done: Result<(), AllocError>,
 }
 
@@ -24,7 +24,7 @@ pub(crate) struct ReadShare {
 #[derive(Drop)]
 pub(crate) struct LevelRead {
     pub(crate) parts: Vec<Vec<Vec<(Ref, Ref)>>>,
-    pub(crate) homes: Vec<Homes>,
+    pub(crate) origins: Vec<Origins>,
 }
 
 /// Reads the children of a part.
@@ -32,10 +32,10 @@ fn read_part(
     alloc: Global,
     answers: &[Refs],
     children: &Row,
-    divided: &mut Divided,
+    divided: &mut PairsByShard,
 ) -> Result<(), AllocError>
-    requires come { All (λ d. (p : Pair) × BothComeTo answers.now d p) children.now }
-    ensures { OnOk result (IsPartRead answers.now children.now divided.new.lists divided.new.homes) }
+    requires resolvable { All (λ d. (p : Pair) × BothResolveTo answers.now d p) children.now }
+    ensures { OnOk result (IsPartRead answers.now children.now divided.new.lists divided.new.origins) }
 {
     divided.empty(alloc, children.len())?;
     for place in 0..children.len() {
@@ -47,12 +47,12 @@ fn read_part(
     Ok(())
 }
 
-impl ReadShare {
+impl ReadTask {
     /// Reads the part whose share this is.
-    fn read(&mut self, alloc: Global, level: &Level<'_>, part: usize)
+    fn read(&mut self, alloc: Global, level: &LevelToReduce<'_>, part: usize)
         requires part { part < length level.now.parts.now }
         requires may { MayReadLevel level.now }
-        ensures { IsShareRead level.now part self.new }
+        ensures { IsTaskRead level.now part self.new }
     {
         let children = level.parts[part].row(level.number);
         self.done = read_part(alloc, level.answers, children, &mut self.divided);
@@ -60,67 +60,76 @@ impl ReadShare {
 }
 
 /// A share for each part, in which nothing is read yet.
-fn read_shares(alloc: Global, parts: usize, spare: &mut Spare) -> Result<Vec<ReadShare>, AllocError>
-    ensures { IfOk result (λ shares. length shares.items ≡ parts) }
+fn read_tasks(
+    alloc: Global,
+    parts: usize,
+    spare: &mut ListPool,
+) -> Result<Vec<ReadTask>, AllocError>
+    ensures { IfOk result (λ tasks. length tasks.items ≡ parts) }
 {
-    let mut shares = Vec::with_capacity(alloc, parts)?;
+    let mut tasks = Vec::with_capacity(alloc, parts)?;
     for _ in 0..parts {
-        shares.push(ReadShare {
+        tasks.push(ReadTask {
             divided: spare.divided(),
             done: Err(AllocError),
         })?;
     }
-    Ok(shares)
+    Ok(tasks)
 }
 
 /// Fewer requests are read on the caller's thread: to start the threads takes as long.
 const FEWEST_READ: u64 = 1 << 14;
 
 /// Reads all parts, each in the part's share, and where there are many requests by a thread of its own.
-fn read_all<R: Threads + Sync>(rt: &R, alloc: Global, level: &Level<'_>, shares: &mut [ReadShare])
-    requires long { length shares.old ≡ length level.now.parts.now }
+fn read_all<R: Threads + Sync>(
+    rt: &R,
+    alloc: Global,
+    level: &LevelToReduce<'_>,
+    tasks: &mut [ReadTask],
+)
+    requires long { length tasks.old ≡ length level.now.parts.now }
     requires may { MayReadLevel level.now }
-    ensures { AreAllRead level.now shares.new }
+    ensures { AreAllRead level.now tasks.new }
 {
-    let read = |part: usize, share: &mut ReadShare|
+    let read = |part: usize, task: &mut ReadTask|
         requires { (part < length level.now.parts.now) × MayReadLevel level.now }
-        ensures { IsShareRead level.entry.now part share.exit.now }
-    { share.read(alloc, level, part) };
-    fork_where_much(rt, level.len() >= FEWEST_READ, shares, &read);
+        ensures { IsTaskRead level.entry.now part task.exit.now }
+    { task.read(alloc, level, part) };
+    fork_if_much(rt, level.len() >= FEWEST_READ, tasks, &read);
 }
 
 /// What was read of each part, put side by side.
 fn join_reads(
     alloc: Global,
-    level: &Level<'_>,
-    shares: Vec<ReadShare>,
+    level: &LevelToReduce<'_>,
+    tasks: Vec<ReadTask>,
 ) -> Result<LevelRead, AllocError>
-    requires { AreAllRead level.now shares.items }
-    ensures { IfOk result (λ r. AreRead level.now (length shares.items) r.parts.items r.homes.items) }
+    requires { AreAllRead level.now tasks.items }
+    ensures { IfOk result (λ r. AreRead level.now (length tasks.items) r.parts.items r.origins.items) }
 {
     let _ = level.number;
-    let mut parts = Vec::with_capacity(alloc, shares.len())?;
-    let mut homes = Vec::with_capacity(alloc, shares.len())?;
-    for share in shares {
-        let ReadShare { divided, done } = share;
+    let mut parts = Vec::with_capacity(alloc, tasks.len())?;
+    let mut origins = Vec::with_capacity(alloc, tasks.len())?;
+    for task in tasks {
+        let ReadTask { divided, done } = task;
         done?;
         parts.push(divided.lists)?;
-        homes.push(divided.homes)?;
+        origins.push(divided.origins)?;
     }
-    Ok(LevelRead { parts, homes })
+    Ok(LevelRead { parts, origins })
 }
 
 /// Reads all children of a level, where these are many each part's by a thread of its own.
 pub(crate) fn read_level<R: Threads + Sync>(
     rt: &R,
     alloc: Global,
-    level: &Level<'_>,
-    spare: &mut Spare,
+    level: &LevelToReduce<'_>,
+    spare: &mut ListPool,
 ) -> Result<LevelRead, AllocError>
     requires { MayReadLevel level.now }
-    ensures { IfOk result (λ r. AreRead level.now (length level.now.parts.now) r.parts.items r.homes.items) }
+    ensures { IfOk result (λ r. AreRead level.now (length level.now.parts.now) r.parts.items r.origins.items) }
 {
-    let mut shares = read_shares(alloc, level.parts.len(), spare)?;
-    read_all(rt, alloc, level, shares.as_mut_slice());
-    join_reads(alloc, level, shares)
+    let mut tasks = read_tasks(alloc, level.parts.len(), spare)?;
+    read_all(rt, alloc, level, tasks.as_mut_slice());
+    join_reads(alloc, level, tasks)
 }

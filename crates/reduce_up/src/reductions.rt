@@ -38,8 +38,8 @@ impl Reductions {
         hi: Ref,
     ) -> Result<Ref, StoreFault>
         requires level { level < store.old.levels }
-        requires lo_here { IsRef (node store.old) lo }
-        requires hi_here { IsRef (node store.old) hi }
+        requires lo_in_store { IsRef (node store.old) lo }
+        requires hi_in_store { IsRef (node store.old) hi }
         requires above_lo { level < top store.old.levels lo }
         requires above_hi { level < top store.old.levels hi }
         ensures sound { IsSound store.new }

@@ -2,8 +2,8 @@
 ghost use Rattle.std.specs.Prelude.{◌≡◌, ◌++◌, ◌<◌, ◌^◌, length, All, List, IfOk, OnOk};
 ghost use Rattle.req_table.specs.declared.Record.{Record as RecordValue};
 ghost use Rattle.req_table.specs.Settled.{level_of_rows};
-ghost use Rattle.expand_work.specs.Expanded.{row_of};
-ghost use Rattle.expand_work.specs.Lean.{AreLean};
+ghost use Rattle.expand_work.specs.WavePorts.{row_of};
+ghost use Rattle.expand_work.specs.OwnerRows.{AreRowsByOwner};
 ghost use Rattle.reduce_up.specs.Numbers.{starts_at, starts_below, AreFew};
 
 use req_table::Rows;
@@ -35,9 +35,9 @@ pub(crate) fn are_many(rows: &[Rows]) -> bool {
 /// Adds how many requests of a level the workers before each have; OutOfMemory where 32 bits do not count them.
 fn push_starts(rows: &[Rows], level: u16, starts: &mut Vec<u32>) -> Result<(), AllocError>
     requires levels { All (λ own. level < length own) rows.now }
-    ensures starts { (records : List (List (List RecordValue))) → AreLean records rows.now
+    ensures starts { (records : List (List (List RecordValue))) → AreRowsByOwner records rows.now
         → OnOk result (starts.new.items ≡ starts.old.items ++ starts_at (length records) (row_of records) level) }
-    ensures few { (records : List (List (List RecordValue))) → AreLean records rows.now
+    ensures few { (records : List (List (List RecordValue))) → AreRowsByOwner records rows.now
         → OnOk result (length (level_of_rows (length records) (row_of records) level) < 2 ^ 32) }
 {
     let mut start: u32 = 0;
@@ -55,9 +55,9 @@ fn push_starts(rows: &[Rows], level: u16, starts: &mut Vec<u32>) -> Result<(), A
 /// How many requests of each level the workers before each have.
 pub(crate) fn all_starts(alloc: Global, rows: &[Rows], levels: u16) -> Result<Vec<u32>, AllocError>
     requires levels { All (λ own. length own ≡ levels) rows.now }
-    ensures starts { (records : List (List (List RecordValue))) → AreLean records rows.now
+    ensures starts { (records : List (List (List RecordValue))) → AreRowsByOwner records rows.now
         → IfOk result (λ starts. starts.items ≡ starts_below levels (length records) (row_of records)) }
-    ensures few { (records : List (List (List RecordValue))) → AreLean records rows.now
+    ensures few { (records : List (List (List RecordValue))) → AreRowsByOwner records rows.now
         → OnOk result (AreFew levels (length records) (row_of records)) }
 {
     let mut starts = Vec::with_capacity(alloc, rows.len().saturating_mul(levels as usize))?;

@@ -8,16 +8,16 @@ ghost use Rattle.req_table.specs.declared.Key.{Key};
 ghost use Rattle.req_table.specs.Places.{row};
 ghost use Rattle.reduce_up.specs.OverParts.{level_over, over_parts};
 ghost use Rattle.reduce_up.specs.Reducing.{AddsDescribed};
-ghost use Rattle.reduce_up.specs.Up.{ComesTo, children_of, IsReadyAt, MayReduceLevel, ReducesLevel, AreMore, AreReducedBelow, AreCounted, MayReduce};
+ghost use Rattle.reduce_up.specs.ReductionPhase.{ResolvesTo, children_of, IsReadyAt, MayReduceLevel, ReducesLevel, AreMore, AreReducedBelow, AreCounted, MayReduce};
 ghost use Rattle.reduce_up.specs.Waves.{Entry, IsWanted, IsWaveFault};
 
+use crate::list_pool::ListPool;
 use crate::parts::{last_level, leave_level};
 use crate::reductions::Reductions;
-use crate::spare::Spare;
 use crate::wide::share_level;
 use dd_store::{Ref, Store};
 use expand_work::{Crew, Monitor, WaveFault};
-use req_table::{Placed, PlacedChild, Refs, Rows};
+use req_table::{PackedChild, PlacedChild, Refs, Rows};
 use std::alloc::{AllocError, Global};
 use std::mem;
 use std::thread::Threads;
@@ -25,21 +25,21 @@ use std::thread::Threads;
 /// What a wave's reduction leaves: the answers of the requests by level, and the memory of levels that threads share. All requests that
 /// are ever reduced are counted.
 #[derive(Drop)]
-pub struct Up {
+pub struct ReductionPhase {
     pub answers: Vec<Refs>,
     pub reductions: Reductions,
-    pub(crate) spare: Spare,
+    pub(crate) spare: ListPool,
 }
 
-impl Up {
+impl ReductionPhase {
     /// No levels, and none was reduced. It takes no memory yet.
-    pub fn new(alloc: Global) -> Up
+    pub fn new(alloc: Global) -> ReductionPhase
         ensures { result.reductions ≡ 0 }
     {
-        Up {
+        ReductionPhase {
             answers: Vec::new(alloc),
             reductions: Reductions::new(),
-            spare: Spare::new(alloc),
+            spare: ListPool::new(alloc),
         }
     }
 
@@ -63,29 +63,31 @@ impl Up {
 
 /// What a placed child comes to.
 #[inline(always)]
-pub(crate) fn resolve(answers: &[Refs], child: Placed) -> Ref
-    requires { (r : RefValue) × ComesTo answers.now child r }
-    ensures { ComesTo answers.now child result }
+pub(crate) fn resolve(answers: &[Refs], child: PackedChild) -> Ref
+    requires { (r : RefValue) × ResolvesTo answers.now child r }
+    ensures { ResolvesTo answers.now child result }
 {
     match child.view() {
         PlacedChild::Done(answer) => answer,
         PlacedChild::Ask {
             level,
             number: place,
-            mark,
-        } => answers[level as usize].at(place as usize).marked(mark),
+            complement,
+        } => answers[level as usize]
+            .at(place as usize)
+            .complement_if(complement),
     }
 }
 
 /// A level that is to be reduced: the children of its requests, part by part, and the answers that are known.
 #[derive(Clone, Copy)]
-pub(crate) struct Level<'a> {
+pub(crate) struct LevelToReduce<'a> {
     pub(crate) parts: &'a [Rows],
     pub(crate) answers: &'a [Refs],
     pub(crate) number: u16,
 }
 
-impl<'a> Level<'a> {
+impl<'a> LevelToReduce<'a> {
     /// How many requests it has, modulo 2^64.
     pub(crate) fn len(&self) -> u64
         requires { All (λ rows. self.now.number < length rows) self.now.parts.now }
@@ -102,7 +104,7 @@ impl<'a> Level<'a> {
 /// Adds the answers of a level's requests, part by part.
 fn reduce_level(
     store: &mut Store,
-    level: &Level<'_>,
+    level: &LevelToReduce<'_>,
     own: &mut Refs,
     reductions: &mut Reductions,
 ) -> Result<(), WaveFault>
@@ -140,10 +142,10 @@ const FEWEST_SHARED: u64 = 4096;
 fn answer_level<R: Threads + Sync, G: Monitor>(
     crew: &Crew<'_, R, G>,
     store: &mut Store,
-    level: &Level<'_>,
+    level: &LevelToReduce<'_>,
     own: &mut Refs,
     reductions: &mut Reductions,
-    spare: &mut Spare,
+    spare: &mut ListPool,
 ) -> Result<(), WaveFault>
     requires { MayReduceLevel store.old level.now.parts.now level.now.answers.now level.now.number }
     ensures sound { IsSound store.new }
@@ -165,7 +167,7 @@ fn reduce_at<R: Threads + Sync, G: Monitor>(
     crew: &Crew<'_, R, G>,
     store: &mut Store,
     parts: &[Rows],
-    up: &mut Up,
+    up: &mut ReductionPhase,
     number: u16,
 ) -> Result<(), WaveFault>
     requires may { MayReduceLevel store.old parts.now up.old.answers.items number }
@@ -183,7 +185,7 @@ fn reduce_at<R: Threads + Sync, G: Monitor>(
     // the level's own list is taken out, since the lists below it are read meanwhile
     let fresh = Refs::new(crew.alloc);
     let mut own = mem::replace(&mut up.answers[number as usize], fresh);
-    let level = Level {
+    let level = LevelToReduce {
         parts,
         answers: up.answers.as_slice(),
         number,
@@ -209,7 +211,7 @@ pub fn reduce<R: Threads + Sync, G: Monitor>(
     crew: &Crew<'_, R, G>,
     store: &mut Store,
     parts: &mut [Rows],
-    up: &mut Up,
+    up: &mut ReductionPhase,
     from: u16,
 ) -> Result<(), WaveFault>
     requires held { IsSound store.old }
@@ -230,8 +232,8 @@ pub fn reduce<R: Threads + Sync, G: Monitor>(
     ensures fault { (entries : List Entry) (tables : List (List Key))
         → MayReduce store.old entries from (over_parts store.old.levels parts.old) up.old.answers.items tables
         → IfErr result (λ e. IsWaveFault store.old entries store.new e) }
-    ensures served { IfErr result (λ e. e ≢ WaveFault.NoWorker) }
-    ensures unbounded { IfErr result (λ e. e ≢ WaveFault.TooManyRequests) }
+    ensures never_no_worker { IfErr result (λ e. e ≢ WaveFault.NoWorker) }
+    ensures never_too_many_requests { IfErr result (λ e. e ≢ WaveFault.TooManyRequests) }
     ensures memory { result ≡ Err WaveFault.OutOfMemory → count_of store.new ≤ store.new.limit }
 {
     let mut end = from;
@@ -246,11 +248,11 @@ pub fn reduce<R: Threads + Sync, G: Monitor>(
 /// The answers of the roots.
 pub fn root_answers(
     alloc: Global,
-    roots: &[Placed],
+    roots: &[PackedChild],
     answers: &[Refs],
 ) -> Result<Vec<Ref>, AllocError>
-    requires { All (λ p. (r : RefValue) × ComesTo answers.now p r) roots.now }
-    ensures { IfOk result (λ refs. AllZip (ComesTo answers.now) roots.now refs.items) }
+    requires { All (λ p. (r : RefValue) × ResolvesTo answers.now p r) roots.now }
+    ensures { IfOk result (λ refs. AllZip (ResolvesTo answers.now) roots.now refs.items) }
 {
     let mut refs = Vec::with_capacity(alloc, roots.len())?;
     for root in roots {

@@ -3,13 +3,13 @@ ghost use Rattle.std.specs.Prelude.{◌≡◌, ◌≢◌, ◌<◌, ◌≤◌, �
 ghost use Rattle.dd_store.specs.Nodes.{count_of};
 ghost use Rattle.req_table.specs.Keys.{IsKey};
 ghost use Rattle.expand_work.specs.Bounds.{AreFew};
-ghost use Rattle.expand_work.specs.Gathered.{AreParts, HaveExpanded};
+ghost use Rattle.expand_work.specs.WaveParts.{AreParts, HaveExpanded};
 ghost use Rattle.reduce_up.specs.Waves.{AnswersWave, entries_for};
 
 use crate::numbers::number_all;
-use crate::up::{Up, reduce, root_answers};
+use crate::up::{ReductionPhase, reduce, root_answers};
 use dd_store::{Ref, Store};
-use expand_work::{Crew, Monitor, Parts, Spaces, WaveFault, expand_parts};
+use expand_work::{Crew, MemoryPool, Monitor, Parts, WaveFault, expand_parts};
 use req_table::Key;
 use std::alloc::Global;
 use std::marker::Model;
@@ -18,12 +18,12 @@ use std::thread::Threads;
 
 /// The memory of waves by threads, between two of them. Contracts see how many requests the workers have expanded in it, modulo 2^64.
 #[derive(Drop)]
-pub struct Rooms {
-    spaces: Spaces,
-    up: Up,
+pub struct WaveMemory {
+    spaces: MemoryPool,
+    up: ReductionPhase,
 }
 
-impl Model for Rooms {
+impl Model for WaveMemory {
     ghost use Rattle.std.specs.Prelude.{ℕ};
 
     ghost Value = { ℕ };
@@ -31,14 +31,14 @@ impl Model for Rooms {
     ghost view = { λ r. r.spaces };
 }
 
-impl Rooms {
+impl WaveMemory {
     /// No memory yet.
-    pub fn new(alloc: Global) -> Rooms
+    pub fn new(alloc: Global) -> WaveMemory
         ensures { result ≡ 0 }
     {
-        Rooms {
-            spaces: Spaces::new(alloc),
-            up: Up::new(alloc),
+        WaveMemory {
+            spaces: MemoryPool::new(alloc),
+            up: ReductionPhase::new(alloc),
         }
     }
 
@@ -56,15 +56,15 @@ fn answer_parts<R: Threads + Sync, G: Monitor>(
     store: &mut Store,
     roots: &[Key],
     parts: Parts,
-    rooms: &mut Rooms,
+    wave_memory: &mut WaveMemory,
 ) -> Result<Vec<Ref>, WaveFault>
     requires roots { All (IsKey store.old) roots.now }
     requires parts { AreParts store.old crew.now.workers.count roots.now parts }
     ensures wave { AnswersWave store.old (entries_for roots.now) (entries_for roots.now) result store.new }
-    ensures served { IfErr result (λ e. e ≢ WaveFault.NoWorker) }
-    ensures unbounded { IfErr result (λ e. e ≢ WaveFault.TooManyRequests) }
+    ensures never_no_worker { IfErr result (λ e. e ≢ WaveFault.NoWorker) }
+    ensures never_too_many_requests { IfErr result (λ e. e ≢ WaveFault.TooManyRequests) }
     ensures memory { count_of store.old ≤ store.old.limit → result ≡ Err WaveFault.OutOfMemory → count_of store.new ≤ store.new.limit }
-    ensures expanded { rooms.new ≡ rooms.old }
+    ensures expanded { wave_memory.new ≡ wave_memory.old }
 {
     let levels = store.levels();
     let alloc = crew.alloc;
@@ -73,15 +73,21 @@ fn answer_parts<R: Threads + Sync, G: Monitor>(
     let Ok((mut rows, placed)) = number_all(crew.rt, alloc, store, &notes, roots, rows) else {
         return Err(WaveFault::OutOfMemory);
     };
-    if rooms.up.fit(levels).is_err() {
+    if wave_memory.up.fit(levels).is_err() {
         return Err(WaveFault::OutOfMemory);
     }
-    reduce(crew, store, rows.as_mut_slice(), &mut rooms.up, levels)?;
-    let known = rooms.up.answers.as_slice();
+    reduce(
+        crew,
+        store,
+        rows.as_mut_slice(),
+        &mut wave_memory.up,
+        levels,
+    )?;
+    let known = wave_memory.up.answers.as_slice();
     let Ok(answers) = root_answers(alloc, placed.as_slice(), known) else {
         return Err(WaveFault::OutOfMemory);
     };
-    notes.give_back(rows, &mut rooms.spaces);
+    notes.give_back(rows, &mut wave_memory.spaces);
     Ok(answers)
 }
 
@@ -93,23 +99,23 @@ fn answer_parts<R: Threads + Sync, G: Monitor>(
 /// NoWorker is answered if a worker's thread could not be started, and if the requests are more than the most; then nothing is
 /// reduced. If a thread cannot be started in a reduction, the caller's thread does its work. All of it is done in the memory of an
 /// earlier wave as far as there is some, and leaves its own for the next; after a refusal the workers' is given back.
-pub fn shared_wave<R: Threads + Wait + Sync, G: Monitor>(
+pub fn wave_by_workers<R: Threads + Wait + Sync, G: Monitor>(
     crew: &Crew<'_, R, G>,
     store: &mut Store,
     roots: &[Key],
     most: usize,
-    rooms: &mut Rooms,
+    wave_memory: &mut WaveMemory,
 ) -> Result<Vec<Ref>, WaveFault>
     requires roots { All (IsKey store.old) roots.now }
     ensures wave { AnswersWave store.old (entries_for roots.now) (entries_for roots.now) result store.new }
     ensures few { most < 2 ^ 64 - 1 → OnOk result (AreFew store.old crew.now.workers.count roots.now most) }
     ensures untouched { result ≡ Err WaveFault.NoWorker → store.new ≡ store.old }
-    ensures rooms { result ≡ Err WaveFault.NoWorker → rooms.new ≡ rooms.old }
-    ensures expanded { OnOk result (HaveExpanded store.old crew.now.workers.count roots.now rooms.old rooms.new) }
-    ensures unbounded { IfErr result (λ e. e ≢ WaveFault.TooManyRequests) }
+    ensures wave_memory { result ≡ Err WaveFault.NoWorker → wave_memory.new ≡ wave_memory.old }
+    ensures expanded { OnOk result (HaveExpanded store.old crew.now.workers.count roots.now wave_memory.old wave_memory.new) }
+    ensures never_too_many_requests { IfErr result (λ e. e ≢ WaveFault.TooManyRequests) }
     ensures memory { count_of store.old ≤ store.old.limit → result ≡ Err WaveFault.OutOfMemory → count_of store.new ≤ store.new.limit }
 {
     let _ = store.levels();
-    let (parts, _) = expand_parts(crew, store, roots, most, &mut rooms.spaces)?;
-    answer_parts(crew, store, roots, parts, rooms)
+    let (parts, _) = expand_parts(crew, store, roots, most, &mut wave_memory.spaces)?;
+    answer_parts(crew, store, roots, parts, wave_memory)
 }

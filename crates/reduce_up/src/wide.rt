@@ -3,22 +3,22 @@
 ghost use Rattle.std.specs.Prelude.{List};
 ghost use Rattle.dd_store.specs.Nodes.{IsSound};
 ghost use Rattle.req_table.specs.declared.Key.{Key};
-ghost use Rattle.reduce_up.specs.Up.{children_of, IsReadyAt, MayReduceLevel, ReducesLevel};
+ghost use Rattle.reduce_up.specs.ReductionPhase.{children_of, IsReadyAt, MayReduceLevel, ReducesLevel};
 
-use crate::division::{Divided, Homes};
+use crate::division::{Origins, PairsByShard};
+use crate::list_pool::ListPool;
 use crate::picking::pick_level;
 use crate::reads::read_level;
-use crate::spare::Spare;
-use crate::up::Level;
+use crate::up::LevelToReduce;
 use dd_store::{Makers, Ref, Store};
 use expand_work::{Crew, Monitor, WaveFault};
 use req_table::Refs;
 use std::thread::Threads;
 
 /// Keeps the memory of what was read, for another level.
-fn keep_read(spare: &mut Spare, parts: Vec<Vec<Vec<(Ref, Ref)>>>, homes: Vec<Homes>) {
-    for (lists, homes) in parts.into_iter().zip(homes) {
-        spare.keep_divided(Divided { lists, homes });
+fn keep_read(spare: &mut ListPool, parts: Vec<Vec<Vec<(Ref, Ref)>>>, origins: Vec<Origins>) {
+    for (lists, origins) in parts.into_iter().zip(origins) {
+        spare.keep_divided(PairsByShard { lists, origins });
     }
 }
 
@@ -27,9 +27,9 @@ fn keep_read(spare: &mut Spare, parts: Vec<Vec<Vec<(Ref, Ref)>>>, homes: Vec<Hom
 pub(crate) fn share_level<R: Threads + Sync, G: Monitor>(
     crew: &Crew<'_, R, G>,
     store: &mut Store,
-    level: &Level<'_>,
+    level: &LevelToReduce<'_>,
     own: &mut Refs,
-    spare: &mut Spare,
+    spare: &mut ListPool,
 ) -> Result<(), WaveFault>
     requires { MayReduceLevel store.old level.now.parts.now level.now.answers.now level.now.number }
     ensures sound { IsSound store.new }
@@ -45,14 +45,14 @@ pub(crate) fn share_level<R: Threads + Sync, G: Monitor>(
         count: crew.workers.count(),
     };
     let lists = read.parts.as_slice();
-    let refs = match store.make_by(&makers, level.number, lists) {
+    let refs = match store.make_all(&makers, level.number, lists) {
         Ok(refs) => refs,
         Err(fault) => return Err(WaveFault::from(fault)),
     };
-    let homes = read.homes.as_slice();
-    if pick_level(crew.rt, lists, homes, refs.as_slice(), own, spare).is_err() {
+    let origins = read.origins.as_slice();
+    if pick_level(crew.rt, lists, origins, refs.as_slice(), own, spare).is_err() {
         return Err(WaveFault::OutOfMemory);
     }
-    keep_read(spare, read.parts, read.homes);
+    keep_read(spare, read.parts, read.origins);
     Ok(())
 }

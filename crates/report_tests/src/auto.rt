@@ -1,9 +1,9 @@
 //! Reports by an order that is found, and what is told where none is.
-use crate::devices::{End, new_page};
+use crate::devices::{End, new_writer};
 use crate::failing::AMPLE;
-use check_report::{CheckFault, Choice, Context, Picked, Settings, check};
-use expand_work::{Free, WaveFault};
-use net_bench::device::Through;
+use check_report::{CheckFault, Context, PairFilter, Settings, Strategy, check};
+use expand_work::{NoMonitor, WaveFault};
+use net_bench::device::StdDevice;
 use net_order::order::{Match, Order};
 use std::sync::Wait;
 use std::test::Fail;
@@ -26,13 +26,13 @@ static UNDECIDED: &str = "UNDECIDED o\n0 equal, 0 different, 0 unmatched, 1 unde
 /// The report of the two netlists within so many nodes, or why there is none.
 fn reported<R: AllocGlobal + Threads + Wait + Sync>(
     rt: &R,
-    order: Choice,
+    order: Strategy,
     limit: u32,
 ) -> Result<Vec<u8>, CheckFault> {
     let settings = Settings {
         matching: Match::Name,
         order,
-        picked: Picked::All,
+        picked: PairFilter::All,
         workers: 1,
         limit: u64::from(limit.max(1)),
         sizes: false,
@@ -46,25 +46,25 @@ fn reported<R: AllocGlobal + Threads + Wait + Sync>(
         rt,
         alloc: rt.alloc(),
         settings: &settings,
-        monitor: &Free,
+        monitor: &NoMonitor,
     };
-    let mut first = Through::new(CROSSED.as_bytes());
-    let mut second = Through::new(NEVER.as_bytes());
-    let mut nothing: Option<Through<&[u8]>> = None;
-    let mut out = new_page(rt.alloc(), AMPLE, End::Fails, true);
+    let mut first = StdDevice::new(CROSSED.as_bytes());
+    let mut second = StdDevice::new(NEVER.as_bytes());
+    let mut nothing: Option<StdDevice<&[u8]>> = None;
+    let mut out = new_writer(rt.alloc(), AMPLE, End::Fails, true);
     check(&context, &mut first, &mut second, &mut nothing, &mut out)?;
-    Ok(out.held)
+    Ok(out.written)
 }
 
 // The first order that is tried is another than the declared one, and the least difference in it another assignment.
 #[test]
 fn found_order_and_declared_report(rt: HostRuntime) -> Result<(), Fail> {
     for (order, wanted) in [
-        (Choice::One(Order::Interleave), INTERLEAVED),
-        (Choice::Best, INTERLEAVED),
-        (Choice::One(Order::Declared), AS_DECLARED),
-        (Choice::Auto, AS_DECLARED),
-        (Choice::Cones, AS_DECLARED),
+        (Strategy::One(Order::Interleave), INTERLEAVED),
+        (Strategy::Best, INTERLEAVED),
+        (Strategy::One(Order::Declared), AS_DECLARED),
+        (Strategy::Auto, AS_DECLARED),
+        (Strategy::Cones, AS_DECLARED),
     ] {
         let report = reported(&rt, order, 1_000)?;
         assert!(rt; report.as_slice() == wanted.as_bytes());
@@ -75,8 +75,8 @@ fn found_order_and_declared_report(rt: HostRuntime) -> Result<(), Fail> {
 // Three variables alone are three nodes.
 #[test]
 fn no_order_is_found(rt: HostRuntime) -> Result<(), Fail> {
-    assert!(rt; reported(&rt, Choice::Best, 1).err() == Some(CheckFault::Wave(WaveFault::Full)));
-    for order in [Choice::Auto, Choice::Cones] {
+    assert!(rt; reported(&rt, Strategy::Best, 1).err() == Some(CheckFault::Wave(WaveFault::Full)));
+    for order in [Strategy::Auto, Strategy::Cones] {
         let report = reported(&rt, order, 1)?;
         assert!(rt; report.as_slice() == UNDECIDED.as_bytes());
     }

@@ -1,30 +1,30 @@
 //! Readers and writers in memory, which fail where they are told to.
 ghost use Rattle.std.specs.Prelude.{◌≡◌, None, Some, false};
 
-use check_tool::screen::Screen;
+use check_tool::terminal::TerminalSink;
 use net_bench::device::{Failed, Sink, Source};
 use std::alloc::Global;
 
 /// A reader of a text that gives one byte a read, and fails behind so many reads.
 #[derive(Drop)]
-pub struct Dripping {
+pub struct ByteReader {
     left: &'static [u8],
     reads_left: usize,
     pub(crate) failed: bool,
 }
 
 /// A reader at the beginning of a text, which fails behind so many reads.
-pub fn drip(text: &'static str, good_reads: usize) -> Dripping
+pub fn byte_reader(text: &'static str, good_reads: usize) -> ByteReader
     ensures { result.failed ≡ false }
 {
-    Dripping {
+    ByteReader {
         left: text.as_bytes(),
         reads_left: good_reads,
         failed: false,
     }
 }
 
-impl Source for Dripping {
+impl Source for ByteReader {
     ghost remaining = { λ _. None };
 
     ghost has_failed = { λ s. s.failed };
@@ -75,9 +75,9 @@ pub enum End {
 
 /// A writer that takes a few bytes at once, up to its room. Its flush may fail.
 #[derive(Drop)]
-pub struct Page {
-    pub held: Vec<u8>,
-    room: usize,
+pub struct BoundedWriter {
+    pub written: Vec<u8>,
+    capacity: usize,
     end: End,
     flushes: bool,
     failed: bool,
@@ -86,10 +86,10 @@ pub struct Page {
 }
 
 /// An empty page, which nobody sees.
-pub fn new_page(alloc: Global, room: usize, end: End, flushes: bool) -> Page {
-    Page {
-        held: Vec::new(alloc),
-        room,
+pub fn new_writer(alloc: Global, capacity: usize, end: End, flushes: bool) -> BoundedWriter {
+    BoundedWriter {
+        written: Vec::new(alloc),
+        capacity,
         end,
         flushes,
         failed: false,
@@ -98,26 +98,26 @@ pub fn new_page(alloc: Global, room: usize, end: End, flushes: bool) -> Page {
     }
 }
 
-impl Sink for Page {
-    ghost contents = { λ s. Some s.held.items };
+impl Sink for BoundedWriter {
+    ghost contents = { λ s. Some s.written.items };
 
     ghost has_failed = { λ s. s.failed };
 
     ghost has_stopped = { λ s. s.stopped };
 
     fn write(&mut self, bytes: &[u8]) -> Result<usize, Failed> {
-        let count = bytes.len().min(self.room).min(7);
+        let count = bytes.len().min(self.capacity).min(7);
         if count == 0 && matches!(self.end, End::TakesNone) {
             if !bytes.is_empty() {
                 self.stopped = true;
             }
             return Ok(0);
         }
-        if count == 0 || self.held.extend_from_slice(&bytes[..count]).is_err() {
+        if count == 0 || self.written.extend_from_slice(&bytes[..count]).is_err() {
             self.failed = true;
             return Err(Failed);
         }
-        self.room -= count;
+        self.capacity -= count;
         Ok(count)
     }
 
@@ -130,10 +130,10 @@ impl Sink for Page {
     }
 }
 
-impl Screen for Page {
-    ghost seen = { λ s. s.seen };
+impl TerminalSink for BoundedWriter {
+    ghost on_terminal = { λ s. s.seen };
 
-    fn is_seen(&self) -> bool {
+    fn is_on_terminal(&self) -> bool {
         self.seen
     }
 }

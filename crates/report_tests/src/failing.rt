@@ -1,7 +1,7 @@
 //! Checks over devices that fail at each place.
-use crate::devices::{Dripping, End, Endless, Page, drip, new_page};
-use check_report::{CheckFault, Choice, Context, Picked, Settings, check};
-use expand_work::{Free, Monitor};
+use crate::devices::{BoundedWriter, ByteReader, End, Endless, byte_reader, new_writer};
+use check_report::{CheckFault, Context, PairFilter, Settings, Strategy, check};
+use expand_work::{Monitor, NoMonitor};
 use net_bench::device::Source;
 use net_bench::fault::BenchFault;
 use net_order::order::{Match, Order};
@@ -32,14 +32,14 @@ pub(crate) fn checked<R: AllocGlobal + Threads + Wait + Sync, R1: Source, R2: So
     rt: &R,
     first: &mut R1,
     second: &mut R2,
-    given: &mut Option<Dripping>,
+    given: &mut Option<ByteReader>,
     monitor: &G,
-    out: &mut Page,
+    out: &mut BoundedWriter,
 ) -> Option<CheckFault> {
     let settings = Settings {
         matching: Match::Name,
-        order: Choice::One(Order::Declared),
-        picked: Picked::All,
+        order: Strategy::One(Order::Declared),
+        picked: PairFilter::All,
         workers: 2,
         limit: 67_108_864,
         sizes: false,
@@ -63,35 +63,45 @@ fn fault_of<R: AllocGlobal + Threads + Wait + Sync, R1: Source, R2: Source>(
     rt: &R,
     first: &mut R1,
     second: &mut R2,
-    out: &mut Page,
+    out: &mut BoundedWriter,
 ) -> Option<CheckFault> {
-    checked(rt, first, second, &mut None, &Free, out)
+    checked(rt, first, second, &mut None, &NoMonitor, out)
 }
 
 /// The text, a byte a read, all of which succeed.
-pub(crate) fn whole(text: &'static str) -> Dripping {
-    drip(text, AMPLE)
+pub(crate) fn good_reader(text: &'static str) -> ByteReader {
+    byte_reader(text, AMPLE)
 }
 
 // A text has as many reads as bytes, and one more that tells its end.
 #[test]
 fn failing_readers(rt: HostRuntime) -> Result<(), Fail> {
-    let mut out = new_page(rt.alloc(), AMPLE, End::Fails, true);
+    let mut out = new_writer(rt.alloc(), AMPLE, End::Fails, true);
     for reads in 0..C17.len() + 1 {
-        let first = fault_of(&rt, &mut drip(C17, reads), &mut whole(C17B), &mut out);
+        let first = fault_of(
+            &rt,
+            &mut byte_reader(C17, reads),
+            &mut good_reader(C17B),
+            &mut out,
+        );
         assert!(rt;
             first == Some(CheckFault::First(BenchFault::Read)),
             "{reads}"
         );
-        let second = fault_of(&rt, &mut whole(C17), &mut drip(C17B, reads), &mut out);
+        let second = fault_of(
+            &rt,
+            &mut good_reader(C17),
+            &mut byte_reader(C17B, reads),
+            &mut out,
+        );
         assert!(rt;
             second == Some(CheckFault::Second(BenchFault::Read)),
             "{reads}"
         );
     }
-    assert!(rt; out.held.is_empty());
-    assert!(rt; fault_of(&rt, &mut whole(C17), &mut whole(C17B), &mut out).is_none());
-    assert!(rt; out.held.as_slice() == REPORT.as_bytes());
+    assert!(rt; out.written.is_empty());
+    assert!(rt; fault_of(&rt, &mut good_reader(C17), &mut good_reader(C17B), &mut out).is_none());
+    assert!(rt; out.written.as_slice() == REPORT.as_bytes());
     Ok(())
 }
 
@@ -99,22 +109,22 @@ fn failing_readers(rt: HostRuntime) -> Result<(), Fail> {
 fn fault_given<R: AllocGlobal + Threads + Wait + Sync>(
     rt: &R,
     reads: usize,
-    out: &mut Page,
+    out: &mut BoundedWriter,
 ) -> Option<CheckFault> {
-    let mut given = Some(drip(NOT_BOTH, reads));
+    let mut given = Some(byte_reader(NOT_BOTH, reads));
     checked(
         rt,
-        &mut whole(C17),
-        &mut whole(C17B),
+        &mut good_reader(C17),
+        &mut good_reader(C17B),
         &mut given,
-        &Free,
+        &NoMonitor,
         out,
     )
 }
 
 #[test]
 fn failing_condition(rt: HostRuntime) -> Result<(), Fail> {
-    let mut out = new_page(rt.alloc(), AMPLE, End::Fails, true);
+    let mut out = new_writer(rt.alloc(), AMPLE, End::Fails, true);
     for reads in 0..NOT_BOTH.len() + 1 {
         let fault = fault_given(&rt, reads, &mut out);
         assert!(rt;
@@ -122,32 +132,35 @@ fn failing_condition(rt: HostRuntime) -> Result<(), Fail> {
             "{reads}"
         );
     }
-    assert!(rt; out.held.is_empty());
+    assert!(rt; out.written.is_empty());
     assert!(rt; fault_given(&rt, AMPLE, &mut out).is_none());
-    assert!(rt; out.held.as_slice() == REPORT.as_bytes());
+    assert!(rt; out.written.as_slice() == REPORT.as_bytes());
     Ok(())
 }
 
 #[test]
 fn endless_readers(rt: HostRuntime) -> Result<(), Fail> {
-    let mut out = new_page(rt.alloc(), AMPLE, End::Fails, true);
-    let first = fault_of(&rt, &mut Endless, &mut whole("x"), &mut out);
+    let mut out = new_writer(rt.alloc(), AMPLE, End::Fails, true);
+    let first = fault_of(&rt, &mut Endless, &mut good_reader("x"), &mut out);
     assert!(rt; first == Some(CheckFault::First(BenchFault::TooLong)));
-    let second = fault_of(&rt, &mut whole(C17), &mut Endless, &mut out);
+    let second = fault_of(&rt, &mut good_reader(C17), &mut Endless, &mut out);
     assert!(rt; second == Some(CheckFault::Second(BenchFault::TooLong)));
-    assert!(rt; out.held.is_empty());
+    assert!(rt; out.written.is_empty());
     Ok(())
 }
 
 // A writer that fails, or takes nothing, behind each front part of the report.
 #[test]
 fn failing_writers(rt: HostRuntime) -> Result<(), Fail> {
-    for room in 0..REPORT.len() {
+    for capacity in 0..REPORT.len() {
         for end in [End::Fails, End::TakesNone] {
-            let mut out = new_page(rt.alloc(), room, end, true);
-            let fault = fault_of(&rt, &mut whole(C17), &mut whole(C17B), &mut out);
-            assert!(rt; fault == Some(CheckFault::Write), "{room}");
-            assert!(rt; out.held.as_slice() == &REPORT.as_bytes()[..room], "{room}");
+            let mut out = new_writer(rt.alloc(), capacity, end, true);
+            let fault = fault_of(&rt, &mut good_reader(C17), &mut good_reader(C17B), &mut out);
+            assert!(rt; fault == Some(CheckFault::Write), "{capacity}");
+            assert!(rt;
+                out.written.as_slice() == &REPORT.as_bytes()[..capacity],
+                "{capacity}"
+            );
         }
     }
     Ok(())
@@ -155,9 +168,9 @@ fn failing_writers(rt: HostRuntime) -> Result<(), Fail> {
 
 #[test]
 fn failing_flush(rt: HostRuntime) -> Result<(), Fail> {
-    let mut out = new_page(rt.alloc(), AMPLE, End::Fails, false);
-    let fault = fault_of(&rt, &mut whole(C17), &mut whole(C17B), &mut out);
+    let mut out = new_writer(rt.alloc(), AMPLE, End::Fails, false);
+    let fault = fault_of(&rt, &mut good_reader(C17), &mut good_reader(C17B), &mut out);
     assert!(rt; fault == Some(CheckFault::Write));
-    assert!(rt; out.held.as_slice() == REPORT.as_bytes());
+    assert!(rt; out.written.as_slice() == REPORT.as_bytes());
     Ok(())
 }

@@ -2,8 +2,8 @@
 //! told meanwhile. They stand apart, since a crate with tests is proved twice. What the built program can show stands
 //! in tests/.
 //!
-//! **Begin** with `runs`, over a folder in memory (`shelf`), and `failing`, readers and writers that fail at each byte; `told`,
-//! `auto` and `picks` have what attempts tell, `meetings` the threads, `progress` and `quotes` what standard error has.
+//! **Begin** with `runs`, over a folder in memory (`memory_folder`), and `failing`, readers and writers that fail at each byte; `monitoring`,
+//! `auto` and `picks` have what attempts tell, `rendezvous` the threads, `progress` and `quotations` what standard error has.
 #![tactic(auto)]
 
 #[cfg(test)]
@@ -13,16 +13,16 @@ mod devices;
 #[cfg(test)]
 mod failing;
 #[cfg(test)]
-mod meetings;
+mod memory_folder;
+#[cfg(test)]
+mod monitoring;
 #[cfg(test)]
 mod picks;
 #[cfg(test)]
 mod progress;
 #[cfg(test)]
-mod quotes;
+mod quotations;
+#[cfg(test)]
+mod rendezvous;
 #[cfg(test)]
 mod runs;
-#[cfg(test)]
-mod shelf;
-#[cfg(test)]
-mod told;

@@ -1,9 +1,9 @@
 //! Reports of a few pairs.
-use crate::devices::{End, new_page};
+use crate::devices::{End, new_writer};
 use crate::failing::AMPLE;
-use check_report::{CheckFault, Choice, Context, Name, Picked, Settings, Share, check};
-use expand_work::Free;
-use net_bench::device::Through;
+use check_report::{CheckFault, Context, Name, PairFilter, Settings, Share, Strategy, check};
+use expand_work::NoMonitor;
+use net_bench::device::StdDevice;
 use net_order::order::Match;
 use std::alloc::{AllocError, Global};
 use std::sync::Wait;
@@ -28,11 +28,11 @@ static NAMED: &str = "EQUAL x\nONLY FIRST z\n1 equal, 0 different, 1 unmatched\n
 /// The report of the pairs that are picked, or why there is none.
 fn reported<R: AllocGlobal + Threads + Wait + Sync>(
     rt: &R,
-    picked: Picked,
+    picked: PairFilter,
 ) -> Result<Vec<u8>, CheckFault> {
     let settings = Settings {
         matching: Match::Name,
-        order: Choice::Cones,
+        order: Strategy::Cones,
         picked,
         workers: 2,
         limit: 1_000,
@@ -47,22 +47,22 @@ fn reported<R: AllocGlobal + Threads + Wait + Sync>(
         rt,
         alloc: rt.alloc(),
         settings: &settings,
-        monitor: &Free,
+        monitor: &NoMonitor,
     };
-    let mut first = Through::new(THREE.as_bytes());
-    let mut second = Through::new(TWO.as_bytes());
-    let mut nothing: Option<Through<&[u8]>> = None;
-    let mut out = new_page(rt.alloc(), AMPLE, End::Fails, true);
+    let mut first = StdDevice::new(THREE.as_bytes());
+    let mut second = StdDevice::new(TWO.as_bytes());
+    let mut nothing: Option<StdDevice<&[u8]>> = None;
+    let mut out = new_writer(rt.alloc(), AMPLE, End::Fails, true);
     check(&context, &mut first, &mut second, &mut nothing, &mut out)?;
-    Ok(out.held)
+    Ok(out.written)
 }
 
 /// Two names.
-fn both(alloc: Global, first: &str, second: &str) -> Result<Picked, AllocError> {
+fn both(alloc: Global, first: &str, second: &str) -> Result<PairFilter, AllocError> {
     let mut names = Vec::new(alloc);
     names.push(Name::copied(alloc, first.as_bytes())?)?;
     names.push(Name::copied(alloc, second.as_bytes())?)?;
-    Ok(Picked::Only(names))
+    Ok(PairFilter::Only(names))
 }
 
 #[test]
@@ -77,7 +77,7 @@ fn pairs_by_name(rt: HostRuntime) -> Result<(), Fail> {
 #[test]
 fn pairs_by_share(rt: HostRuntime) -> Result<(), Fail> {
     for (number, wanted) in [(1, OF_FIRST_SHARE), (2, OF_LAST_SHARE)] {
-        let report = reported(&rt, Picked::Share(Share { number, of: 2 }))?;
+        let report = reported(&rt, PairFilter::Share(Share { number, of: 2 }))?;
         assert!(rt; report.as_slice() == wanted.as_bytes());
     }
     Ok(())

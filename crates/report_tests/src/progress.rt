@@ -1,10 +1,10 @@
 //! What is told of a build.
-use crate::devices::{End, drip, new_page};
+use crate::devices::{End, byte_reader, new_writer};
 use crate::failing::AMPLE;
+use crate::memory_folder::MemoryFolder;
 use crate::runs::ran;
-use crate::shelf::Shelf;
-use check_tool::progress::{Form, Meter, Progress};
-use expand_work::{Free, Monitor};
+use check_tool::progress::{Form, MemoryMeter, Progress};
+use expand_work::{Monitor, NoMonitor};
 use std::alloc::{Alloc, Global};
 use std::io;
 use std::rt::Clock;
@@ -57,37 +57,37 @@ impl<R> Clock for Ticks<'_, R> {
     }
 }
 
-impl<R> Meter for Ticks<'_, R> {
+impl<R> MemoryMeter for Ticks<'_, R> {
     fn megabytes(&self, _alloc: Global) -> Option<u64> {
         self.megabytes
     }
 }
 
 /// What is told by lines at so many ranks.
-fn told_at<R: AllocGlobal + Wait + Sync>(rt: &R, ranks: u32) -> Vec<u8> {
-    let mut errors = new_page(rt.alloc(), AMPLE, End::Fails, true);
+fn lines_at<R: AllocGlobal + Wait + Sync>(rt: &R, ranks: u32) -> Vec<u8> {
+    let mut errors = new_writer(rt.alloc(), AMPLE, End::Fails, true);
     let ticks = Ticks::new(rt, 400, None);
     let progress = Progress::new(&ticks, rt.alloc(), Form::Lines, &mut errors);
     for rank in 1..=ranks {
         progress.at_rank(rank, ranks, 5);
     }
     progress.end();
-    errors.held
+    errors.written
 }
 
 #[test]
 fn lines_a_second(rt: HostRuntime) -> Result<(), Fail> {
     for (ranks, lines) in [(2, 0), (3, 1), (5, 1), (6, 2)] {
-        let told = told_at(&rt, ranks);
-        let ends = told.as_slice().iter().filter(|byte| **byte == b'\n');
+        let output = lines_at(&rt, ranks);
+        let ends = output.as_slice().iter().filter(|byte| **byte == b'\n');
         assert!(rt; ends.count() == lines, "{ranks}");
     }
-    let mut errors = new_page(rt.alloc(), AMPLE, End::Fails, true);
+    let mut errors = new_writer(rt.alloc(), AMPLE, End::Fails, true);
     let progress = Progress::new(&rt, rt.alloc(), Form::Lines, &mut errors);
     for workers in [1, 2, 16] {
         for expected in [0, 1_000, 1_000_000_000] {
-            let most = progress.most_alone(workers, expected);
-            assert!(rt; most == Free.most_alone(workers, expected));
+            let most = progress.caller_level_limit(workers, expected);
+            assert!(rt; most == NoMonitor.caller_level_limit(workers, expected));
         }
     }
     progress.end();
@@ -95,8 +95,8 @@ fn lines_a_second(rt: HostRuntime) -> Result<(), Fail> {
 }
 
 /// What is told by a line of the third rank of seven.
-fn told_of_third<R: AllocGlobal + Wait + Sync>(rt: &R, megabytes: Option<u64>) -> Vec<u8> {
-    let mut errors = new_page(rt.alloc(), AMPLE, End::Fails, true);
+fn line_of_third<R: AllocGlobal + Wait + Sync>(rt: &R, megabytes: Option<u64>) -> Vec<u8> {
+    let mut errors = new_writer(rt.alloc(), AMPLE, End::Fails, true);
     let ticks = Ticks::new(rt, 400, megabytes);
     let progress = Progress::new(&ticks, rt.alloc(), Form::Lines, &mut errors);
     progress.at_rank(1, 7, 2);
@@ -106,7 +106,7 @@ fn told_of_third<R: AllocGlobal + Wait + Sync>(rt: &R, megabytes: Option<u64>) -
     progress.at_requests(7);
     progress.at_rank(3, 7, 90);
     progress.end();
-    errors.held
+    errors.written
 }
 
 #[test]
@@ -121,15 +121,15 @@ fn line_of_progress(rt: HostRuntime) -> Result<(), Fail> {
             "bddcheck: building rank 3 of 7: 90 nodes and 12 requests so far in 41 MB\n",
         ),
     ] {
-        let told = told_of_third(&rt, megabytes);
-        assert!(rt; told.as_slice() == wanted.as_bytes());
+        let output = line_of_third(&rt, megabytes);
+        assert!(rt; output.as_slice() == wanted.as_bytes());
     }
     Ok(())
 }
 
 /// What is told in place of two builds, the second of which comes to its end or not.
-fn told_in_place<R: AllocGlobal + Wait + Sync>(rt: &R, ends: bool) -> Vec<u8> {
-    let mut errors = new_page(rt.alloc(), AMPLE, End::Fails, true);
+fn bytes_in_place<R: AllocGlobal + Wait + Sync>(rt: &R, ends: bool) -> Vec<u8> {
+    let mut errors = new_writer(rt.alloc(), AMPLE, End::Fails, true);
     let ticks = Ticks::new(rt, 400, Some(41));
     let progress = Progress::new(&ticks, rt.alloc(), Form::InPlace, &mut errors);
     progress.at_requests(12);
@@ -141,7 +141,7 @@ fn told_in_place<R: AllocGlobal + Wait + Sync>(rt: &R, ends: bool) -> Vec<u8> {
         progress.at_rank(7, 7, 100);
     }
     progress.end();
-    errors.held
+    errors.written
 }
 
 // On a terminal the line is written in place, and taken away once: before the last rank, behind which a report may come, or at the end.
@@ -150,8 +150,8 @@ fn line_in_place(rt: HostRuntime) -> Result<(), Fail> {
     let wanted =
         "\rbddcheck: attempt 2 is building rank 2 of 7: 90 nodes and 12 requests so far in 41 MB\u{1b}[K\r\u{1b}[K";
     for ends in [true, false] {
-        let told = told_in_place(&rt, ends);
-        assert!(rt; told.as_slice() == wanted.as_bytes());
+        let output = bytes_in_place(&rt, ends);
+        assert!(rt; output.as_slice() == wanted.as_bytes());
     }
     Ok(())
 }
@@ -163,18 +163,18 @@ fn said_on<R: AllocGlobal + Threads + Wait + Sync>(
     seen: bool,
 ) -> Result<(u8, Vec<u8>), Fail> {
     let ticks = Ticks::new(rt, 2_000, None);
-    let mut out = new_page(rt.alloc(), AMPLE, End::Fails, true);
-    let mut errors = new_page(rt.alloc(), AMPLE, End::Fails, true);
+    let mut out = new_writer(rt.alloc(), AMPLE, End::Fails, true);
+    let mut errors = new_writer(rt.alloc(), AMPLE, End::Fails, true);
     errors.seen = seen;
     let status = ran(
         &ticks,
         line,
-        &mut Shelf::new(rt.alloc()),
-        &mut drip("", 1),
+        &mut MemoryFolder::new(rt.alloc()),
+        &mut byte_reader("", 1),
         &mut out,
         &mut errors,
     )?;
-    Ok((status, errors.held))
+    Ok((status, errors.written))
 }
 
 // Nothing is written while diagrams are built, unless more is asked for, or it is seen on a terminal.

@@ -1,12 +1,12 @@
 //! Runs of the program over a folder and devices in memory, which fail where they are told to.
-use crate::devices::{Dripping, End, Page, drip, new_page};
+use crate::devices::{BoundedWriter, ByteReader, End, byte_reader, new_writer};
 use crate::failing::{AMPLE, C17, C17B, REPORT};
-use crate::shelf::Shelf;
+use crate::memory_folder::MemoryFolder;
 use check_report::CheckFault;
-use check_tool::fault::{Place, ToolFault};
+use check_tool::fault::{FileRole, ToolFault};
 use check_tool::folder::Obstacle;
-use check_tool::process::{NoWords, status_of};
-use check_tool::progress::Meter;
+use check_tool::process::{ArgumentsError, status_of};
+use check_tool::progress::MemoryMeter;
 use check_tool::tool::{refuse, run_tool};
 use expand_work::WaveFault;
 use net_bench::fault::BenchFault;
@@ -28,13 +28,13 @@ fn words_of(alloc: Global, line: &str) -> Result<Vec<String>, AllocError> {
 }
 
 /// The status of a run on the words of a line.
-pub(crate) fn ran<R: AllocGlobal + Clock + Meter + Threads + Wait + Sync>(
+pub(crate) fn ran<R: AllocGlobal + Clock + MemoryMeter + Threads + Wait + Sync>(
     rt: &R,
     line: &str,
-    folder: &mut Shelf,
-    input: &mut Dripping,
-    out: &mut Page,
-    errors: &mut Page,
+    folder: &mut MemoryFolder,
+    input: &mut ByteReader,
+    out: &mut BoundedWriter,
+    errors: &mut BoundedWriter,
 ) -> Result<u8, AllocError> {
     let words = words_of(rt.alloc(), line)?;
     Ok(run_tool(rt, words.as_slice(), folder, input, out, errors))
@@ -112,55 +112,55 @@ fn rows() -> [Row; 8] {
 #[test]
 fn files_that_fail(rt: HostRuntime) -> Result<(), Fail> {
     for (line, failing, input, status, fault, helps) in rows() {
-        let mut folder = Shelf::new(rt.alloc());
+        let mut folder = MemoryFolder::new(rt.alloc());
         folder.failing = failing;
-        let mut input = drip(input, input.len());
-        let mut out = new_page(rt.alloc(), AMPLE, End::Fails, true);
-        let mut errors = new_page(rt.alloc(), AMPLE, End::Fails, true);
+        let mut input = byte_reader(input, input.len());
+        let mut out = new_writer(rt.alloc(), AMPLE, End::Fails, true);
+        let mut errors = new_writer(rt.alloc(), AMPLE, End::Fails, true);
         let ended = ran(&rt, line, &mut folder, &mut input, &mut out, &mut errors)?;
         let why = if helps.ends_with(": ") { FAILED } else { "" };
         let want = format!(in rt.alloc(); "bddcheck: {fault}\nbddcheck: {helps}{why}\n")?;
-        assert!(rt; errors.held.as_slice() == want.as_bytes(), "{line}");
-        assert!(rt; ended == status && out.held.is_empty(), "{line}");
+        assert!(rt; errors.written.as_slice() == want.as_bytes(), "{line}");
+        assert!(rt; ended == status && out.written.is_empty(), "{line}");
     }
     Ok(())
 }
 
 /// The status of a run on words, over an output of so much room; and what is said on errors of so much room.
-fn ended_on<R: AllocGlobal + Clock + Meter + Threads + Wait + Sync>(
+fn ended_on<R: AllocGlobal + Clock + MemoryMeter + Threads + Wait + Sync>(
     rt: &R,
     line: &str,
-    mut out: Page,
-    room: usize,
+    mut out: BoundedWriter,
+    capacity: usize,
 ) -> Result<(u8, Vec<u8>), AllocError> {
-    let mut folder = Shelf::new(rt.alloc());
-    let mut errors = new_page(rt.alloc(), room, End::Fails, true);
+    let mut folder = MemoryFolder::new(rt.alloc());
+    let mut errors = new_writer(rt.alloc(), capacity, End::Fails, true);
     let status = ran(
         rt,
         line,
         &mut folder,
-        &mut drip("", 1),
+        &mut byte_reader("", 1),
         &mut out,
         &mut errors,
     )?;
-    Ok((status, errors.held))
+    Ok((status, errors.written))
 }
 
 #[test]
 fn outputs_that_fail(rt: HostRuntime) -> Result<(), Fail> {
     let unwritten =
         b"bddcheck: report: cannot be written\nbddcheck: standard output is full, or closed\n".as_slice();
-    for (room, end, flushes) in [
+    for (capacity, end, flushes) in [
         (0, End::Fails, true),
         (5, End::Fails, true),
         (5, End::TakesNone, true),
         (AMPLE, End::Fails, false),
     ] {
-        let out = new_page(rt.alloc(), room, end, flushes);
+        let out = new_writer(rt.alloc(), capacity, end, flushes);
         let (status, said) = ended_on(&rt, "first second", out, AMPLE)?;
-        assert!(rt; status == 3 && said.as_slice() == unwritten, "{room}");
+        assert!(rt; status == 3 && said.as_slice() == unwritten, "{capacity}");
     }
-    let help = new_page(rt.alloc(), 5, End::Fails, true);
+    let help = new_writer(rt.alloc(), 5, End::Fails, true);
     let (status, _) = ended_on(&rt, "--help", help, AMPLE)?;
     assert!(rt; status == 3);
     Ok(())
@@ -175,7 +175,7 @@ fn errors_that_fail(rt: HostRuntime) -> Result<(), Fail> {
         ("--limit x", 2),
         ("--limit 12 first second", 3),
     ] {
-        let out = new_page(rt.alloc(), AMPLE, End::Fails, true);
+        let out = new_writer(rt.alloc(), AMPLE, End::Fails, true);
         let (status, said) = ended_on(&rt, line, out, 0)?;
         assert!(rt; status == want && said.is_empty(), "{line}");
     }
@@ -184,18 +184,18 @@ fn errors_that_fail(rt: HostRuntime) -> Result<(), Fail> {
 
 #[test]
 fn no_words(rt: HostRuntime) -> Result<(), Fail> {
-    let mut out = new_page(rt.alloc(), AMPLE, End::Fails, true);
-    let mut errors = new_page(rt.alloc(), AMPLE, End::Fails, true);
+    let mut out = new_writer(rt.alloc(), AMPLE, End::Fails, true);
+    let mut errors = new_writer(rt.alloc(), AMPLE, End::Fails, true);
     let status = status_of(
         &rt,
-        Err(NoWords::OutOfMemory),
-        &mut Shelf::new(rt.alloc()),
-        &mut drip("", 1),
+        Err(ArgumentsError::OutOfMemory),
+        &mut MemoryFolder::new(rt.alloc()),
+        &mut byte_reader("", 1),
         &mut out,
         &mut errors,
     );
-    assert!(rt; errors.held.as_slice() == b"bddcheck: out of memory\n".as_slice());
-    assert!(rt; status == 3 && out.held.is_empty());
+    assert!(rt; errors.written.as_slice() == b"bddcheck: out of memory\n".as_slice());
+    assert!(rt; status == 3 && out.written.is_empty());
     Ok(())
 }
 
@@ -234,62 +234,62 @@ fn check_faults() -> [(CheckFault, &'static str, u8); 5] {
 }
 
 /// Sees that a fault is told by this line, behind the program's name, and has this status.
-fn is_told<R: AllocGlobal + Abort>(
+fn expect_fault_line<R: AllocGlobal + Abort>(
     rt: &R,
     fault: ToolFault,
     line: &str,
     want: u8,
 ) -> Result<(), Fail> {
-    let mut errors = new_page(rt.alloc(), AMPLE, End::Fails, true);
+    let mut errors = new_writer(rt.alloc(), AMPLE, End::Fails, true);
     let status = refuse(rt.alloc(), fault, &mut errors);
     let said = format!(in rt.alloc(); "bddcheck: {line}\n")?;
-    assert!(rt; errors.held.as_slice() == said.as_bytes(), "{line}");
+    assert!(rt; errors.written.as_slice() == said.as_bytes(), "{line}");
     assert!(rt; status == want, "{line}");
     Ok(())
 }
 
 #[test]
 fn lines_of_faults(rt: HostRuntime) -> Result<(), Fail> {
-    let links = ToolFault::CannotOpen(Place::Given, Obstacle::Links);
-    is_told(&rt, links, "given: cannot be opened", 2)?;
+    let links = ToolFault::CannotOpen(FileRole::Given, Obstacle::Links);
+    expect_fault_line(&rt, links, "given: cannot be opened", 2)?;
     let order = ToolFault::BadOrder(OrderFault::NotAPermutation { place: 0 });
-    is_told(&rt, order, "order: name 0 of the list does not fit", 2)?;
+    expect_fault_line(&rt, order, "order: name 0 of the list does not fit", 2)?;
     for (fault, line, want) in check_faults() {
-        is_told(&rt, ToolFault::Check(fault), line, want)?;
+        expect_fault_line(&rt, ToolFault::Check(fault), line, want)?;
     }
     Ok(())
 }
 
 #[test]
 fn plain_run(rt: HostRuntime) -> Result<(), Fail> {
-    let mut folder = Shelf::new(rt.alloc());
-    let mut out = new_page(rt.alloc(), AMPLE, End::Fails, true);
-    let mut errors = new_page(rt.alloc(), AMPLE, End::Fails, true);
+    let mut folder = MemoryFolder::new(rt.alloc());
+    let mut out = new_writer(rt.alloc(), AMPLE, End::Fails, true);
+    let mut errors = new_writer(rt.alloc(), AMPLE, End::Fails, true);
     let words = "--order-file list first -";
     let status = ran(
         &rt,
         words,
         &mut folder,
-        &mut drip(C17B, AMPLE),
+        &mut byte_reader(C17B, AMPLE),
         &mut out,
         &mut errors,
     )?;
-    assert!(rt; status == 1 && errors.held.is_empty());
-    assert!(rt; out.held.as_slice() == REPORT.as_bytes());
+    assert!(rt; status == 1 && errors.written.is_empty());
+    assert!(rt; out.written.as_slice() == REPORT.as_bytes());
     Ok(())
 }
 
 /// What a run on these words writes, saves and says, with its status.
-fn saved_by<R: AllocGlobal + Clock + Meter + Threads + Wait + Sync>(
+fn saved_by<R: AllocGlobal + Clock + MemoryMeter + Threads + Wait + Sync>(
     rt: &R,
     line: &str,
 ) -> Result<(Vec<u8>, Vec<u8>, Vec<u8>, u8), AllocError> {
-    let mut folder = Shelf::new(rt.alloc());
-    let mut out = new_page(rt.alloc(), AMPLE, End::Fails, true);
-    let mut errors = new_page(rt.alloc(), AMPLE, End::Fails, true);
-    let mut input = drip("", 1);
+    let mut folder = MemoryFolder::new(rt.alloc());
+    let mut out = new_writer(rt.alloc(), AMPLE, End::Fails, true);
+    let mut errors = new_writer(rt.alloc(), AMPLE, End::Fails, true);
+    let mut input = byte_reader("", 1);
     let status = ran(rt, line, &mut folder, &mut input, &mut out, &mut errors)?;
-    Ok((out.held, folder.wave, errors.held, status))
+    Ok((out.written, folder.wave, errors.written, status))
 }
 
 // What the file has in full is in tests/vcd.py.

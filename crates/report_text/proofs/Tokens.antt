@@ -7,12 +7,12 @@ use Rattle.json.specs.Token.{Token, key, number, string}
 use Rattle.json.specs.Written.{Writes, Written}
 use Rattle.report_text.specs.declared.assignment.Assignment.{Assignment}
 use Rattle.report_text.specs.Json.{Adds, assignment_tokens, variable_tokens, names_tokens, shown, undecided_tokens}
-use Rattle.report_text.proofs.Wording.{first_mark, other_marks, there}
+use Rattle.report_text.proofs.Wording.{first_support_bit, other_support_bits, there}
 
 -- a variable with its bit, and then the rest
 pub assignment_next : (which : Option Assignment) (vs : List (List ℕ)) (bs ms : List Bool) (i : ℕ) (v : List ℕ) (m : Bool) → i < length vs → i < length bs → slice_get vs i ≡ Some v → m ≡ get_or ms i true →
     assignment_tokens which (drop i vs) (drop i bs) (drop i ms) ≡ variable_tokens which v (get_or bs i false) m ++ assignment_tokens which (drop (i + 1) vs) (drop (i + 1) bs) (drop (i + 1) ms)
-assignment_next which vs bs ms i v m lv lb ev em = rw (em, add-one, drop-cons vs i v, drop-cons bs i false, there vs i v v ev, first_mark ms i, other_marks ms i) refl
+assignment_next which vs bs ms i v m lv lb ev em = rw (em, add-one, drop-cons vs i v, drop-cons bs i false, there vs i v v ev, first_support_bit ms i, other_support_bits ms i) refl
 
 no_bits : (which : Option Assignment) (vs : List (List ℕ)) (ms : List Bool) → assignment_tokens which vs [] ms ≡ []
 no_bits which [] ms = refl

@@ -11,22 +11,22 @@ there (x ∷ xs) zero v d e = cc
 there (x ∷ xs) (suc i) v d e = there xs i v d e
 
 -- a mark, and then the others
-pub first_mark : (ms : List Bool) (i : ℕ) → get_or (drop i ms) 0 true ≡ get_or ms i true
-first_mark [] zero = refl
-first_mark [] (suc i) = refl
-first_mark (m ∷ ms) zero = refl
-first_mark (m ∷ ms) (suc i) = first_mark ms i
+pub first_support_bit : (ms : List Bool) (i : ℕ) → get_or (drop i ms) 0 true ≡ get_or ms i true
+first_support_bit [] zero = refl
+first_support_bit [] (suc i) = refl
+first_support_bit (m ∷ ms) zero = refl
+first_support_bit (m ∷ ms) (suc i) = first_support_bit ms i
 
-pub other_marks : (ms : List Bool) (i : ℕ) → drop 1 (drop i ms) ≡ drop (suc i) ms
-other_marks [] zero = refl
-other_marks [] (suc i) = refl
-other_marks (m ∷ ms) zero = refl
-other_marks (m ∷ ms) (suc i) = other_marks ms i
+pub other_support_bits : (ms : List Bool) (i : ℕ) → drop 1 (drop i ms) ≡ drop (suc i) ms
+other_support_bits [] zero = refl
+other_support_bits [] (suc i) = refl
+other_support_bits (m ∷ ms) zero = refl
+other_support_bits (m ∷ ms) (suc i) = other_support_bits ms i
 
 -- a variable with its bit, and then the rest
 pub assignment_next : (which : Option Assignment) (vs : List (List ℕ)) (bs ms : List Bool) (i : ℕ) (v : List ℕ) (m : Bool) → i < length vs → i < length bs → slice_get vs i ≡ Some v → m ≡ get_or ms i true →
     assignment_text which (drop i vs) (drop i bs) (drop i ms) ≡ variable_text which v (get_or bs i false) m ++ assignment_text which (drop (i + 1) vs) (drop (i + 1) bs) (drop (i + 1) ms)
-assignment_next which vs bs ms i v m lv lb ev em = rw (em, add-one, drop-cons vs i v, drop-cons bs i false, there vs i v v ev, first_mark ms i, other_marks ms i) refl
+assignment_next which vs bs ms i v m lv lb ev em = rw (em, add-one, drop-cons vs i v, drop-cons bs i false, there vs i v v ev, first_support_bit ms i, other_support_bits ms i) refl
 
 no_bits : (which : Option Assignment) (vs : List (List ℕ)) (ms : List Bool) → assignment_text which vs [] ms ≡ []
 no_bits which [] ms = refl

@@ -9,8 +9,8 @@ use Rattle.net_order.specs.declared.order.Match.{Match}
 use Rattle.net_order.specs.declared.order.Match.TheVariants.{Name, Position}
 use Rattle.net_order.specs.declared.order.Order.{Order}
 use Rattle.net_order.specs.declared.order.Order.TheVariants as orders
-use Rattle.report_text.specs.declared.kind.OrderKind.{OrderKind}
-use Rattle.report_text.specs.declared.kind.OrderKind.TheVariants.{Declared, Depth, Interleave, Index, Force, File, Auto, Cones}
+use Rattle.report_text.specs.declared.order_kind.OrderKind.{OrderKind}
+use Rattle.report_text.specs.declared.order_kind.OrderKind.TheVariants.{Declared, Depth, Interleave, Index, Force, File, Auto, Cones}
 use Rattle.report_text.specs.declared.outcome.Outcome.{Outcome}
 use Rattle.report_text.specs.declared.outcome.PairKind.{PairKind}
 use Rattle.report_text.specs.declared.outcome.PairKind.TheVariants.{Output, NextState}
@@ -18,13 +18,13 @@ use Rattle.report_text.specs.declared.outcome.Side.{Side}
 use Rattle.report_text.specs.declared.outcome.Side.TheVariants.{First, Second}
 use Rattle.report_text.specs.declared.verdict.Verdict.{Verdict}
 use Rattle.report_text.specs.declared.outcome.Share.{Share}
-use Rattle.report_text.specs.declared.verdict.Verdict.TheVariants.{Equal, Differs, Lone, Undecided}
+use Rattle.report_text.specs.declared.verdict.Verdict.TheVariants.{Equal, Differs, Unmatched, Undecided}
 use Rattle.report_text.specs.declared.assignment.Assignment.{Assignment}
 use Rattle.report_text.specs.declared.cause.PairName.{PairName}
 use Rattle.report_text.specs.Buses.{Bus, buses_of, hex_text}
 use Rattle.report_text.specs.Causes.{Caused}
-use Rattle.report_text.specs.Marks.{marks_of}
-use Rattle.report_text.specs.Lines.{Found, counted, is_told, report_text}
+use Rattle.report_text.specs.SupportBits.{support_bits_of}
+use Rattle.report_text.specs.Lines.{Found, counted, is_reported, report_text}
 
 -- how inputs, outputs and registers are paired
 abbrev pub match_kind : Match → List ℕ
@@ -83,11 +83,11 @@ sizes_tokens None = []
 sizes_tokens (Some p) = key (codes "sizes") ∷ begin_array ∷ number (decimal p.0) ∷ number (decimal p.1) ∷ end_array ∷ []
 
 -- a variable with its bit, where it is told
-abbrev pub variable_tokens : Option Assignment → List ℕ → (bit mark : Bool) → List Token
-variable_tokens which v b m = if is_told which b m then key (shown v) ∷ bit_token b ∷ [] else []
+abbrev pub variable_tokens : Option Assignment → List ℕ → (bit in_support : Bool) → List Token
+variable_tokens which v b m = if is_reported which b m then key (shown v) ∷ bit_token b ∷ [] else []
 
 -- each variable that is told with its bit; a variable without a mark has 1
-abbrev pub assignment_tokens : Option Assignment → List (List ℕ) → (bits marks : List Bool) → List Token
+abbrev pub assignment_tokens : Option Assignment → List (List ℕ) → (bits support_bits : List Bool) → List Token
 assignment_tokens which (v ∷ vs) (b ∷ bs) ms = variable_tokens which v b (slice_index_or ms 0 true)
     ++ assignment_tokens which vs bs (drop 1 ms)
 assignment_tokens which vs bs ms = []
@@ -117,9 +117,9 @@ verdict_members which variables (Equal role name size) = key (codes "verdict") �
     ∷ (subject_tokens role name ++ size_tokens size)
 verdict_members which variables (Differs role name at first second extras) =
     key (codes "verdict") ∷ string (codes "DIFFER") ∷ (subject_tokens role name
-    ++ (key (codes "at") ∷ begin_object ∷ (assignment_tokens which variables at (marks_of extras.support)
+    ++ (key (codes "at") ∷ begin_object ∷ (assignment_tokens which variables at (support_bits_of extras.support)
     ++ (end_object ∷ (buses_tokens which (buses_in which variables) at ++ (values_tokens first second ++ sizes_tokens extras.sizes))))))
-verdict_members which variables (Lone side role name) = key (codes "verdict") ∷ string (codes "ONLY") ∷ key (codes "side")
+verdict_members which variables (Unmatched side role name) = key (codes "verdict") ∷ string (codes "ONLY") ∷ key (codes "side")
     ∷ string (side_word side) ∷ subject_tokens role name
 verdict_members which variables (Undecided role name) = key (codes "verdict") ∷ string (codes "UNDECIDED") ∷ subject_tokens role name
 

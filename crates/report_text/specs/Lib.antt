@@ -3,4 +3,4 @@ pub mod Lines
 pub mod Buses
 pub mod Causes
 pub mod Json
-pub mod Marks
+pub mod SupportBits

@@ -10,8 +10,8 @@ use Rattle.report_text.specs.declared.outcome.Side.{Side}
 use Rattle.report_text.specs.declared.outcome.Side.TheVariants.{First, Second}
 use Rattle.report_text.specs.declared.verdict.Verdict.{Verdict}
 use Rattle.report_text.specs.declared.outcome.Share.{Share}
-use Rattle.report_text.specs.Marks.{marks_of}
-use Rattle.report_text.specs.declared.verdict.Verdict.TheVariants.{Equal, Differs, Lone, Undecided}
+use Rattle.report_text.specs.SupportBits.{support_bits_of}
+use Rattle.report_text.specs.declared.verdict.Verdict.TheVariants.{Equal, Differs, Unmatched, Undecided}
 
 -- What a comparison found: the variables by level, and the verdicts in the order of the report.
 pub record Found : Type 0 where
@@ -34,18 +34,18 @@ sizes_text None = []
 sizes_text (Some p) = codes " sizes " ++ (decimal p.0 ++ (codes " " ++ decimal p.1))
 
 -- whether a variable with this bit and this mark is told: each one, where nothing else is asked for
-abbrev pub is_told : Option Assignment → (bit mark : Bool) → Bool
-is_told None b m = true
-is_told (Some All) b m = true
-is_told (Some Support) b m = m
-is_told (Some Ones) b m = b
+abbrev pub is_reported : Option Assignment → (bit in_support : Bool) → Bool
+is_reported None b m = true
+is_reported (Some All) b m = true
+is_reported (Some Support) b m = m
+is_reported (Some Ones) b m = b
 
 -- a variable with its bit behind a space, where it is told
-abbrev pub variable_text : Option Assignment → List ℕ → (bit mark : Bool) → List ℕ
-variable_text which v b m = if is_told which b m then codes " " ++ (v ++ (codes "=" ++ bit_text b)) else []
+abbrev pub variable_text : Option Assignment → List ℕ → (bit in_support : Bool) → List ℕ
+variable_text which v b m = if is_reported which b m then codes " " ++ (v ++ (codes "=" ++ bit_text b)) else []
 
 -- each variable that is told with its bit, a space before each; a variable without a mark has 1
-abbrev pub assignment_text : Option Assignment → List (List ℕ) → (bits marks : List Bool) → List ℕ
+abbrev pub assignment_text : Option Assignment → List (List ℕ) → (bits support_bits : List Bool) → List ℕ
 assignment_text which (v ∷ vs) (b ∷ bs) ms = variable_text which v b (slice_index_or ms 0 true) ++ assignment_text which vs bs (drop 1 ms)
 assignment_text which vs bs ms = []
 
@@ -64,9 +64,9 @@ abbrev pub line_text : Option Assignment → List (List ℕ) → Verdict → Lis
 line_text which variables (Equal role name size) = codes "EQUAL " ++ (subject_text role name ++ size_text size)
 line_text which variables (Differs role name at first second extras) =
     codes "DIFFER " ++ (subject_text role name ++ (codes " at"
-    ++ (assignment_text which variables at (marks_of extras.support)
+    ++ (assignment_text which variables at (support_bits_of extras.support)
     ++ (codes " first=" ++ (bit_text first ++ (codes " second=" ++ (bit_text second ++ sizes_text extras.sizes)))))))
-line_text which variables (Lone side role name) = codes "ONLY " ++ (side_text side ++ (codes " " ++ subject_text role name))
+line_text which variables (Unmatched side role name) = codes "ONLY " ++ (side_text side ++ (codes " " ++ subject_text role name))
 line_text which variables (Undecided role name) = codes "UNDECIDED " ++ subject_text role name
 
 -- lines, each with its end
@@ -78,25 +78,25 @@ lines_text which variables (v ∷ vs) = line_text which variables v ++ (10 ∷ l
 abbrev pub is_equal : Verdict → Bool
 is_equal (Equal role name size) = true
 is_equal (Differs role name at first second extras) = false
-is_equal (Lone side role name) = false
+is_equal (Unmatched side role name) = false
 is_equal (Undecided role name) = false
 
 abbrev pub is_different : Verdict → Bool
 is_different (Equal role name size) = false
 is_different (Differs role name at first second extras) = true
-is_different (Lone side role name) = false
+is_different (Unmatched side role name) = false
 is_different (Undecided role name) = false
 
-abbrev pub is_lone : Verdict → Bool
-is_lone (Equal role name size) = false
-is_lone (Differs role name at first second extras) = false
-is_lone (Lone side role name) = true
-is_lone (Undecided role name) = false
+abbrev pub is_unmatched : Verdict → Bool
+is_unmatched (Equal role name size) = false
+is_unmatched (Differs role name at first second extras) = false
+is_unmatched (Unmatched side role name) = true
+is_unmatched (Undecided role name) = false
 
 abbrev pub is_undecided : Verdict → Bool
 is_undecided (Equal role name size) = false
 is_undecided (Differs role name at first second extras) = false
-is_undecided (Lone side role name) = false
+is_undecided (Unmatched side role name) = false
 is_undecided (Undecided role name) = true
 
 -- how many verdicts of each kind there are
@@ -104,7 +104,7 @@ abbrev pub counted : List Verdict → Outcome
 counted vs = record {
   equal = count_by is_equal vs;
   different = count_by is_different vs;
-  unmatched = count_by is_lone vs;
+  unmatched = count_by is_unmatched vs;
   undecided =
       count_by is_undecided vs;
 }

@@ -5,13 +5,13 @@ ghost use Rattle.report_text.specs.Json.{array_tokens, json_text};
 
 use crate::assignment::Assignment;
 use crate::cause::Cause;
-use crate::causes::add_causes;
-use crate::judged::add_judged;
-use crate::kind::OrderKind;
-use crate::members::{add_number, add_text};
+use crate::json_causes::add_causes;
+use crate::json_members::{add_number, add_text};
+use crate::json_verdicts::add_judged;
+use crate::json_words::{match_word, order_word, text_of};
+use crate::order_kind::OrderKind;
 use crate::outcome::{Outcome, Share};
 use crate::verdicts::Verdicts;
-use crate::words::{match_word, order_word, text_of};
 use json::Writer;
 use net_order::names::Names;
 use net_order::order::Match;

@@ -37,8 +37,8 @@ fn bit_name(alloc: Global, base: &[u8], bit: usize) -> Result<Vec<u8>, AllocErro
     ensures { IfOk result (λ name. name.items ≡ bit_name base.now bit) }
 {
     let mut name = base.to_vec(alloc)?;
-    let behind = format!(in alloc; "[{bit}]")?;
-    name.extend_from_slice(behind.as_bytes())?;
+    let index = format!(in alloc; "[{bit}]")?;
+    name.extend_from_slice(index.as_bytes())?;
     Ok(name)
 }
 

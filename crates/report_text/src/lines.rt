@@ -3,7 +3,7 @@ ghost use Rattle.std.specs.Prelude.{◌≡◌, ◌++◌, ℕ, List, [], ◌∷�
 ghost use Rattle.report_text.specs.Lines.{line_text, variable_text, assignment_text, bit_text, side_text, sizes_text, subject_text};
 ghost use Rattle.report_text.specs.Lines.{undecided_text, share_text, counts_text};
 
-use crate::assignment::{Assignment, is_told, mark_at};
+use crate::assignment::{Assignment, is_reported, is_supported_at};
 use crate::outcome::{Outcome, PairKind, Share, Side};
 use crate::verdict::{Extras, Name, Verdict};
 use net_order::names::Names;
@@ -46,16 +46,16 @@ fn add_variable(text: &mut Vec<u8>, name: &[u8], bit: bool) -> Result<(), AllocE
 }
 
 /// Adds a variable with its bit, where it is told.
-fn add_told(
+fn add_if_reported(
     text: &mut Vec<u8>,
     which: Option<Assignment>,
     name: &[u8],
     bit: bool,
-    mark: bool,
+    in_support: bool,
 ) -> Result<(), AllocError>
-    ensures { OnOk result (text.new.items ≡ text.old.items ++ variable_text which name.now bit mark) }
+    ensures { OnOk result (text.new.items ≡ text.old.items ++ variable_text which name.now bit in_support) }
 {
-    if is_told(which, bit, mark) {
+    if is_reported(which, bit, in_support) {
         add_variable(text, name, bit)?;
     }
     Ok(())
@@ -67,13 +67,19 @@ fn add_assignment(
     which: Option<Assignment>,
     names: &Names,
     bits: &[bool],
-    marks: &[bool],
+    support_bits: &[bool],
 ) -> Result<(), AllocError>
-    ensures { OnOk result (text.new.items ≡ text.old.items ++ assignment_text which names.now bits.now marks.now) }
+    ensures { OnOk result (text.new.items ≡ text.old.items ++ assignment_text which names.now bits.now support_bits.now) }
 {
     let count = bits.len().min(names.len());
     for i in 0..count {
-        add_told(text, which, names.at(i), bits[i], mark_at(marks, i))?;
+        add_if_reported(
+            text,
+            which,
+            names.at(i),
+            bits[i],
+            is_supported_at(support_bits, i),
+        )?;
     }
     Ok(())
 }
@@ -158,7 +164,7 @@ fn add_different(
     text.extend_from_slice(b"DIFFER ")?;
     add_label(text, label)?;
     text.extend_from_slice(b" at")?;
-    add_assignment(text, at.which, names, at.bits, at.extras.marks())?;
+    add_assignment(text, at.which, names, at.bits, at.extras.support_bits())?;
     add_values(text, at.first, at.second)?;
     add_sizes(alloc, text, at.extras.sizes)?;
     text.extend_from_slice(b"\n")?;
@@ -176,8 +182,8 @@ fn side_word(side: Side) -> &'static [u8]
 }
 
 /// Adds the line of an output or a register that has no partner.
-fn add_lone(text: &mut Vec<u8>, side: Side, label: Label<'_>) -> Result<(), AllocError>
-    ensures { OnOk result (text.new.items ≡ text.old.items ++ (line_text None [] (Verdict.Lone side label.entry.role label.entry.name.now)
+fn add_unmatched(text: &mut Vec<u8>, side: Side, label: Label<'_>) -> Result<(), AllocError>
+    ensures { OnOk result (text.new.items ≡ text.old.items ++ (line_text None [] (Verdict.Unmatched side label.entry.role label.entry.name.now)
         ++ 10 ∷ [])) }
 {
     text.extend_from_slice(b"ONLY ")?;
@@ -230,7 +236,11 @@ pub fn add_line(
             };
             add_different(alloc, text, names, label_of(*role, name), at)
         }
-        Verdict::Lone { side, role, name } => add_lone(text, *side, label_of(*role, name)),
+        Verdict::Unmatched { side, role, name } => add_unmatched(
+            text,
+            *side,
+            label_of(*role, name),
+        ),
         Verdict::Undecided { role, name } => add_undecided(text, label_of(*role, name)),
     }
 }

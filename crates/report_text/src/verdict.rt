@@ -1,6 +1,6 @@
 //! What a comparison says of one pair, or of what has no partner.
 ghost use Rattle.std.specs.Prelude.{◌≡◌, IfOk};
-ghost use Rattle.report_text.specs.Marks.{marks_of};
+ghost use Rattle.report_text.specs.SupportBits.{support_bits_of};
 
 use crate::outcome::{PairKind, Side};
 use std::alloc::{AllocError, Global};
@@ -78,8 +78,8 @@ pub struct Extras {
 
 impl Extras {
     /// The marks of the variables, none where they are not asked for.
-    pub(crate) fn marks(&self) -> &[bool]
-        ensures { result.now ≡ marks_of self.now.support }
+    pub(crate) fn support_bits(&self) -> &[bool]
+        ensures { result.now ≡ support_bits_of self.now.support }
     {
         match &self.support {
             Some(support) => support.as_slice(),
@@ -107,7 +107,7 @@ pub enum Verdict {
         extras: Extras,
     },
     /// An output or a register of one netlist has no partner in the other.
-    Lone {
+    Unmatched {
         side: Side,
         role: PairKind,
         name: Name,

@@ -67,7 +67,7 @@ fn outcome_of(verdicts: &[Verdict]) -> Outcome
         match verdict {
             Verdict::Equal { .. } => outcome.equal += 1,
             Verdict::Differs { .. } => outcome.different += 1,
-            Verdict::Lone { .. } => outcome.unmatched += 1,
+            Verdict::Unmatched { .. } => outcome.unmatched += 1,
             Verdict::Undecided { .. } => outcome.undecided += 1,
         }
     }

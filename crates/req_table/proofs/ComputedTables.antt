@@ -10,27 +10,27 @@ use Rattle.dd_store.specs.declared.reference.Ref.{Ref}
 use Rattle.req_table.specs.declared.Key.{Key}
 use Rattle.req_table.specs.contracts.KeyPartialEq.TheImpl.{eq-value}
 use Rattle.req_table.specs.Equal.{key_same}
-use Rattle.req_table.specs.ComputedTables.{Held, held, rest, with_first, Keeps, IsAnswerOf, IsRight, IsValueOf, or_held, known_of}
+use Rattle.req_table.specs.ComputedTables.{ComputedView, computed_answer, rest, with_first, KeepsAnswer, IsAnswerOf, IsRight, IsValueOf, or_computed, terminal_or_computed_of}
 use Rattle.req_table.specs.declared.Op.{Op}
 use Rattle.req_table.specs.TerminalCase.{form_of, in_order, terminal_at, terminal_of, op_value}
 use Rattle.req_table.specs.Keys.{normal_of, Denotes}
-use Rattle.req_table.proofs.TerminalCases.{OnAnswer, of_mark, of_form, terminal_is}
+use Rattle.req_table.proofs.TerminalCases.{OnAnswer, of_complement, of_form, terminal_is}
 use Rattle.req_table.proofs.Waved.{meaning_normal, terminal_denotes}
 use Rattle.dd_store.specs.Nodes.{Nodes, IsSound, den, cofactor_of}
 use Rattle.dd_store.specs.View.{Has}
 use Rattle.dd_store.specs.View.{Keeps as KeepsNodes}
-use Rattle.dd_store.specs.Marks.{mark_by, turned}
-use Rattle.dd_store.proofs.Marks.{den-mark_by}
+use Rattle.dd_store.specs.Complements.{complement_by, complemented}
+use Rattle.dd_store.proofs.Complements.{den-complement_by}
 use Rattle.dd_store.proofs.View.{kept_den, has-negate}
 use Rattle.lru.proofs.Splits.{Contains-cons}
 use Rattle.lru.proofs.CallerLemmas.{Contains-take, Contains-remove_entry}
 
 -- a cache's pairs and capacity
-abbrev pub of_cache : LruCache Key Ref → Held
+abbrev pub of_cache : LruCache Key Ref → ComputedView
 of_cache c = record { pairs = c.entries; capacity = c.cap }
 
 -- what a cache holds after `put`
-put_is : (c : LruCache Key Ref) (k : Key) (r : Ref) → put_entries eq-value.it c k r ≡ (k, r) ∷ rest (of_cache c) k (held (of_cache c) k)
+put_is : (c : LruCache Key Ref) (k : Key) (r : Ref) → put_entries eq-value.it c k r ≡ (k, r) ∷ rest (of_cache c) k (computed_answer (of_cache c) k)
 put_is c k r = by (lookup_entry (eq-value.it k) c.entries) refl ∙ ap (λ o. (k, r) ∷ rest (of_cache c) k o) (lookup-lookup_entry (eq-value.it k) c.entries)
   where
     by : (o : Option (Key × Ref)) → lookup_entry (eq-value.it k) c.entries ≡ o
@@ -39,10 +39,10 @@ put_is c k r = by (lookup_entry (eq-value.it k) c.entries) refl ∙ ap (λ o. (k
     by (Some e) h = ap (λ z. (z, r) ∷ remove_entry (eq-value.it k) c.entries) (sym (key_same k e.0 (Contains-lookup_entry (eq-value.it k) c.entries e h).1))
 
 -- a pair that was put is kept
-pub put_keeps : {E : Type 0} (old : Held) (c new : LruCache Key Ref) (k : Key) (r : Ref) (answer : Result (Option Ref) E) → of_cache c ≡ old
-    → OnOk answer (new ≡ lru_cache (put_entries eq-value.it c k r) c.cap) → OnErr answer (new ≡ c) → (IsSome (lookup (eq-value.it k) c.entries) → IsOk answer) → Keeps old k r (of_cache new)
+pub put_keeps : {E : Type 0} (old : ComputedView) (c new : LruCache Key Ref) (k : Key) (r : Ref) (answer : Result (Option Ref) E) → of_cache c ≡ old
+    → OnOk answer (new ≡ lru_cache (put_entries eq-value.it c k r) c.cap) → OnErr answer (new ≡ c) → (IsSome (lookup (eq-value.it k) c.entries) → IsOk answer) → KeepsAnswer old k r (of_cache new)
 put_keeps old c new k r (Ok v) was put same held_ok = inl (ap of_cache put ∙ ap (λ es. record { pairs = es; capacity = c.cap }) (put_is c k r) ∙ ap (λ m. with_first m k r) was)
-put_keeps old c new k r (Err e) was put same held_ok = inr (ap (λ m. held m k) (sym was) ∙ by (lookup (eq-value.it k) c.entries) refl, ap of_cache same ∙ was)
+put_keeps old c new k r (Err e) was put same held_ok = inr (ap (λ m. computed_answer m k) (sym was) ∙ by (lookup (eq-value.it k) c.entries) refl, ap of_cache same ∙ was)
   where
     by : (o : Option Ref) → lookup (eq-value.it k) c.entries ≡ o → lookup (eq-value.it k) c.entries ≡ None
     by None h = h
@@ -55,7 +55,7 @@ found_in pairs k (Some r) e = Contains-from_lookup key_same k r pairs (sym e)
 
 -- ---- a computed table that is right for a store
 -- a store that has only grown keeps it right
-pub right_kept : (S T : Nodes) → IsSound S → KeepsNodes S T → (m : Held) → IsRight S m → IsRight T m
+pub right_kept : (S T : Nodes) → IsSound S → KeepsNodes S T → (m : ComputedView) → IsRight S m → IsRight T m
 right_kept S T w keeps m right k r c =
     let a = right k r c in
     record {
@@ -70,9 +70,9 @@ right_kept S T w keeps m right k r c =
     }
 
 -- a pair that is kept is right where its answer is the key's
-pub right_with : (S : Nodes) (old : Held) (k : Key) (r : Ref) (new : Held) → IsRight S old → IsAnswerOf S k r → Keeps old k r new → IsRight S new
+pub right_with : (S : Nodes) (old : ComputedView) (k : Key) (r : Ref) (new : ComputedView) → IsRight S old → IsAnswerOf S k r → KeepsAnswer old k r new → IsRight S new
 right_with S old k r new right is (inr (none, same)) = subst (IsRight S) (sym same) right
-right_with S old k r new right is (inl first) = subst (IsRight S) (sym first) (λ l a c. by l a (held old k) c)
+right_with S old k r new right is (inl first) = subst (IsRight S) (sym first) (λ l a c. by l a (computed_answer old k) c)
   where
     in_rest : (o : Option Ref) (p : Key × Ref) → Contains (rest old k o) p → Contains old.pairs p
     in_rest None p c = Contains-take (old.capacity - 1) old.pairs p c
@@ -84,17 +84,17 @@ right_with S old k r new right is (inl first) = subst (IsRight S) (sym first) (�
       | inr d ↦ right l a (in_rest o (l, a) d)
     ]
 
-module _ (S : Nodes) (m : Held) (right : IsRight S m) (op : Op) (f g : Ref) (hf : Has S f) (hg : Has S g) where
-  held_value : (o : Option Ref) → IfSome o (λ r. Contains m.pairs ((normal_of op f g).0, r)) → IfSome (option_map (mark_by (normal_of op f g).1) o) (IsValueOf S op f g)
+module _ (S : Nodes) (m : ComputedView) (right : IsRight S m) (op : Op) (f g : Ref) (hf : Has S f) (hg : Has S g) where
+  held_value : (o : Option Ref) → IfSome o (λ r. Contains m.pairs ((normal_of op f g).0, r)) → IfSome (option_map (complement_by (normal_of op f g).1) o) (IsValueOf S op f g)
   held_value None c = tt
   held_value (Some r) c =
       let a = right (normal_of op f g).0 r c in
       let b : Bool = (normal_of op f g).1 in
-      (of_mark (Has S) (has-negate S) b r a.diagram.0, λ x hx. den-mark_by S b r x ∙ ap (turned b) (a.diagram.1 x hx) ∙ meaning_normal S op f g x)
+      (of_complement (Has S) (has-negate S) b r a.diagram.0, λ x hx. den-complement_by S b r x ∙ ap (complemented b) (a.diagram.1 x hx) ∙ meaning_normal S op f g x)
 
   -- what is known of an operation is its diagram
-  pub known_value : (t : Option Ref) → terminal_of op f g ≡ t → IfSome (or_held m (normal_of op f g) t) (IsValueOf S op f g)
-  known_value None e = held_value (held m (normal_of op f g).0) (found_in m.pairs (normal_of op f g).0 (held m (normal_of op f g).0) refl)
+  pub known_value : (t : Option Ref) → terminal_of op f g ≡ t → IfSome (or_computed m (normal_of op f g) t) (IsValueOf S op f g)
+  known_value None e = held_value (computed_answer m (normal_of op f g).0) (found_in m.pairs (normal_of op f g).0 (computed_answer m (normal_of op f g).0) refl)
   known_value (Some r) e =
       (terminal_has (subst (OnAnswer (Has S)) e (terminal_is (Has S) (has-negate S) op f g tt hf hg)), λ x hx. subst (λ t. IfSome t (Denotes S op f g)) e (terminal_denotes op f g (terminal_of op f g) refl S) x)
     where
@@ -102,17 +102,17 @@ module _ (S : Nodes) (m : Held) (right : IsRight S m) (op : Op) (f g : Ref) (hf 
       terminal_has h = h
 
 -- what is held of an operation's form is known of the operation
-pub made_known : (m : Held) (op : Op) (f g : Ref) {n : Key × Bool} {k : Key} {p r : Option Ref} → n ≡ form_of op f g → k ≡ in_order n.0 → p ≡ held m k → r ≡ option_map (mark_by n.1) p
-    → terminal_of op f g ≡ None → r ≡ known_of m op f g
-made_known m op f g {n} {k} {p} {r} e hk hp hr long =
-    hr ∙ ap (option_map (mark_by n.1)) hp ∙ ap (λ z. option_map (mark_by n.1) (held m z)) hk
-    ∙ ap (λ (z : Key × Bool). or_held m (in_order z.0, z.1) None) e ∙ ap (or_held m (normal_of op f g)) (sym long)
+pub made_computed : (m : ComputedView) (op : Op) (f g : Ref) {n : Key × Bool} {k : Key} {p r : Option Ref} → n ≡ form_of op f g → k ≡ in_order n.0 → p ≡ computed_answer m k → r ≡ option_map (complement_by n.1) p
+    → terminal_of op f g ≡ None → r ≡ terminal_or_computed_of m op f g
+made_computed m op f g {n} {k} {p} {r} e hk hp hr long =
+    hr ∙ ap (option_map (complement_by n.1)) hp ∙ ap (λ z. option_map (complement_by n.1) (computed_answer m z)) hk
+    ∙ ap (λ (z : Key × Bool). or_computed m (in_order z.0, z.1) None) e ∙ ap (or_computed m (normal_of op f g)) (sym long)
 
-pub made_terminal : (m : Held) (op : Op) (f g : Ref) {n : Key × Bool} {a r : Ref} → n ≡ form_of op f g → Some a ≡ terminal_at n.0 → r ≡ mark_by n.1 a → Some r ≡ known_of m op f g
-made_terminal m op f g {n} {a} {r} e h hr = ap (λ z. Some z) hr ∙ ap (or_held m (normal_of op f g)) (of_form op f g {t = Some a} e h)
+pub made_terminal : (m : ComputedView) (op : Op) (f g : Ref) {n : Key × Bool} {a r : Ref} → n ≡ form_of op f g → Some a ≡ terminal_at n.0 → r ≡ complement_by n.1 a → Some r ≡ terminal_or_computed_of m op f g
+made_terminal m op f g {n} {a} {r} e h hr = ap (λ z. Some z) hr ∙ ap (or_computed m (normal_of op f g)) (of_form op f g {t = Some a} e h)
 
 -- where nothing is known, the request is made
-pub not_known : (m : Held) (k : Key × Bool) (t : Option Ref) → or_held m k t ≡ None → t ≡ None
+pub not_known : (m : ComputedView) (k : Key × Bool) (t : Option Ref) → or_computed m k t ≡ None → t ≡ None
 not_known m k None e = refl
 not_known m k (Some r) e = absurd (cc)
 

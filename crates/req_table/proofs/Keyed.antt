@@ -15,7 +15,7 @@ use Rattle.indexmap.specs.IndexSet.{insert_key}
 use Rattle.slot_table.specs.Lists.{IsOnce}
 use Rattle.req_table.specs.declared.Key.{Key}
 use Rattle.req_table.specs.Equal.{key_same}
-use Rattle.req_table.specs.Tables.{Offers}
+use Rattle.req_table.specs.Tables.{AdmitsKey}
 use Rattle.req_table.specs.contracts.OperationPartialEq.TheImpl.{eq-value}
 use Rattle.req_table.specs.contracts.OperationEq.TheImpl.Laws.{laws-law}
 
@@ -31,11 +31,11 @@ pub absent_from : (keys : List Key) (k : Key) → list_any (eq-value.it k) keys 
 absent_from keys k e m = true≢false (sym (list_any-from_Contains key_laws k keys m) ∙ e)
 
 -- what an insertion answers and leaves is an offer
-pub offered : (old new : List Key) (k : Key) (fresh : Bool) → fresh ≡ not (list_any (eq-value.it k) old) → new ≡ insert_key eq-value.it old k → Offers old k fresh new
+pub offered : (old new : List Key) (k : Key) (fresh : Bool) → fresh ≡ not (list_any (eq-value.it k) old) → new ≡ insert_key eq-value.it old k → AdmitsKey old k fresh new
 offered old new k fresh e f =
-    elim (list_any (eq-value.it k) old) as (λ t. list_any (eq-value.it k) old ≡ t → fresh ≡ not t → new ≡ (if t then old else old ++ k ∷ []) → Offers old k fresh new) [
-      | true ↦ (λ t e' f'. subst (λ b. Offers old k b new) (sym e') (Contains-from_any {eq = eq-value.it} key_same k old t, f'))
-      | false ↦ (λ t e' f'. subst (λ b. Offers old k b new) (sym e') (absent_from old k t, f'))
+    elim (list_any (eq-value.it k) old) as (λ t. list_any (eq-value.it k) old ≡ t → fresh ≡ not t → new ≡ (if t then old else old ++ k ∷ []) → AdmitsKey old k fresh new) [
+      | true ↦ (λ t e' f'. subst (λ b. AdmitsKey old k b new) (sym e') (Contains-from_any {eq = eq-value.it} key_same k old t, f'))
+      | false ↦ (λ t e' f'. subst (λ b. AdmitsKey old k b new) (sym e') (absent_from old k t, f'))
     ] refl e f
 
 -- an equal key that stands at a place is the key

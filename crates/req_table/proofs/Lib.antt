@@ -13,7 +13,7 @@ pub mod Sized
 pub mod AsksFor
 pub mod ComputedTables
 pub mod Forming
-pub mod Standing
+pub mod AtPlace
 pub mod Entering
 pub mod LevelSets
 pub mod Members

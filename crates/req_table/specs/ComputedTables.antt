@@ -2,7 +2,7 @@
 use Rattle.std.specs.Prelude.{◌≡◌, ℕ, ◌-◌, Bool, List, ◌∷◌, take, Contains, Option, Some, None, ◌⊎◌}
 use Rattle.std.specs.Map.{lookup, remove_entry}
 use Rattle.std.specs.Option.{option_map}
-use Rattle.dd_store.specs.Marks.{mark_by}
+use Rattle.dd_store.specs.Complements.{complement_by}
 use Rattle.dd_store.specs.declared.reference.Ref.{Ref}
 use Rattle.dd_store.specs.Nodes.{Nodes, IsDiagram, den}
 use Rattle.dd_store.specs.View.{Has}
@@ -13,26 +13,26 @@ use Rattle.req_table.specs.TerminalCase.{terminal_of, op_value}
 use Rattle.req_table.specs.Keys.{normal_of, meaning}
 
 -- keys with their answers, the pair that was kept last first, and how many there may be
-pub record Held : Type 0 where
+pub record ComputedView : Type 0 where
   pub pairs : List (Key × Ref)
   pub capacity : ℕ
 
 -- the answer that is held of a key
-abbrev pub held : Held → Key → Option Ref
-held m k = lookup (eq-value.it k) m.pairs
+abbrev pub computed_answer : ComputedView → Key → Option Ref
+computed_answer m k = lookup (eq-value.it k) m.pairs
 
 -- what stays behind a pair that comes first: all but the old pair of its key, or all but the last of a full computed table
-abbrev pub rest : Held → Key → Option Ref → List (Key × Ref)
+abbrev pub rest : ComputedView → Key → Option Ref → List (Key × Ref)
 rest m k (Some r) = remove_entry (eq-value.it k) m.pairs
 rest m k None = take (m.capacity - 1) m.pairs
 
 -- the computed table with a pair put first
-abbrev pub with_first : Held → Key → Ref → Held
-with_first m k r = record { pairs = (k, r) ∷ rest m k (held m k); capacity = m.capacity }
+abbrev pub with_first : ComputedView → Key → Ref → ComputedView
+with_first m k r = record { pairs = (k, r) ∷ rest m k (computed_answer m k); capacity = m.capacity }
 
 -- a computed table after a pair was kept: it is first; or memory was refused, the key is not held, and nothing changed
-abbrev pub Keeps : Held → Key → Ref → Held → Type 0
-Keeps old k r new = (new ≡ with_first old k r) ⊎ ((held old k ≡ None) × (new ≡ old))
+abbrev pub KeepsAnswer : ComputedView → Key → Ref → ComputedView → Type 0
+KeepsAnswer old k r new = (new ≡ with_first old k r) ⊎ ((computed_answer old k ≡ None) × (new ≡ old))
 
 -- r is in the store the diagram of the key's operation on its operands' functions
 pub record IsAnswerOf (S : Nodes) (k : Key) (r : Ref) : Type 0 where
@@ -41,7 +41,7 @@ pub record IsAnswerOf (S : Nodes) (k : Key) (r : Ref) : Type 0 where
   pub diagram : IsDiagram S r (meaning S k)
 
 -- a computed table is right for a store: each answer that it holds is its key's
-abbrev pub IsRight : Nodes → Held → Type 0
+abbrev pub IsRight : Nodes → ComputedView → Type 0
 IsRight S m = (k : Key) (r : Ref) → Contains m.pairs (k, r) → IsAnswerOf S k r
 
 -- r is the diagram of the operation on the functions of f and g
@@ -49,10 +49,10 @@ abbrev pub IsValueOf : Nodes → Op → Ref → Ref → Ref → Type 0
 IsValueOf S op f g r = IsDiagram S r (λ x. op_value op (den S f x) (den S g x))
 
 -- a terminal case, or else what is held of the request, complemented where it has a mark
-abbrev pub or_held : Held → Key × Bool → Option Ref → Option Ref
-or_held m n (Some r) = Some r
-or_held m n None = option_map (mark_by n.1) (held m n.0)
+abbrev pub or_computed : ComputedView → Key × Bool → Option Ref → Option Ref
+or_computed m n (Some r) = Some r
+or_computed m n None = option_map (complement_by n.1) (computed_answer m n.0)
 
 -- the answer of an operation that is no request, or is held
-abbrev pub known_of : Held → Op → Ref → Ref → Option Ref
-known_of m op f g = or_held m (normal_of op f g) (terminal_of op f g)
+abbrev pub terminal_or_computed_of : ComputedView → Op → Ref → Ref → Option Ref
+terminal_or_computed_of m op f g = or_computed m (normal_of op f g) (terminal_of op f g)

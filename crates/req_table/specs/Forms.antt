@@ -5,7 +5,7 @@ use Rattle.req_table.specs.declared.Key.{Key}
 use Rattle.req_table.specs.declared.table.Keys.{Keys}
 use Rattle.req_table.specs.declared.table.Keys.TheVariants.{Short, Long}
 use Rattle.req_table.specs.Short.{IsShort}
-use Rattle.req_table.specs.Tables.{Offers}
+use Rattle.req_table.specs.Tables.{AdmitsKey}
 
 -- the requests of a table
 abbrev pub keys_in : Keys → List Key
@@ -23,14 +23,14 @@ AreFitting (Short s) = All IsShort s.keys
 AreFitting (Long s) = Unit {0}
 
 -- what is true of a table
-abbrev pub AreHeld : Keys → Type 0
-AreHeld ks = (length (keys_in ks) < 2 ^ 32) × AreFitting ks
+abbrev pub IsValidTable : Keys → Type 0
+IsValidTable ks = (length (keys_in ks) < 2 ^ 32) × AreFitting ks
 
 -- the requests after one was offered: its place, and whether it is new, or all as before where memory was refused
 abbrev pub IsAdmitted : Key → List Key → Result (ℕ × Bool) AllocError → List Key → Type 0
-IsAdmitted k old (Ok r) new = Offers old k r.1 new × (slice_get new r.0 ≡ Some k)
+IsAdmitted k old (Ok r) new = AdmitsKey old k r.1 new × (slice_get new r.0 ≡ Some k)
 IsAdmitted k old (Err e) new = (new ≡ old) × (¬ Contains old k)
 
 -- the table is as before, and has no place for a request that does not fit
-abbrev pub IsLeftOut : Key → Keys → Keys → Type 0
-IsLeftOut k old new = AreShort old × (new ≡ old) × (¬ Contains (keys_in old) k)
+abbrev pub DoesNotFit : Key → Keys → Keys → Type 0
+DoesNotFit k old new = AreShort old × (new ≡ old) × (¬ Contains (keys_in old) k)

@@ -9,7 +9,7 @@ use Rattle.req_table.specs.declared.Key.{Key}
 use Rattle.req_table.specs.declared.Child.{Child}
 use Rattle.req_table.specs.declared.Child.TheVariants.{Done, Ask}
 use Rattle.req_table.specs.declared.Record.{Record}
-use Rattle.dd_store.specs.Marks.{turned}
+use Rattle.dd_store.specs.Complements.{complemented}
 use Rattle.req_table.specs.TerminalCase.{terminal_of, owner_of, op_value}
 pub use Rattle.req_table.specs.TerminalCase.{key, normal_of}
 use Rattle.req_table.specs.Wave.{Wave}
@@ -65,7 +65,7 @@ record_of S k = record { key = k; low = child_of S k false; high = child_of S k 
 -- the value of a child: that of the answer, or of the function that is asked for, or of its complement
 abbrev pub child_value : Nodes → Child → List Bool → Bool
 child_value S (Done r) x = den S r x
-child_value S (Ask l k m) x = turned m (meaning S k x)
+child_value S (Ask l k m) x = complemented m (meaning S k x)
 
 -- a child of the store: an answer is one of its references, and a request one of its keys, told with its level
 abbrev pub IsChildIn : Nodes → Child → Type 0
@@ -78,13 +78,13 @@ IsDeeper S v (Done r) = v < top S.levels r
 IsDeeper S v (Ask l k m) = v < l
 
 -- a child has the value that the key has where the bit of the key's level is b
-abbrev pub IsHalf : Nodes → Key → Bool → Child → Type 0
-IsHalf S k b c = (x : List Bool) → bit x (level_of S k) ≡ b → child_value S c x ≡ meaning S k x
+abbrev pub IsCofactorChild : Nodes → Key → Bool → Child → Type 0
+IsCofactorChild S k b c = (x : List Bool) → bit x (level_of S k) ≡ b → child_value S c x ≡ meaning S k x
 
 -- a wave over a store, of so many levels and workers
 abbrev pub wave_at : Nodes → ℕ → ℕ → Wave
 wave_at S levels workers = record {
-  scope = record { levels = levels; workers = workers; Holds = IsKey S; level = level_of S };
+  scope = record { levels = levels; workers = workers; HasKey = IsKey S; level = level_of S };
   child = child_of S;
   owner = owner workers;
 }

@@ -15,8 +15,8 @@ pub mod WordLaws
 pub mod Short
 pub mod ShortLaws
 pub mod Forms
-pub mod PlacedWords
-pub mod PlacedLaws
+pub mod PackedChildWords
+pub mod PackedChildLaws
 pub mod WordLists
 pub mod LevelSet
 pub mod Places

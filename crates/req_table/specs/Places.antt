@@ -5,35 +5,35 @@ use Rattle.req_table.specs.declared.Key.{Key}
 use Rattle.req_table.specs.declared.Child.{Child}
 use Rattle.req_table.specs.declared.Child.TheVariants as child
 use Rattle.req_table.specs.LevelSet.{IsMember}
-use Rattle.req_table.specs.declared.placed.Placed.{Placed}
-use Rattle.req_table.specs.declared.placed.PlacedChild.TheVariants.{Done, Ask}
+use Rattle.req_table.specs.declared.packed_child.PackedChild.{PackedChild}
+use Rattle.req_table.specs.declared.packed_child.PlacedChild.TheVariants.{Done, Ask}
 
 -- the list of a level
 abbrev pub row : {X : Type 0} → List (List X) → ℕ → List X
 row lists v = slice_index_or lists v []
 
 -- x stands at place p of level l
-abbrev pub StandsAt : {X : Type 0} → List (List X) → ℕ → ℕ → X → Type 0
-StandsAt lists l p x = slice_get (row lists l) p ≡ Some x
+abbrev pub IsAtPlace : {X : Type 0} → List (List X) → ℕ → ℕ → X → Type 0
+IsAtPlace lists l p x = slice_get (row lists l) p ≡ Some x
 
 -- the key k has the place p in the list `new`, which is the list old, with k last if it was not there
 abbrev pub Enters : List Key → Key → ℕ → List Key → Type 0
 Enters old k p new = (slice_get new p ≡ Some k) × ((new ≡ old) ⊎ (new ≡ old ++ k ∷ []))
 
 -- what a placed child stands for: its answer, or the request at its place
-abbrev pub IsPlaced : List (List Key) → Placed → Child → Type 0
+abbrev pub IsPlaced : List (List Key) → PackedChild → Child → Type 0
 IsPlaced tables (Done r) c = c ≡ child.Done r
-IsPlaced tables (Ask l p m) c = (k : Key) × StandsAt tables l p k × (c ≡ child.Ask l k m)
+IsPlaced tables (Ask l p m) c = (k : Key) × IsAtPlace tables l p k × (c ≡ child.Ask l k m)
 
 -- a child asks for a request of a level, or for its complement
 abbrev pub AsksAt : Child → ℕ → Key → Type 0
 AsksAt c l k = (m : Bool) × (c ≡ child.Ask l k m)
 
 -- tables after a child was placed: what stood at a place stands there, and what is new is the child's request at its level
-pub record Admits (old : List (List Key)) (c : Child) (new : List (List Key)) : Type 0 where
+pub record AdmitsChild (old : List (List Key)) (c : Child) (new : List (List Key)) : Type 0 where
   pub levels : length new ≡ length old
-  pub kept : (w q : ℕ) (k : Key) → StandsAt old w q k → StandsAt new w q k
-  pub only : (w q : ℕ) (k : Key) → StandsAt new w q k → StandsAt old w q k ⊎ AsksAt c w k
+  pub kept : (w q : ℕ) (k : Key) → IsAtPlace old w q k → IsAtPlace new w q k
+  pub only : (w q : ℕ) (k : Key) → IsAtPlace new w q k → IsAtPlace old w q k ⊎ AsksAt c w k
   pub others : (w : ℕ) → ((k : Key) → AsksAt c w k → ⊥) → row new w ≡ row old w
 
 -- n empty lists
@@ -43,11 +43,11 @@ pub record AreEmpty {X : Type 0} (lists : List (List X)) (n : ℕ) : Type 0 wher
 
 -- nothing stands in the levels from v on that are before u
 abbrev pub AreNone : {X : Type 0} → List (List X) → ℕ → ℕ → Type 0
-AreNone {X} lists v u = (w q : ℕ) (x : X) → v ≤ w → w < u → StandsAt lists w q x → ⊥
+AreNone {X} lists v u = (w q : ℕ) (x : X) → v ≤ w → w < u → IsAtPlace lists w q x → ⊥
 
 -- the first level from v on that has something, if there is one
 abbrev pub IsNextLevel : {X : Type 0} → List (List X) → ℕ → Option ℕ → Type 0
-IsNextLevel {X} lists v None = (w q : ℕ) (x : X) → v ≤ w → StandsAt lists w q x → ⊥
+IsNextLevel {X} lists v None = (w q : ℕ) (x : X) → v ≤ w → IsAtPlace lists w q x → ⊥
 IsNextLevel lists v (Some u) = (v ≤ u) × (u < length lists) × (0 < length (row lists u)) × AreNone lists v u
 
 -- the last level before u that has something, if there is one
@@ -59,5 +59,5 @@ IsLastLevel lists u (Some v) = (v < u) × (0 < length (row lists v)) × AreNone 
 pub record AreMembers {X : Type 0} (levels : List ℕ) (lists : List (List X)) : Type 0 where
   pub room : length lists ≤ 64 * length levels
   pub few : length lists < 2 ^ 16
-  pub held : (w : ℕ) → IsMember levels w → 0 < length (row lists w)
-  pub members : (w q : ℕ) (x : X) → StandsAt lists w q x → IsMember levels w
+  pub nonempty : (w : ℕ) → IsMember levels w → 0 < length (row lists w)
+  pub members : (w q : ℕ) (x : X) → IsAtPlace lists w q x → IsMember levels w

@@ -4,9 +4,9 @@ use Rattle.req_table.specs.declared.Key.{Key}
 use Rattle.req_table.specs.declared.Record.{Record}
 
 -- a table after a key was offered to it: it is new and stands at the end, or it was there and the table is as before
-abbrev pub Offers : List Key → Key → Bool → List Key → Type 0
-Offers old k true new = (¬ Contains old k) × (new ≡ old ++ k ∷ [])
-Offers old k false new = Contains old k × (new ≡ old)
+abbrev pub AdmitsKey : List Key → Key → Bool → List Key → Type 0
+AdmitsKey old k true new = (¬ Contains old k) × (new ≡ old ++ k ∷ [])
+AdmitsKey old k false new = Contains old k × (new ≡ old)
 
 -- the records of a level
 abbrev pub row_at : List (List Record) → ℕ → List Record

@@ -3,8 +3,8 @@ use Rattle.std.specs.Prelude.{◌≡◌, ℕ, ◌+◌, ◌*◌, ◌%◌, Bool, t
 use Rattle.std.specs.Option.{option_map}
 use Rattle.dd_store.specs.declared.reference.Ref.{Ref}
 use Rattle.dd_store.specs.declared.reference.Reference.TheVariants.{False, True, Node}
-use Rattle.dd_store.specs.Codes.{code_of}
-use Rattle.dd_store.specs.Marks.{is_marked, negate_of, mark_by, turned}
+use Rattle.dd_store.specs.Hashes.{ref_hash_of}
+use Rattle.dd_store.specs.Complements.{is_complement, negate_of, complement_by, complemented}
 pub use Rattle.dd_store.specs.Order.{node_eq, node_lt, ref_lt}
 use Rattle.req_table.specs.declared.Op.{Op}
 use Rattle.req_table.specs.declared.Op.TheVariants.{And, Or, Xor, Nand, Nor, Xnor}
@@ -15,17 +15,17 @@ abbrev pub key : Op → Ref → Ref → Operation
 key op f g = record { op = op; f = f; g = g }
 
 -- a reference without its mark
-abbrev pub plain_of : Ref → Ref
-plain_of r = mark_by (is_marked r) r
+abbrev pub regular_of : Ref → Ref
+regular_of r = complement_by (is_complement r) r
 
 -- an operation by And and Xor, and whether its answer is that one's complement; the operands of Xor lose their marks
 abbrev pub form_of : Op → Ref → Ref → Operation × Bool
 form_of And f g = (key And f g, false)
 form_of Or f g = (key And (negate_of f) (negate_of g), true)
-form_of Xor f g = (key Xor (plain_of f) (plain_of g), turned (is_marked f) (is_marked g))
+form_of Xor f g = (key Xor (regular_of f) (regular_of g), complemented (is_complement f) (is_complement g))
 form_of Nand f g = (key And f g, true)
 form_of Nor f g = (key And (negate_of f) (negate_of g), false)
-form_of Xnor f g = (key Xor (plain_of f) (plain_of g), not (turned (is_marked f) (is_marked g)))
+form_of Xnor f g = (key Xor (regular_of f) (regular_of g), not (complemented (is_complement f) (is_complement g)))
 
 -- the answer of And on a terminal and a reference, or on one node twice: the node, or False where one mark alone is set
 abbrev pub terminal_and : Ref → Ref → Option Ref
@@ -33,7 +33,7 @@ terminal_and False g = Some False
 terminal_and True g = Some g
 terminal_and (Node a b) False = Some False
 terminal_and (Node a b) True = Some (Node a b)
-terminal_and (Node a b) (Node c d) = cond (node_eq a c) (Some (cond (turned b d) False (Node a b))) None
+terminal_and (Node a b) (Node c d) = cond (node_eq a c) (Some (cond (complemented b d) False (Node a b))) None
 
 -- the answer of Xor on a terminal and a reference, or on one node twice: False, or True where one mark alone is set
 abbrev pub terminal_xor : Ref → Ref → Option Ref
@@ -41,7 +41,7 @@ terminal_xor False g = Some g
 terminal_xor True g = Some (negate_of g)
 terminal_xor (Node a b) False = Some (Node a b)
 terminal_xor (Node a b) True = Some (Node a (not b))
-terminal_xor (Node a b) (Node c d) = cond (node_eq a c) (Some (cond (turned b d) True False)) None
+terminal_xor (Node a b) (Node c d) = cond (node_eq a c) (Some (cond (complemented b d) True False)) None
 
 -- the terminal case of And or Xor, where it has one
 abbrev pub terminal_at : Operation → Option Ref
@@ -49,7 +49,7 @@ terminal_at k = elim k.op [ And ↦ terminal_and k.f k.g | Or ↦ None | Xor ↦
 
 -- the terminal case of an operation, where it has one
 abbrev pub terminal_of : Op → Ref → Ref → Option Ref
-terminal_of op f g = option_map (mark_by (form_of op f g).1) (terminal_at (form_of op f g).0)
+terminal_of op f g = option_map (complement_by (form_of op f g).1) (terminal_at (form_of op f g).0)
 
 -- the operands in order
 abbrev pub in_order : Operation → Operation
@@ -70,7 +70,7 @@ op_number Xnor = 5
 
 -- the worker, of m, that an operation on two references belongs to
 abbrev pub owner_of : Op → Ref → Ref → ℕ → ℕ
-owner_of op f g m = (op_number op + 3 * code_of f + 5 * code_of g) % m
+owner_of op f g m = (op_number op + 3 * ref_hash_of f + 5 * ref_hash_of g) % m
 
 -- the Boolean operation
 abbrev pub op_value : Op → Bool → Bool → Bool
@@ -87,4 +87,4 @@ op_value Xnor false b = not b
 pub record IsValue (den : Ref → Bool) : Type 0 where
   pub at_false : den False ≡ false
   pub at_true : den True ≡ true
-  pub at_mark : (r : Ref) → den (negate_of r) ≡ not (den r)
+  pub at_complement : (r : Ref) → den (negate_of r) ≡ not (den r)

@@ -4,7 +4,7 @@ use Rattle.std.proofs.Common.{◌∙◌, ap, arith, refl, sym, subst, inl, inr}
 use Rattle.std.proofs.lemmas.Bool.Decides.{nat_tests}
 use Rattle.dd_store.specs.declared.reference.Ref.{Ref}
 use Rattle.dd_store.specs.Words.{reference_of, IsWord}
-use Rattle.dd_store.specs.WordLaws.{word_of-reference_of, small_word, told_apart}
+use Rattle.dd_store.specs.WordLaws.{word_of-reference_of, small_word, differ_if_words_differ}
 use Rattle.req_table.specs.declared.Op.{Op}
 use Rattle.req_table.specs.declared.Op.TheVariants.{And, Or, Xor, Nand, Nor, Xnor}
 use Rattle.req_table.specs.contracts.OperationPartialEq.TheImpl.{eq-value as operation_eq}
@@ -75,5 +75,5 @@ word_made k n i h b =
 pub first_differs : (a b : ℕ) (f g : Ref) (t : Bool) → IsFirstWord a → IsFirstWord b
     → operation_eq.it (operation_of a f) (operation_of b g) ≡ t → (a ≡ b → ⊥) → t ≡ false
 first_differs a b f g t h k e n =
-    told_apart operation_eq.it key_same (λ o. first_word o.op o.f) (operation_of a f) (operation_of b g) t e
+    differ_if_words_differ operation_eq.it key_same (λ o. first_word o.op o.f) (operation_of a f) (operation_of b g) t e
     (λ same. n (sym (first_word-back a h) ∙ same ∙ first_word-back b k))

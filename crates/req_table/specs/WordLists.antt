@@ -3,8 +3,8 @@ use Rattle.std.specs.Prelude.{ℕ, List, map}
 use Rattle.std.specs.List.{All}
 use Rattle.dd_store.specs.declared.reference.Ref.{Ref}
 use Rattle.dd_store.specs.Words.{reference_of, IsWord}
-use Rattle.req_table.specs.declared.placed.Placed.{Placed}
-use Rattle.req_table.specs.PlacedWords.{placed_of, IsPlacedWord}
+use Rattle.req_table.specs.declared.packed_child.PackedChild.{PackedChild}
+use Rattle.req_table.specs.PackedChildWords.{packed_child_of, IsPackedChildWord}
 use Rattle.req_table.specs.declared.words.Words.{Words}
 use Rattle.req_table.specs.declared.words.Words.TheVariants as words
 use Rattle.req_table.specs.declared.words.WordPairs.{WordPairs}
@@ -26,13 +26,13 @@ abbrev pub AreRefs : List ℕ → Type 0
 AreRefs ws = All IsWord ws
 
 -- ---- children
-abbrev pub both_at : ℕ × ℕ → Placed × Placed
-both_at p = (placed_of p.0, placed_of p.1)
+abbrev pub both_at : ℕ × ℕ → PackedChild × PackedChild
+both_at p = (packed_child_of p.0, packed_child_of p.1)
 
 abbrev pub IsPair : ℕ × ℕ → Type 0
-IsPair p = IsPlacedWord p.0 × IsPlacedWord p.1
+IsPair p = IsPackedChildWord p.0 × IsPackedChildWord p.1
 
-abbrev pub children_of : List (ℕ × ℕ) → List (Placed × Placed)
+abbrev pub children_of : List (ℕ × ℕ) → List (PackedChild × PackedChild)
 children_of ps = map both_at ps
 
 abbrev pub AreChildren : List (ℕ × ℕ) → Type 0

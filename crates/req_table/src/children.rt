@@ -4,7 +4,7 @@ ghost use Rattle.std.specs.List.{sum_by};
 ghost use Rattle.req_table.specs.Places.{row, AreEmpty, IsNextLevel, IsLastLevel};
 
 use crate::level_set::LevelSet;
-use crate::packed::Row;
+use crate::packed_lists::Row;
 use std::alloc::{AllocError, Global};
 use std::marker::Model;
 use std::mem;
@@ -13,22 +13,22 @@ use std::mem;
 #[derive(Drop)]
 pub struct Rows {
     rows: Vec<Row>,
-    split: LevelSet,
+    nonempty_levels: LevelSet,
     /// A row of more requests gives its memory back when a level leaves it.
-    most_kept: usize,
+    max_kept: usize,
 }
 
 impl Model for Rows {
     ghost use Rattle.std.specs.Prelude.{List};
-    ghost use Rattle.req_table.specs.declared.placed.Placed.{Placed};
+    ghost use Rattle.req_table.specs.declared.packed_child.PackedChild.{PackedChild};
 
-    ghost Value = { List (List (Placed × Placed)) };
+    ghost Value = { List (List (PackedChild × PackedChild)) };
 
     ghost use Rattle.req_table.specs.Places.{AreMembers};
 
     ghost view = { λ r. r.rows.items };
 
-    ghost invariant = { λ r. AreMembers r.split r.rows.items };
+    ghost invariant = { λ r. AreMembers r.nonempty_levels r.rows.items };
 }
 
 /// So many empty rows.
@@ -43,26 +43,26 @@ fn empty_rows(alloc: Global, levels: u16) -> Result<Vec<Row>, AllocError>
 }
 
 impl Rows {
-    /// No levels. It takes no memory yet. A row of no more requests than `most_kept` is kept where its level leaves it, and a larger one
+    /// No levels. It takes no memory yet. A row of no more requests than `max_kept` is kept where its level leaves it, and a larger one
     /// gives its memory back.
-    pub fn new(alloc: Global, most_kept: usize) -> Rows
+    pub fn new(alloc: Global, max_kept: usize) -> Rows
         ensures { result ≡ [] }
     {
         Rows {
             rows: Vec::new(alloc),
-            split: LevelSet::new(alloc),
-            most_kept,
+            nonempty_levels: LevelSet::new(alloc),
+            max_kept,
         }
     }
 
     /// So many levels without children.
-    fn with_levels(alloc: Global, levels: u16, most_kept: usize) -> Result<Rows, AllocError>
+    fn with_levels(alloc: Global, levels: u16, max_kept: usize) -> Result<Rows, AllocError>
         ensures { IfOk result (λ r. AreEmpty r levels) }
     {
         Ok(Rows {
             rows: empty_rows(alloc, levels)?,
-            split: LevelSet::with_room(alloc, levels)?,
-            most_kept,
+            nonempty_levels: LevelSet::with_levels_empty(alloc, levels)?,
+            max_kept,
         })
     }
 
@@ -72,19 +72,19 @@ impl Rows {
         ensures children { result ≡ row self.old level }
         ensures rest { self.new ≡ set self.old level [] }
     {
-        self.split.remove(level);
+        self.nonempty_levels.remove(level);
         let fresh = Row::new(*self.rows.allocator());
         mem::replace(&mut self.rows[level as usize], fresh)
     }
 
     /// Leaves a level without children. It keeps the memory of its row for the next wave, unless that is much.
-    pub fn leave(&mut self, level: u16)
+    pub fn clear_level(&mut self, level: u16)
         requires { level < length self.old }
         ensures { self.new ≡ set self.old level [] }
     {
-        self.split.remove(level);
+        self.nonempty_levels.remove(level);
         let alloc = *self.rows.allocator();
-        self.rows[level as usize].clear_keeping(alloc, self.most_kept);
+        self.rows[level as usize].clear_keeping(alloc, self.max_kept);
     }
 
     /// Leaves so many levels without children. Only levels that had some are come to.
@@ -92,12 +92,12 @@ impl Rows {
         ensures { OnOk result (self.new ≡ replicate levels []) }
     {
         if self.rows.len() != levels as usize {
-            *self = Rows::with_levels(alloc, levels, self.most_kept)?;
+            *self = Rows::with_levels(alloc, levels, self.max_kept)?;
             return Ok(());
         }
         let mut from = 0;
         while let Some(level) = self.next_level(from) {
-            self.leave(level);
+            self.clear_level(level);
             from = level + 1;
         }
         Ok(())
@@ -112,7 +112,7 @@ impl Rows {
         let some = children.len() > 0;
         self.rows[level as usize] = children;
         if some {
-            self.split.insert(level);
+            self.nonempty_levels.insert(level);
         }
     }
 
@@ -150,7 +150,7 @@ impl Rows {
     fn next_level(&self, from: u16) -> Option<u16>
         ensures { IsNextLevel self.now from result }
     {
-        match self.split.next(from as usize) {
+        match self.nonempty_levels.next(from as usize) {
             Some(level) => Some(level as u16),
             None => None,
         }
@@ -161,7 +161,7 @@ impl Rows {
         requires { end ≤ length self.now }
         ensures { IsLastLevel self.now end result }
     {
-        match self.split.last(end as usize) {
+        match self.nonempty_levels.last(end as usize) {
             Some(level) => Some(level as u16),
             None => None,
         }

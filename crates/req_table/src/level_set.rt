@@ -61,7 +61,7 @@ impl LevelSet {
     }
 
     /// None of so many levels.
-    pub(crate) fn with_room(alloc: Global, levels: u16) -> Result<LevelSet, AllocError>
+    pub(crate) fn with_levels_empty(alloc: Global, levels: u16) -> Result<LevelSet, AllocError>
         ensures room { IfOk result (λ m. levels ≤ 64 * length m) }
         ensures none { IfOk result (λ m. (w : ℕ) → member_of m w ≡ 0) }
     {

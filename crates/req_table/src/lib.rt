@@ -1,12 +1,12 @@
 //! Requests, their records, and the items that carry them from worker to worker.
 //!
-//! **Promises.** `requests::terminal_case`, `normal`, `child`, `split` and `known` follow their
+//! **Promises.** `requests::terminal_case`, `normal`, `child`, `split` and `terminal_or_computed` follow their
 //! tables (`value`, `key`) and mean the operation on the operands' functions (`means`, `low`,
 //! `high`). A `Key` is a request, in sixteen bytes (`Key::op`: `request`). A `Table` is a list of
-//! requests, each once (`Table::admit`: `offers`, `stands`, `refused`); each has eight bytes where
+//! requests, each once (`Table::admit`: `admits_key`, `at_place`, `refused`); each has eight bytes where
 //! all fit. A `ComputedTable` is a list of keys with answers (`ComputedTable::peek`: `value`,
 //! `once`, `few`); `keep` puts a pair first and drops the key's old one, or the last of a full
-//! computed table, or changes nothing. `Placed` tells a child in eight bytes, its request by a
+//! computed table, or changes nothing. `PackedChild` tells a child in eight bytes, its request by a
 //! number of its level; a `Row` has the children of requests, and `Refs` references, in half of
 //! that where all fit. `Waiting` and `Rows` have tables and rows by level, and find the next level
 //! that has something.
@@ -24,23 +24,23 @@ ghost use Rattle.req_table.specs.TerminalCase.{op_number};
 ghost use Rattle.req_table.specs.Words.{xor_bit, first_word, operation_of, IsFirstWord};
 
 mod children;
-mod computed;
+mod computed_table;
 mod level_set;
-mod packed;
-mod placed;
+mod packed_child;
+mod packed_lists;
 pub mod requests;
-mod short;
-mod spare;
+mod short_key;
+mod spare_tables;
 mod table;
 mod waiting;
 mod words;
 
 pub use children::Rows;
-pub use computed::ComputedTable;
+pub use computed_table::ComputedTable;
 use dd_store::Ref;
-pub use packed::{Refs, Row};
-pub use placed::{Placed, PlacedChild};
-pub use spare::SpareTables;
+pub use packed_child::{PackedChild, PlacedChild};
+pub use packed_lists::{Refs, Row};
+pub use spare_tables::SpareTables;
 use std::collections::LinkedList;
 use std::fmt;
 use std::hash::{Hash, Hasher};
@@ -237,12 +237,16 @@ impl Hash for Key {
     }
 }
 
-/// What an operation comes to: its answer, or the request to make at a level; `mark` says that it is the complement of what the request
+/// What an operation comes to: its answer, or the request to make at a level; `complement` says that it is the complement of what the request
 /// asks for.
 #[derive(Clone, Copy, Debug)]
 pub enum Child {
     Done(Ref),
-    Ask { level: u16, key: Key, mark: bool },
+    Ask {
+        level: u16,
+        key: Key,
+        complement: bool,
+    },
 }
 
 /// A request with its two children.

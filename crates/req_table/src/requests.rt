@@ -3,29 +3,29 @@ ghost use Rattle.std.specs.Prelude.{◌≡◌, ◌<◌, Bool, List, None, IfSome
 ghost use Rattle.dd_store.specs.Nodes.{Nodes, den};
 ghost use Rattle.dd_store.specs.View.{Has};
 ghost use Rattle.std.specs.Option.{option_map};
-ghost use Rattle.dd_store.specs.Marks.{is_marked, mark_by, turned};
+ghost use Rattle.dd_store.specs.Complements.{is_complement, complement_by, complemented};
 ghost use Rattle.req_table.specs.Operation.{IsRequest};
-ghost use Rattle.req_table.specs.TerminalCase.{key, terminal_of, terminal_at, terminal_and, terminal_xor, form_of, in_order, plain_of};
+ghost use Rattle.req_table.specs.TerminalCase.{key, terminal_of, terminal_at, terminal_and, terminal_xor, form_of, in_order, regular_of};
 ghost use Rattle.req_table.specs.TerminalCase.{op_value, owner_of};
 ghost use Rattle.req_table.specs.Keys.{normal_of, level_of, child as child_at, record_of, meaning, child_value, Denotes, IsKey, IsChildIn};
-ghost use Rattle.req_table.specs.Keys.{IsDeeper, IsHalf};
-ghost use Rattle.req_table.specs.ComputedTables.{IsRight, IsValueOf, known_of};
+ghost use Rattle.req_table.specs.Keys.{IsDeeper, IsCofactorChild};
+ghost use Rattle.req_table.specs.ComputedTables.{IsRight, IsValueOf, terminal_or_computed_of};
 
 use crate::{Child, ComputedTable, Key, Op, Record, number};
-use dd_store::{Ref, Store, code};
+use dd_store::{Ref, Store, ref_hash};
 
 /// A reference without its mark.
-fn plain(reference: Ref) -> Ref
-    ensures { result ≡ plain_of reference }
+fn regular(reference: Ref) -> Ref
+    ensures { result ≡ regular_of reference }
 {
-    reference.marked(reference.is_marked())
+    reference.complement_if(reference.is_complement())
 }
 
 /// Whether one of two references has a mark and the other has none.
-fn one_marked(f: Ref, g: Ref) -> bool
-    ensures { result ≡ turned (is_marked f) (is_marked g) }
+fn one_complemented(f: Ref, g: Ref) -> bool
+    ensures { result ≡ complemented (is_complement f) (is_complement g) }
 {
-    f.is_marked() != g.is_marked()
+    f.is_complement() != g.is_complement()
 }
 
 /// An operation by And, or by Xor of references without marks, and whether its answer is the complement of that one's.
@@ -38,8 +38,8 @@ fn form(op: Op, f: Ref, g: Ref) -> (Op, Ref, Ref, bool)
         Op::Nand => (Op::And, f, g, true),
         Op::Or => (Op::And, f.negate(), g.negate(), true),
         Op::Nor => (Op::And, f.negate(), g.negate(), false),
-        Op::Xor => (Op::Xor, plain(f), plain(g), one_marked(f, g)),
-        Op::Xnor => (Op::Xor, plain(f), plain(g), !one_marked(f, g)),
+        Op::Xor => (Op::Xor, regular(f), regular(g), one_complemented(f, g)),
+        Op::Xnor => (Op::Xor, regular(f), regular(g), !one_complemented(f, g)),
     }
 }
 
@@ -69,10 +69,10 @@ fn terminal_xor(f: Ref, g: Ref) -> Option<Ref>
     ensures { result ≡ terminal_xor f g }
 {
     if f.is_terminal() {
-        return Some(g.marked(f == Ref::TRUE));
+        return Some(g.complement_if(f == Ref::TRUE));
     }
     if g.is_terminal() {
-        return Some(f.marked(g == Ref::TRUE));
+        return Some(f.complement_if(g == Ref::TRUE));
     }
     if f == g {
         return Some(Ref::FALSE);
@@ -95,12 +95,12 @@ fn terminal_at(op: Op, f: Ref, g: Ref) -> Option<Ref>
     }
 }
 
-/// The answer, or its complement where `mark` is set.
-fn marked(answer: Option<Ref>, mark: bool) -> Option<Ref>
-    ensures { result ≡ option_map (mark_by mark) answer }
+/// The answer, or its complement where `complement` is set.
+fn complement_if(answer: Option<Ref>, complement: bool) -> Option<Ref>
+    ensures { result ≡ option_map (complement_by complement) answer }
 {
     match answer {
-        Some(answer) => Some(answer.marked(mark)),
+        Some(answer) => Some(answer.complement_if(complement)),
         None => None,
     }
 }
@@ -123,8 +123,8 @@ pub fn terminal_case(op: Op, f: Ref, g: Ref) -> Option<Ref>
     ensures value { result ≡ terminal_of op f g }
     ensures means { (S : Nodes) → IfSome result (Denotes S op f g) }
 {
-    let (op, f, g, mark) = form(op, f, g);
-    marked(terminal_at(op, f, g), mark)
+    let (op, f, g, complement) = form(op, f, g);
+    complement_if(terminal_at(op, f, g), complement)
 }
 
 /// The worker that expands a request: the number of the operation, plus three times the code of the first operand, plus
@@ -133,7 +133,7 @@ pub fn owner(key: Key, workers: u32) -> u32
     requires { 0 < workers }
     ensures { result ≡ owner_of key.op key.f key.g workers }
 {
-    let sum = number(key.op()) + 3 * code(key.f()) + 5 * code(key.g());
+    let sum = number(key.op()) + 3 * ref_hash(key.f()) + 5 * ref_hash(key.g());
     // What a division takes is spared where the workers are as many as bits can count.
     match workers {
         1 => 0,
@@ -150,10 +150,10 @@ pub fn owner(key: Key, workers: u32) -> u32
 pub fn normal(op: Op, f: Ref, g: Ref) -> (Key, bool)
     requires { terminal_of op f g ≡ None }
     ensures key { result ≡ normal_of op f g }
-    ensures means { (S : Nodes) (x : List Bool) → turned result.1 (meaning S result.0 x) ≡ op_value op (den S f x) (den S g x) }
+    ensures means { (S : Nodes) (x : List Bool) → complemented result.1 (meaning S result.0 x) ≡ op_value op (den S f x) (den S g x) }
 {
-    let (op, f, g, mark) = form(op, f, g);
-    (request(op, f, g), mark)
+    let (op, f, g, complement) = form(op, f, g);
+    (request(op, f, g), complement)
 }
 
 /// The level of a request: the smaller level of its operands.
@@ -171,18 +171,18 @@ pub fn child(store: &Store, op: Op, f: Ref, g: Ref) -> Child
     requires first { Has store.now f }
     requires second { Has store.now g }
     ensures value { result ≡ child_at store.now op f g }
-    ensures stands { IsChildIn store.now result }
+    ensures in_store { IsChildIn store.now result }
     ensures means { (x : List Bool) → child_value store.now result x ≡ op_value op (den store.now f x) (den store.now g x) }
 {
-    let (op, f, g, mark) = form(op, f, g);
+    let (op, f, g, complement) = form(op, f, g);
     match terminal_at(op, f, g) {
-        Some(answer) => Child::Done(answer.marked(mark)),
+        Some(answer) => Child::Done(answer.complement_if(complement)),
         None => {
             let key = request(op, f, g);
             Child::Ask {
                 level: level_of(store, key),
                 key,
-                mark,
+                complement,
             }
         }
     }
@@ -193,10 +193,10 @@ pub fn child(store: &Store, op: Op, f: Ref, g: Ref) -> Child
 pub fn split(store: &Store, key: Key) -> Record
     requires { IsKey store.now key }
     ensures value { result ≡ record_of store.now key }
-    ensures stands { IsChildIn store.now result.low × IsChildIn store.now result.high }
+    ensures in_store { IsChildIn store.now result.low × IsChildIn store.now result.high }
     ensures deeper { IsDeeper store.now (level_of store.now key) result.low × IsDeeper store.now (level_of store.now key) result.high }
-    ensures low { IsHalf store.now key false result.low }
-    ensures high { IsHalf store.now key true result.high }
+    ensures low { IsCofactorChild store.now key false result.low }
+    ensures high { IsCofactorChild store.now key true result.high }
 {
     let level = level_of(store, key);
     let _ = store.levels();
@@ -209,13 +209,13 @@ pub fn split(store: &Store, key: Key) -> Record
 }
 
 /// The answer of an operation that needs no request, or that the computed table holds.
-pub fn known(computed: &ComputedTable, op: Op, f: Ref, g: Ref) -> Option<Ref>
-    ensures value { result ≡ known_of computed.now op f g }
+pub fn terminal_or_computed(computed: &ComputedTable, op: Op, f: Ref, g: Ref) -> Option<Ref>
+    ensures value { result ≡ terminal_or_computed_of computed.now op f g }
     ensures means { (S : Nodes) → IsRight S computed.now → Has S f → Has S g → IfSome result (IsValueOf S op f g) }
 {
-    let (op, f, g, mark) = form(op, f, g);
+    let (op, f, g, complement) = form(op, f, g);
     match terminal_at(op, f, g) {
-        Some(answer) => Some(answer.marked(mark)),
-        None => marked(computed.peek(&request(op, f, g)), mark),
+        Some(answer) => Some(answer.complement_if(complement)),
+        None => complement_if(computed.peek(&request(op, f, g)), complement),
     }
 }

@@ -1,17 +1,17 @@
 //! The requests of a level, each once, by place: in eight bytes each where all fit, else in sixteen.
 ghost use Rattle.std.specs.Prelude.{◌≡◌, ◌<◌, ◌+◌, ◌^◌, [], length, slice_get, Some, Contains, MatchOption, IfOk, OnErr};
 ghost use Rattle.slot_table.specs.Lists.{IsOnce};
-ghost use Rattle.req_table.specs.Forms.{keys_in, AreFitting, AreShort, IsAdmitted, IsLeftOut};
-ghost use Rattle.req_table.specs.Tables.{Offers};
+ghost use Rattle.req_table.specs.Forms.{keys_in, AreFitting, AreShort, IsAdmitted, DoesNotFit};
+ghost use Rattle.req_table.specs.Tables.{AdmitsKey};
 
 use crate::Key;
-use crate::short::ShortKey;
+use crate::short_key::ShortKey;
 use indexmap::IndexSet;
 use std::alloc::{AllocError, Global};
 use std::marker::Model;
 
 /// A table that has room for more than so many times the requests that it is to hold gives its memory back.
-const MOST_ROOM: usize = 8;
+const MAX_CAPACITY_RATIO: usize = 8;
 
 /// Admits a request that fits.
 #[inline(always)]
@@ -60,7 +60,7 @@ impl Keys {
         requires fitting { AreFitting self.old }
         requires room { length (keys_in self.old) + 1 < 2 ^ 32 }
         ensures fitting { AreFitting self.new }
-        ensures admitted { MatchOption result (IsLeftOut key self.old self.new)
+        ensures admitted { MatchOption result (DoesNotFit key self.old self.new)
             (λ r. IsAdmitted key (keys_in self.old) r (keys_in self.new)) }
     {
         match self {
@@ -105,11 +105,11 @@ impl Model for Table {
 
     ghost Value = { List Operation };
 
-    ghost use Rattle.req_table.specs.Forms.{keys_in, AreHeld};
+    ghost use Rattle.req_table.specs.Forms.{keys_in, IsValidTable};
 
     ghost view = { λ t. keys_in t.keys };
 
-    ghost invariant = { λ t. AreHeld t.keys };
+    ghost invariant = { λ t. IsValidTable t.keys };
 }
 
 impl Table {
@@ -125,8 +125,8 @@ impl Table {
     /// The place of a request, and whether it is new: then it is admitted, behind all others.
     #[inline(always)]
     pub fn admit(&mut self, key: Key) -> Result<(u32, bool), AllocError>
-        ensures offers { IfOk result (λ r. Offers self.old key r.1 self.new) }
-        ensures stands { IfOk result (λ r. slice_get self.new r.0 ≡ Some key) }
+        ensures admits_key { IfOk result (λ r. AdmitsKey self.old key r.1 self.new) }
+        ensures at_place { IfOk result (λ r. slice_get self.new r.0 ≡ Some key) }
         ensures refused { OnErr result (self.new ≡ self.old) }
         ensures absent { OnErr result (¬ Contains self.old key) }
     {
@@ -181,7 +181,7 @@ impl Table {
     }
 
     /// How many requests it has memory for.
-    pub fn room(&self) -> usize {
+    pub fn capacity(&self) -> usize {
         match &self.keys {
             Keys::Short(short) => short.capacity(),
             Keys::Long(long) => long.capacity(),
@@ -189,8 +189,8 @@ impl Table {
     }
 
     /// Whether it has room for many times so many requests.
-    pub fn is_roomy(&self, count: usize) -> bool {
-        self.room() / MOST_ROOM > count
+    pub fn has_excess_capacity(&self, count: usize) -> bool {
+        self.capacity() / MAX_CAPACITY_RATIO > count
     }
 
     /// Removes all requests. The memory serves on if each had eight bytes.
@@ -214,7 +214,7 @@ impl Table {
         ensures { self.new ≡ [] }
     {
         let count = self.len();
-        if count > 0 && self.is_roomy(count) {
+        if count > 0 && self.has_excess_capacity(count) {
             *self = Table::new(self.allocator());
         } else {
             self.empty();

@@ -2,11 +2,11 @@
 ghost use Rattle.std.specs.Prelude.{◌≡◌, ◌<◌, [], Bool, length, set, IfOk, OnOk};
 ghost use Rattle.slot_table.specs.Lists.{IsOnce};
 ghost use Rattle.req_table.specs.declared.Child.TheVariants as child;
-ghost use Rattle.req_table.specs.Places.{row, StandsAt, Admits, AreEmpty, IsNextLevel};
+ghost use Rattle.req_table.specs.Places.{row, IsAtPlace, AdmitsChild, AreEmpty, IsNextLevel};
 
 use crate::Key;
 use crate::level_set::LevelSet;
-use crate::spare::SpareTables;
+use crate::spare_tables::SpareTables;
 use crate::table::Table;
 use std::alloc::{AllocError, Global};
 use std::marker::Model;
@@ -14,11 +14,11 @@ use std::mem;
 
 /// A table of more requests than these serves no other level: it gives its memory back, half a megabyte or more, which
 /// the children need.
-const MOST_LENT: usize = 1 << 14;
+const MAX_SPARE_LEN: usize = 1 << 14;
 
 /// A table of no more requests than these keeps its memory, and changes places with that of the next level: to hand it on takes as long as
 /// they do.
-const MOST_LEFT: usize = 64;
+const MAX_SMALL_LEN: usize = 64;
 
 /// The requests that wait at each level, each once. The levels that have some are known, so that those without are passed over.
 #[derive(Drop)]
@@ -27,7 +27,7 @@ pub struct Waiting {
     /// Tables of levels that were expanded. The next level that is asked for something takes the last of them, so a wave has as many
     /// tables as levels that wait at once, but for small ones.
     spare: SpareTables,
-    asked: LevelSet,
+    nonempty_levels: LevelSet,
 }
 
 impl Model for Waiting {
@@ -40,7 +40,7 @@ impl Model for Waiting {
 
     ghost view = { λ r. r.tables.items };
 
-    ghost invariant = { λ r. AreMembers r.asked r.tables.items };
+    ghost invariant = { λ r. AreMembers r.nonempty_levels r.tables.items };
 }
 
 /// So many empty tables.
@@ -56,7 +56,7 @@ fn empty_tables(alloc: Global, levels: u16) -> Result<Vec<Table>, AllocError>
 
 /// Keeps a table for another level, without its requests, unless it is large.
 fn keep_spare(spare: &mut SpareTables, table: Table) -> Result<(), AllocError> {
-    if table.len() > MOST_LENT {
+    if table.len() > MAX_SPARE_LEN {
         return Ok(());
     }
     let mut table = table;
@@ -72,7 +72,7 @@ impl Waiting {
         Waiting {
             tables: Vec::new(alloc),
             spare: SpareTables::new(alloc),
-            asked: LevelSet::new(alloc),
+            nonempty_levels: LevelSet::new(alloc),
         }
     }
 
@@ -83,7 +83,7 @@ impl Waiting {
         Ok(Waiting {
             tables: empty_tables(alloc, levels)?,
             spare: SpareTables::new(alloc),
-            asked: LevelSet::with_room(alloc, levels)?,
+            nonempty_levels: LevelSet::with_levels_empty(alloc, levels)?,
         })
     }
 
@@ -96,20 +96,20 @@ impl Waiting {
         ensures keys { keys.new ≡ row self.old level }
         ensures rest { self.new ≡ set self.old level [] }
     {
-        self.asked.remove(level);
+        self.nonempty_levels.remove(level);
         mem::swap(&mut self.tables[level as usize], keys);
-        if keys.len() > MOST_LEFT {
+        if keys.len() > MAX_SMALL_LEN {
             self.tables[level as usize] = Table::new(*self.tables.allocator());
         }
     }
 
     /// Empties the table of a level that was expanded. Where it is small it keeps its memory; else this serves another level, unless it
     /// is large.
-    pub fn leave(&mut self, keys: &mut Table) -> Result<(), AllocError>
+    pub fn recycle(&mut self, keys: &mut Table) -> Result<(), AllocError>
         ensures same { self.new ≡ self.old }
         ensures empty { keys.new ≡ [] }
     {
-        if keys.len() <= MOST_LEFT {
+        if keys.len() <= MAX_SMALL_LEN {
             keys.empty();
             return Ok(());
         }
@@ -130,19 +130,19 @@ impl Waiting {
         let mut from = 0;
         while let Some(level) = self.next_level(from) {
             self.take(level, &mut keys);
-            self.leave(&mut keys)?;
+            self.recycle(&mut keys)?;
             from = level + 1;
         }
         Ok(())
     }
 
     /// Gives a level without requests a spare table, unless it has the memory of a small one.
-    fn fit_table(&mut self, level: u16)
+    fn reuse_spare_table(&mut self, level: u16)
         requires bound { level < length self.old }
         requires first { row self.old level ≡ [] }
         ensures { self.new ≡ self.old }
     {
-        if !self.spare.is_empty() && self.tables[level as usize].room() == 0 {
+        if !self.spare.is_empty() && self.tables[level as usize].capacity() == 0 {
             self.tables[level as usize] = self.spare.take();
         }
     }
@@ -152,13 +152,13 @@ impl Waiting {
     fn admit_first(&mut self, level: u16, key: Key) -> Result<u32, AllocError>
         requires bound { level < length self.old }
         requires first { row self.old level ≡ [] }
-        ensures stands { IfOk result (λ p. StandsAt self.new level p key) }
-        ensures admits { (mark : Bool) → Admits self.old (child.Ask level key mark) self.new }
+        ensures at_place { IfOk result (λ p. IsAtPlace self.new level p key) }
+        ensures admits { (complement : Bool) → AdmitsChild self.old (child.Ask level key complement) self.new }
     {
-        self.fit_table(level);
+        self.reuse_spare_table(level);
         let table = &mut self.tables[level as usize];
         let (place, _) = table.admit(key)?;
-        self.asked.insert(level);
+        self.nonempty_levels.insert(level);
         Ok(place)
     }
 
@@ -166,8 +166,8 @@ impl Waiting {
     #[inline(always)]
     pub fn admit(&mut self, level: u16, key: Key) -> Result<u32, AllocError>
         requires { level < length self.old }
-        ensures stands { IfOk result (λ p. StandsAt self.new level p key) }
-        ensures admits { (mark : Bool) → Admits self.old (child.Ask level key mark) self.new }
+        ensures at_place { IfOk result (λ p. IsAtPlace self.new level p key) }
+        ensures admits { (complement : Bool) → AdmitsChild self.old (child.Ask level key complement) self.new }
     {
         if self.count(level) == 0 {
             return self.admit_first(level, key);
@@ -214,7 +214,7 @@ impl Waiting {
     pub fn next_level(&self, from: u16) -> Option<u16>
         ensures { IsNextLevel self.now from result }
     {
-        match self.asked.next(from as usize) {
+        match self.nonempty_levels.next(from as usize) {
             Some(level) => Some(level as u16),
             None => None,
         }

@@ -8,24 +8,24 @@ use Rattle.slot_table.proofs.Pigeons.{pigeons}
 use Rattle.slot_table.proofs.Places.{none_some, slice_get_cases-push}
 use Rattle.slot_table.proofs.Walking.{slice_get-set_same, kept, held_cases, count_up, length-count_up, in_count_up, slice_get-replicate}
 
-module _ {X : Type 0} (spread : X → ℕ) where
+module _ {X : Type 0} (slot_hash : X → ℕ) where
   -- the slots before a distance hold other pairs
   abbrev pub Passed : ℕ → List X → List ℕ → X → ℕ → Type 0
   Passed n ps ts p d =
-      (e : ℕ) → e < d → (i : ℕ) × Holds ts (slot_of n (home_of spread n p) e) i × (slice_get ps i ≡ Some p → ⊥)
+      (e : ℕ) → e < d → (i : ℕ) × Holds ts (slot_of n (home_of slot_hash n p) e) i × (slice_get ps i ≡ Some p → ⊥)
 
   pub Passed-more : (n : ℕ) (ps : List X) (ts : List ℕ) (p : X) (d i : ℕ) → Passed n ps ts p d
-      → Holds ts (slot_of n (home_of spread n p) d) i → (slice_get ps i ≡ Some p → ⊥) → Passed n ps ts p (d + 1)
-  Passed-more n ps ts p d i passed held other e lt = elim (cases_eq e d) [
-    | inl last ↦ (i, ap (λ z. slice_get ts (slot_of n (home_of spread n p) z)) last ∙ held, other)
+      → Holds ts (slot_of n (home_of slot_hash n p) d) i → (slice_get ps i ≡ Some p → ⊥) → Passed n ps ts p (d + 1)
+  Passed-more n ps ts p d i passed content other e lt = elim (cases_eq e d) [
+    | inl last ↦ (i, ap (λ z. slice_get ts (slot_of n (home_of slot_hash n p) z)) last ∙ content, other)
     | inr before ↦ passed e (omega arith)
   ]
 
-  pub Passed-taken : (n : ℕ) (ps : List X) (ts : List ℕ) (p : X) (d : ℕ) → Passed n ps ts p d → IsTaken n (home_of spread n p) ts d
+  pub Passed-taken : (n : ℕ) (ps : List X) (ts : List ℕ) (p : X) (d : ℕ) → Passed n ps ts p d → IsTaken n (home_of slot_hash n p) ts d
   Passed-taken n ps ts p d passed e lt = let q = passed e lt in (q.0, q.1)
 
   pub absent_at_empty : (n : ℕ) (ps : List X) (ts : List ℕ) (p : X) (d : ℕ)
-      → Probes spread n ps ts → Passed n ps ts p d → slice_get ts (slot_of n (home_of spread n p) d) ≡ Some 0
+      → Probes slot_hash n ps ts → Passed n ps ts p d → slice_get ts (slot_of n (home_of slot_hash n p) d) ≡ Some 0
       → (i : ℕ) → slice_get ps i ≡ Some p → ⊥
   absent_at_empty n ps ts p d w passed empty i e =
       let r = w.reach i p e in
@@ -36,14 +36,14 @@ module _ {X : Type 0} (spread : X → ℕ) where
             let one : i ≡ q.0 = cc in
             q.2 (subst (λ (z : ℕ). slice_get ps z ≡ Some p) one e)
         | inr from ↦ elim (cases_eq r.0 d) [
-          | inl here ↦ let clash : Some (suc i) ≡ Some 0 = sym r.2 ∙ ap (λ z. slice_get ts (slot_of n (home_of spread n p) z)) here ∙ empty in cc
+          | inl here ↦ let clash : Some (suc i) ≡ Some 0 = sym r.2 ∙ ap (λ z. slice_get ts (slot_of n (home_of slot_hash n p) z)) here ∙ empty in cc
           | inr past ↦ let q = r.3 d (omega arith) in let clash : Some (suc q.0) ≡ Some 0 = sym q.1 ∙ empty in cc
         ]
       ]
 
   -- one more pair, in the first empty slot from its home
-  pub Probes-push : (n : ℕ) (ps : List X) (ts : List ℕ) (p : X) (j : ℕ) → Probes spread n ps ts
-      → IsFree n (home_of spread n p) ts j → Probes spread n (ps ++ p ∷ []) (set ts j (suc (length ps)))
+  pub Probes-push : (n : ℕ) (ps : List X) (ts : List ℕ) (p : X) (j : ℕ) → Probes slot_hash n ps ts
+      → IsFree n (home_of slot_hash n p) ts j → Probes slot_hash n (ps ++ p ∷ []) (set ts j (suc (length ps)))
   Probes-push n ps ts p j w free =
       let v : ℕ = length ps in
       let empty : slice_get ts j ≡ Some 0 = free.3 in
@@ -68,23 +68,23 @@ module _ {X : Type 0} (spread : X → ℕ) where
           | inl old ↦ let r = w.reach i q old in (
             r.0,
             r.1,
-            kept ts j (slot_of n (home_of spread n q) r.0) i v empty r.2,
-            λ a b. let f = r.3 a b in (f.0, kept ts j (slot_of n (home_of spread n q) a) f.0 v empty f.1),
+            kept ts j (slot_of n (home_of slot_hash n q) r.0) i v empty r.2,
+            λ a b. let f = r.3 a b in (f.0, kept ts j (slot_of n (home_of slot_hash n q) a) f.0 v empty f.1),
           )
           | inr new ↦
               let at : Holds (set ts j (suc v)) j i = slice_get-set_same ts j (suc v) 0 empty ∙ ap (λ z. Some (suc z)) (sym new.0) in
-              subst (λ (z : X). (a : ℕ) × (a < n) × Holds (set ts j (suc v)) (slot_of n (home_of spread n z) a) i
-              × IsTaken n (home_of spread n z) (set ts j (suc v)) a) (sym new.1) (
+              subst (λ (z : X). (a : ℕ) × (a < n) × Holds (set ts j (suc v)) (slot_of n (home_of slot_hash n z) a) i
+              × IsTaken n (home_of slot_hash n z) (set ts j (suc v)) a) (sym new.1) (
                 free.0,
                 free.1,
                 subst (λ (z : ℕ). Holds (set ts j (suc v)) z i) free.2 at,
-                λ a b. let f = free.4 a b in (f.0, kept ts j (slot_of n (home_of spread n p) a) f.0 v empty f.1),
+                λ a b. let f = free.4 a b in (f.0, kept ts j (slot_of n (home_of slot_hash n p) a) f.0 v empty f.1),
               )
         ];
       }
 
   -- with more slots than pairs, not every slot is taken
-  pub not_all_taken : (n : ℕ) (ps : List X) (ts : List ℕ) → Probes spread n ps ts → length ps < n → HasFree n ts
+  pub not_all_taken : (n : ℕ) (ps : List X) (ts : List ℕ) → Probes slot_hash n ps ts → length ps < n → HasFree n ts
   not_all_taken n ps ts w lt full =
       let size : length ts ≡ n = w.size in
       let ys : List ℕ = count_up 0 (length ps) in
@@ -104,7 +104,7 @@ module _ {X : Type 0} (spread : X → ℕ) where
       omega arith
 
   -- empty slots find no pair
-  pub Probes-empty : (n : ℕ) → Probes spread n [] (replicate n 0)
+  pub Probes-empty : (n : ℕ) → Probes slot_hash n [] (replicate n 0)
   Probes-empty n = record {
     size = length-replicate n 0;
     valid = λ j i h. absurd (slice_get-replicate n j i h);

@@ -88,26 +88,26 @@ in_zeros zero j t e = absurd (none_some t e)
 in_zeros (suc m) zero t e = let f : Some 0 ≡ Some t = e in cc
 in_zeros (suc m) (suc j) t e = in_zeros m j t e
 
-module _ {X : Type 0} (spread : X → ℕ) where
+module _ {X : Type 0} (slot_hash : X → ℕ) where
   -- empty slots find no item
-  pub Finds-empty : (n : ℕ) → Finds spread n [] (replicate n 0)
+  pub Finds-empty : (n : ℕ) → Finds slot_hash n [] (replicate n 0)
   Finds-empty n = record {
-    probes = subst (λ (z : List ℕ). Probes spread n [] z) (sym (zeros n n)) (Probes-empty spread n);
+    probes = subst (λ (z : List ℕ). Probes slot_hash n [] z) (sym (zeros n n)) (Probes-empty slot_hash n);
     stamped = λ j t e. inl (in_zeros n j t e);
   }
 
-  pub size_is : (n : ℕ) (xs : List X) (ts : List ℕ) → Finds spread n xs ts → length ts ≡ n
+  pub size_is : (n : ℕ) (xs : List X) (ts : List ℕ) → Finds slot_hash n xs ts → length ts ≡ n
   size_is n xs ts w = sym (length-map ts (λ z. bit_and z (n - 1))) ∙ w.probes.size
 
-  module _ (n : ℕ) (power : IsPower n) (xs : List X) (ts : List ℕ) (few : length xs < n) (w : Finds spread n xs ts) where
+  module _ (n : ℕ) (power : IsPower n) (xs : List X) (ts : List ℕ) (few : length xs < n) (w : Finds slot_hash n xs ts) where
     -- what a slot that is not empty holds
     pub held_item : (j t : ℕ) → slice_get ts j ≡ Some t → (t ≡ 0 → ⊥)
-        → (i : ℕ) × (x : X) × (slice_get xs i ≡ Some x) × (t ≡ stamp_of spread n x i) × (bit_and t (n - 1) ≡ suc i)
+        → (i : ℕ) × (x : X) × (slice_get xs i ≡ Some x) × (t ≡ stamp_of slot_hash n x i) × (bit_and t (n - 1) ≡ suc i)
     held_item j t at full = elim (w.stamped j t at) [
       | inl empty ↦ absurd (full empty)
-      | inr held ↦
-          let lt = slice_get_within xs held.0 held.1 held.2 in
-          (held.0, held.1, held.2, held.3, ap (λ z. bit_and z (n - 1)) held.3 ∙ below_tag (spread held.1 % 2 ^ 32) n (suc held.0) power (omega arith))
+      | inr content ↦
+          let lt = slice_get_within xs content.0 content.1 content.2 in
+          (content.0, content.1, content.2, content.3, ap (λ z. bit_and z (n - 1)) content.3 ∙ below_tag (slot_hash content.1 % 2 ^ 32) n (suc content.0) power (omega arith))
     ]
 
     pub held_place : (j i : ℕ) → Holds ts j i → (k : ℕ) × Holds (places_in n ts) j k
@@ -117,7 +117,7 @@ module _ {X : Type 0} (spread : X → ℕ) where
 
     -- with more slots than items, not every slot is taken
     pub has_free : HasFree n ts
-    has_free full = not_all_taken spread n xs (places_in n ts) w.probes few (λ j lt. let h = full j lt in held_place j h.0 h.1)
+    has_free full = not_all_taken slot_hash n xs (places_in n ts) w.probes few (λ j lt. let h = full j lt in held_place j h.0 h.1)
 
     pub free_place : (home j : ℕ) → IsFree n home ts j → IsFree n home (places_in n ts) j
     free_place home j free = (
@@ -129,47 +129,47 @@ module _ {X : Type 0} (spread : X → ℕ) where
     )
 
     -- one item more, in the first empty slot from its home
-    module _ (x : X) (j : ℕ) (room : length xs + 1 < n) (free : IsFree n (home_of spread n x) ts j) where
-      pub stamped_more : AreStamped spread n (xs ++ x ∷ []) (set ts j (stamp_of spread n x (length xs)))
+    module _ (x : X) (j : ℕ) (room : length xs + 1 < n) (free : IsFree n (home_of slot_hash n x) ts j) where
+      pub stamped_more : AreStamped slot_hash n (xs ++ x ∷ []) (set ts j (stamp_of slot_hash n x (length xs)))
       stamped_more k t at = elim (cases_eq j k) [
         | inl here ↦
-            let f : slice_get (set ts j (stamp_of spread n x (length xs))) j ≡ Some (stamp_of spread n x (length xs)) =
-            slice_get-set_same ts j (stamp_of spread n x (length xs)) 0 free.3 in
-            let g : slice_get (set ts j (stamp_of spread n x (length xs))) j ≡ Some t =
-            ap (λ z. slice_get (set ts j (stamp_of spread n x (length xs))) z) here ∙ at in
-            let both : Some (stamp_of spread n x (length xs)) ≡ Some t = sym f ∙ g in
-            let one : t ≡ stamp_of spread n x (length xs) = cc in
+            let f : slice_get (set ts j (stamp_of slot_hash n x (length xs))) j ≡ Some (stamp_of slot_hash n x (length xs)) =
+            slice_get-set_same ts j (stamp_of slot_hash n x (length xs)) 0 free.3 in
+            let g : slice_get (set ts j (stamp_of slot_hash n x (length xs))) j ≡ Some t =
+            ap (λ z. slice_get (set ts j (stamp_of slot_hash n x (length xs))) z) here ∙ at in
+            let both : Some (stamp_of slot_hash n x (length xs)) ≡ Some t = sym f ∙ g in
+            let one : t ≡ stamp_of slot_hash n x (length xs) = cc in
             inr (length xs, x, slice_get-push xs x, one)
-        | inr off ↦ elim (w.stamped k t (sym (slice_get-set_other ts j k (stamp_of spread n x (length xs)) off) ∙ at)) [
+        | inr off ↦ elim (w.stamped k t (sym (slice_get-set_other ts j k (stamp_of slot_hash n x (length xs)) off) ∙ at)) [
           | inl empty ↦ inl empty
-          | inr held ↦ inr (held.0, held.1, slice_get-append xs (x ∷ []) held.0 held.1 held.2, held.3)
+          | inr content ↦ inr (content.0, content.1, slice_get-append xs (x ∷ []) content.0 content.1 content.2, content.3)
         ]
       ]
 
-      pub Finds-push : Finds spread n (xs ++ x ∷ []) (set ts j (stamp_of spread n x (length xs)))
+      pub Finds-push : Finds slot_hash n (xs ++ x ∷ []) (set ts j (stamp_of slot_hash n x (length xs)))
       Finds-push = record {
         probes =
-            let more : Probes spread n (xs ++ x ∷ []) (set (places_in n ts) j (suc (length xs))) =
-            Probes-push spread n xs (places_in n ts) x j w.probes (free_place (home_of spread n x) j free) in
-            let place : bit_and (stamp_of spread n x (length xs)) (n - 1) ≡ suc (length xs) =
-            below_tag (spread x % 2 ^ 32) n (suc (length xs)) power (omega arith) in
-            let same : set (places_in n ts) j (suc (length xs)) ≡ places_in n (set ts j (stamp_of spread n x (length xs))) =
-            ap (λ z. set (places_in n ts) j z) (sym place) ∙ sym (map-set (λ z. bit_and z (n - 1)) ts j (stamp_of spread n x (length xs))) in
-            subst (λ (z : List ℕ). Probes spread n (xs ++ x ∷ []) z) same more;
+            let more : Probes slot_hash n (xs ++ x ∷ []) (set (places_in n ts) j (suc (length xs))) =
+            Probes-push slot_hash n xs (places_in n ts) x j w.probes (free_place (home_of slot_hash n x) j free) in
+            let place : bit_and (stamp_of slot_hash n x (length xs)) (n - 1) ≡ suc (length xs) =
+            below_tag (slot_hash x % 2 ^ 32) n (suc (length xs)) power (omega arith) in
+            let same : set (places_in n ts) j (suc (length xs)) ≡ places_in n (set ts j (stamp_of slot_hash n x (length xs))) =
+            ap (λ z. set (places_in n ts) j z) (sym place) ∙ sym (map-set (λ z. bit_and z (n - 1)) ts j (stamp_of slot_hash n x (length xs))) in
+            subst (λ (z : List ℕ). Probes slot_hash n (xs ++ x ∷ []) z) same more;
         stamped = stamped_more;
       }
 
   -- what a slot that is not empty says: its item's place and tag
-  pub seen : (xs : List X) (ts : List ℕ) (j : ℕ) → Finds spread (length ts) xs ts → IsSlotCount (length xs) (length ts) → j < length ts
+  pub seen : (xs : List X) (ts : List ℕ) (j : ℕ) → Finds slot_hash (length ts) xs ts → IsSlotCount (length xs) (length ts) → j < length ts
       → (get_or ts j 0 ≡ 0 → ⊥)
       → (i : ℕ) × (x : X) × (slice_get xs i ≡ Some x) × (i < length xs) × (bit_and (get_or ts j 0) (length ts - 1) ≡ suc i)
-      × (get_or ts j 0 - bit_and (get_or ts j 0) (length ts - 1) ≡ tag_of spread (length ts) x) × Holds (places_in (length ts) ts) j i
+      × (get_or ts j 0 - bit_and (get_or ts j 0) (length ts - 1) ≡ tag_of slot_hash (length ts) x) × Holds (places_in (length ts) ts) j i
   seen xs ts j w count lt full =
       let n : ℕ = length ts in
       let t : ℕ = get_or ts j 0 in
       let some = slots-some (length xs) n count (omega arith) in
       let at : slice_get ts j ≡ Some t = slice_get-get_or ts j 0 lt in
       let h = held_item n some.1 xs ts some.0 w j t at full in
-      let whole : t ≡ tag_of spread n h.1 + suc h.0 = h.3 in
+      let whole : t ≡ tag_of slot_hash n h.1 + suc h.0 = h.3 in
       let place : bit_and t (n - 1) ≡ suc h.0 = h.4 in
       (h.0, h.1, h.2, slice_get_within xs h.0 h.1 h.2, place, omega arith, place_at n ts j t at ∙ ap (λ z. Some z) place)

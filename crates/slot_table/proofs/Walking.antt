@@ -44,8 +44,8 @@ held_at ts j lt full =
     (x - 1, e, slice_get-get_or ts j 0 lt ∙ ap (λ z. Some z) e)
 
 pub IsTaken-more : (n h : ℕ) (ts : List ℕ) (d : ℕ) → IsTaken n h ts d → (i : ℕ) × Holds ts (slot_of n h d) i → IsTaken n h ts (d + 1)
-IsTaken-more n h ts d taken held e lt = elim (cases_eq e d) [
-  | inl last ↦ (held.0, ap (λ z. slice_get ts (slot_of n h z)) last ∙ held.1)
+IsTaken-more n h ts d taken content e lt = elim (cases_eq e d) [
+  | inl last ↦ (content.0, ap (λ z. slice_get ts (slot_of n h z)) last ∙ content.1)
   | inr before ↦ taken e (omega arith)
 ]
 

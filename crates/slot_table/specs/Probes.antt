@@ -1,8 +1,8 @@
 -- Slots, in which the search for an item begins at its home and goes on after a slot that is not empty. An empty slot
 -- holds 0, and any other the place of an item and 1.
 use Rattle.std.specs.Prelude.{◌≡◌, ℕ, suc, ◌+◌, ◌-◌, ◌*◌, ◌^◌, ◌<◌, ◌≤◌, ◌⊎◌, nat_lt, if◌then◌else◌, List, length, slice_get, Some, bit_and}
-use Rattle.slot_table.specs.declared.slots.Sought.{Sought}
-use Rattle.slot_table.specs.declared.slots.Sought.TheVariants.{Place, Slot}
+use Rattle.slot_table.specs.declared.slots.ProbeResult.{ProbeResult}
+use Rattle.slot_table.specs.declared.slots.ProbeResult.TheVariants.{Place, Slot}
 
 -- the slot, of n, at a distance from home: the first comes after the last
 unfoldable pub slot_of : ℕ → ℕ → ℕ → ℕ
@@ -26,17 +26,17 @@ HasFree n ts = ((j : ℕ) → j < n → (i : ℕ) × Holds ts j i) → ⊥
 
 -- the slot, of n, in which the search for an item begins
 abbrev pub home_of : {X : Type 0} → (X → ℕ) → ℕ → X → ℕ
-home_of spread n x = bit_and (spread x) (n - 1)
+home_of slot_hash n x = bit_and (slot_hash x) (n - 1)
 
 -- n slots find the items of a list
-pub record Probes {X : Type 0} (spread : X → ℕ) (n : ℕ) (xs : List X) (ts : List ℕ) : Type 0 where
+pub record Probes {X : Type 0} (slot_hash : X → ℕ) (n : ℕ) (xs : List X) (ts : List ℕ) : Type 0 where
   pub size : length ts ≡ n
   -- a slot holds a place of the list, and no place stands in two
   pub valid : (j i : ℕ) → Holds ts j i → i < length xs
   pub once : (j k i : ℕ) → Holds ts j i → Holds ts k i → j ≡ k
   -- each item stands before an empty slot, seen from its home
   pub reach : (i : ℕ) (x : X) → slice_get xs i ≡ Some x
-      → (d : ℕ) × (d < n) × Holds ts (slot_of n (home_of spread n x) d) i × IsTaken n (home_of spread n x) ts d
+      → (d : ℕ) × (d < n) × Holds ts (slot_of n (home_of slot_hash n x) d) i × IsTaken n (home_of slot_hash n x) ts d
 
 -- n slots for some items: the least power of two that is at least 8 and of which the items fill at most three quarters
 pub record IsTableFor (items n : ℕ) : Type 0 where
@@ -53,9 +53,9 @@ IsSlotCount items n = ((items ≡ 0) × (n ≡ 0)) ⊎ IsTableFor items n
 
 -- a slot is the first from the home of an item that is empty, where there are slots
 abbrev pub IsFreeFor : {X : Type 0} → (X → ℕ) → List ℕ → X → ℕ → Type 0
-IsFreeFor spread ts x j = 0 < length ts → IsFree (length ts) (home_of spread (length ts) x) ts j
+IsFreeFor slot_hash ts x j = 0 < length ts → IsFree (length ts) (home_of slot_hash (length ts) x) ts j
 
 -- where the search for an item ends: at its place, or at the first empty slot where it has none
-abbrev pub IsSought : {X : Type 0} → (X → ℕ) → List X → List ℕ → X → Sought → Type 0
-IsSought spread xs ts x (Place i) = slice_get xs i ≡ Some x
-IsSought spread xs ts x (Slot j) = ((i : ℕ) × (slice_get xs i ≡ Some x) → ⊥) × IsFreeFor spread ts x j
+abbrev pub IsProbeResult : {X : Type 0} → (X → ℕ) → List X → List ℕ → X → ProbeResult → Type 0
+IsProbeResult slot_hash xs ts x (Place i) = slice_get xs i ≡ Some x
+IsProbeResult slot_hash xs ts x (Slot j) = ((i : ℕ) × (slice_get xs i ≡ Some x) → ⊥) × IsFreeFor slot_hash ts x j

@@ -10,11 +10,11 @@ IsPower n = (k : ℕ) × (n ≡ 2 ^ k)
 
 -- an item's number of 32 bits without those that number n slots
 abbrev pub tag_of : {X : Type 0} → (X → ℕ) → ℕ → X → ℕ
-tag_of spread n x = spread x % 2 ^ 32 - bit_and (spread x % 2 ^ 32) (n - 1)
+tag_of slot_hash n x = slot_hash x % 2 ^ 32 - bit_and (slot_hash x % 2 ^ 32) (n - 1)
 
 -- what one of n slots holds for an item at a place
 abbrev pub stamp_of : {X : Type 0} → (X → ℕ) → ℕ → X → ℕ → ℕ
-stamp_of spread n x i = tag_of spread n x + suc i
+stamp_of slot_hash n x i = tag_of slot_hash n x + suc i
 
 -- what n slots hold, without the tags
 abbrev pub places_in : ℕ → List ℕ → List ℕ
@@ -22,16 +22,16 @@ places_in n ts = map (λ t. bit_and t (n - 1)) ts
 
 -- each slot, of n, is empty or holds the stamp of an item of a list
 abbrev pub AreStamped : {X : Type 0} → (X → ℕ) → ℕ → List X → List ℕ → Type 0
-AreStamped {X} spread n xs ts =
-    (j t : ℕ) → slice_get ts j ≡ Some t → (t ≡ 0) ⊎ ((i : ℕ) × (x : X) × (slice_get xs i ≡ Some x) × (t ≡ stamp_of spread n x i))
+AreStamped {X} slot_hash n xs ts =
+    (j t : ℕ) → slice_get ts j ≡ Some t → (t ≡ 0) ⊎ ((i : ℕ) × (x : X) × (slice_get xs i ≡ Some x) × (t ≡ stamp_of slot_hash n x i))
 
 -- n slots find the items of a list by their stamps
-pub record Finds {X : Type 0} (spread : X → ℕ) (n : ℕ) (xs : List X) (ts : List ℕ) : Type 0 where
-  pub probes : Probes spread n xs (places_in n ts)
-  pub stamped : AreStamped spread n xs ts
+pub record Finds {X : Type 0} (slot_hash : X → ℕ) (n : ℕ) (xs : List X) (ts : List ℕ) : Type 0 where
+  pub probes : Probes slot_hash n xs (places_in n ts)
+  pub stamped : AreStamped slot_hash n xs ts
 
 -- items, each once, and slots that find them
-pub record IsTable {X : Type 0} (spread : X → ℕ) (xs : List X) (ts : List ℕ) : Type 0 where
-  pub finds : Finds spread (length ts) xs ts
+pub record IsTable {X : Type 0} (slot_hash : X → ℕ) (xs : List X) (ts : List ℕ) : Type 0 where
+  pub finds : Finds slot_hash (length ts) xs ts
   pub count : IsSlotCount (length xs) (length ts)
   pub once : IsOnce xs

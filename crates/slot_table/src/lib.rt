@@ -10,7 +10,7 @@
 //! **Only tests show** that ample memory suffices (`wave_tests`). How far a search goes nothing
 //! shows.
 //!
-//! **Begin** with `Spread`, which is all that an item needs, and with `specs/Placing`; how slots
+//! **Begin** with `SlotHash`, which is all that an item needs, and with `specs/Placing`; how slots
 //! find items is in `specs/Probes` and `Stamps`, and done in `slots`.
 #![tactic(auto)]
 
@@ -24,17 +24,17 @@ ghost use Rattle.slot_table.specs.Placing.{IsPlaced};
 
 mod slots;
 
-use slots::{Sought, add_at, seek};
+use slots::{ProbeResult, add_at, probe};
 pub use slots::{free_slot, next_slot};
 use std::alloc::Global;
 use std::marker::Model;
 
 /// What has a number that spreads it over slots, and an equality that tells different values apart.
-pub trait Spread: Copy + Eq {
-    ghost spread_of: { Self → ℕ };
+pub trait SlotHash: Copy + Eq {
+    ghost slot_hash_of: { Self → ℕ };
 
-    fn spread(&self) -> u64
-        ensures { result ≡ spread_of self.now };
+    fn slot_hash(&self) -> u64
+        ensures { result ≡ slot_hash_of self.now };
 
     ghost same: { (x y : Self) → Self.eq x y ≡ true → x ≡ y };
 }
@@ -49,31 +49,31 @@ pub fn mix(first: u64, second: u64) -> u64
     turned.wrapping_mul(15485907386658061715) >> 32
 }
 
-impl Spread for u64 {
-    ghost spread_of = { λ x. x };
+impl SlotHash for u64 {
+    ghost slot_hash_of = { λ x. x };
 
-    fn spread(&self) -> u64 {
+    fn slot_hash(&self) -> u64 {
         *self
     }
 
     ghost same = { eqb-true };
 }
 
-impl Spread for u32 {
-    ghost spread_of = { λ x. x };
+impl SlotHash for u32 {
+    ghost slot_hash_of = { λ x. x };
 
-    fn spread(&self) -> u64 {
+    fn slot_hash(&self) -> u64 {
         *self as u64
     }
 
     ghost same = { eqb-true };
 }
 
-impl<A: Spread, B: Spread> Spread for (A, B) {
-    ghost spread_of = { λ p. mix_of (A.spread_of p.0) (B.spread_of p.1) };
+impl<A: SlotHash, B: SlotHash> SlotHash for (A, B) {
+    ghost slot_hash_of = { λ p. mix_of (A.slot_hash_of p.0) (B.slot_hash_of p.1) };
 
-    fn spread(&self) -> u64 {
-        mix(self.0.spread(), self.1.spread())
+    fn slot_hash(&self) -> u64 {
+        mix(self.0.slot_hash(), self.1.slot_hash())
     }
 
     ghost same = { pairs-same A.eq B.eq A.same B.same };
@@ -81,14 +81,14 @@ impl<A: Spread, B: Spread> Spread for (A, B) {
 
 /// Items, each at its place.
 #[derive(Drop)]
-pub struct SlotTable<T: Spread> {
+pub struct SlotTable<T: SlotHash> {
     items: Vec<T>,
     /// 0 where a slot is empty, else the stamp of an item: a place and 1, and above them a part of the item's number,
     /// which tells most items apart without a look at them.
     slots: Vec<u32>,
 }
 
-impl<T: Spread> Model for SlotTable<T> {
+impl<T: SlotHash> Model for SlotTable<T> {
     ghost use Rattle.std.specs.Prelude.{List, length};
 
     ghost Value = { List T };
@@ -97,7 +97,7 @@ impl<T: Spread> Model for SlotTable<T> {
 
     ghost view = { λ t. t.items.items };
 
-    ghost invariant = { λ t. IsTable T.spread_of t.items.items t.slots.items };
+    ghost invariant = { λ t. IsTable T.slot_hash_of t.items.items t.slots.items };
 }
 
 /// Where an item stands after it was looked for and, if need be, added.
@@ -118,7 +118,7 @@ pub enum Refusal {
     OutOfMemory,
 }
 
-impl<T: Spread> SlotTable<T> {
+impl<T: SlotHash> SlotTable<T> {
     /// A table without items. It takes no memory yet.
     pub fn new(alloc: Global) -> SlotTable<T>
         ensures { result ≡ [] }
@@ -163,9 +163,9 @@ impl<T: Spread> SlotTable<T> {
     pub fn find(&self, item: T) -> Option<u32>
         ensures { MatchOption result (IsIn self.now item → ⊥) (λ i. slice_get self.now i ≡ Some item) }
     {
-        match seek(self.items.as_slice(), self.slots.as_slice(), item) {
-            Sought::Place(place) => Some(place),
-            Sought::Slot(_) => None,
+        match probe(self.items.as_slice(), self.slots.as_slice(), item) {
+            ProbeResult::Place(place) => Some(place),
+            ProbeResult::Slot(_) => None,
         }
     }
 
@@ -175,9 +175,9 @@ impl<T: Spread> SlotTable<T> {
         requires { 0 < room → length self.old + room < 2 ^ 32 }
         ensures { IsPlaced room item self.old result self.new }
     {
-        match seek(self.items.as_slice(), self.slots.as_slice(), item) {
-            Sought::Place(place) => Ok(Admission::Found(place)),
-            Sought::Slot(slot) => {
+        match probe(self.items.as_slice(), self.slots.as_slice(), item) {
+            ProbeResult::Place(place) => Ok(Admission::Found(place)),
+            ProbeResult::Slot(slot) => {
                 if room == 0 {
                     return Err(Refusal::Full);
                 }

@@ -18,7 +18,7 @@ ghost use Rattle.reduce_up.specs.Waves.{IsEntry, entry_value};
 #[cfg(test)]
 use counter_walk::{least_difference, same};
 use dd_store::{Ref, Store};
-use expand_work::{Crew, Free, WaveFault, Workers};
+use expand_work::{Crew, NoMonitor, WaveFault, Workers};
 use req_table::Op;
 use std::alloc::Global;
 use std::sync::Wait;
@@ -30,7 +30,7 @@ use wave_engine::Engine;
 /// The diagrams of two operations, by one wave. All references that the store had keep their functions.
 #[tactic(auto, using(dd_store::proofs::View::kept_den))]
 fn both<R: Threads + Wait + Sync>(
-    engine: &mut Engine<'_, R, Free>,
+    engine: &mut Engine<'_, R, NoMonitor>,
     store: &mut Store,
     one: (Op, Ref, Ref),
     two: (Op, Ref, Ref),
@@ -66,7 +66,7 @@ pub fn two_ways<R: Threads + Wait + Sync>(
         rt,
         alloc,
         workers: Workers::new(1),
-        monitor: &Free,
+        monitor: &NoMonitor,
     };
     let mut engine = Engine::new(&crew)?;
     let (ab, bc) = both(&mut engine, &mut store, (Op::And, a, b), (Op::And, b, c))?;

@@ -11,7 +11,7 @@ use Rattle.wave_core.specs.declared.Event.{Event}
 use Rattle.wave_core.specs.declared.Event.TheVariants.{Send, End, Take, Expand, Advance, Keep}
 use Rattle.wave_core.specs.Measure.{total, sum_below}
 use Rattle.wave_core.specs.Step.{State, Effect, Applies, IsStart, IsStep, at_one, at_pair, only, ask_of, split_of}
-use Rattle.wave_core.specs.View.{View, IsShaped, IsKept, state_of, wave_of_view, done_of}
+use Rattle.wave_core.specs.MachineView.{MachineView, IsShaped, IsConsistent, state_of, wave_of_view, done_of}
 use Rattle.wave_core.specs.Counting.{sum_over, noted}
 use Rattle.wave_core.proofs.Sums.{sum_same, sum_add, sum_none, sum_one, sum_at_one, sum_at_pair}
 
@@ -46,7 +46,7 @@ pub sum_of_numbers : (n : ℕ) (xs : List ℕ) → length xs ≡ n → sum xs �
 sum_of_numbers n xs long = sum_numbers xs ∙ ap (λ l. sum_below l (λ k. get_or xs k 0)) long
 
 -- what the lists of a machine count
-pub counted : (v : View) → IsShaped v → sum_by length v.sent + sum_by length v.taken + (sum_by length v.rows + sum v.at) ≡ noted v.workers v.levels (state_of v)
+pub counted : (v : MachineView) → IsShaped v → sum_by length v.sent + sum_by length v.taken + (sum_by length v.rows + sum v.at) ≡ noted v.workers v.levels (state_of v)
 counted v h =
     let a = sum_grid v.workers v.workers v.sent h.sent in
     let b = sum_line v.workers v.taken h.taken in
@@ -83,15 +83,15 @@ grown n f g p h =
 
 abbrev added : ℕ → ℕ → Effect → ℕ
 added n m f =
-    sum_over n n (λ s k. length (f.put s k)) + sum_below n (λ k. length (f.got k))
-    + sum_over n m (λ k v. length (f.recorded k v)) + sum_below n f.risen
+    sum_over n n (λ s k. length (f.sent_added s k)) + sum_below n (λ k. length (f.taken_added k))
+    + sum_over n m (λ k v. length (f.rows_added k v)) + sum_below n f.level_added
 
 applied : (w : Wave) (c d : State) (f : Effect) → Applies w c d f → noted w.workers w.levels d ≡ noted w.workers w.levels c + added w.workers w.levels f
 applied w c d f h =
-    let a = over_grown w.workers w.workers c.sent d.sent f.put h.sent in
-    let b = grown w.workers c.taken d.taken f.got h.taken in
-    let r = over_grown w.workers w.levels c.rows d.rows f.recorded h.rows in
-    let t = sum_same w.workers d.at (λ k. c.at k + f.risen k) h.at ∙ sum_add w.workers c.at f.risen in
+    let a = over_grown w.workers w.workers c.sent d.sent f.sent_added h.sent in
+    let b = grown w.workers c.taken d.taken f.taken_added h.taken in
+    let r = over_grown w.workers w.levels c.rows d.rows f.rows_added h.rows in
+    let t = sum_same w.workers d.at (λ k. c.at k + f.level_added k) h.at ∙ sum_add w.workers c.at f.level_added in
     omega (arith, a, b, r, t)
 
 -- ---- one item, at a pair and at a worker
@@ -178,7 +178,7 @@ counts_step w c d (Keep by) (bb, x, rest, here, all, h) =
     omega (arith, a, s, g, z, r)
 
 -- a machine has sent at least what was kept, so one event more is counted
-pub counts_one : (S : Nodes) (v u : View) (e : Event) → IsKept v → (u.workers ≡ v.workers) × (u.levels ≡ v.levels) → IsStep (wave_of_view S v) (state_of v) e (state_of u) → u.kept ≡ v.kept + kept_by e → done_of u ≡ done_of v + 1
+pub counts_one : (S : Nodes) (v u : MachineView) (e : Event) → IsConsistent v → (u.workers ≡ v.workers) × (u.levels ≡ v.levels) → IsStep (wave_of_view S v) (state_of v) e (state_of u) → u.kept ≡ v.kept + kept_by e → done_of u ≡ done_of v + 1
 counts_one S v u e h same s kept =
     let a = counts_step (wave_of_view S v) (state_of v) (state_of u) e s in
     let n : noted u.workers u.levels (state_of u) ≡ noted v.workers v.levels (state_of u) = (λ i. noted (same.0 i) (same.1 i) (state_of u)) in

@@ -5,32 +5,32 @@ use Rattle.wave_core.specs.declared.Event.{Event}
 use Rattle.wave_core.specs.declared.Event.TheVariants.{Send}
 use Rattle.wave_core.specs.Step.{State, IsStep, IsAllowed, IsFinished}
 use Rattle.wave_core.specs.Cores.{CoreView, core_wave, core_state, IsSoundCore, IsSameWave}
-use Rattle.wave_core.specs.Drive.{AllowsOf, IsNumbered, IsDriven, IsTurn, stop, turn, first, all_events}
+use Rattle.wave_core.specs.Drive.{CountsAllowed, IsNthAllowed, IsDriven, IsChosenStep, stop, by_choice, first, all_events}
 use Rattle.std.proofs.lemmas.List.{drop_more, drop_all}
 use Rattle.req_table.specs.Keys.{wave_of}
 use Rattle.wave_core.specs.Measure.{measure}
-use Rattle.wave_core.specs.Fall.{core_measure}
+use Rattle.wave_core.specs.CoreMeasure.{core_measure}
 use Rattle.wave_core.proofs.Driven.{scanned_finished}
-use Rattle.wave_core.proofs.Falls.{step_falls}
+use Rattle.wave_core.proofs.MeasureDecreases.{step_falls}
 use Rattle.req_table.proofs.Keyed.{key_decides}
 use Rattle.req_table.specs.contracts.KeyPartialEq.TheImpl.{eq-value}
 
 -- what is counted so far, of the events of which xs are left
 abbrev pub CountsOn : Wave → State → List Event → List Event → ℕ → Type 0
-CountsOn w c events xs count = (k : ℕ) → AllowsOf w c xs k → AllowsOf w c events (count + k)
+CountsOn w c events xs count = (k : ℕ) → CountsAllowed w c xs k → CountsAllowed w c events (count + k)
 
 -- what is passed so far
 abbrev pub NumbersOn : Wave → State → List Event → List Event → ℕ → ℕ → Type 0
-NumbersOn w c events xs number left = (e : Event) → IsNumbered w c xs left e → IsNumbered w c events number e
+NumbersOn w c events xs number left = (e : Event) → IsNthAllowed w c xs left e → IsNthAllowed w c events number e
 
 abbrev pub HasMore : Wave → State → List Event → ℕ → Type 0
-HasMore w c xs left = (m : ℕ) × (left < m) × AllowsOf w c xs m
+HasMore w c xs left = (m : ℕ) × (left < m) × CountsAllowed w c xs m
 
 pub counts_skip : (w : Wave) (c : State) (events xs : List Event) (x : Event) (count : ℕ) → ¬ IsAllowed w c x → CountsOn w c events (x ∷ xs) count → CountsOn w c events xs count
 counts_skip w c events xs x count bar h k a = h k (inl (bar, a))
 
 pub counts_one : (w : Wave) (c : State) (events xs : List Event) (x : Event) (count : ℕ) → IsAllowed w c x → CountsOn w c events (x ∷ xs) count → CountsOn w c events xs (count + 1)
-counts_one w c events xs x count may h k a = subst (AllowsOf w c events) (omega arith) (h (suc k) (inr (may, (k, refl, a))))
+counts_one w c events xs x count may h k a = subst (CountsAllowed w c events) (omega arith) (h (suc k) (inr (may, (k, refl, a))))
 
 pub numbers_skip : (w : Wave) (c : State) (events xs : List Event) (x : Event) (number left : ℕ) → ¬ IsAllowed w c x → NumbersOn w c events (x ∷ xs) number left → NumbersOn w c events xs number left
 numbers_skip w c events xs x number left bar h e n = h e (inl (bar, n))
@@ -38,7 +38,7 @@ numbers_skip w c events xs x number left bar h e n = h e (inl (bar, n))
 pub numbers_one : (w : Wave) (c : State) (events xs : List Event) (x : Event) (number left : ℕ) → 0 < left → IsAllowed w c x → NumbersOn w c events (x ∷ xs) number left → NumbersOn w c events xs number (left - 1)
 numbers_one w c events xs x number left some may h e n = h e (inr (may, inr (left - 1, omega arith, n)))
 
-pub number_found : (w : Wave) (c : State) (events xs : List Event) (x : Event) (number left : ℕ) → left ≡ 0 → IsAllowed w c x → NumbersOn w c events (x ∷ xs) number left → IsNumbered w c events number x
+pub number_found : (w : Wave) (c : State) (events xs : List Event) (x : Event) (number left : ℕ) → left ≡ 0 → IsAllowed w c x → NumbersOn w c events (x ∷ xs) number left → IsNthAllowed w c events number x
 number_found w c events xs x number left none may h = h x (inr (may, inl (none, refl)))
 
 pub more_skip : (w : Wave) (c : State) (xs : List Event) (x : Event) (left : ℕ) → ¬ IsAllowed w c x → HasMore w c (x ∷ xs) left → HasMore w c xs left
@@ -67,36 +67,36 @@ step_measure v u e h same s =
     let fall = step_falls eq-value.it key_decides (core_wave v) h.laws v.roots (core_state v) (core_state u) e h.sound s in
     subst (λ w. measure eq-value.it w (core_state u) < core_measure v) (sym (same_wave v u same)) fall
 
-pub some_allowed : (v : CoreView) (m : ℕ) → IsSoundCore v → ¬ IsFinished (core_wave v) (core_state v) → AllowsOf (core_wave v) (core_state v) (all_events (core_wave v)) m → 0 < m
+pub some_allowed : (v : CoreView) (m : ℕ) → IsSoundCore v → ¬ IsFinished (core_wave v) (core_state v) → CountsAllowed (core_wave v) (core_state v) (all_events (core_wave v)) m → 0 < m
 some_allowed v zero h bar a = absurd (bar (scanned_finished eq-value.it key_decides (core_wave v) h.laws v.roots (core_state v) h.sound a))
 some_allowed v (suc m) h bar a = omega arith
 
-pub turn_made : (w : Wave) (c d : State) (choice m : ℕ) (e : Event) → 0 < m → AllowsOf w c (all_events w) m → IsNumbered w c (all_events w) (choice % m) e → IsStep w c e d → IsTurn w c choice d
-turn_made w c d choice zero e some a n s = absurd (omega arith)
-turn_made w c d choice (suc m) e some a n s = record { others = m; event = e; count = a; numbered = n; step = s }
+pub chosen_step_made : (w : Wave) (c d : State) (choice m : ℕ) (e : Event) → 0 < m → CountsAllowed w c (all_events w) m → IsNthAllowed w c (all_events w) (choice % m) e → IsStep w c e d → IsChosenStep w c choice d
+chosen_step_made w c d choice zero e some a n s = absurd (omega arith)
+chosen_step_made w c d choice (suc m) e some a n s = record { others = m; event = e; count = a; nth_allowed = n; step = s }
 
-numbered_allowed : (w : Wave) (c : State) (xs : List Event) (n : ℕ) (e : Event) → IsNumbered w c xs n e → IsAllowed w c e
+numbered_allowed : (w : Wave) (c : State) (xs : List Event) (n : ℕ) (e : Event) → IsNthAllowed w c xs n e → IsAllowed w c e
 numbered_allowed w c [] n e h = absurd h
 numbered_allowed w c (x ∷ xs) n e (inl a) = numbered_allowed w c xs n e a.1
 numbered_allowed w c (x ∷ xs) n e (inr (a, inl b)) = subst (IsAllowed w c) (sym b.1) a
 numbered_allowed w c (x ∷ xs) n e (inr (a, inr b)) = numbered_allowed w c xs b.0 e b.2
 
-pub is_allowed : (w : Wave) (c : State) (xs : List Event) (n : ℕ) (e : Event) → IsNumbered w c xs n e → ¬ IsAllowed w c e → ⊥
+pub is_allowed : (w : Wave) (c : State) (xs : List Event) (n : ℕ) (e : Event) → IsNthAllowed w c xs n e → ¬ IsAllowed w c e → ⊥
 is_allowed w c xs n e h bar = bar (numbered_allowed w c xs n e h)
 
 -- ---- what is done so far, of the choices of which xs are left
 abbrev pub DrivesOn : CoreView → CoreView → List ℕ → List ℕ → Type 0
 DrivesOn v x choices xs = (d : State) → IsDriven (core_wave v) (core_state x) xs d → IsDriven (core_wave v) (core_state v) choices d
 
-turn_of : (v x : CoreView) (choice : ℕ) (d : State) → IsSameWave v x → IsTurn (core_wave x) (core_state x) choice d → IsTurn (core_wave v) (core_state x) choice d
-turn_of v x choice d same t = subst (λ w. IsTurn w (core_state x) choice d) (same_wave v x same) t
+chosen_step_of : (v x : CoreView) (choice : ℕ) (d : State) → IsSameWave v x → IsChosenStep (core_wave x) (core_state x) choice d → IsChosenStep (core_wave v) (core_state x) choice d
+chosen_step_of v x choice d same t = subst (λ w. IsChosenStep w (core_state x) choice d) (same_wave v x same) t
 
-pub chosen : (v x y : CoreView) (choices : List ℕ) (i choice : ℕ) → i < length choices → choice ≡ get_or choices i choice → IsSameWave v x → ¬ IsFinished (core_wave x) (core_state x) → IsTurn (core_wave x) (core_state x) choice (core_state y)
+pub chosen : (v x y : CoreView) (choices : List ℕ) (i choice : ℕ) → i < length choices → choice ≡ get_or choices i choice → IsSameWave v x → ¬ IsFinished (core_wave x) (core_state x) → IsChosenStep (core_wave x) (core_state x) choice (core_state y)
     → DrivesOn v x choices (drop i choices) → DrivesOn v y choices (drop (i + 1) choices)
 chosen v x y choices i choice l is same bar t h d r =
-    let u = turn_of v x choice (core_state y) same t in
+    let u = chosen_step_of v x choice (core_state y) same t in
     let open' = subst (λ w. ¬ IsFinished w (core_state x)) (same_wave v x same) bar in
-    h d (subst (λ xs. IsDriven (core_wave v) (core_state x) xs d) (sym (drop_more choices i choice l ∙ ap (λ n. n ∷ drop (i + 1) choices) (sym is))) (turn u.others u.event open' u.count u.numbered u.step r))
+    h d (subst (λ xs. IsDriven (core_wave v) (core_state x) xs d) (sym (drop_more choices i choice l ∙ ap (λ n. n ∷ drop (i + 1) choices) (sym is))) (by_choice u.others u.event open' u.count u.nth_allowed u.step r))
 
 stopped : (w : Wave) (c d : State) (xs : List ℕ) → IsFinished w c → IsDriven w c [] d → IsDriven w c xs d
 stopped w c d xs f (stop h) = stop h
@@ -105,12 +105,12 @@ stopped w c d xs f (first e bar n s r) = absurd (bar f)
 pub chosen_all : (v x : CoreView) (choices xs : List ℕ) → IsSameWave v x → IsFinished (core_wave x) (core_state x) → DrivesOn v x choices xs → DrivesOn v x choices []
 chosen_all v x choices xs same f h d r = h d (stopped (core_wave v) (core_state x) d xs (subst (λ w. IsFinished w (core_state x)) (same_wave v x same) f) r)
 
-pub finishes : (v x y : CoreView) → IsSameWave v x → ¬ IsFinished (core_wave x) (core_state x) → IsTurn (core_wave x) (core_state x) 0 (core_state y) → DrivesOn v x [] [] → DrivesOn v y [] []
+pub finishes : (v x y : CoreView) → IsSameWave v x → ¬ IsFinished (core_wave x) (core_state x) → IsChosenStep (core_wave x) (core_state x) 0 (core_state y) → DrivesOn v x [] [] → DrivesOn v y [] []
 finishes v x y same bar t h d r =
-    let u = turn_of v x 0 (core_state y) same t in
+    let u = chosen_step_of v x 0 (core_state y) same t in
     let open' = subst (λ w. ¬ IsFinished w (core_state x)) (same_wave v x same) bar in
     let z : 0 % suc u.others ≡ 0 = omega arith in
-    h d (first u.event open' (subst (λ n. IsNumbered (core_wave v) (core_state x) (all_events (core_wave v)) n u.event) z u.numbered) u.step r)
+    h d (first u.event open' (subst (λ n. IsNthAllowed (core_wave v) (core_state x) (all_events (core_wave v)) n u.event) z u.nth_allowed) u.step r)
 
 pub finished_now : (v x : CoreView) → IsSameWave v x → IsFinished (core_wave x) (core_state x) → DrivesOn v x [] [] → IsDriven (core_wave v) (core_state v) [] (core_state x)
 finished_now v x same f h = h (core_state x) (stop (subst (λ w. IsFinished w (core_state x)) (same_wave v x same) f))
@@ -140,8 +140,8 @@ counts_next w c xs i count l may h = counts_one w c xs (drop (i + 1) xs) (get_or
 pub counts_past : (w : Wave) (c : State) (xs : List Event) (i count : ℕ) → i < length xs → ¬ IsAllowed w c (get_or xs i (Send 0 0)) → CountsOn w c xs (drop i xs) count → CountsOn w c xs (drop (i + 1) xs) count
 counts_past w c xs i count l bar h = counts_skip w c xs (drop (i + 1) xs) (get_or xs i (Send 0 0)) count bar (subst (λ ys. CountsOn w c xs ys count) (cut xs i l) h)
 
-pub counts_all : (w : Wave) (c : State) (xs : List Event) (i count : ℕ) → length xs ≤ i → CountsOn w c xs (drop i xs) count → AllowsOf w c xs count
-counts_all w c xs i count l h = subst (AllowsOf w c xs) (omega arith) (h 0 (subst (λ ys. AllowsOf w c ys 0) (sym (drop_all i xs l)) refl))
+pub counts_all : (w : Wave) (c : State) (xs : List Event) (i count : ℕ) → length xs ≤ i → CountsOn w c xs (drop i xs) count → CountsAllowed w c xs count
+counts_all w c xs i count l h = subst (CountsAllowed w c xs) (omega arith) (h 0 (subst (λ ys. CountsAllowed w c ys 0) (sym (drop_all i xs l)) refl))
 
 pub numbers_next : (w : Wave) (c : State) (xs : List Event) (i number left : ℕ) → i < length xs → 0 < left → IsAllowed w c (get_or xs i (Send 0 0)) → NumbersOn w c xs (drop i xs) number left → NumbersOn w c xs (drop (i + 1) xs) number (left - 1)
 numbers_next w c xs i number left l some may h = numbers_one w c xs (drop (i + 1) xs) (get_or xs i (Send 0 0)) number left some may (subst (λ ys. NumbersOn w c xs ys number left) (cut xs i l) h)
@@ -149,7 +149,7 @@ numbers_next w c xs i number left l some may h = numbers_one w c xs (drop (i + 1
 pub numbers_past : (w : Wave) (c : State) (xs : List Event) (i number left : ℕ) → i < length xs → ¬ IsAllowed w c (get_or xs i (Send 0 0)) → NumbersOn w c xs (drop i xs) number left → NumbersOn w c xs (drop (i + 1) xs) number left
 numbers_past w c xs i number left l bar h = numbers_skip w c xs (drop (i + 1) xs) (get_or xs i (Send 0 0)) number left bar (subst (λ ys. NumbersOn w c xs ys number left) (cut xs i l) h)
 
-pub number_here : (w : Wave) (c : State) (xs : List Event) (i number left : ℕ) → i < length xs → left ≡ 0 → IsAllowed w c (get_or xs i (Send 0 0)) → NumbersOn w c xs (drop i xs) number left → IsNumbered w c xs number (get_or xs i (Send 0 0))
+pub number_here : (w : Wave) (c : State) (xs : List Event) (i number left : ℕ) → i < length xs → left ≡ 0 → IsAllowed w c (get_or xs i (Send 0 0)) → NumbersOn w c xs (drop i xs) number left → IsNthAllowed w c xs number (get_or xs i (Send 0 0))
 number_here w c xs i number left l none may h = number_found w c xs (drop (i + 1) xs) (get_or xs i (Send 0 0)) number left none may (subst (λ ys. NumbersOn w c xs ys number left) (cut xs i l) h)
 
 pub more_next : (w : Wave) (c : State) (xs : List Event) (i left : ℕ) → i < length xs → 0 < left → IsAllowed w c (get_or xs i (Send 0 0)) → HasMore w c (drop i xs) left → HasMore w c (drop (i + 1) xs) (left - 1)

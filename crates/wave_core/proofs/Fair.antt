@@ -5,7 +5,7 @@ use Rattle.req_table.specs.declared.Key.{Key}
 use Rattle.req_table.specs.declared.Item.{Item}
 use Rattle.req_table.specs.declared.Item.TheVariants.{Ask, End}
 use Rattle.req_table.specs.Wave.{Scope}
-use Rattle.req_table.specs.Lanes.{from_of, is_from, sent_by, ends, asks, asks_at, count_end, IsFairFrom, IsFair, HasSenders, LaneLaw, IsClosed}
+use Rattle.req_table.specs.Lanes.{sender_of, is_from, sent_by, ends, asks, asks_at, count_end, IsFairFrom, IsFair, HasSenders, LaneLaw, IsClosed}
 use Rattle.req_table.proofs.Lists.{Has, has_of, contains_of}
 use Rattle.req_table.proofs.Items.{sent_by_has, sent_by_of}
 use Rattle.req_table.proofs.Fair.{fair_back, fair_end, fair_front, sent_by-self, taken_prefix}

@@ -8,13 +8,13 @@ pub mod Runs
 pub mod Finished
 pub mod Sums
 pub mod Counted
-pub mod Falls
+pub mod MeasureDecreases
 pub mod Progress
 pub mod Keeps
 pub mod Driven
 pub mod Grid
 pub mod Machines
-pub mod Owes
+pub mod DueLists
 pub mod Advances
 pub mod Taking
 pub mod Keeping

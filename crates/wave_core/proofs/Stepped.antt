@@ -14,8 +14,8 @@ use Rattle.wave_core.specs.declared.Event.{Event}
 use Rattle.wave_core.specs.declared.CoreFault.{CoreFault}
 use Rattle.wave_core.specs.declared.Event.TheVariants.{Send, End, Take, Expand, Advance, Keep}
 use Rattle.wave_core.specs.Step.{State, IsStep, IsRun, IsAllowed}
-use Rattle.wave_core.specs.Drive.{IsTurn}
-use Rattle.wave_core.specs.View.{wave_of_view, list_of}
+use Rattle.wave_core.specs.Drive.{IsChosenStep}
+use Rattle.wave_core.specs.MachineView.{wave_of_view, list_of}
 use Rattle.wave_core.specs.Cores.{CoreView, core_wave, core_state, IsSoundCore, IsSameWave, events_done, HasStep, IsRefusal, IsStopped, Reaches, TakesOpen}
 use Rattle.wave_core.proofs.Cores.{wave_is}
 use Rattle.wave_core.proofs.Drives.{same_wave}
@@ -51,7 +51,7 @@ run_more w c b d (x ∷ es) e r s = (r.0, r.1, run_more w r.0 b d es e r.2 s)
 pub core_run_more : (v x y : CoreView) (es : List Event) (e : Event) → IsSameWave v x → IsRun (core_wave v) (core_state v) es (core_state x) → IsStep (core_wave x) (core_state x) e (core_state y) → IsRun (core_wave v) (core_state v) (es ++ e ∷ []) (core_state y)
 core_run_more v x y es e same r s = run_more (core_wave v) (core_state v) (core_state x) (core_state y) es e r (subst (λ w. IsStep w (core_state x) e (core_state y)) (same_wave v x same) s)
 
-pub reaches_more : (v x y : CoreView) (choice : ℕ) → IsSameWave v x → IsTurn (core_wave x) (core_state x) choice (core_state y) → Reaches v x → Reaches v y
+pub reaches_more : (v x y : CoreView) (choice : ℕ) → IsSameWave v x → IsChosenStep (core_wave x) (core_state x) choice (core_state y) → Reaches v x → Reaches v y
 reaches_more v x y choice same t r = (r.0 ++ t.event ∷ [], core_run_more v x y r.0 t.event same r.1 t.step)
 
 pub reaches_then : (v x y : CoreView) → IsSameWave v x → Reaches v x → Reaches x y → Reaches v y

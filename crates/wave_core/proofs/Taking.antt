@@ -7,11 +7,11 @@ use Rattle.req_table.specs.declared.Item.{Item}
 use Rattle.req_table.specs.declared.Item.TheVariants.{Ask, End}
 use Rattle.req_table.specs.Lanes.{sent_by, ends, asks_at}
 use Rattle.req_table.specs.Settled.{key_of}
-use Rattle.req_table.specs.Tables.{Offers}
+use Rattle.req_table.specs.Tables.{AdmitsKey}
 use Rattle.wave_core.proofs.Admits.{Admits-offer}
 use Rattle.req_table.proofs.Fair.{ends-append, asks_at-append, sent_by-append}
 use Rattle.wave_core.specs.declared.Event.TheVariants.{Take}
-use Rattle.wave_core.specs.View.{View, IsKept, IsTable, by_place, list_of, number_of, state_of, wave_of_view}
+use Rattle.wave_core.specs.MachineView.{MachineView, IsConsistent, IsTable, by_place, list_of, number_of, state_of, wave_of_view}
 use Rattle.wave_core.specs.Step.{IsStep, only, at_one}
 use Rattle.wave_core.proofs.Places.{at_pair_is, eqb_comm}
 use Rattle.wave_core.proofs.Grid.{place, pair_set, one_grows, one_shrinks, got}
@@ -71,7 +71,7 @@ both_one true false e f = absurd (cc)
 both_one false q e f = absurd (cc)
 
 -- the table of a list with one Ask more
-pub table_offer : (xs table new : List Key) (row : List Record) (x : Key) (b : Bool) → IsTable xs table row → Offers table x b new → IsTable (xs ++ x ∷ []) new row
+pub table_offer : (xs table new : List Key) (row : List Record) (x : Key) (b : Bool) → IsTable xs table row → AdmitsKey table x b new → IsTable (xs ++ x ∷ []) new row
 table_offer xs table new row x true t o = record {
   distinct = Admits-offer [] xs table new x t.distinct (inr o);
   rest = t.rest ++ x ∷ [];
@@ -79,7 +79,7 @@ table_offer xs table new row x true t o = record {
 }
 table_offer xs table new row x false t o = record { distinct = Admits-offer [] xs table new x t.distinct (inl o); rest = t.rest; front = o.1 ∙ t.front }
 
-module _ (v : View) (h : IsKept v) (by : ℕ) (bb : by < v.workers) (i : Item) (t-old t-new q-old q-new : List Item)
+module _ (v : MachineView) (h : IsConsistent v) (by : ℕ) (bb : by < v.workers) (i : Item) (t-old t-new q-old q-new : List Item)
     (to : t-old ≡ get_or v.taken by t-old) (tn : t-new ≡ t-old ++ i ∷ []) (qo : q-old ≡ get_or v.waiting by q-old) (qn : q-old ≡ i ∷ q-new) where
   pub in_taken : by < length v.taken
   in_taken = subst (λ n. by < n) (sym h.shape.taken) bb
@@ -87,8 +87,8 @@ module _ (v : View) (h : IsKept v) (by : ℕ) (bb : by < v.workers) (i : Item) (
   pub in_lane : by < length v.waiting
   in_lane = subst (λ n. by < n) (sym h.shape.waiting) bb
 
-  pub take_step : (S : Nodes) (counted : List ℕ) (tables : List (List Key)) → IsStep (wave_of_view S v) (state_of v) (Take by) (state_of (record v { waiting = set v.waiting by q-new; taken = set v.taken by t-new; counted = counted; tables = tables }))
-  take_step S counted tables = (
+  pub take_step : (S : Nodes) (ends_taken : List ℕ) (tables : List (List Key)) → IsStep (wave_of_view S v) (state_of v) (Take by) (state_of (record v { waiting = set v.waiting by q-new; taken = set v.taken by t-new; ends_taken = ends_taken; tables = tables }))
+  take_step S ends_taken tables = (
     bb,
     i,
     q-new,
@@ -103,37 +103,37 @@ module _ (v : View) (h : IsKept v) (by : ℕ) (bb : by < v.workers) (i : Item) (
     },
   )
 
-  pub take_kept : (counted : List ℕ) (tables : List (List Key)) → length counted ≡ v.workers * v.workers → length tables ≡ v.workers * v.levels
-      → ((k s : ℕ) → k < v.workers → s < v.workers → number_of v.workers counted k s ≡ ends (sent_by s (list_of v.taken k ++ at_one by i k)))
+  pub take_kept : (ends_taken : List ℕ) (tables : List (List Key)) → length ends_taken ≡ v.workers * v.workers → length tables ≡ v.workers * v.levels
+      → ((k s : ℕ) → k < v.workers → s < v.workers → number_of v.workers ends_taken k s ≡ ends (sent_by s (list_of v.taken k ++ at_one by i k)))
       → ((k l : ℕ) → k < v.workers → l < v.levels → IsTable (asks_at l (list_of v.taken k ++ at_one by i k)) (by_place v.levels tables k l) (by_place v.levels v.rows k l))
-      → IsKept (record v { waiting = set v.waiting by q-new; taken = set v.taken by t-new; counted = counted; tables = tables })
-  take_kept counted tables cs ts ch th = record {
+      → IsConsistent (record v { waiting = set v.waiting by q-new; taken = set v.taken by t-new; ends_taken = ends_taken; tables = tables })
+  take_kept ends_taken tables cs ts ch th = record {
     shape = record {
       few_workers = h.shape.few_workers;
       few_levels = h.shape.few_levels;
       sent = h.shape.sent;
-      ended = h.shape.ended;
+      ends_sent = h.shape.ends_sent;
       due = h.shape.due;
       waiting = still v.waiting by q-new v.workers h.shape.waiting;
       taken = still v.taken by t-new v.workers h.shape.taken;
-      counted = cs;
+      ends_taken = cs;
       tables = ts;
       rows = h.shape.rows;
       at = h.shape.at;
     };
-    ended = h.ended;
-    counted = λ k s kb sb. ch k s kb sb ∙ ap (λ l. ends (sent_by s l)) (sym (one_grows v.taken by t-old t-new i in_taken to tn k));
+    ends_sent = h.ends_sent;
+    ends_taken = λ k s kb sb. ch k s kb sb ∙ ap (λ l. ends (sent_by s l)) (sym (one_grows v.taken by t-old t-new i in_taken to tn k));
     kept = h.kept;
     tables = λ k l kb lb. subst (λ xs. IsTable (asks_at l xs) (by_place v.levels tables k l) (by_place v.levels v.rows k l)) (sym (one_grows v.taken by t-old t-new i in_taken to tn k)) (th k l kb lb);
   }
 
-module _ (v : View) (h : IsKept v) (by : ℕ) (bb : by < v.workers) (f m : ℕ) (x : Key) where
+module _ (v : MachineView) (h : IsConsistent v) (by : ℕ) (bb : by < v.workers) (f m : ℕ) (x : Key) where
   -- an Ask leaves the counts
-  pub ask_counted : (k s : ℕ) → k < v.workers → s < v.workers → number_of v.workers v.counted k s ≡ ends (sent_by s (list_of v.taken k ++ at_one by (Ask f m x) k))
+  pub ask_counted : (k s : ℕ) → k < v.workers → s < v.workers → number_of v.workers v.ends_taken k s ≡ ends (sent_by s (list_of v.taken k ++ at_one by (Ask f m x) k))
   ask_counted k s kb sb =
       let a = ends_by-append s (list_of v.taken k) (at_one by (Ask f m x) k) in
       let z = ends_by_ask s (eqb k by) f m x in
-      let o = h.counted k s kb sb in
+      let o = h.ends_taken k s kb sb in
       omega (arith, a, z, o)
 
   -- an Ask of no level of the machine leaves the tables
@@ -145,7 +145,7 @@ module _ (v : View) (h : IsKept v) (by : ℕ) (bb : by < v.workers) (f m : ℕ) 
       (h.tables k l kb lb)
 
   -- an Ask of a level is offered to its table
-  pub ask_offered : (m < v.levels) → (old new : List Key) (b : Bool) → old ≡ get_or v.tables (by * v.levels + m) old → Offers old x b new → (k l : ℕ) → k < v.workers → l < v.levels
+  pub ask_offered : (m < v.levels) → (old new : List Key) (b : Bool) → old ≡ get_or v.tables (by * v.levels + m) old → AdmitsKey old x b new → (k l : ℕ) → k < v.workers → l < v.levels
       → IsTable (asks_at l (list_of v.taken k ++ at_one by (Ask f m x) k)) (by_place v.levels (set v.tables (by * v.levels + m) new) k l) (by_place v.levels v.rows k l)
   ask_offered mb old new b is o k l kb lb =
       let room = place v.workers v.levels by m (length v.tables) bb mb h.shape.tables in
@@ -161,13 +161,13 @@ module _ (v : View) (h : IsKept v) (by : ℕ) (bb : by < v.workers) (f m : ℕ) 
               | true ↦ λ u. (
                   let here : by_place v.levels v.tables k l ≡ old = ap (λ n. get_or v.tables (n * v.levels + l) []) (eqb-true k by t) ∙ ap (λ n. get_or v.tables (by * v.levels + n) []) (eqb-true l m u) ∙ got v.tables (by * v.levels + m) old [] room is in
                   subst (λ c. IsTable (xs ++ cond c (x ∷ []) []) new row) (sym (eq-eqb m l (sym (eqb-true l m u))))
-                  (table_offer xs (by_place v.levels v.tables k l) new row x b (h.tables k l kb lb) (subst (λ z. Offers z x b new) (sym here) o)))
+                  (table_offer xs (by_place v.levels v.tables k l) new row x b (h.tables k l kb lb) (subst (λ z. AdmitsKey z x b new) (sym here) o)))
               | false ↦ λ u. subst (λ c. IsTable (xs ++ cond c (x ∷ []) []) (by_place v.levels v.tables k l) row) (sym (eqb_comm m l ∙ u))
                   (subst (λ ys. IsTable ys (by_place v.levels v.tables k l) row) (sym (append-nil xs)) (h.tables k l kb lb))
             ] refl)
       ] refl))
 
-module _ (v : View) (h : IsKept v) (by : ℕ) (bb : by < v.workers) (f m : ℕ) where
+module _ (v : MachineView) (h : IsConsistent v) (by : ℕ) (bb : by < v.workers) (f m : ℕ) where
   pub end_tables : (k l : ℕ) → k < v.workers → l < v.levels → IsTable (asks_at l (list_of v.taken k ++ at_one by (End f m) k)) (by_place v.levels v.tables k l) (by_place v.levels v.rows k l)
   end_tables k l kb lb =
       subst (λ xs. IsTable xs (by_place v.levels v.tables k l) (by_place v.levels v.rows k l))
@@ -175,29 +175,29 @@ module _ (v : View) (h : IsKept v) (by : ℕ) (bb : by < v.workers) (f m : ℕ) 
       (h.tables k l kb lb)
 
   -- an End of no worker leaves the counts
-  pub end_beyond : v.workers ≤ f → (k s : ℕ) → k < v.workers → s < v.workers → number_of v.workers v.counted k s ≡ ends (sent_by s (list_of v.taken k ++ at_one by (End f m) k))
+  pub end_beyond : v.workers ≤ f → (k s : ℕ) → k < v.workers → s < v.workers → number_of v.workers v.ends_taken k s ≡ ends (sent_by s (list_of v.taken k ++ at_one by (End f m) k))
   end_beyond far k s kb sb =
       let a = ends_by-append s (list_of v.taken k) (at_one by (End f m) k) in
       let z = ends_by_end s (eqb k by) f m in
       let sf : s < f = omega arith in
       let y0 : one_or_none (eqb f s) ≡ one_or_none false = ap one_or_none (apart s f sf) in
       let y = zero_both (eqb k by) (one_or_none (eqb f s)) y0 ∙ y0 in
-      let o = h.counted k s kb sb in
+      let o = h.ends_taken k s kb sb in
       omega (arith, a, z, y, o)
 
   -- an End of a worker is counted
-  pub end_counted : f < v.workers → (c n : ℕ) → c ≡ get_or v.counted (by * v.workers + f) c → n ≡ c + 1 → (k s : ℕ) → k < v.workers → s < v.workers
-      → number_of v.workers (set v.counted (by * v.workers + f) n) k s ≡ ends (sent_by s (list_of v.taken k ++ at_one by (End f m) k))
+  pub end_counted : f < v.workers → (c n : ℕ) → c ≡ get_or v.ends_taken (by * v.workers + f) c → n ≡ c + 1 → (k s : ℕ) → k < v.workers → s < v.workers
+      → number_of v.workers (set v.ends_taken (by * v.workers + f) n) k s ≡ ends (sent_by s (list_of v.taken k ++ at_one by (End f m) k))
   end_counted fb c n is en k s kb sb =
-      let room = place v.workers v.workers by f (length v.counted) bb fb h.shape.counted in
+      let room = place v.workers v.workers by f (length v.ends_taken) bb fb h.shape.ends_taken in
       let a = ends_by-append s (list_of v.taken k) (at_one by (End f m) k) in
       let z = ends_by_end s (eqb k by) f m in
-      let o = h.counted k s kb sb in
-      pair_set 0 v.workers v.counted by f n k s fb sb room
-      ∙ (elim (eqb k by && eqb s f) as (λ b. (eqb k by && eqb s f) ≡ b → cond b n (number_of v.workers v.counted k s) ≡ ends (sent_by s (list_of v.taken k)) + cond (eqb k by) (cond (eqb s f) 1 0) 0) [
+      let o = h.ends_taken k s kb sb in
+      pair_set 0 v.workers v.ends_taken by f n k s fb sb room
+      ∙ (elim (eqb k by && eqb s f) as (λ b. (eqb k by && eqb s f) ≡ b → cond b n (number_of v.workers v.ends_taken k s) ≡ ends (sent_by s (list_of v.taken k)) + cond (eqb k by) (cond (eqb s f) 1 0) 0) [
         | true ↦ λ t. (
             let (p, q) = at_pair_is k by s f t in
-            let here : number_of v.workers v.counted k s ≡ c = ap (λ j. get_or v.counted (j * v.workers + s) 0) p ∙ ap (λ j. get_or v.counted (by * v.workers + j) 0) q ∙ got v.counted (by * v.workers + f) c 0 room is in
+            let here : number_of v.workers v.ends_taken k s ≡ c = ap (λ j. get_or v.ends_taken (j * v.workers + s) 0) p ∙ ap (λ j. get_or v.ends_taken (by * v.workers + j) 0) q ∙ got v.ends_taken (by * v.workers + f) c 0 room is in
             let y = both_one (eqb k by) (eqb s f) (eq-eqb k by p) (eq-eqb s f q) in
             omega (arith, here, o, en, y))
         | false ↦ λ t. (let y = both_zero (eqb k by) (eqb s f) t in omega (arith, o, y))

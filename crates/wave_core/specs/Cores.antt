@@ -13,13 +13,13 @@ use Rattle.wave_core.specs.declared.Event.TheVariants.{Take, Keep}
 use Rattle.wave_core.specs.declared.CoreFault.{CoreFault}
 use Rattle.wave_core.specs.declared.CoreFault.TheVariants.{NotAllowed, OutOfMemory}
 use Rattle.wave_core.specs.Step.{State, IsStart, IsStep, IsRun}
-use Rattle.wave_core.specs.Sound.{IsSound}
-use Rattle.wave_core.specs.View.{View, state_of, done_of}
+use Rattle.wave_core.specs.Sound.{IsSoundState}
+use Rattle.wave_core.specs.MachineView.{MachineView, state_of, done_of}
 
 pub record CoreView : Type 0 where
   pub store : Nodes
   pub roots : List Key
-  pub machine : View
+  pub machine : MachineView
 
 abbrev pub core_wave : CoreView → Wave
 core_wave v = wave_of v.store v.machine.workers
@@ -31,7 +31,7 @@ core_state v = state_of v.machine
 pub record IsSoundCore (v : CoreView) : Type 0 where
   pub levels : v.machine.levels ≡ v.store.levels
   pub laws : IsWave (core_wave v)
-  pub sound : IsSound (core_wave v) v.roots (core_state v)
+  pub sound : IsSoundState (core_wave v) v.roots (core_state v)
 
 -- a core at the start
 pub record IsNew (S : Nodes) (workers' : ℕ) (roots' : List Key) (v : CoreView) : Type 0 where

@@ -25,30 +25,30 @@ abbrev pub all_events : Wave → List Event
 all_events w = events_below w.workers w.workers
 
 -- m of the events are allowed
-abbrev pub AllowsOf : Wave → State → List Event → ℕ → Type 0
-AllowsOf w c [] m = m ≡ 0
-AllowsOf w c (x ∷ xs) m = (¬ IsAllowed w c x) × AllowsOf w c xs m ⊎ IsAllowed w c x × ((k : ℕ) × (m ≡ suc k) × AllowsOf w c xs k)
+abbrev pub CountsAllowed : Wave → State → List Event → ℕ → Type 0
+CountsAllowed w c [] m = m ≡ 0
+CountsAllowed w c (x ∷ xs) m = (¬ IsAllowed w c x) × CountsAllowed w c xs m ⊎ IsAllowed w c x × ((k : ℕ) × (m ≡ suc k) × CountsAllowed w c xs k)
 
 -- e is the allowed one numbered n, from 0
-abbrev pub IsNumbered : Wave → State → List Event → ℕ → Event → Type 0
-IsNumbered w c [] n e = ⊥
-IsNumbered w c (x ∷ xs) n e = (¬ IsAllowed w c x) × IsNumbered w c xs n e ⊎ IsAllowed w c x
-    × ((n ≡ 0) × (e ≡ x) ⊎ ((k : ℕ) × (n ≡ suc k) × IsNumbered w c xs k e))
+abbrev pub IsNthAllowed : Wave → State → List Event → ℕ → Event → Type 0
+IsNthAllowed w c [] n e = ⊥
+IsNthAllowed w c (x ∷ xs) n e = (¬ IsAllowed w c x) × IsNthAllowed w c xs n e ⊎ IsAllowed w c x
+    × ((n ≡ 0) × (e ≡ x) ⊎ ((k : ℕ) × (n ≡ suc k) × IsNthAllowed w c xs k e))
 
 -- From c by these choices to d, which is finished: while c is not, the event numbered `choice modulo the number of
 -- allowed ones` for each choice, and then always the first.
 pub data IsDriven (w : Wave) : State → List ℕ → State → Type 0 where
   stop : {c : State} {choices : List ℕ} → IsFinished w c → IsDriven w c choices c
-  turn : {c b d : State} {choice : ℕ} {choices : List ℕ} (m : ℕ) (e : Event) → ¬ IsFinished w c → AllowsOf w c (all_events w) (suc m)
-      → IsNumbered w c (all_events w) (choice % suc m) e
+  by_choice : {c b d : State} {choice : ℕ} {choices : List ℕ} (m : ℕ) (e : Event) → ¬ IsFinished w c → CountsAllowed w c (all_events w) (suc m)
+      → IsNthAllowed w c (all_events w) (choice % suc m) e
       → IsStep w c e b → IsDriven w b choices d → IsDriven w c (choice ∷ choices) d
-  first : {c b d : State} (e : Event) → ¬ IsFinished w c → IsNumbered w c (all_events w) 0 e → IsStep w c e b → IsDriven w b [] d
+  first : {c b d : State} (e : Event) → ¬ IsFinished w c → IsNthAllowed w c (all_events w) 0 e → IsStep w c e b → IsDriven w b [] d
       → IsDriven w c [] d
 
 -- From c to d by the allowed event of a choice's number.
-pub record IsTurn (w : Wave) (c : State) (choice : ℕ) (d : State) : Type 0 where
+pub record IsChosenStep (w : Wave) (c : State) (choice : ℕ) (d : State) : Type 0 where
   pub others : ℕ
   pub event : Event
-  pub count : AllowsOf w c (all_events w) (suc others)
-  pub numbered : IsNumbered w c (all_events w) (choice % suc others) event
+  pub count : CountsAllowed w c (all_events w) (suc others)
+  pub nth_allowed : IsNthAllowed w c (all_events w) (choice % suc others) event
   pub step : IsStep w c event d

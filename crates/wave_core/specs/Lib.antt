@@ -2,7 +2,7 @@ pub mod Step
 pub mod Sound
 pub mod Measure
 pub mod Drive
-pub mod View
+pub mod MachineView
 pub mod Counting
 pub mod Cores
-pub mod Fall
+pub mod CoreMeasure

@@ -10,11 +10,11 @@ use std::marker::Model;
 
 /// Items that were sent or taken, in order.
 #[derive(Drop)]
-pub struct Items {
+pub struct ItemList {
     items: Vec<Item>,
 }
 
-impl Model for Items {
+impl Model for ItemList {
     ghost use Rattle.std.specs.Prelude.{List};
     ghost use Rattle.req_table.specs.declared.Item.{Item as ItemValue};
 
@@ -23,23 +23,23 @@ impl Model for Items {
     ghost view = { λ l. l.items.items };
 }
 
-impl Items {
+impl ItemList {
     /// An empty list.
-    pub fn new(alloc: Global) -> Items
+    pub fn new(alloc: Global) -> ItemList
         ensures { result ≡ [] }
     {
-        Items {
+        ItemList {
             items: Vec::new(alloc),
         }
     }
 
     /// So many empty lists.
-    pub fn many(alloc: Global, count: usize) -> Result<Vec<Items>, AllocError>
+    pub fn many(alloc: Global, count: usize) -> Result<Vec<ItemList>, AllocError>
         ensures { IfOk result (λ lists. lists.items ≡ replicate count []) }
     {
         let mut lists = Vec::new(alloc);
         for made in 0..count {
-            lists.push(Items::new(alloc))?;
+            lists.push(ItemList::new(alloc))?;
         }
         Ok(lists)
     }
@@ -77,11 +77,11 @@ impl Items {
 
 /// Records of one worker and level, in order.
 #[derive(Drop)]
-pub struct Row {
+pub struct RecordList {
     records: Vec<Record>,
 }
 
-impl Model for Row {
+impl Model for RecordList {
     ghost use Rattle.std.specs.Prelude.{List};
     ghost use Rattle.req_table.specs.declared.Record.{Record as RecordValue};
 
@@ -90,23 +90,23 @@ impl Model for Row {
     ghost view = { λ l. l.records.items };
 }
 
-impl Row {
+impl RecordList {
     /// An empty list.
-    pub fn new(alloc: Global) -> Row
+    pub fn new(alloc: Global) -> RecordList
         ensures { result ≡ [] }
     {
-        Row {
+        RecordList {
             records: Vec::new(alloc),
         }
     }
 
     /// So many empty lists.
-    pub fn many(alloc: Global, count: usize) -> Result<Vec<Row>, AllocError>
+    pub fn many(alloc: Global, count: usize) -> Result<Vec<RecordList>, AllocError>
         ensures { IfOk result (λ lists. lists.items ≡ replicate count []) }
     {
         let mut lists = Vec::new(alloc);
         for made in 0..count {
-            lists.push(Row::new(alloc))?;
+            lists.push(RecordList::new(alloc))?;
         }
         Ok(lists)
     }
@@ -137,7 +137,7 @@ impl Row {
 }
 
 /// Puts an item at the end of both lists. After want of memory both are as before.
-pub fn put_both(first: &mut Items, second: &mut Items, item: &Item) -> Result<(), AllocError>
+pub fn put_both(first: &mut ItemList, second: &mut ItemList, item: &Item) -> Result<(), AllocError>
     ensures first { OnOk result (first.new ≡ first.old ++ item.now ∷ []) }
     ensures second { OnOk result (second.new ≡ second.old ++ item.now ∷ []) }
     ensures err { OnErr result ((first.new ≡ first.old) × (second.new ≡ second.old)) }
@@ -164,7 +164,7 @@ pub fn append(records: &mut Vec<Record>, row: &[Record]) -> Result<(), AllocErro
 }
 
 /// How many items all lists have.
-pub fn count_items(lists: &[Items]) -> u128
+pub fn count_items(lists: &[ItemList]) -> u128
     ensures value { result ≡ sum_by length lists.now }
     ensures bound { result ≤ length lists.now * 2 ^ 64 }
 {
@@ -176,7 +176,7 @@ pub fn count_items(lists: &[Items]) -> u128
 }
 
 /// How many records all rows have.
-pub fn count_records(rows: &[Row]) -> u128
+pub fn count_records(rows: &[RecordList]) -> u128
     ensures value { result ≡ sum_by length rows.now }
     ensures bound { result ≤ length rows.now * 2 ^ 64 }
 {

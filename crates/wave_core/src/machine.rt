@@ -1,7 +1,7 @@
 //! The lists of all workers, and what is read of them.
 ghost use Rattle.std.specs.Prelude.{◌≡◌, ℕ, ◌<◌, ◌≤◌, length, slice_index_or, IfOk, MatchBool};
 ghost use Rattle.req_table.specs.Keys.{wave_at};
-ghost use Rattle.wave_core.specs.View.{View, IsKept, state_of, list_of, by_place, done_of};
+ghost use Rattle.wave_core.specs.MachineView.{MachineView, IsConsistent, state_of, list_of, by_place, done_of};
 ghost use Rattle.req_table.specs.Settled.{level_of_rows};
 ghost use Rattle.req_table.specs.Tables.{row_at};
 ghost use Rattle.wave_core.specs.Step.{IsStart};
@@ -10,9 +10,9 @@ mod lanes;
 mod levels;
 
 use crate::Records;
-use crate::lists::{Items, Row, append, count_items, count_levels, count_records};
-use crate::queues::{Keys, Waiting};
-use crate::start::{deal, tables};
+use crate::lists::{ItemList, RecordList, append, count_items, count_levels, count_records};
+use crate::queues::{ItemQueue, KeyQueue};
+use crate::start::{distribute_roots, tables};
 use dd_store::Store;
 use req_table::{Item, Key, Record, Table};
 use std::alloc::{AllocError, Global};
@@ -25,47 +25,47 @@ use std::marker::Model;
 pub struct Machine {
     workers: u32,
     levels: u16,
-    sent: Vec<Items>,
-    ended: Vec<u16>,
-    due: Vec<Keys>,
-    waiting: Vec<Waiting>,
-    taken: Vec<Items>,
-    counted: Vec<u64>,
+    sent: Vec<ItemList>,
+    ends_sent: Vec<u16>,
+    due: Vec<KeyQueue>,
+    waiting: Vec<ItemQueue>,
+    taken: Vec<ItemList>,
+    ends_taken: Vec<u64>,
     tables: Vec<Table>,
-    rows: Vec<Row>,
+    rows: Vec<RecordList>,
     at: Vec<u16>,
     kept: u128,
 }
 
 impl Model for Machine {
-    ghost use Rattle.wave_core.specs.View.{View, IsKept};
+    ghost use Rattle.wave_core.specs.MachineView.{MachineView, IsConsistent};
 
-    ghost Value = { View };
+    ghost Value = { MachineView };
 
     ghost view = { λ m. record {
       workers = m.workers;
       levels = m.levels;
       sent = m.sent.items;
-      ended = m.ended.items;
+      ends_sent = m.ends_sent.items;
       due = m.due.items;
       waiting = m.waiting.items;
       taken = m.taken.items;
-      counted = m.counted.items;
+      ends_taken = m.ends_taken.items;
       tables = m.tables.items;
       rows = m.rows.items;
       at = m.at.items;
       kept = m.kept;
     } };
 
-    ghost invariant = { λ m. IsKept (record {
+    ghost invariant = { λ m. IsConsistent (record {
       workers = m.workers;
       levels = m.levels;
       sent = m.sent.items;
-      ended = m.ended.items;
+      ends_sent = m.ends_sent.items;
       due = m.due.items;
       waiting = m.waiting.items;
       taken = m.taken.items;
-      counted = m.counted.items;
+      ends_taken = m.ends_taken.items;
       tables = m.tables.items;
       rows = m.rows.items;
       at = m.at.items;
@@ -93,14 +93,14 @@ impl Machine {
         Ok(Machine {
             workers,
             levels,
-            sent: Items::many(alloc, pairs)?,
-            ended: vec![in alloc; 0; pairs]?,
-            due: deal(alloc, workers, roots)?,
-            waiting: Waiting::many(alloc, wide)?,
-            taken: Items::many(alloc, wide)?,
-            counted: vec![in alloc; 0; pairs]?,
+            sent: ItemList::many(alloc, pairs)?,
+            ends_sent: vec![in alloc; 0; pairs]?,
+            due: distribute_roots(alloc, workers, roots)?,
+            waiting: ItemQueue::many(alloc, wide)?,
+            taken: ItemList::many(alloc, wide)?,
+            ends_taken: vec![in alloc; 0; pairs]?,
             tables: tables(alloc, places)?,
-            rows: Row::many(alloc, places)?,
+            rows: RecordList::many(alloc, places)?,
             at: vec![in alloc; 0; wide]?,
             kept: 0,
         })
@@ -122,7 +122,7 @@ impl Machine {
     /// How many workers there are.
     pub fn workers(&self) -> u32
         ensures count { result ≡ self.now.workers }
-        ensures kept { IsKept self.now }
+        ensures kept { IsConsistent self.now }
     {
         self.workers
     }

@@ -9,13 +9,13 @@ use std::alloc::{AllocError, Global};
 use std::collections::VecDeque;
 use std::marker::Model;
 
-/// Keys that are due from one worker to another, in order.
+/// KeyQueue that are due from one worker to another, in order.
 #[derive(Drop)]
-pub struct Keys {
+pub struct KeyQueue {
     keys: VecDeque<Key>,
 }
 
-impl Model for Keys {
+impl Model for KeyQueue {
     ghost use Rattle.std.specs.Prelude.{List};
     ghost use Rattle.req_table.specs.declared.Key.{Key as KeyValue};
 
@@ -24,23 +24,23 @@ impl Model for Keys {
     ghost view = { λ l. l.keys.items };
 }
 
-impl Keys {
+impl KeyQueue {
     /// An empty list.
-    pub fn new(alloc: Global) -> Keys
+    pub fn new(alloc: Global) -> KeyQueue
         ensures { result ≡ [] }
     {
-        Keys {
+        KeyQueue {
             keys: VecDeque::new(alloc),
         }
     }
 
     /// So many empty lists.
-    pub fn many(alloc: Global, count: usize) -> Result<Vec<Keys>, AllocError>
+    pub fn many(alloc: Global, count: usize) -> Result<Vec<KeyQueue>, AllocError>
         ensures { IfOk result (λ lists. lists.items ≡ replicate count []) }
     {
         let mut lists = Vec::new(alloc);
         for made in 0..count {
-            lists.push(Keys::new(alloc))?;
+            lists.push(KeyQueue::new(alloc))?;
         }
         Ok(lists)
     }
@@ -94,11 +94,11 @@ fn is_from(item: &Item, sender: u32) -> bool
 
 /// Items that wait on one lane, in order.
 #[derive(Drop)]
-pub struct Waiting {
+pub struct ItemQueue {
     items: VecDeque<Item>,
 }
 
-impl Model for Waiting {
+impl Model for ItemQueue {
     ghost use Rattle.std.specs.Prelude.{List};
     ghost use Rattle.req_table.specs.declared.Item.{Item as ItemValue};
 
@@ -107,23 +107,23 @@ impl Model for Waiting {
     ghost view = { λ l. l.items.items };
 }
 
-impl Waiting {
+impl ItemQueue {
     /// An empty list.
-    pub fn new(alloc: Global) -> Waiting
+    pub fn new(alloc: Global) -> ItemQueue
         ensures { result ≡ [] }
     {
-        Waiting {
+        ItemQueue {
             items: VecDeque::new(alloc),
         }
     }
 
     /// So many empty lists.
-    pub fn many(alloc: Global, count: usize) -> Result<Vec<Waiting>, AllocError>
+    pub fn many(alloc: Global, count: usize) -> Result<Vec<ItemQueue>, AllocError>
         ensures { IfOk result (λ lists. lists.items ≡ replicate count []) }
     {
         let mut lists = Vec::new(alloc);
         for made in 0..count {
-            lists.push(Waiting::new(alloc))?;
+            lists.push(ItemQueue::new(alloc))?;
         }
         Ok(lists)
     }

@@ -1,8 +1,8 @@
 //! What the lists of all workers are at the start.
 ghost use Rattle.std.specs.Prelude.{◌≡◌, ◌*◌, ◌<◌, ◌≤◌, [], length, replicate, IfOk};
-ghost use Rattle.wave_core.specs.View.{AreDealt};
+ghost use Rattle.wave_core.specs.MachineView.{AreDistributed};
 
-use crate::queues::Keys;
+use crate::queues::KeyQueue;
 use req_table::requests::owner;
 use req_table::{Key, Table};
 use std::alloc::{AllocError, Global};
@@ -19,13 +19,17 @@ pub fn tables(alloc: Global, count: usize) -> Result<Vec<Table>, AllocError>
 }
 
 /// The roots: each is due from the worker that it is dealt to, to its owner.
-pub fn deal(alloc: Global, workers: u32, roots: &[Key]) -> Result<Vec<Keys>, AllocError>
+pub fn distribute_roots(
+    alloc: Global,
+    workers: u32,
+    roots: &[Key],
+) -> Result<Vec<KeyQueue>, AllocError>
     requires some { 0 < workers }
     requires few { workers ≤ 16 }
     ensures size { IfOk result (λ due. length due.items ≡ workers * workers) }
-    ensures dealt { IfOk result (λ due. AreDealt workers roots.now due.items) }
+    ensures distributed { IfOk result (λ due. AreDistributed workers roots.now due.items) }
 {
-    let mut due = Keys::many(alloc, (workers * workers) as usize)?;
+    let mut due = KeyQueue::many(alloc, (workers * workers) as usize)?;
     for place in 0..roots.len() {
         let root = roots[place];
         let by = (place % workers as usize) as u32;

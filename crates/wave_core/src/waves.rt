@@ -64,7 +64,7 @@ impl<'a> Core<'a> {
     }
 
     /// Does an event, and says whether it was allowed.
-    fn turn(&mut self, event: Event) -> Result<bool, AllocError>
+    fn try_event(&mut self, event: Event) -> Result<bool, AllocError>
         ensures same { IsSameWave self.old self.new }
         ensures ok { IfOk result (λ b. MatchBool b (IsStep (core_wave self.old) (core_state self.old) event (core_state self.new))
             ((self.new ≡ self.old) × ¬ IsAllowed (core_wave self.old) (core_state self.old) event)) }
@@ -104,7 +104,7 @@ impl<'a> Core<'a> {
             let place = self.events_done();
             return Err(CoreFault::NotAllowed { place });
         }
-        match self.turn(event) {
+        match self.try_event(event) {
             Ok(true) => Ok(()),
             Ok(false) => unreachable!(),
             Err(_) => Err(CoreFault::OutOfMemory),

@@ -8,9 +8,9 @@ use Rattle.req_table.specs.declared.Record.{Record}
 use Rattle.req_table.specs.Keys.{IsKey, wave_of}
 use Rattle.req_table.specs.Reached.{IsReached}
 use Rattle.req_table.specs.Settled.{IsSplit, level_of_rows, key_of}
-use Rattle.expand_work.specs.Expanded.{row_of}
-use Rattle.expand_work.specs.Gathered.{PartsView, AreParts}
-use Rattle.expand_work.specs.Lean.{records_of}
+use Rattle.expand_work.specs.WavePorts.{row_of}
+use Rattle.expand_work.specs.WaveParts.{PartsView, AreParts}
+use Rattle.expand_work.specs.OwnerRows.{records_of}
 use Rattle.expand_work.proofs.Teams.{first_of}
 use Rattle.reduce_up.proofs.Closed.{reached_key}
 use Rattle.reduce_up.proofs.Numbering.{in_team}

@@ -11,8 +11,8 @@ use Rattle.std.proofs.lemmas.List.Elements.{Contains-get_or}
 use Rattle.std.proofs.lemmas.Option.{get_or_from_slice_get}
 use Rattle.req_table.specs.declared.Key.{Key}
 use Rattle.req_table.specs.declared.Record.{Record}
-use Rattle.reduce_up.specs.Reducing.{IsKeyAt, IsRow, HasAnswer, Notes}
-use Rattle.reduce_up.specs.Placed.{place_of, paired, joined, ArePlaced}
+use Rattle.reduce_up.specs.Reducing.{IsKeyAt, IsRow, HasAnswer, NotesAnswer}
+use Rattle.reduce_up.specs.AnswersByLevel.{place_of, paired, joined, ArePlaced}
 use Rattle.reduce_up.proofs.Noting.{nothing, head_in, in_cases}
 use Rattle.reduce_up.proofs.Placing.{in_either, in_joined, in_left, in_right, notes_row, paired_place, placed_set}
 
@@ -42,7 +42,7 @@ pub none_paired : (ks : List Key) (rs : List Ref) (k : Key) → (¬ Contains ks 
 none_paired ks rs k out h = let (i, lt, f, g) = paired_place ks rs k h.0 h.1 in out (i, lt, get_or_from_slice_get ks i k k f)
 
 -- a key that is new is noted
-pub notes_last : (old : List (Key × Ref)) (k : Key) (r : Ref) → Notes old k r (old ++ (k, r) ∷ [])
+pub notes_last : (old : List (Key × Ref)) (k : Key) (r : Ref) → NotesAnswer old k r (old ++ (k, r) ∷ [])
 notes_last old k r = record {
   noted = (r, in_right old ((k, r) ∷ []) (k, r) (head_in {X = Key × Ref} (k, r) []));
   only = λ l a c. elim (in_either old ((k, r) ∷ []) (l, a) c) [
@@ -53,7 +53,7 @@ notes_last old k r = record {
 }
 
 -- one that has an answer has been noted
-pub notes_known : (old : List (Key × Ref)) (k : Key) (r : Ref) → HasAnswer old k → Notes old k r old
+pub notes_known : (old : List (Key × Ref)) (k : Key) (r : Ref) → HasAnswer old k → NotesAnswer old k r old
 notes_known old k r h = record { noted = h; only = λ l a c. inl c; more = λ l i. i }
 
 -- a key that has an answer has it in the row of its place
@@ -76,11 +76,11 @@ row_read rows i row lt e = get_or_default rows i [] row lt ∙ sym e
 
 -- a row after an answer was noted in it, or refused
 module _ (rows : List (List (Key × Ref))) (i : ℕ) (old new : List (Key × Ref)) (k : Key) (r : Ref) (lt : i < length rows) (read : old ≡ get_or rows i old) where
-  pub noted_in : (result : Result (Unit {0}) AllocError) → OnOk result (Notes old k r new) → OnOk result (Notes (joined rows) k r (joined (set rows i new)))
-  noted_in (Ok u) n = notes_row rows i new lt k r (subst (λ l. Notes l k r new) (sym (row_read rows i old lt read)) n)
+  pub noted_in : (result : Result (Unit {0}) AllocError) → OnOk result (NotesAnswer old k r new) → OnOk result (NotesAnswer (joined rows) k r (joined (set rows i new)))
+  noted_in (Ok u) n = notes_row rows i new lt k r (subst (λ l. NotesAnswer l k r new) (sym (row_read rows i old lt read)) n)
   noted_in (Err e) n = n
 
-  pub placed_in : (result : Result (Unit {0}) AllocError) → OnOk result (Notes old k r new) → OnErr result (new ≡ old) → ArePlaced rows → place_of k ≡ i → ArePlaced (set rows i new)
+  pub placed_in : (result : Result (Unit {0}) AllocError) → OnOk result (NotesAnswer old k r new) → OnErr result (new ≡ old) → ArePlaced rows → place_of k ≡ i → ArePlaced (set rows i new)
   placed_in (Ok u) n e h at = placed_set rows i new lt h
       (λ l a c. elim (n.only l a c) [ inl o ↦ h i l a (subst (λ z. Contains {X = Key × Ref} z (l, a)) (sym (row_read rows i old lt read)) o) | inr s ↦ ap place_of s.0 ∙ at ])
   placed_in (Err x) n e h at = subst ArePlaced (sym (ap (λ z. set rows i z) (e ∙ read) ∙ set-get_or rows i old)) h

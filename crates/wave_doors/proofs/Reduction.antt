@@ -10,7 +10,7 @@ use Rattle.dd_store.specs.Functions.{OfEither}
 use Rattle.dd_store.specs.Parts.Part.{node}
 use Rattle.dd_store.specs.Nodes.{Nodes, den, IsSound}
 use Rattle.dd_store.specs.View.{part, Has, Keeps}
-use Rattle.reduce_up.specs.Reducing.{IsKeyAt, IsAnswer, AreAnswers, HasAnswer, IsReady, AddsDescribed, AskedBy, IsRow, IsRowReduced, Notes}
+use Rattle.reduce_up.specs.Reducing.{IsKeyAt, IsAnswer, AreAnswers, HasAnswer, IsReady, AddsDescribed, AskedBy, IsRow, IsRowReduced, NotesAnswer}
 use Rattle.req_table.specs.Keys.{meaning}
 use Rattle.std.specs.Prelude.{slice_index_or}
 use Rattle.std.proofs.Math.Nat.{eq-or-lt_of_le}
@@ -49,7 +49,7 @@ adds_on a b c v row entry S T member key i j = record { keeps = keeps-trans a b 
     later m (inl h) = earlier m h (i.described m h)
     later m (inr k) = inr (k.0, k.1, k.2, k.3, either_more (AskedBy b v (entry ∷ []) k.0) (AskedBy a v row k.0) (of_row k.0) (den c m) k.4)
 
-answers_more : (s : Nodes) (pairs : List (Key × Ref)) (k : Key) (r : Ref) (pairs' : List (Key × Ref)) → AreAnswers s pairs → IsAnswer s k r → Notes pairs k r pairs' → AreAnswers s pairs'
+answers_more : (s : Nodes) (pairs : List (Key × Ref)) (k : Key) (r : Ref) (pairs' : List (Key × Ref)) → AreAnswers s pairs → IsAnswer s k r → NotesAnswer pairs k r pairs' → AreAnswers s pairs'
 answers_more s pairs k r pairs' a i n l m c = by (n.only l m c)
   where
     by : Contains pairs (l, m) ⊎ ((l ≡ k) × (m ≡ r)) → IsAnswer s l m
@@ -73,7 +73,7 @@ row_stopped start before v row i s pairs s' entry S R c so T adds = record {
 
 pub row_next : (start : Nodes) (before : List (Key × Ref)) (v : ℕ) (row : List Record) (i : ℕ) (s : Nodes) (pairs : List (Key × Ref)) (s' : Nodes) (entry : Record) (r : Ref) (pairs' : List (Key × Ref)) →
     IsSound start → IsRow start before v row → i < length row → entry ≡ get_or row i entry → IsRowReduced start before v row i s pairs → IsSound s' → AddsDescribed s s' (AskedBy s v (entry ∷ [])) →
-    IsAnswer s' entry.key r → Notes pairs entry.key r pairs' → IsRowReduced start before v row (i + 1) s' pairs'
+    IsAnswer s' entry.key r → NotesAnswer pairs entry.key r pairs' → IsRowReduced start before v row (i + 1) s' pairs'
 row_next start before v row i s pairs s' entry r pairs' S R lt at so T adds a n =
     let st : IsRowReduced start before v row i s' pairs = row_stopped start before v row i s pairs s' entry S R (member row i entry lt at) so T adds in
     record {

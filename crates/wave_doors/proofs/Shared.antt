@@ -10,51 +10,51 @@ use Rattle.dd_store.specs.declared.StoreFault.TheVariants.{Full, OutOfMemory}
 use Rattle.req_table.specs.declared.Key.{Key}
 use Rattle.req_table.specs.declared.Record.{Record}
 use Rattle.dd_store.specs.Graph.{Pair}
-use Rattle.dd_store.specs.Codes.{shard_of_pair}
+use Rattle.dd_store.specs.Hashes.{shard_of_pair}
 use Rattle.dd_store.specs.Growing.{IsIn}
 use Rattle.dd_store.specs.Nodes.{Nodes, shard_at, IsSound, IsThere, count_of}
 use Rattle.dd_store.specs.Adding.{AreReady, GrowsLevel, IsLevelFault}
-use Rattle.dd_store.specs.Levels.{plain_lists}
+use Rattle.dd_store.specs.Levels.{regular_lists}
 use Rattle.dd_store.proofs.Storing.{small_shard, shard-le-count}
 use Rattle.dd_store.proofs.AddingAll.{Extends-grown, added_there, lacking_absent}
 use Rattle.dd_store.proofs.View.{keeps, same_ref, absent}
 use Rattle.expand_work.specs.Fault.{wave_fault}
-use Rattle.reduce_up.specs.Reducing.{AreAnswers, HasAnswer, IsRow, IsRowReduced, IsRowFault, Notes}
-use Rattle.reduce_up.specs.Sharing.{IsPairOf, CanStand, AreDivided, AddsRow, IsRowRefused, NotesFirst}
+use Rattle.reduce_up.specs.Reducing.{AreAnswers, HasAnswer, IsRow, IsRowReduced, IsRowFault, NotesAnswer}
+use Rattle.reduce_up.specs.Sharing.{IsPairOf, CanBeNode, AreDivided, AddsRow, IsRowRefused, NotesFirst}
 use Rattle.wave_doors.specs.Sharing.{AddsPairs, HasPair, IsPairsFault}
 use Rattle.reduce_up.proofs.Naming.{grown_of_pair}
 use Rattle.reduce_up.proofs.Shared.{added, noted, refused, stands, zip_right, zip_through}
 
 -- pairs that can stand at a level may be added to it
-pub ready : (S : Nodes) (v : ℕ) (pairs : List Pair) (lists : ℕ → List Pair) → v < S.levels → All (CanStand S v) pairs → AreDivided pairs lists → AreReady S v lists
+pub ready : (S : Nodes) (v : ℕ) (pairs : List Pair) (lists : ℕ → List Pair) → v < S.levels → All (CanBeNode S v) pairs → AreDivided pairs lists → AreReady S v lists
 ready S v pairs lists lt can d = record {
   level = lt;
   differ = λ s p w. (d.only s p w).1;
-  lo_here = λ s p w. (of s p w).has_low;
-  hi_here = λ s p w. (of s p w).has_high;
+  lo_in_store = λ s p w. (of s p w).has_low;
+  hi_in_store = λ s p w. (of s p w).has_high;
   above = λ s p w. ((of s p w).below_low, (of s p w).below_high);
   sharded = λ s p lt w. (d.only s p w).2;
 }
   where
-    of : (s : ℕ) (p : Pair) → IsIn (lists s) p → CanStand S v p
-    of s p w = All-contains (CanStand S v) pairs p can (d.only s p w).0
+    of : (s : ℕ) (p : Pair) → IsIn (lists s) p → CanBeNode S v p
+    of s p w = All-contains (CanBeNode S v) pairs p can (d.only s p w).0
 
 -- each new node is that of a pair
-pub adds_pairs : (S T : Nodes) (v : ℕ) (pairs : List Pair) (lists : ℕ → List Pair) → GrowsLevel S T v (plain_lists lists) → AreDivided pairs lists → AddsPairs S T v pairs
+pub adds_pairs : (S T : Nodes) (v : ℕ) (pairs : List Pair) (lists : ℕ → List Pair) → GrowsLevel S T v (regular_lists lists) → AreDivided pairs lists → AddsPairs S T v pairs
 adds_pairs S T v pairs lists g d = record {
-  keeps = keeps S T (Extends-grown S T v (plain_lists lists) g);
+  keeps = keeps S T (Extends-grown S T v (regular_lists lists) g);
   only = λ m h. elim (grown_of_pair S T v lists g m h) [ inl old ↦ inl old | inr new ↦ (let o = d.only new.0 new.1 new.2 in inr (new.1, o.0, o.1, new.3)) ];
 }
 
 -- where no pair is missing, each has its reference
-pub has_pairs : (T : Nodes) (v : ℕ) (pairs : List Pair) (lists : ℕ → List Pair) → AreDivided pairs lists → IsLevelFault T v (plain_lists lists) None → (p : Pair) → Contains pairs p → HasPair T v p
+pub has_pairs : (T : Nodes) (v : ℕ) (pairs : List Pair) (lists : ℕ → List Pair) → AreDivided pairs lists → IsLevelFault T v (regular_lists lists) None → (p : Pair) → Contains pairs p → HasPair T v p
 has_pairs T v pairs lists d f p c = elim (same_ref p.0 p.1) [
   | yes e ↦ (p.0, inl (e, refl))
   | no n ↦ added_there T v lists f (shard_of_pair p.0 p.1) p (small_shard p.0 p.1) (d.all p c n) n
 ]
 
 -- where one is missing at a shard that is full, the store is full
-pub pairs_fault : (T : Nodes) (v : ℕ) (pairs : List Pair) (lists : ℕ → List Pair) (f : StoreFault) → IsSound T → AreDivided pairs lists → IsLevelFault T v (plain_lists lists) (Some f) → IsPairsFault T v pairs f
+pub pairs_fault : (T : Nodes) (v : ℕ) (pairs : List Pair) (lists : ℕ → List Pair) (f : StoreFault) → IsSound T → AreDivided pairs lists → IsLevelFault T v (regular_lists lists) (Some f) → IsPairsFault T v pairs f
 pairs_fault T v pairs lists OutOfMemory w d h = tt
 pairs_fault T v pairs lists Full w d (s, lt, full, lacks) =
     let enough : length (shard_at T v s) ≤ count_of T = shard-le-count T (16 * v + s) in
@@ -64,18 +64,18 @@ pairs_fault T v pairs lists Full w d (s, lt, full, lacks) =
 
 -- both by the answer of the store
 pub pairs_there : (T : Nodes) (v : ℕ) (pairs : List Pair) (lists : ℕ → List Pair) (r : Result (Unit {0}) StoreFault) → AreDivided pairs lists →
-    MatchResult r (λ _. IsLevelFault T v (plain_lists lists) None) (λ f. IsLevelFault T v (plain_lists lists) (Some f)) → OnOk r (All (HasPair T v) pairs)
+    MatchResult r (λ _. IsLevelFault T v (regular_lists lists) None) (λ f. IsLevelFault T v (regular_lists lists) (Some f)) → OnOk r (All (HasPair T v) pairs)
 pairs_there T v pairs lists (Ok u) d h = λ k e lt. has_pairs T v pairs lists d h (get_or pairs k e) (Contains-get_or pairs k e lt)
 pairs_there T v pairs lists (Err f) d h = tt
 
 pub pairs_refused : (T : Nodes) (v : ℕ) (pairs : List Pair) (lists : ℕ → List Pair) (r : Result (Unit {0}) StoreFault) → IsSound T → AreDivided pairs lists →
-    MatchResult r (λ _. IsLevelFault T v (plain_lists lists) None) (λ f. IsLevelFault T v (plain_lists lists) (Some f)) → IfErr r (λ f. IsPairsFault T v pairs f)
+    MatchResult r (λ _. IsLevelFault T v (regular_lists lists) None) (λ f. IsLevelFault T v (regular_lists lists) (Some f)) → IfErr r (λ f. IsPairsFault T v pairs f)
 pairs_refused T v pairs lists (Ok u) w d h = tt
 pairs_refused T v pairs lists (Err f) w d h = pairs_fault T v pairs lists f w d h
 
 -- the same, where the pairs of all records stand in a list
 module _ (S : Nodes) (before : List (Key × Ref)) (v : ℕ) (row : List Record) (pairs : List Pair) (held : IsSound S) (answers : AreAnswers S before) (is_row : IsRow S before v row) (are : AllZip (IsPairOf before) row pairs) where
-  pub can_stand : (p : Pair) → Contains pairs p → CanStand S v p
+  pub can_stand : (p : Pair) → Contains pairs p → CanBeNode S v p
   can_stand p c = let w = zip_right (IsPairOf before) row pairs are p c in stands S before v row held answers is_row w.0 p w.1 w.2
 
   module _ (T : Nodes) (sound : IsSound T) (adds : AddsPairs S T v pairs) where
@@ -111,7 +111,7 @@ notes_fewer old row found i new n = record { only = n.only; more = n.more; done 
 
 -- one more is
 pub notes_next : (old : List (Key × Ref)) (row : List Record) (found : List Ref) (i : ℕ) (mid : List (Key × Ref)) (entry : Record) (answer : Ref) (new : List (Key × Ref)) →
-    i < length row → ((d : Record) → entry ≡ get_or row i d) → ((d : Ref) → answer ≡ get_or found i d) → NotesFirst old row found i mid → Notes mid entry.key answer new → NotesFirst old row found (i + 1) new
+    i < length row → ((d : Record) → entry ≡ get_or row i d) → ((d : Ref) → answer ≡ get_or found i d) → NotesFirst old row found i mid → NotesAnswer mid entry.key answer new → NotesFirst old row found (i + 1) new
 notes_next old row found i mid entry answer new lt at beside n m = record {
   only = λ k a c. elim (m.only k a c) [
     | inl before ↦ n.only k a before

@@ -8,20 +8,20 @@ use Rattle.req_table.specs.declared.Key.{Key}
 use Rattle.req_table.specs.declared.Child.{Child}
 use Rattle.req_table.specs.declared.Record.{Record}
 use Rattle.req_table.specs.Keys.{level_of, meaning, answer_of, child_value}
-use Rattle.req_table.specs.ComputedTables.{Held, known_of}
+use Rattle.req_table.specs.ComputedTables.{ComputedView, terminal_or_computed_of}
 
 -- what an operation comes to where what is held is done
-abbrev pub child_known : Nodes → Held → Op → Ref → Ref → Child
-child_known S m op f g = answer_of S op f g (known_of m op f g)
+abbrev pub child_with_computed : Nodes → ComputedView → Op → Ref → Ref → Child
+child_with_computed S m op f g = answer_of S op f g (terminal_or_computed_of m op f g)
 
 -- the child of a key for the bit of its level, in the same way
-abbrev pub child_known_of : Nodes → Held → Key → Bool → Child
-child_known_of S m k b = child_known S m k.op (cofactor_of S k.f (level_of S k) b) (cofactor_of S k.g (level_of S k) b)
+abbrev pub child_with_computed_of : Nodes → ComputedView → Key → Bool → Child
+child_with_computed_of S m k b = child_with_computed S m k.op (cofactor_of S k.f (level_of S k) b) (cofactor_of S k.g (level_of S k) b)
 
 -- a key with these children
-abbrev pub record_known_of : Nodes → Held → Key → Record
-record_known_of S m k = record { key = k; low = child_known_of S m k false; high = child_known_of S m k true }
+abbrev pub record_with_computed : Nodes → ComputedView → Key → Record
+record_with_computed S m k = record { key = k; low = child_with_computed_of S m k false; high = child_with_computed_of S m k true }
 
 -- a child has the value that the key has where the bit of the key's level is b, at each assignment
-abbrev pub IsHalfOf : Nodes → Key → Bool → Child → Type 0
-IsHalfOf S k b c = (x : List Bool) → length x ≡ S.levels → bit x (level_of S k) ≡ b → child_value S c x ≡ meaning S k x
+abbrev pub IsCofactorChildOf : Nodes → Key → Bool → Child → Type 0
+IsCofactorChildOf S k b c = (x : List Bool) → length x ≡ S.levels → bit x (level_of S k) ≡ b → child_value S c x ≡ meaning S k x

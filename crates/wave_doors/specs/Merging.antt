@@ -3,9 +3,9 @@ use Rattle.std.specs.Prelude.{◌≡◌, ℕ, ◌<◌, [], length, slice_index_o
 use Rattle.dd_store.specs.Nodes.{Nodes}
 use Rattle.req_table.specs.Keys.{IsKey}
 use Rattle.req_table.specs.Settled.{key_of}
-use Rattle.expand_work.specs.Expanded.{row_of}
-use Rattle.expand_work.specs.Gathered.{PartsView}
-use Rattle.expand_work.specs.Lean.{records_of}
+use Rattle.expand_work.specs.WavePorts.{row_of}
+use Rattle.expand_work.specs.WaveParts.{PartsView}
+use Rattle.expand_work.specs.OwnerRows.{records_of}
 
 -- Each worker has a row for each level, whose keys are keys of the store, and its records are those of its keys.
 pub record MayMerge (S : Nodes) (workers : ℕ) (p : PartsView) : Type 0 where

@@ -5,7 +5,7 @@ ghost use Rattle.reduce_up.specs.Reducing.{IsReady, IsRecordAt, AreAnswers, IsAn
 ghost use Rattle.reduce_up.specs.Reducing.{IsRowWithin, IsRecordFault};
 ghost use Rattle.reduce_up.specs.Levels.{AreRecords, AskedInRows, AreReduced, IsReduceFault, IsWithinFrom};
 
-use crate::parallel::share_row;
+use crate::parallel::reduce_row_parallel;
 use crate::results::Results;
 use dd_store::{Ref, Store, StoreFault, Watch};
 use expand_work::WaveFault;
@@ -63,7 +63,7 @@ fn reduce_row(
 }
 
 /// Notes the diagrams of a row, by several threads where it has many records.
-fn note_row<R: Threads + Sync, H: Watch + Sync>(
+fn reduce_row_by_size<R: Threads + Sync, H: Watch + Sync>(
     rt: &R,
     store: &mut Store,
     results: &mut Results,
@@ -78,7 +78,7 @@ fn note_row<R: Threads + Sync, H: Watch + Sync>(
     if row.len() < FEWEST_SHARED {
         return reduce_row(store, results, level, row);
     }
-    match share_row(rt, store, results, level, row, watch) {
+    match reduce_row_parallel(rt, store, results, level, row, watch) {
         Ok(()) => Ok(()),
         Err(fault) => Err(WaveFault::from(fault)),
     }
@@ -101,7 +101,7 @@ fn reduce_level<R: Threads + Sync, H: Watch + Sync>(
     if row.is_empty() {
         return Ok(());
     }
-    note_row(rt, store, results, level, row, watch)?;
+    reduce_row_by_size(rt, store, results, level, row, watch)?;
     if store.count() > store.limit() {
         return Err(WaveFault::Full);
     }

@@ -3,9 +3,9 @@ ghost use Rattle.std.specs.Prelude.{◌≡◌, ℕ, ◌<◌, length, All, IfOk};
 ghost use Rattle.req_table.specs.Keys.{IsKey};
 ghost use Rattle.req_table.specs.Settled.{level_of_rows};
 ghost use Rattle.req_table.specs.Tables.{row_at};
-ghost use Rattle.expand_work.specs.Expanded.{row_of};
-ghost use Rattle.expand_work.specs.Gathered.{AreParts};
-ghost use Rattle.expand_work.specs.Lean.{records_of};
+ghost use Rattle.expand_work.specs.WavePorts.{row_of};
+ghost use Rattle.expand_work.specs.WaveParts.{AreParts};
+ghost use Rattle.expand_work.specs.OwnerRows.{records_of};
 ghost use Rattle.wave_doors.specs.Merging.{MayMerge};
 
 use dd_store::Store;

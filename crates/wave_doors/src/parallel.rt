@@ -7,7 +7,7 @@ ghost use Rattle.dd_store.specs.Nodes.{IsSound, IsThere};
 ghost use Rattle.reduce_up.specs.Reducing.{IsReady, MayReduceRow, ReducesRow};
 ghost use Rattle.wave_doors.specs.Reducing.{wave_result};
 ghost use Rattle.wave_doors.specs.Placed.{IsIndexOf};
-ghost use Rattle.reduce_up.specs.Sharing.{IsPairOf, CanStand, IsListed, AreDivided, NotesFirst};
+ghost use Rattle.reduce_up.specs.Sharing.{IsPairOf, CanBeNode, IsListed, AreDivided, NotesFirst};
 ghost use Rattle.wave_doors.specs.Sharing.{AddsPairs, HasPair, IsPairsFault};
 
 use crate::results::{Results, index_of};
@@ -84,7 +84,7 @@ fn add_pairs<R: Threads + Sync, H: Watch + Sync>(
 ) -> Result<(), StoreFault>
     requires held { IsSound store.old }
     requires level { level < store.old.levels }
-    requires ready { All (CanStand store.old level) pairs.now }
+    requires ready { All (CanBeNode store.old level) pairs.now }
     ensures sound { IsSound store.new }
     ensures adds { AddsPairs store.old store.new level pairs.now }
     ensures there { OnOk result (All (HasPair store.new level) pairs.now) }
@@ -138,8 +138,8 @@ pub(crate) fn note_all(
     answers: &[Ref],
 ) -> Result<(), AllocError>
     requires { length answers.now ≡ length row.now }
-    ensures left { NotesFirst results.old row.now answers.now 0 results.new }
-    ensures whole { OnOk result (NotesFirst results.old row.now answers.now (length row.now) results.new) }
+    ensures first_noted { NotesFirst results.old row.now answers.now 0 results.new }
+    ensures all_noted { OnOk result (NotesFirst results.old row.now answers.now (length row.now) results.new) }
 {
     for (entry, answer) in row.iter().zip(answers) {
         results.note(entry.key, *answer)?;
@@ -176,7 +176,7 @@ fn gather<R: Threads + Sync>(
 ///
 /// What no thread could be started for, the caller's thread does. After a refusal some of the nodes may stand, and some diagrams may
 /// be noted.
-pub(crate) fn share_row<R: Threads + Sync, H: Watch + Sync>(
+pub(crate) fn reduce_row_parallel<R: Threads + Sync, H: Watch + Sync>(
     rt: &R,
     store: &mut Store,
     results: &mut Results,

@@ -2,9 +2,9 @@
 ghost use Rattle.std.specs.Prelude.{◌≡◌, ◌<◌, ◌≤◌, OnOk, OnErr, IfOk, MatchOption, IsTrue, Contains, All, [], length};
 ghost use Rattle.dd_store.specs.Graph.{top};
 ghost use Rattle.req_table.specs.declared.Key.{Key as KeyValue};
-ghost use Rattle.reduce_up.specs.Reducing.{HasAnswer, IsReady, IsResolved, Notes};
+ghost use Rattle.reduce_up.specs.Reducing.{HasAnswer, IsReady, IsResolved, NotesAnswer};
 ghost use Rattle.reduce_up.specs.Sharing.{NotesFirst};
-ghost use Rattle.reduce_up.specs.Placed.{place_of, paired, joined, ArePlaced};
+ghost use Rattle.reduce_up.specs.AnswersByLevel.{place_of, paired, joined, ArePlaced};
 ghost use Rattle.wave_doors.specs.Placed.{IsIndexOf};
 
 use crate::parallel::note_all;
@@ -14,39 +14,39 @@ use std::alloc::{AllocError, Global};
 use std::marker::Model;
 
 /// The level of a terminal: past all levels that a store can have.
-const PAST: usize = 4096;
+const BELOW_ALL_LEVELS: usize = 4096;
 
 /// The level of what a reference refers to.
-fn depth(reference: Ref) -> usize
+fn level_of_ref(reference: Ref) -> usize
     ensures { result ≡ top 4096 reference }
 {
     match reference.view() {
         Reference::Node { id, .. } => id.level as usize,
-        _ => PAST,
+        _ => BELOW_ALL_LEVELS,
     }
 }
 
 /// The level of a request.
-fn place_of(key: Key) -> usize
+fn level_of_request(key: Key) -> usize
     ensures { result ≡ place_of key }
 {
-    let first = depth(key.f());
-    let second = depth(key.g());
+    let first = level_of_ref(key.f());
+    let second = level_of_ref(key.g());
     if first < second { first } else { second }
 }
 
 /// The diagrams of some requests, by the places of their keys.
 #[derive(Drop)]
-struct Answered {
+struct LevelAnswers {
     keys: Table,
     answers: Vec<Ref>,
 }
 
-impl Model for Answered {
+impl Model for LevelAnswers {
     ghost use Rattle.std.specs.Prelude.{◌≡◌, List, length};
     ghost use Rattle.req_table.specs.declared.Key.{Key};
     ghost use Rattle.dd_store.specs.declared.reference.Ref.{Ref};
-    ghost use Rattle.reduce_up.specs.Placed.{paired};
+    ghost use Rattle.reduce_up.specs.AnswersByLevel.{paired};
 
     ghost Value = { List (Key × Ref) };
 
@@ -55,23 +55,23 @@ impl Model for Answered {
     ghost invariant = { λ a. length a.keys ≡ length a.answers.items };
 }
 
-impl Answered {
+impl LevelAnswers {
     /// None.
-    fn new(alloc: Global) -> Answered
+    fn new(alloc: Global) -> LevelAnswers
         ensures { result ≡ [] }
     {
-        Answered {
+        LevelAnswers {
             keys: Table::new(alloc),
             answers: Vec::new(alloc),
         }
     }
 
     /// Those of keys, in their order.
-    fn of(keys: Table, answers: Vec<Ref>) -> Answered
+    fn of(keys: Table, answers: Vec<Ref>) -> LevelAnswers
         requires { length keys ≡ length answers.items }
         ensures { result ≡ paired keys answers.items }
     {
-        Answered { keys, answers }
+        LevelAnswers { keys, answers }
     }
 
     /// Whether there is none.
@@ -93,7 +93,7 @@ impl Answered {
 
     /// Notes the diagram of a request that has none.
     fn note(&mut self, key: Key, answer: Ref) -> Result<(), AllocError>
-        ensures noted { OnOk result (Notes self.old key answer self.new) }
+        ensures noted { OnOk result (NotesAnswer self.old key answer self.new) }
         ensures refused { OnErr result (self.new ≡ self.old) }
     {
         self.answers.reserve(1)?;
@@ -117,7 +117,7 @@ pub(crate) fn index_of(alloc: Global, row: &[Record]) -> Result<Table, AllocErro
 }
 
 /// Makes a row for each level up to this one.
-fn grow(rows: &mut Vec<Answered>, place: usize) -> Result<(), AllocError>
+fn grow(rows: &mut Vec<LevelAnswers>, place: usize) -> Result<(), AllocError>
     requires { ArePlaced rows.old.items }
     ensures same { joined rows.new.items ≡ joined rows.old.items }
     ensures placed { ArePlaced rows.new.items }
@@ -125,7 +125,7 @@ fn grow(rows: &mut Vec<Answered>, place: usize) -> Result<(), AllocError>
 {
     let alloc = *rows.allocator();
     while rows.len() <= place {
-        rows.push(Answered::new(alloc))?;
+        rows.push(LevelAnswers::new(alloc))?;
     }
     Ok(())
 }
@@ -133,14 +133,14 @@ fn grow(rows: &mut Vec<Answered>, place: usize) -> Result<(), AllocError>
 /// The diagram of each request.
 #[derive(Drop)]
 pub struct Results {
-    rows: Vec<Answered>,
+    rows: Vec<LevelAnswers>,
 }
 
 impl Model for Results {
     ghost use Rattle.std.specs.Prelude.{List};
     ghost use Rattle.req_table.specs.declared.Key.{Key};
     ghost use Rattle.dd_store.specs.declared.reference.Ref.{Ref};
-    ghost use Rattle.reduce_up.specs.Placed.{joined, ArePlaced};
+    ghost use Rattle.reduce_up.specs.AnswersByLevel.{joined, ArePlaced};
 
     ghost Value = { List (Key × Ref) };
 
@@ -166,10 +166,10 @@ impl Results {
 
     /// Notes the diagram of a request, if it has none.
     pub(crate) fn note(&mut self, key: Key, answer: Ref) -> Result<(), AllocError>
-        ensures noted { OnOk result (Notes self.old key answer self.new) }
+        ensures noted { OnOk result (NotesAnswer self.old key answer self.new) }
         ensures refused { OnErr result (self.new ≡ self.old) }
     {
-        let place = place_of(key);
+        let place = level_of_request(key);
         grow(&mut self.rows, place)?;
         self.rows[place].note(key, answer)
     }
@@ -185,13 +185,13 @@ impl Results {
         requires long { length answers.items ≡ length row.now }
         requires index { IsIndexOf row.now keys }
         requires placed { All (λ r. place_of r.key ≡ level) row.now }
-        ensures left { NotesFirst self.old row.now answers.items 0 self.new }
-        ensures whole { OnOk result (NotesFirst self.old row.now answers.items (length row.now) self.new) }
+        ensures first_noted { NotesFirst self.old row.now answers.items 0 self.new }
+        ensures all_noted { OnOk result (NotesFirst self.old row.now answers.items (length row.now) self.new) }
     {
         let place = level as usize;
         grow(&mut self.rows, place)?;
         if keys.len() == row.len() && self.rows[place].is_empty() {
-            self.rows[place] = Answered::of(keys, answers);
+            self.rows[place] = LevelAnswers::of(keys, answers);
             return Ok(());
         }
         note_all(self, row, answers.as_slice())
@@ -202,7 +202,7 @@ impl Results {
         requires { HasAnswer self.now key.now }
         ensures { Contains self.now (key.now, result) }
     {
-        let place = place_of(*key);
+        let place = level_of_request(*key);
         self.rows[place].find(*key).unwrap()
     }
 
@@ -213,7 +213,11 @@ impl Results {
     {
         match child {
             Child::Done(answer) => answer,
-            Child::Ask { key, mark, .. } => self.get(&key).marked(mark),
+            Child::Ask {
+                key,
+                complement,
+                ..
+            } => self.get(&key).complement_if(complement),
         }
     }
 }

@@ -4,7 +4,7 @@ ghost use Rattle.std.specs.List.{AllZip};
 ghost use Rattle.req_table.specs.TerminalCase.{terminal_of};
 ghost use Rattle.req_table.specs.Keys.{normal_of, IsKey};
 ghost use Rattle.req_table.specs.ComputedTables.{IsRight};
-ghost use Rattle.reduce_up.specs.Known.{unknown, IsKeptWave};
+ghost use Rattle.reduce_up.specs.CacheProbe.{unknown, IsKeptWave};
 ghost use Rattle.reduce_up.specs.Reducing.{HasAnswer};
 ghost use Rattle.reduce_up.specs.Waves.{IsEntry, AnswersWave, IsClosureOf, requests_of, IsTakenFrom};
 
@@ -12,7 +12,7 @@ use crate::levels::reduce;
 use crate::results::Results;
 use dd_store::{Ref, Store, Watch};
 use expand_work::{Crew, Monitor, WaveFault};
-use reduce_up::Sought;
+use reduce_up::CacheProbe;
 use req_table::requests::{normal, terminal_case};
 use req_table::{ComputedTable, Key, Op};
 use std::alloc::{AllocError, Global};
@@ -42,8 +42,8 @@ fn answer_of(op: Op, f: Ref, g: Ref, results: &Results) -> Ref
     match terminal_case(op, f, g) {
         Some(answer) => answer,
         None => {
-            let (key, mark) = normal(op, f, g);
-            results.get(&key).marked(mark)
+            let (key, complement) = normal(op, f, g);
+            results.get(&key).complement_if(complement)
         }
     }
 }
@@ -96,8 +96,8 @@ fn answer_closure<R: Threads + Sync, H: Watch + Sync>(
     requires operands { All (IsEntry store.old) entries.now }
     requires closure { (workers : ℕ) × (0 < workers) × IsClosureOf store.old workers (requests_of entries.now) records.now }
     ensures wave { AnswersWave store.old entries.now entries.now result store.new }
-    ensures served { IfErr result (λ e. e ≢ WaveFault.NoWorker) }
-    ensures unbounded { IfErr result (λ e. e ≢ WaveFault.TooManyRequests) }
+    ensures never_no_worker { IfErr result (λ e. e ≢ WaveFault.NoWorker) }
+    ensures never_too_many_requests { IfErr result (λ e. e ≢ WaveFault.TooManyRequests) }
 {
     let _ = store.levels();
     let results = match reduce(rt, alloc, store, records, watch) {
@@ -111,7 +111,7 @@ fn answer_closure<R: Threads + Sync, H: Watch + Sync>(
 }
 
 /// The diagram of each operation on its two operands, of which nothing is known.
-fn wave_alone<R: Threads + Sync, G: Monitor>(
+fn wave_without_computed<R: Threads + Sync, G: Monitor>(
     crew: &Crew<'_, R, G>,
     store: &mut Store,
     entries: &[(Op, Ref, Ref)],
@@ -119,8 +119,8 @@ fn wave_alone<R: Threads + Sync, G: Monitor>(
 ) -> Result<Vec<Ref>, WaveFault>
     requires operands { All (IsEntry store.old) entries.now }
     ensures wave { AnswersWave store.old entries.now entries.now result store.new }
-    ensures served { IfErr result (λ e. e ≢ WaveFault.NoWorker) }
-    ensures unbounded { IfErr result (λ e. e ≢ WaveFault.TooManyRequests) }
+    ensures never_no_worker { IfErr result (λ e. e ≢ WaveFault.NoWorker) }
+    ensures never_too_many_requests { IfErr result (λ e. e ≢ WaveFault.TooManyRequests) }
 {
     let _ = store.levels();
     let (rt, alloc, monitor) = (crew.rt, crew.alloc, crew.monitor);
@@ -139,7 +139,7 @@ fn wave_alone<R: Threads + Sync, G: Monitor>(
 /// What has a terminal case or is held in the computed table is answered at once. The requests of all other operations together are
 /// expanded by the state machine of the workers on the caller's thread, which the choices drive, and reduced from the last level up.
 /// The computed table then keeps them with their answers. The monitor is told of shared levels alone.
-pub fn wave_one<R: Threads + Sync, G: Monitor>(
+pub fn wave_on_one_thread<R: Threads + Sync, G: Monitor>(
     crew: &Crew<'_, R, G>,
     store: &mut Store,
     computed: &mut ComputedTable,
@@ -149,19 +149,19 @@ pub fn wave_one<R: Threads + Sync, G: Monitor>(
     requires operands { All (IsEntry store.old) entries.now }
     requires right { IsRight store.old computed.old }
     ensures wave { AnswersWave store.old entries.now (unknown computed.old entries.now) result store.new }
-    ensures served { IfErr result (λ e. e ≢ WaveFault.NoWorker) }
-    ensures unbounded { IfErr result (λ e. e ≢ WaveFault.TooManyRequests) }
+    ensures never_no_worker { IfErr result (λ e. e ≢ WaveFault.NoWorker) }
+    ensures never_too_many_requests { IfErr result (λ e. e ≢ WaveFault.TooManyRequests) }
     ensures kept { IfOk result (λ answers. IsKeptWave computed.old entries.now answers.items computed.new) }
     ensures refused { OnErr result (computed.new ≡ computed.old) }
     ensures right { IsRight store.new computed.new }
 {
     let _ = store.levels();
-    let mut sought = Sought::new(crew.alloc);
-    let Ok(_) = sought.seek(computed, entries) else {
+    let mut cache_probe = CacheProbe::new(crew.alloc);
+    let Ok(_) = cache_probe.probe(computed, entries) else {
         return Err(WaveFault::OutOfMemory);
     };
-    let found = wave_alone(crew, store, sought.requests(), choices)?;
-    match sought.settle(crew.alloc, computed, found.as_slice()) {
+    let found = wave_without_computed(crew, store, cache_probe.requests(), choices)?;
+    match cache_probe.complete_answers(crew.alloc, computed, found.as_slice()) {
         Ok(answers) => Ok(answers),
         Err(_) => Err(WaveFault::OutOfMemory),
     }

@@ -7,23 +7,23 @@ use Rattle.slot_table.specs.Lists.{IsIn}
 use Rattle.slot_table.proofs.Pigeons.{pigeons}
 use Rattle.dd_store.specs.Nodes.{Nodes, IsSound}
 use Rattle.req_table.specs.declared.Key.{Key}
-use Rattle.req_table.specs.declared.placed.Placed.{Placed}
+use Rattle.req_table.specs.declared.packed_child.PackedChild.{PackedChild}
 use Rattle.req_table.specs.Keys.{IsKey, level_of, wave_of}
 use Rattle.req_table.specs.Reached.{IsReached, root as root_of, child as child_from}
 use Rattle.req_table.proofs.Waved.{deeper}
 use Rattle.expand_work.specs.Bounds.{AreFew, most_of}
-use Rattle.expand_work.specs.Gathered.{HaveExpanded}
+use Rattle.expand_work.specs.WaveParts.{HaveExpanded}
 use Rattle.expand_work.proofs.Once.{once_append}
-use Rattle.reduce_up.specs.Known.{unknown}
+use Rattle.reduce_up.specs.CacheProbe.{unknown}
 use Rattle.reduce_up.specs.Waves.{Entry, IsEntry, requests_of}
 use Rattle.reduce_up.proofs.Closed.{reached_key}
 use Rattle.reduce_up.specs.ByPlace.{AreExpanded}
 use Rattle.wave_engine.specs.Bounds.{AreAtMost, AreMoreThan, ArePast}
-use Rattle.wave_engine.specs.Down.{HaveSplit}
+use Rattle.wave_engine.specs.ExpansionPhase.{HaveSplit}
 use Rattle.wave_engine.specs.Front.{keys_from}
-use Rattle.req_table.specs.Places.{StandsAt}
-use Rattle.wave_engine.specs.Resting.{AtRest, HaveReduced}
-use Rattle.reduce_up.specs.Up.{AreCounted}
+use Rattle.req_table.specs.Places.{IsAtPlace}
+use Rattle.wave_engine.specs.EngineView.{EngineView, HaveReduced}
+use Rattle.reduce_up.specs.ReductionPhase.{AreCounted}
 use Rattle.wave_engine.proofs.Counting.{reached_sorted}
 use Rattle.wave_engine.proofs.Fronting.{key_before, key_from, front_keys}
 
@@ -34,7 +34,7 @@ in_of : {X : Type 0} (xs : List X) (x : X) → Contains xs x → IsIn xs x
 in_of xs x m = (m.0, slice_get-get_or xs m.0 x m.1 ∙ ap (λ z. Some z) m.2)
 
 -- Of a wave over the store S whose levels before v the caller's thread has expanded: what stands further down is handed to n workers.
-module _ (S : Nodes) (w : IsSound S) (entries : List Entry) (good : All (IsEntry S) entries) (T : List (List Key)) (rows : List (List (Placed × Placed))) (roots : List Placed) (v : ℕ) (x : AreExpanded S entries roots v T rows) (n : ℕ) where
+module _ (S : Nodes) (w : IsSound S) (entries : List Entry) (good : All (IsEntry S) entries) (T : List (List Key)) (rows : List (List (PackedChild × PackedChild))) (roots : List PackedChild) (v : ℕ) (x : AreExpanded S entries roots v T rows) (n : ℕ) where
   abbrev Over : Key → Type 0
   Over k = IsReached (wave_of S n) (keys_from v T) k
 
@@ -53,7 +53,7 @@ module _ (S : Nodes) (w : IsSound S) (entries : List Entry) (good : All (IsEntry
   over_reached k (child_from {x = above} b l m r asks) = child_from b l m (over_reached above r) asks
 
   -- what stands further down is handed over
-  stands_over : (u q : ℕ) (k : Key) → v ≤ u → StandsAt T u q k → Over k
+  stands_over : (u q : ℕ) (k : Key) → v ≤ u → IsAtPlace T u q k → Over k
   stands_over u q k le h = root_of (contains_of (keys_from v T) k (_, key_before T v u q k le h))
 
   -- both counts together have grown by as many requests as the entries reach
@@ -127,12 +127,12 @@ module _ (before after told told' more old new : ℕ) (a : told ≡ before % 2 ^
   }
 
 -- The same, of an engine that is seen in two ways.
-module _ (S : Nodes) (entries : List Entry) (new : ℕ) (v w : AtRest) (e : v ≡ w) where
+module _ (S : Nodes) (entries : List Entry) (new : ℕ) (v w : EngineView) (e : v ≡ w) where
   pub counted_view : HaveExpanded S 1 (requests_of (unknown v.held entries)) v.expanded new → HaveExpanded S 1 (requests_of (unknown w.held entries)) w.expanded new
-  counted_view h = subst (λ (z : AtRest). HaveExpanded S 1 (requests_of (unknown z.held entries)) z.expanded new) e h
+  counted_view h = subst (λ (z : EngineView). HaveExpanded S 1 (requests_of (unknown z.held entries)) z.expanded new) e h
 
   pub reduced_view : (from : ℕ) → HaveReduced S (requests_of (unknown v.held entries)) from v.reduced new → HaveReduced S (requests_of (unknown w.held entries)) from w.reduced new
-  reduced_view from h = subst (λ (z : AtRest). HaveReduced S (requests_of (unknown z.held entries)) from z.reduced new) e h
+  reduced_view from h = subst (λ (z : EngineView). HaveReduced S (requests_of (unknown z.held entries)) from z.reduced new) e h
 
 -- requests that are more than the number of a bound are past the bound
 pub past_bound : (S : Nodes) (entries : List Entry) (o : Option ℕ) (n : ℕ) → n ≡ most_of o → n < 2 ^ 64 - 1 → AreMoreThan n S entries → ArePast o S entries

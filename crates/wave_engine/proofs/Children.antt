@@ -8,24 +8,24 @@ use Rattle.dd_store.specs.Nodes.{Nodes, IsSound}
 use Rattle.req_table.specs.declared.Child.{Child}
 use Rattle.req_table.specs.declared.Child.TheVariants as child
 use Rattle.req_table.specs.declared.Key.{Key}
-use Rattle.req_table.specs.declared.placed.Placed.{Placed}
-use Rattle.req_table.specs.declared.placed.PlacedChild.TheVariants.{Done, Ask}
+use Rattle.req_table.specs.declared.packed_child.PackedChild.{PackedChild}
+use Rattle.req_table.specs.declared.packed_child.PlacedChild.TheVariants.{Done, Ask}
 use Rattle.req_table.specs.Keys.{IsKey, child_of}
-use Rattle.req_table.specs.Places.{row, StandsAt, IsPlaced, AsksAt, Admits}
-use Rattle.req_table.proofs.Standing.{same_level, row_own, row_other}
-use Rattle.expand_work.specs.Taken.{AreTaken}
-use Rattle.expand_work.proofs.InTurn.{along}
+use Rattle.req_table.specs.Places.{row, IsAtPlace, IsPlaced, AsksAt, AdmitsChild}
+use Rattle.req_table.proofs.AtPlace.{same_level, row_own, row_other}
+use Rattle.expand_work.specs.TakenChildren.{AreTaken}
+use Rattle.expand_work.proofs.OneByOne.{along}
 use Rattle.reduce_up.specs.Waves.{Entry}
 use Rattle.reduce_up.specs.ByPlace.{AreAdmitted}
-use Rattle.wave_engine.specs.Down.{IsRowExpanded}
+use Rattle.wave_engine.specs.ExpansionPhase.{IsRowExpanded}
 use Rattle.wave_engine.proofs.Placing.{child_below, row_start, row_more}
 
 -- Of tables whose list of level v is put back: a child that asks for nothing of that level is placed there as it was.
-module _ (v : ℕ) (keys : List Key) (T U : List (List Key)) (c : Child) (none : (k : Key) → AsksAt c v k → ⊥) (fits : v < length T) (m : Admits T c U) where
+module _ (v : ℕ) (keys : List Key) (T U : List (List Key)) (c : Child) (none : (k : Key) → AsksAt c v k → ⊥) (fits : v < length T) (m : AdmitsChild T c U) where
   within : v < length U
   within = let l : length U ≡ length T = m.levels in omega (arith, l, fits)
 
-  pub admits_back : Admits (set T v keys) c (set U v keys)
+  pub admits_back : AdmitsChild (set T v keys) c (set U v keys)
   admits_back = record {
     levels = length-set U v keys ∙ m.levels ∙ sym (length-set T v keys);
     kept = λ w q k h. elim (same_level w v) [
@@ -48,7 +48,7 @@ module _ (v : ℕ) (keys : List Key) (T U : List (List Key)) (c : Child) (none :
       same : (w : ℕ) → w ≡ v → row (set T v keys) w ≡ row (set U v keys) w
       same w e = ap (row (set T v keys)) e ∙ row_own T v keys fits ∙ sym (row_own U v keys within) ∙ ap (row (set U v keys)) (sym e)
 
-  pub placed_back : (d : Placed) → IsPlaced U d c → IsPlaced (set U v keys) d c
+  pub placed_back : (d : PackedChild) → IsPlaced U d c → IsPlaced (set U v keys) d c
   placed_back (Done r) h = h
   placed_back (Ask l p b) h = elim (same_level l v) [
     | inl e ↦ absurd (none h.0 (b, h.2 ∙ ap (λ z. child.Ask z h.0 b) e))
@@ -66,7 +66,7 @@ stands_behind ks rest all k e =
 
 -- Level v of the tables W is expanded while its table is taken out.
 module _ (S : Nodes) (sound : IsSound S) (es : List Entry) (W : List (List Key)) (v : ℕ) (fits : v < length W) (admitted : AreAdmitted S es W) where
-  pub record IsUnderWay (ks : List Key) (ds : List (Placed × Placed)) (m : List (List Key)) : Type 0 where
+  pub record IsUnderWay (ks : List Key) (ds : List (PackedChild × PackedChild)) (m : List (List Key)) : Type 0 where
     pub expanded : IsRowExpanded S es W v (length ks) (set m v (row W v)) ds
     pub none : row m v ≡ []
     pub levels : length m ≡ length W
@@ -81,8 +81,8 @@ module _ (S : Nodes) (sound : IsSound S) (es : List Entry) (W : List (List Key))
     levels = length-set W v [];
   }
 
-  next : (ks rest : List Key) (ds : List (Placed × Placed)) (m : List (List Key)) → IsUnderWay ks ds m → (k : Key) → ks ++ k ∷ rest ≡ row W v → (low high : Placed) (n o : List (List Key))
-      → IsPlaced n low (child_of S k false) × Admits m (child_of S k false) n → IsPlaced o high (child_of S k true) × Admits n (child_of S k true) o → IsUnderWay (ks ++ k ∷ []) (ds ++ (low, high) ∷ []) o
+  next : (ks rest : List Key) (ds : List (PackedChild × PackedChild)) (m : List (List Key)) → IsUnderWay ks ds m → (k : Key) → ks ++ k ∷ rest ≡ row W v → (low high : PackedChild) (n o : List (List Key))
+      → IsPlaced n low (child_of S k false) × AdmitsChild m (child_of S k false) n → IsPlaced o high (child_of S k true) × AdmitsChild n (child_of S k true) o → IsUnderWay (ks ++ k ∷ []) (ds ++ (low, high) ∷ []) o
   next ks rest ds m u k e low high n o lows highs = record {
     expanded = subst (λ z. IsRowExpanded S es W v z (set o v K) (ds ++ (low, high) ∷ [])) more
         (row_more S sound es W v (length ks) (set m v K) ds u.expanded k here low high (set n v K) (set o v K)
@@ -101,7 +101,7 @@ module _ (S : Nodes) (sound : IsSound S) (es : List Entry) (W : List (List Key))
       fits_n : v < length n
       fits_n = let l : length n ≡ length m = lows.1.levels in omega (arith, l, fits_m)
 
-      here : StandsAt (set m v K) v (length ks) k
+      here : IsAtPlace (set m v K) v (length ks) k
       here = subst (λ (z : List Key). slice_get z (length ks) ≡ Some k) (sym (row_own m v K fits_m)) (stands_behind ks rest K k e)
 
       no : (b : Bool) (x : Key) → AsksAt (child_of S k b) v x → ⊥
@@ -111,10 +111,10 @@ module _ (S : Nodes) (sound : IsSound S) (es : List Entry) (W : List (List Key))
       more = simp length-append (omega arith)
 
   -- where all its requests' children are taken, the level is expanded once its table is put back
-  pub row_taken : (m : List (List Key)) (keys : List Key) → m ≡ set W v [] → keys ≡ row W v → (ds : List (Placed × Placed)) (U : List (List Key)) → AreTaken (λ w c p u. IsPlaced u p c × Admits w c u) S m keys ds U
+  pub row_taken : (m : List (List Key)) (keys : List Key) → m ≡ set W v [] → keys ≡ row W v → (ds : List (PackedChild × PackedChild)) (U : List (List Key)) → AreTaken (λ w c p u. IsPlaced u p c × AdmitsChild w c u) S m keys ds U
       → IsUnderWay (row W v) ds U
   row_taken m keys out all ds U t =
-      let takes : List (List Key) → Child → Placed → List (List Key) → Type 0 = λ w c p u. IsPlaced u p c × Admits w c u in
+      let takes : List (List Key) → Child → PackedChild → List (List Key) → Type 0 = λ w c p u. IsPlaced u p c × AdmitsChild w c u in
       along takes S (row W v) IsUnderWay next (set W v []) ds U start (subst (λ (z : List (List Key)). AreTaken takes S z (row W v) ds U) out (subst (λ (z : List Key). AreTaken takes S m z ds U) all t))
 
 -- what holds of what stands at each place holds of all

@@ -9,8 +9,8 @@ use Rattle.dd_store.specs.Nodes.{Nodes}
 use Rattle.dd_store.proofs.Places.{slice_get-append}
 use Rattle.req_table.specs.declared.Key.{Key}
 use Rattle.req_table.specs.declared.Child.TheVariants as child
-use Rattle.req_table.specs.declared.placed.Placed.{Placed}
-use Rattle.req_table.specs.declared.placed.PlacedChild.TheVariants.{Done, Ask}
+use Rattle.req_table.specs.declared.packed_child.PackedChild.{PackedChild}
+use Rattle.req_table.specs.declared.packed_child.PlacedChild.TheVariants.{Done, Ask}
 use Rattle.req_table.specs.Keys.{level_of, child_of, answer_of, wave_of}
 use Rattle.req_table.specs.Reached.{IsReached, root as root_of, child as child_from}
 use Rattle.expand_work.proofs.Once.{append_cases, once_append}
@@ -18,9 +18,9 @@ use Rattle.reduce_up.specs.Waves.{Entry, requests_of}
 use Rattle.reduce_up.proofs.Rooted.{of_entry}
 use Rattle.wave_engine.specs.Bounds.{AreMoreThan, AreAtMost}
 use Rattle.reduce_up.specs.ByPlace.{AreAdmitted, AreExpanded, IsSplitAt}
-use Rattle.wave_engine.specs.Down.{HaveSplit}
-use Rattle.req_table.specs.Places.{row, StandsAt, IsPlaced, AreNone, IsNextLevel}
-use Rattle.req_table.proofs.Standing.{in_lists, stands_some}
+use Rattle.wave_engine.specs.ExpansionPhase.{HaveSplit}
+use Rattle.req_table.specs.Places.{row, IsAtPlace, IsPlaced, AreNone, IsNextLevel}
+use Rattle.req_table.proofs.AtPlace.{in_lists, at_place_some}
 use Rattle.reduce_up.proofs.Answering.{root_for}
 use Rattle.slot_table.proofs.Listing.{in_back}
 
@@ -67,13 +67,13 @@ module _ (s : Nodes) (entries : List Entry) (T : List (List Key)) (admitted : Ar
   long : length all ≡ length old + length (row T u)
   long = length-append old (row T u)
 
-  all_whole : AreNone T v u → (w q : ℕ) (k : Key) → w ≤ u → StandsAt T w q k → IsIn all k
+  all_whole : AreNone T v u → (w q : ℕ) (k : Key) → w ≤ u → IsAtPlace T w q k → IsIn all k
   all_whole none w q k le h =
       elim (cases_lt w v) [
         | inl earlier ↦ let m = c.split.whole w q k earlier h in (m.0, slice_get-append old (row T u) m.0 k m.1)
         | inr from ↦ elim (cases_lt w u) [
           | inl lt ↦ absurd (none w q k from lt h)
-          | inr ge ↦ let same : w ≡ u = omega (arith, le, ge) in in_back old (row T u) k (q, subst (λ z. StandsAt T z q k) same h)
+          | inr ge ↦ let same : w ≡ u = omega (arith, le, ge) in in_back old (row T u) k (q, subst (λ z. IsAtPlace T z q k) same h)
         ]
       ]
 
@@ -116,23 +116,23 @@ counted_passed s entries T bound left before after v u c le none = record {
 }
 
 -- Of tables whose levels before v are expanded, and what holds of each request that stands further down, and of its children.
-module _ (s : Nodes) (entries : List Entry) (roots : List Placed) (T : List (List Key)) (rows : List (List (Placed × Placed))) (v : ℕ) (x : AreExpanded s entries roots v T rows) (F : Key → Type 0) (start : (w q : ℕ) (k : Key) → v ≤ w → StandsAt T w q k → F k)
+module _ (s : Nodes) (entries : List Entry) (roots : List PackedChild) (T : List (List Key)) (rows : List (List (PackedChild × PackedChild))) (v : ℕ) (x : AreExpanded s entries roots v T rows) (F : Key → Type 0) (start : (w q : ℕ) (k : Key) → v ≤ w → IsAtPlace T w q k → F k)
     (next : (k c : Key) (b : Bool) (l : ℕ) (m : Bool) → F k → child_of s k b ≡ child.Ask l c m → F c) where
   abbrev pub Above : Key → Type 0
-  Above k = (w : ℕ) × (q : ℕ) × (w < v) × StandsAt T w q k
+  Above k = (w : ℕ) × (q : ℕ) × (w < v) × IsAtPlace T w q k
 
-  sorted : (w q : ℕ) (k : Key) → StandsAt T w q k → Above k ⊎ F k
+  sorted : (w q : ℕ) (k : Key) → IsAtPlace T w q k → Above k ⊎ F k
   sorted w q k h = elim (cases_lt w v) [ inl lt ↦ inl (w, q, lt, h) | inr le ↦ inr (start w q k le h) ]
 
-  asked_sorted : (p : Placed) (l : ℕ) (k : Key) (m : Bool) → IsPlaced T p (child.Ask l k m) → Above k ⊎ F k
+  asked_sorted : (p : PackedChild) (l : ℕ) (k : Key) (m : Bool) → IsPlaced T p (child.Ask l k m) → Above k ⊎ F k
   asked_sorted (Done r) l k m h = absurd (cc)
-  asked_sorted (Ask w q n) l k m h = let same : h.0 ≡ k = let e : child.Ask l k m ≡ child.Ask w h.0 n = h.2 in cc in sorted w q k (subst (λ z. StandsAt T w q z) same h.1)
+  asked_sorted (Ask w q n) l k m h = let same : h.0 ≡ k = let e : child.Ask l k m ≡ child.Ask w h.0 n = h.2 in cc in sorted w q k (subst (λ z. IsAtPlace T w q z) same h.1)
 
   children_sorted : (k : Key) → Above k → (b : Bool) (l : ℕ) (c : Key) (m : Bool) → child_of s k b ≡ child.Ask l c m → Above c ⊎ F c
   children_sorted k (w, q, lt, h) b l c m asks = by b asks
     where
-      pair : (d : Placed × Placed) × StandsAt rows w q d
-      pair = stands_some (row rows w) q (let n : length (row rows w) ≡ length (row T w) = x.counts w lt in let fit : q < length (row T w) = slice_get_within (row T w) q k h in omega (arith, n, fit))
+      pair : (d : PackedChild × PackedChild) × IsAtPlace rows w q d
+      pair = at_place_some (row rows w) q (let n : length (row rows w) ≡ length (row T w) = x.counts w lt in let fit : q < length (row T w) = slice_get_within (row T w) q k h in omega (arith, n, fit))
 
       split : IsSplitAt s T k pair.0
       split = x.split w q k pair.0 lt h pair.1
@@ -151,14 +151,14 @@ module _ (s : Nodes) (entries : List Entry) (roots : List Placed) (T : List (Lis
   reached_sorted k (child_from {x = above} b l m r asks) = elim (reached_sorted above r) [ inl a ↦ children_sorted above a b l k m asks | inr f ↦ inr (next above k b l m f asks) ]
 
 -- Of tables whose levels are all expanded: the requests are within the bound, where all were counted.
-pub all_counted : (s : Nodes) (entries : List Entry) (roots : List Placed) (T : List (List Key)) (rows : List (List (Placed × Placed))) → AreExpanded s entries roots s.levels T rows →
+pub all_counted : (s : Nodes) (entries : List Entry) (roots : List PackedChild) (T : List (List Key)) (rows : List (List (PackedChild × PackedChild))) → AreExpanded s entries roots s.levels T rows →
     (bound left before after v : ℕ) → bound < 2 ^ 64 - 1 → IsCounted s entries T bound left before after v → IsNextLevel T v None → AreAtMost bound s entries
 all_counted s entries roots T rows x bound left before after v bounded c none requests once reached =
     let fits : length requests ≤ length c.split.requests = pigeons (λ j k. j ≡ k) requests c.split.requests once (λ i k at. (k, refl, found k (reached k (i, slice_get_within requests i k at, get_or_from_slice_get requests i k k at)))) (λ j k l a b. a ∙ sym b) in
     let sum : left + length c.split.requests ≡ bound = c.sum bounded in
     omega (arith, fits, sum)
   where
-    deep : (w q : ℕ) (k : Key) → s.levels ≤ w → StandsAt T w q k → ⊥
+    deep : (w q : ℕ) (k : Key) → s.levels ≤ w → IsAtPlace T w q k → ⊥
     deep w q k le h = let lt : w < length T = in_lists T w q k h in let n : length T ≡ s.levels = x.admitted.levels in omega (arith, lt, n, le)
 
     found : (k : Key) → IsReached (wave_of s 1) (requests_of entries) k → IsIn c.split.requests k

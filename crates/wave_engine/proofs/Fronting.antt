@@ -17,12 +17,12 @@ use Rattle.expand_work.specs.declared.fault.WaveFault.TheVariants as wave_faults
 use Rattle.reduce_up.proofs.Reduction.{adds_none}
 use Rattle.reduce_up.proofs.Noting.{nothing, head_in, tail_in, in_cases}
 use Rattle.reduce_up.proofs.Rooted.{all_of}
-use Rattle.req_table.specs.Places.{row, StandsAt}
+use Rattle.req_table.specs.Places.{row, IsAtPlace}
 use Rattle.reduce_up.specs.ByPlace.{AreAdmitted}
-use Rattle.reduce_up.specs.Up.{AreReducedBelow, IsWithinBelow}
-use Rattle.reduce_up.specs.Placed.{joined}
+use Rattle.reduce_up.specs.ReductionPhase.{AreReducedBelow, IsWithinBelow}
+use Rattle.reduce_up.specs.AnswersByLevel.{joined}
 use Rattle.wave_engine.specs.Front.{keys_from, count_before, IsCopied, ArePut}
-use Rattle.req_table.proofs.Standing.{same_level, stands_none, in_lists, row_own, row_other}
+use Rattle.req_table.proofs.AtPlace.{same_level, at_place_none, in_lists, row_own, row_other}
 use Rattle.reduce_up.proofs.Wanted.{AreReachedBy, diagram_answer, adds_through, lacks_through, has_request_of}
 
 -- lists one after the other
@@ -39,8 +39,8 @@ row_drop [] (suc v) n = refl
 row_drop (x ∷ xs) (suc v) n = row_drop xs v n ∙ ap (row (x ∷ xs)) (let e : suc (v + n) ≡ suc v + n = omega arith in e)
 
 -- what stands in one of them stands in all together
-joined_at : {X : Type 0} (xs : List (List X)) (n q : ℕ) (x : X) → StandsAt xs n q x → slice_get (joined xs) (length (joined (take n xs)) + q) ≡ Some x
-joined_at [] n q x h = absurd (stands_none [] q x refl h)
+joined_at : {X : Type 0} (xs : List (List X)) (n q : ℕ) (x : X) → IsAtPlace xs n q x → slice_get (joined xs) (length (joined (take n xs)) + q) ≡ Some x
+joined_at [] n q x h = absurd (at_place_none [] q x refl h)
 joined_at (y ∷ ys) zero q x h = subst (λ z. slice_get (y ++ joined ys) z ≡ Some x) (let e : q ≡ 0 + q = omega arith in e) (slice_get-append y (joined ys) q x h)
 joined_at {X = X} (y ∷ ys) (suc n) q x h = later y (joined ys) (length (joined (take n ys)) + q) x (joined_at ys n q x h) (length (y ++ joined (take n ys)) + q) (simp length-append (omega arith))
   where
@@ -50,7 +50,7 @@ joined_at {X = X} (y ∷ ys) (suc n) q x h = later y (joined ys) (length (joined
     later (z ∷ a) b i x h (suc j) e = later a b i x h j (omega (arith, e))
 
 -- and the other way round
-joined_from : {X : Type 0} (xs : List (List X)) (x : X) → Contains (joined xs) x → (n : ℕ) × (q : ℕ) × StandsAt xs n q x
+joined_from : {X : Type 0} (xs : List (List X)) (x : X) → Contains (joined xs) x → (n : ℕ) × (q : ℕ) × IsAtPlace xs n q x
 joined_from [] x c = absurd (nothing x c)
 joined_from (y ∷ ys) x c = elim (Contains-append_cases y (joined ys) x c) [
   | inl h ↦ (0, h.0, slice_get-get_or y h.0 x h.1 ∙ ap (λ z. Some z) h.2)
@@ -76,12 +76,12 @@ module _ (tables : List (List Key)) (v : ℕ) where
       let s : length (joined (take n (drop v tables)) ++ joined (drop n (drop v tables))) ≡ count_before v w tables + length (joined (drop n (drop v tables))) = length-append (joined (take n (drop v tables))) (joined (drop n (drop v tables))) in
       omega (arith, l, s)
 
-  pub key_before : (w q : ℕ) (k : Key) → v ≤ w → StandsAt tables w q k → slice_get (keys_from v tables) (count_before v w tables + q) ≡ Some k
+  pub key_before : (w q : ℕ) (k : Key) → v ≤ w → IsAtPlace tables w q k → slice_get (keys_from v tables) (count_before v w tables + q) ≡ Some k
   key_before w q k le h =
       let at : row tables w ≡ row (drop v tables) (w - v) = ap (row tables) (omega (arith, le)) ∙ sym (row_drop tables v (w - v)) in
       joined_at (drop v tables) (w - v) q k (subst (λ (z : List Key). slice_get z q ≡ Some k) at h)
 
-  pub key_from : (k : Key) → Contains (keys_from v tables) k → (w : ℕ) × (q : ℕ) × (v ≤ w) × StandsAt tables w q k
+  pub key_from : (k : Key) → Contains (keys_from v tables) k → (w : ℕ) × (q : ℕ) × (v ≤ w) × IsAtPlace tables w q k
   key_from k c =
       let m = joined_from (drop v tables) k c in
       (v + m.0, m.1, omega arith, subst (λ (z : List Key). slice_get z m.1 ≡ Some k) (row_drop tables v m.0) m.2)
@@ -95,7 +95,7 @@ module _ (tables : List (List Key)) (v : ℕ) where
       | inr d ↦ ap length (row_other A u new w d) ∙ p.counts w l (grind (arith, m, d))
     ];
     placed = λ w q r l m h. elim (same_level w u) [
-      | inl d ↦ subst (λ z. slice_get found (count_before v z tables + q) ≡ Some r) (sym d) (c.placed q r (subst (λ (z : List Ref). slice_get z q ≡ Some r) own (subst (λ z. StandsAt (set A u new) z q r) d h)))
+      | inl d ↦ subst (λ z. slice_get found (count_before v z tables + q) ≡ Some r) (sym d) (c.placed q r (subst (λ (z : List Ref). slice_get z q ≡ Some r) own (subst (λ z. IsAtPlace (set A u new) z q r) d h)))
       | inr d ↦ p.placed w q r l (grind (arith, m, d)) (subst (λ (z : List Ref). slice_get z q ≡ Some r) (row_other A u new w d) h)
     ];
   }
@@ -125,7 +125,7 @@ of_front (k ∷ ks) e c = elim (in_cases {X = Entry} (entry_for k) e (entries_fo
 
 -- answers of entries, at a place
 zip_at : (D : Entry → Ref → Type 0) (ks : List Key) (rs : List Ref) → AllZip D (entries_for ks) rs → (i : ℕ) (k : Key) (r : Ref) → slice_get ks i ≡ Some k → slice_get rs i ≡ Some r → D (entry_for k) r
-zip_at D [] rs z i k r a b = absurd (stands_none [] i k refl a)
+zip_at D [] rs z i k r a b = absurd (at_place_none [] i k refl a)
 zip_at D (x ∷ ks) [] z i k r a b = absurd z
 zip_at D (x ∷ ks) (y ∷ rs) z zero k r a b = let e : x ≡ k = cc in let f : y ≡ r = cc in subst (λ u. D (entry_for u) r) e (subst (D (entry_for x)) f z.0)
 zip_at D (x ∷ ks) (y ∷ rs) z (suc i) k r a b = zip_at D ks rs z.1 i k r a b
@@ -147,8 +147,8 @@ module _ (S : Nodes) (w : IsSound S) (entries : List Entry) (good : All (IsEntry
   pub front_keys : All (IsKey S) (keys_from v T)
   front_keys = all_of (IsKey S) (keys_from v T) (λ k c. let p = key_from T v k c in (adm.keys p.0 p.1 k p.3).key)
 
-  none_stands : keys_from v T ≡ [] → (u q : ℕ) (k : Key) → v ≤ u → StandsAt T u q k → ⊥
-  none_stands e u q k le h = stands_none (keys_from v T) (count_before v u T + q) k e (key_before T v u q k le h)
+  none_stands : keys_from v T ≡ [] → (u q : ℕ) (k : Key) → v ≤ u → IsAtPlace T u q k → ⊥
+  none_stands e u q k le h = at_place_none (keys_from v T) (count_before v u T + q) k e (key_before T v u q k le h)
 
   -- nothing is handed over
   pub none_over : keys_from v T ≡ [] → (A : List (List Ref)) → length A ≡ S.levels → AreReducedBelow S entries T v S A

@@ -2,6 +2,6 @@ pub mod Placing
 pub mod Children
 pub mod Waiting
 pub mod Fronting
-pub mod Whole
+pub mod WholeWave
 pub mod Counting
 pub mod Both

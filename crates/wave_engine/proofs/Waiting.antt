@@ -8,16 +8,16 @@ use Rattle.slot_table.specs.Lists.{IsOnce}
 use Rattle.dd_store.specs.declared.reference.Ref.{Ref}
 use Rattle.dd_store.specs.Nodes.{Nodes}
 use Rattle.req_table.specs.declared.Key.{Key}
-use Rattle.req_table.specs.declared.placed.Placed.{Placed}
+use Rattle.req_table.specs.declared.packed_child.PackedChild.{PackedChild}
 use Rattle.req_table.specs.Keys.{child_of}
 use Rattle.reduce_up.specs.Waves.{Entry}
-use Rattle.req_table.specs.Places.{row, StandsAt, AreNone, AreEmpty}
+use Rattle.req_table.specs.Places.{row, IsAtPlace, AreNone, AreEmpty}
 use Rattle.reduce_up.specs.ByPlace.{AreAdmitted, IsSplitAt, AreExpanded}
-use Rattle.wave_engine.specs.Down.{Grow, IsRowExpanded, AreWaiting, IsDown, IsDownWithin}
-use Rattle.reduce_up.specs.Placed.{joined}
+use Rattle.wave_engine.specs.ExpansionPhase.{Grow, IsRowExpanded, AreWaiting, IsExpandedTo, IsExpandedWithin}
+use Rattle.reduce_up.specs.AnswersByLevel.{joined}
 use Rattle.wave_engine.specs.Front.{keys_from}
-use Rattle.reduce_up.specs.Up.{IsWithinBelow, AreReducedBelow}
-use Rattle.req_table.proofs.Standing.{same_level, stands_none, row_own, row_other, row_none}
+use Rattle.reduce_up.specs.ReductionPhase.{IsWithinBelow, AreReducedBelow}
+use Rattle.req_table.proofs.AtPlace.{same_level, at_place_none, row_own, row_other, row_none}
 use Rattle.wave_engine.proofs.Placing.{placed_kept, levels_passed, level_more}
 use Rattle.wave_engine.proofs.Counting.{IsCounted, none_counted, more_counted, counted_passed}
 
@@ -56,13 +56,13 @@ drop_same (suc v) (x ∷ a) (y ∷ b) l e = drop_same v a b (let n : length a �
 
 -- Of what waits from level v on.
 module _ (T : List (List Key)) (v : ℕ) (W : List (List Key)) (a : AreWaiting T v W) where
-  to_all : (w q : ℕ) (k : Key) → StandsAt W w q k → StandsAt T w q k
+  to_all : (w q : ℕ) (k : Key) → IsAtPlace W w q k → IsAtPlace T w q k
   to_all w q k h = elim (cases_lt w v) [
-    | inl lt ↦ absurd (stands_none (row W w) q k (a.gone w lt) h)
+    | inl lt ↦ absurd (at_place_none (row W w) q k (a.emptied w lt) h)
     | inr le ↦ subst (λ (z : List Key). slice_get z q ≡ Some k) (a.same w le) h
   ]
 
-  from_all : (w q : ℕ) (k : Key) → v ≤ w → StandsAt T w q k → StandsAt W w q k
+  from_all : (w q : ℕ) (k : Key) → v ≤ w → IsAtPlace T w q k → IsAtPlace W w q k
   from_all w q k le h = subst (λ (z : List Key). slice_get z q ≡ Some k) (sym (a.same w le)) h
 
   pub none_waits : (u : ℕ) → AreNone W v u → AreNone T v u
@@ -92,12 +92,12 @@ module _ (T : List (List Key)) (v : ℕ) (W : List (List Key)) (a : AreWaiting T
   pub waits_on : (u : ℕ) → v ≤ u → AreNone W v u → AreWaiting T u W
   waits_on u le none = record {
     levels = a.levels;
-    gone = λ w lt. elim (cases_lt w v) [ inl l ↦ a.gone w l | inr ge ↦ row_none W w (λ q k h. none w q k ge lt h) ];
+    emptied = λ w lt. elim (cases_lt w v) [ inl l ↦ a.emptied w l | inr ge ↦ row_none W w (λ q k h. none w q k ge lt h) ];
     same = λ w ge. a.same w (omega (arith, le, ge));
   }
 
   -- Level v is expanded, from what waits there.
-  module _ (s : Nodes) (entries : List Entry) (d : AreAdmitted s entries T) (fits : v ≤ length T) (U : List (List Key)) (pairs : List (Placed × Placed)) (r : IsRowExpanded s entries W v (length (row W v)) U pairs) where
+  module _ (s : Nodes) (entries : List Entry) (d : AreAdmitted s entries T) (fits : v ≤ length T) (U : List (List Key)) (pairs : List (PackedChild × PackedChild)) (r : IsRowExpanded s entries W v (length (row W v)) U pairs) where
     abbrev all : List (List Key)
     all = splice v T U
 
@@ -106,7 +106,7 @@ module _ (T : List (List Key)) (v : ℕ) (W : List (List Key)) (a : AreWaiting T
 
     into : Grow U all
     into w q k h = elim (cases_lt w v) [
-      | inl lt ↦ absurd (stands_none (row U w) q k (r.above w (omega (arith, lt)) ∙ a.gone w lt) h)
+      | inl lt ↦ absurd (at_place_none (row U w) q k (r.above w (omega (arith, lt)) ∙ a.emptied w lt) h)
       | inr le ↦ subst (λ (z : List Key). slice_get z q ≡ Some k) (sym (splice_from v T U w fits le)) h
     ]
 
@@ -136,33 +136,33 @@ module _ (T : List (List Key)) (v : ℕ) (W : List (List Key)) (a : AreWaiting T
     pub waits_next : v < length T → AreWaiting all (v + 1) (set U v [])
     waits_next lt = record {
       levels = length-set U v [] ∙ long ∙ sym (splice_length v T U fits long);
-      gone = λ w l. elim (same_level w v) [
+      emptied = λ w l. elim (same_level w v) [
         | inl e ↦ ap (row (set U v [])) e ∙ row_own U v [] (omega (arith, long, lt))
-        | inr e ↦ let before : w < v = grind (arith, l, e) in row_other U v [] w e ∙ r.above w (omega (arith, before)) ∙ a.gone w before
+        | inr e ↦ let before : w < v = grind (arith, l, e) in row_other U v [] w e ∙ r.above w (omega (arith, before)) ∙ a.emptied w before
       ];
       same = λ w le. row_other U v [] w (λ e. omega (arith, e, le)) ∙ sym (splice_from v T U w fits (omega (arith, le)));
     }
 
 -- The levels before v are expanded, and their requests are all of T before that level; further down all of T wait.
-pub record IsGoing (s : Nodes) (entries : List Entry) (roots : List Placed) (v : ℕ) (waiting : List (List Key)) (rows : List (List (Placed × Placed))) (bound left before after : ℕ) (T : List (List Key)) : Type 0 where
+pub record IsGoing (s : Nodes) (entries : List Entry) (roots : List PackedChild) (v : ℕ) (waiting : List (List Key)) (rows : List (List (PackedChild × PackedChild))) (bound left before after : ℕ) (T : List (List Key)) : Type 0 where
   pub expanded : AreExpanded s entries roots v T rows
   pub once : (w : ℕ) → w < v → IsOnce (row T w)
   pub waits : AreWaiting T v waiting
   pub counted : IsCounted s entries T bound left before after v
   pub later : (w : ℕ) → v ≤ w → row rows w ≡ []
 
-pub going_start : (s : Nodes) (entries : List Entry) (roots : List Placed) (W : List (List Key)) (rows : List (List (Placed × Placed))) (n bound count : ℕ) → AreExpanded s entries roots 0 W rows → AreEmpty rows n
+pub going_start : (s : Nodes) (entries : List Entry) (roots : List PackedChild) (W : List (List Key)) (rows : List (List (PackedChild × PackedChild))) (n bound count : ℕ) → AreExpanded s entries roots 0 W rows → AreEmpty rows n
     → IsGoing s entries roots 0 W rows bound bound count count W
 going_start s entries roots W rows n bound count e empty = record {
   expanded = e;
   once = λ w lt. absurd (omega (arith, lt));
-  waits = record { levels = refl; gone = λ w lt. absurd (omega (arith, lt)); same = λ w le. refl };
+  waits = record { levels = refl; emptied = λ w lt. absurd (omega (arith, lt)); same = λ w le. refl };
   counted = none_counted s entries W bound count;
   later = λ w le. empty.empty w;
 }
 
 -- Of a wave whose levels before v are expanded.
-module _ (s : Nodes) (entries : List Entry) (roots : List Placed) (v : ℕ) (W : List (List Key)) (rows : List (List (Placed × Placed))) (bound left before after : ℕ) (T : List (List Key)) (g : IsGoing s entries roots v W rows bound left before after T) where
+module _ (s : Nodes) (entries : List Entry) (roots : List PackedChild) (v : ℕ) (W : List (List Key)) (rows : List (List (PackedChild × PackedChild))) (bound left before after : ℕ) (T : List (List Key)) (g : IsGoing s entries roots v W rows bound left before after T) where
   -- levels where nothing waits are passed over
   pub going_passed : (u : ℕ) → v ≤ u → AreNone W v u → IsGoing s entries roots u W rows bound left before after T
   going_passed u le none =
@@ -178,7 +178,7 @@ module _ (s : Nodes) (entries : List Entry) (roots : List Placed) (v : ℕ) (W :
       }
 
   -- one level more is expanded
-  pub going_next : v < s.levels → IsOnce (row W v) → (U : List (List Key)) (pairs : List (Placed × Placed)) → IsRowExpanded s entries W v (length (row W v)) U pairs → (count rest more : ℕ) → count ≡ length (row W v) →
+  pub going_next : v < s.levels → IsOnce (row W v) → (U : List (List Key)) (pairs : List (PackedChild × PackedChild)) → IsRowExpanded s entries W v (length (row W v)) U pairs → (count rest more : ℕ) → count ≡ length (row W v) →
       (bound < 2 ^ 64 - 1 → rest + count ≡ left) → more % 2 ^ 64 ≡ (after + length (row W v)) % 2 ^ 64 → IsGoing s entries roots (v + 1) (set U v []) (set rows v pairs) bound rest before more (splice v T U)
   going_next lt own U pairs r count rest more c sum n = record {
     expanded = level_more s entries roots v T rows lt g.expanded (splice v T U) pairs whole;
@@ -204,8 +204,8 @@ module _ (s : Nodes) (entries : List Entry) (roots : List Placed) (v : ℕ) (W :
       same = ap length (g.waits.same v (omega arith))
 
   -- and within a bound at most so many requests were split
-  pub going_within : v ≤ s.levels → bound < 2 ^ 64 - 1 → IsDownWithin bound s entries v W rows roots before after
+  pub going_within : v ≤ s.levels → bound < 2 ^ 64 - 1 → IsExpandedWithin bound s entries v W rows roots before after
   going_within le b = (record { tables = T; bound = le; expanded = g.expanded; once = g.once; split = g.counted.split; waits = g.waits }, let e = g.counted.sum b in omega (arith, e))
 
-  pub going_down : v ≤ s.levels → IsDown s entries v W rows roots before after
+  pub going_down : v ≤ s.levels → IsExpandedTo s entries v W rows roots before after
   going_down le = record { tables = T; bound = le; expanded = g.expanded; once = g.once; split = g.counted.split; waits = g.waits }

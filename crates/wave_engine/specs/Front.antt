@@ -2,8 +2,8 @@
 use Rattle.std.specs.Prelude.{◌≡◌, ℕ, ◌+◌, ◌-◌, ◌<◌, ◌≤◌, List, length, take, drop, slice_get, Some}
 use Rattle.dd_store.specs.declared.reference.Ref.{Ref}
 use Rattle.req_table.specs.declared.Key.{Key}
-use Rattle.req_table.specs.Places.{row, StandsAt}
-use Rattle.reduce_up.specs.Placed.{joined}
+use Rattle.req_table.specs.Places.{row, IsAtPlace}
+use Rattle.reduce_up.specs.AnswersByLevel.{joined}
 
 -- the requests from level v on
 abbrev pub keys_from : ℕ → List (List Key) → List Key
@@ -22,4 +22,4 @@ pub record IsCopied (found : List Ref) (at number : ℕ) (answers : List Ref) : 
 pub record ArePut (tables : List (List Key)) (v : ℕ) (found : List Ref) (u : ℕ) (answers : List (List Ref)) : Type 0 where
   pub levels : length answers ≡ length tables
   pub counts : (w : ℕ) → v ≤ w → w < u → length (row answers w) ≡ length (row tables w)
-  pub placed : (w q : ℕ) (r : Ref) → v ≤ w → w < u → StandsAt answers w q r → slice_get found (count_before v w tables + q) ≡ Some r
+  pub placed : (w q : ℕ) (r : Ref) → v ≤ w → w < u → IsAtPlace answers w q r → slice_get found (count_before v w tables + q) ≡ Some r

@@ -1,4 +1,4 @@
-pub mod Down
+pub mod ExpansionPhase
 pub mod Front
-pub mod Resting
+pub mod EngineView
 pub mod Bounds

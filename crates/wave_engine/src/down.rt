@@ -6,13 +6,13 @@ ghost use Rattle.reduce_up.specs.Waves.{IsEntry};
 ghost use Rattle.req_table.specs.Places.{row, IsPlaced};
 ghost use Rattle.wave_engine.specs.Bounds.{AreMoreThan, AreAtMost};
 ghost use Rattle.reduce_up.specs.ByPlace.{AreAdmitted, AreExpanded};
-ghost use Rattle.wave_engine.specs.Down.{IsDown, IsDownWithin};
+ghost use Rattle.wave_engine.specs.ExpansionPhase.{IsExpandedTo, IsExpandedWithin};
 
-use crate::workspace::Down;
+use crate::workspace::ExpansionPhase;
 use dd_store::{Ref, Store};
-use expand_work::{Asking, WaveFault, expand_row};
+use expand_work::{ChildSink, WaveFault, expand_row};
 use req_table::requests::child;
-use req_table::{Op, Placed, Table, Waiting};
+use req_table::{Op, PackedChild, Table, Waiting};
 use std::alloc::AllocError;
 
 /// Places what the entries come to.
@@ -20,7 +20,7 @@ pub(crate) fn place_roots(
     store: &Store,
     entries: &[(Op, Ref, Ref)],
     requests: &mut Waiting,
-    roots: &mut Vec<Placed>,
+    roots: &mut Vec<PackedChild>,
 ) -> Result<(), AllocError>
     requires operands { All (IsEntry store.now) entries.now }
     requires levels { length requests.old ≡ store.now.levels }
@@ -84,19 +84,19 @@ fn most_at(limits: Limits, requests: &Waiting, level: u16, count: usize) -> usiz
 pub(crate) fn expand(
     store: &Store,
     entries: &[(Op, Ref, Ref)],
-    down: &mut Down,
+    down: &mut ExpansionPhase,
     limits: Limits,
 ) -> Result<u16, WaveFault>
     requires start { AreExpanded store.now entries.now down.old.roots.items 0 down.old.requests down.old.rows }
     requires rows { down.old.rows ≡ replicate store.now.levels [] }
-    ensures down { IfOk result (λ v. IsDown store.now entries.now v down.new.requests down.new.rows down.new.roots.items
+    ensures down { IfOk result (λ v. IsExpandedTo store.now entries.now v down.new.requests down.new.rows down.new.roots.items
         down.old.splits down.new.splits) }
-    ensures few { limits.wave < 2 ^ 64 - 1 → IfOk result (λ v. IsDownWithin limits.wave store.now entries.now v down.new.requests
+    ensures few { limits.wave < 2 ^ 64 - 1 → IfOk result (λ v. IsExpandedWithin limits.wave store.now entries.now v down.new.requests
         down.new.rows down.new.roots.items down.old.splits down.new.splits) }
     ensures wide { IfOk result (λ v. v < store.now.levels → limits.level < length (row down.new.requests v)) }
-    ensures alone { limits.level ≡ 2 ^ 64 - 1 → IfOk result (λ v. v ≡ store.now.levels) }
-    ensures refused { IfErr result (λ e. e ≢ WaveFault.Full) }
-    ensures served { IfErr result (λ e. e ≢ WaveFault.NoWorker) }
+    ensures unlimited_level_reaches_the_end { limits.level ≡ 2 ^ 64 - 1 → IfOk result (λ v. v ≡ store.now.levels) }
+    ensures never_full { IfErr result (λ e. e ≢ WaveFault.Full) }
+    ensures never_no_worker { IfErr result (λ e. e ≢ WaveFault.NoWorker) }
     ensures bounded { result ≡ Err WaveFault.TooManyRequests → limits.wave < 2 ^ 64 - 1 }
     ensures past { result ≡ Err WaveFault.TooManyRequests → AreMoreThan limits.wave store.now entries.now }
     ensures within_bound { limits.wave < 2 ^ 64 - 1 → IfOk result (λ v. v ≡ store.now.levels
@@ -127,7 +127,7 @@ pub(crate) fn expand(
             &mut down.splits,
         )?;
         down.rows.put(next, pairs);
-        down.requests.leave(&mut keys)?;
+        down.requests.recycle(&mut keys)?;
         level = next + 1;
     }
     Ok(levels)

@@ -2,17 +2,17 @@
 ghost use Rattle.std.specs.Prelude.{◌≡◌, ◌≢◌, ◌<◌, ◌≤◌, ◌+◌, ◌-◌, ◌%◌, ◌^◌, ℕ, [], Err, All, IfOk, IfErr, OnOk, OnErr};
 ghost use Rattle.dd_store.specs.Nodes.{Nodes, IsSound, count_of};
 ghost use Rattle.req_table.specs.ComputedTables.{IsRight};
-ghost use Rattle.reduce_up.specs.Known.{unknown, IsKeptWave};
+ghost use Rattle.reduce_up.specs.CacheProbe.{unknown, IsKeptWave};
 ghost use Rattle.reduce_up.specs.Waves.{IsEntry, AnswersWave, requests_of};
 ghost use Rattle.expand_work.specs.Bounds.{most_of};
-ghost use Rattle.expand_work.specs.Gathered.{HaveExpanded};
+ghost use Rattle.expand_work.specs.WaveParts.{HaveExpanded};
 ghost use Rattle.wave_engine.specs.Bounds.{AreAtMost, ArePast};
-ghost use Rattle.wave_engine.specs.Resting.{HaveReduced};
+ghost use Rattle.wave_engine.specs.EngineView.{HaveReduced};
 
 use crate::workspace::Workspace;
 use dd_store::{Ref, Store};
 use expand_work::{Crew, Monitor, WaveFault};
-use reduce_up::Sought;
+use reduce_up::CacheProbe;
 use req_table::{ComputedTable, Op};
 use std::alloc::{AllocError, Global};
 use std::marker::Model;
@@ -26,7 +26,7 @@ const CAPACITY: usize = 65_536;
 #[derive(Drop)]
 pub(crate) struct Runner<'a, R, G> {
     workspace: Workspace<'a, R, G>,
-    sought: Sought,
+    cache_probe: CacheProbe,
 }
 
 impl<'a, R: Threads + Wait + Sync, G: Monitor> Runner<'a, R, G> {
@@ -36,7 +36,7 @@ impl<'a, R: Threads + Wait + Sync, G: Monitor> Runner<'a, R, G> {
     {
         Runner {
             workspace: Workspace::new(crew),
-            sought: Sought::new(crew.alloc),
+            cache_probe: CacheProbe::new(crew.alloc),
         }
     }
 
@@ -55,9 +55,9 @@ impl<'a, R: Threads + Wait + Sync, G: Monitor> Runner<'a, R, G> {
         ensures within_bound { most_of (G.bound self.old.workspace.crew.now.monitor.now) < 2 ^ 64 - 1
             → OnOk result (AreAtMost (most_of (G.bound self.old.workspace.crew.now.monitor.now)) store.old
             (unknown computed.old entries.now)) }
-        ensures alone { most_of (G.bound self.old.workspace.crew.now.monitor.now) < 2 ^ 64 - 1 → result ≢ Err WaveFault.NoWorker }
+        ensures bounded_needs_no_worker { most_of (G.bound self.old.workspace.crew.now.monitor.now) < 2 ^ 64 - 1 → result ≢ Err WaveFault.NoWorker }
         ensures expanded { OnOk result (HaveExpanded store.old 1 (requests_of (unknown computed.old entries.now))
-            (self.old.workspace.down.splits + self.old.workspace.rooms) (self.new.workspace.down.splits + self.new.workspace.rooms)) }
+            (self.old.workspace.down.splits + self.old.workspace.wave_memory) (self.new.workspace.down.splits + self.new.workspace.wave_memory)) }
         ensures reduced { OnOk result ((v : ℕ) × HaveReduced store.old
             (requests_of (unknown computed.old entries.now)) v self.old.workspace.up.reductions self.new.workspace.up.reductions) }
         ensures memory { count_of store.old ≤ store.old.limit → result ≡ Err WaveFault.OutOfMemory → count_of store.new ≤ store.new.limit }
@@ -68,11 +68,14 @@ impl<'a, R: Threads + Wait + Sync, G: Monitor> Runner<'a, R, G> {
     {
         let _ = store.levels();
         let alloc = self.workspace.alloc();
-        let Ok(_) = self.sought.seek(computed, entries) else {
+        let Ok(_) = self.cache_probe.probe(computed, entries) else {
             return Err(WaveFault::OutOfMemory);
         };
-        let found = self.workspace.wave(store, self.sought.requests())?;
-        match self.sought.settle(alloc, computed, found.as_slice()) {
+        let found = self.workspace.wave(store, self.cache_probe.requests())?;
+        match self
+            .cache_probe
+            .complete_answers(alloc, computed, found.as_slice())
+        {
             Ok(answers) => Ok(answers),
             Err(_) => Err(WaveFault::OutOfMemory),
         }
@@ -90,9 +93,9 @@ pub struct Engine<'a, R, G: Monitor> {
 }
 
 impl<'a, R, G: Monitor> Model for Engine<'a, R, G> {
-    ghost use Rattle.wave_engine.specs.Resting.{AtRest};
+    ghost use Rattle.wave_engine.specs.EngineView.{EngineView};
 
-    ghost Value = { AtRest };
+    ghost Value = { EngineView };
 
     ghost view = { λ e. record {
       held = e.computed;
@@ -173,7 +176,7 @@ impl<'a, R: Threads + Wait + Sync, G: Monitor> Engine<'a, R, G> {
         ensures past { result ≡ Err WaveFault.TooManyRequests → ArePast self.old.bound store.old (unknown self.old.held entries.now) }
         ensures within_bound { most_of self.old.bound < 2 ^ 64 - 1
             → OnOk result (AreAtMost (most_of self.old.bound) store.old (unknown self.old.held entries.now)) }
-        ensures alone { most_of self.old.bound < 2 ^ 64 - 1 → result ≢ Err WaveFault.NoWorker }
+        ensures bounded_needs_no_worker { most_of self.old.bound < 2 ^ 64 - 1 → result ≢ Err WaveFault.NoWorker }
         ensures expanded { OnOk result (HaveExpanded store.old 1
             (requests_of (unknown self.old.held entries.now)) self.old.expanded self.new.expanded) }
         ensures reduced { OnOk result ((v : ℕ) × HaveReduced store.old
@@ -190,8 +193,8 @@ impl<'a, R: Threads + Wait + Sync, G: Monitor> Engine<'a, R, G> {
             Ok(answers) => {
                 let more = self.runner.workspace.expanded().wrapping_sub(before);
                 self.expanded = self.expanded.wrapping_add(more);
-                let alone = self.runner.workspace.reduced().wrapping_sub(made);
-                self.reduced = self.reduced.wrapping_add(alone);
+                let by_caller = self.runner.workspace.reduced().wrapping_sub(made);
+                self.reduced = self.reduced.wrapping_add(by_caller);
                 Ok(answers)
             }
             Err(fault) => Err(fault),

@@ -2,16 +2,16 @@
 ghost use Rattle.std.specs.Prelude.{◌≡◌, ◌≢◌, ◌<◌, ◌≤◌, ◌-◌, ◌^◌, [], length, Err, All, IfOk, IfErr, OnOk, map, ◌+◌, ◌++◌};
 ghost use Rattle.dd_store.specs.Nodes.{IsSound, count_of};
 ghost use Rattle.expand_work.specs.Bounds.{AreFew};
-ghost use Rattle.expand_work.specs.Gathered.{HaveExpanded};
+ghost use Rattle.expand_work.specs.WaveParts.{HaveExpanded};
 ghost use Rattle.reduce_up.specs.Reducing.{AddsDescribed};
 ghost use Rattle.reduce_up.specs.Waves.{IsEntry, IsWanted, IsWaveFault};
 ghost use Rattle.reduce_up.specs.ByPlace.{AreAdmitted};
-ghost use Rattle.reduce_up.specs.Up.{AreReducedBelow, IsWithinBelow};
+ghost use Rattle.reduce_up.specs.ReductionPhase.{AreReducedBelow, IsWithinBelow};
 ghost use Rattle.wave_engine.specs.Front.{keys_from, IsCopied, ArePut};
 
 use dd_store::{Ref, Store};
 use expand_work::{Crew, Monitor, WaveFault};
-use reduce_up::{Rooms, shared_wave};
+use reduce_up::{WaveMemory, wave_by_workers};
 use req_table::{Key, Op, Refs, Table, Waiting};
 use std::alloc::{AllocError, Global};
 use std::sync::Wait;
@@ -92,7 +92,7 @@ fn put_answers(
 /// could not be started, and if the requests are more than the workers may expand; then the store is as it was.
 pub(crate) fn hand_over<R: Threads + Wait + Sync, G: Monitor>(
     crew: &Crew<'_, R, G>,
-    rooms: &mut Rooms,
+    wave_memory: &mut WaveMemory,
     store: &mut Store,
     entries: &[(Op, Ref, Ref)],
     frontier: &Frontier<'_>,
@@ -108,13 +108,13 @@ pub(crate) fn hand_over<R: Threads + Wait + Sync, G: Monitor>(
         answers.new.items) }
     ensures within { OnOk result (IsWithinBelow store.old frontier.now.requests.now frontier.now.from store.new) }
     ensures expanded { OnOk result (HaveExpanded store.old crew.now.workers.count
-        (keys_from frontier.now.from frontier.now.requests.now) rooms.old rooms.new) }
+        (keys_from frontier.now.from frontier.now.requests.now) wave_memory.old wave_memory.new) }
     ensures few { frontier.now.most < 2 ^ 64 - 1 → OnOk result (AreFew store.old crew.now.workers.count
         (keys_from frontier.now.from frontier.now.requests.now) frontier.now.most) }
     ensures untouched { result ≡ Err WaveFault.NoWorker → store.new ≡ store.old }
-    ensures rooms { result ≡ Err WaveFault.NoWorker → rooms.new ≡ rooms.old }
+    ensures wave_memory { result ≡ Err WaveFault.NoWorker → wave_memory.new ≡ wave_memory.old }
     ensures fault { IfErr result (λ e. IsWaveFault store.old entries.now store.new e) }
-    ensures unbounded { IfErr result (λ e. e ≢ WaveFault.TooManyRequests) }
+    ensures never_too_many_requests { IfErr result (λ e. e ≢ WaveFault.TooManyRequests) }
     ensures memory { count_of store.old ≤ store.old.limit → result ≡ Err WaveFault.OutOfMemory → count_of store.new ≤ store.new.limit }
     ensures idle { frontier.now.from ≡ store.old.levels → result ≢ Err WaveFault.NoWorker }
 {
@@ -127,10 +127,10 @@ pub(crate) fn hand_over<R: Threads + Wait + Sync, G: Monitor>(
     if asked.is_empty() {
         return Ok(0);
     }
-    let before = rooms.expanded();
-    let found = shared_wave(crew, store, asked, frontier.most, rooms)?;
+    let before = wave_memory.expanded();
+    let found = wave_by_workers(crew, store, asked, frontier.most, wave_memory)?;
     match put_answers(answers, frontier.requests, frontier.from, found.as_slice()) {
-        Ok(()) => Ok(rooms.expanded().wrapping_sub(before) as usize),
+        Ok(()) => Ok(wave_memory.expanded().wrapping_sub(before) as usize),
         Err(_) => Err(WaveFault::OutOfMemory),
     }
 }

@@ -5,11 +5,11 @@
 //! the caller's thread has reduced exactly those above some level, each once (`reduced`). The computed table has then each request's answer (`kept`), a refused wave changes nothing
 //! (`refused`), and what is held stays right (`right`). Requests are refused only past the monitor's bound (`past`,
 //! `within_bound`), whether workers were called in or not, and with a bound a thread that cannot be started refuses nothing
-//! (`alone`); OutOfMemory leaves a store within its limit that was so (`memory`). `Engine::new` and `forget` hold nothing (`empty`, `right`). `wave` is one wave with a computed table
+//! (`bounded_needs_no_worker`); OutOfMemory leaves a store within its limit that was so (`memory`). `Engine::new` and `forget` hold nothing (`empty`, `right`). `wave` is one wave with a computed table
 //! of the caller's.
 //!
 //! **Only tests show** that ample memory suffices, and when workers are called in: always, never, and at the levels
-//! that the numbers of `Free` say (`wave_tests`).
+//! that the numbers of `NoMonitor` say (`wave_tests`).
 //!
 //! **Begin** with `engine` and `workspace`: a wave goes `down`, what waits before the first wide level (`sizes`) is handed over by
 //! `front`, and the levels before it are reduced as one part. Within a bound the caller's thread does the wave again if the workers

@@ -11,7 +11,7 @@ pub(crate) struct Sizes {
 
 /// Of an engine that has done fewer requests nothing is expected: a run that ends so early gains nothing by workers, as
 /// docs/PERFORMANCE.md has it.
-const YOUNG: usize = 1 << 18;
+const MIN_HISTORY: usize = 1 << 18;
 
 /// Of a wave that has fewer requests for each level nothing is expected either: workers meet at each level, and where all processors are
 /// busy a meeting takes as long as thousands of requests.
@@ -32,12 +32,12 @@ impl Sizes {
     /// How many requests are expected of the next wave: the waves of a build are much like those before them, so as many as the larger
     /// of the last two had.
     pub(crate) fn expected(self) -> usize
-        ensures young { self.all < 2 ^ 18 → result ≡ 0 }
+        ensures short_history { self.all < 2 ^ 18 → result ≡ 0 }
         ensures last { 2 ^ 18 ≤ self.all → self.last ≤ result }
         ensures older { 2 ^ 18 ≤ self.all → self.older ≤ result }
         ensures one { 2 ^ 18 ≤ self.all → (result ≡ self.last) ⊎ (result ≡ self.older) }
     {
-        if self.all < YOUNG {
+        if self.all < MIN_HISTORY {
             0
         } else if self.last < self.older {
             self.older
@@ -48,7 +48,7 @@ impl Sizes {
 
     /// How many requests are expected of the next wave over so many levels, where its levels are wide on average.
     pub(crate) fn expected_over(self, levels: u16) -> usize
-        ensures young { self.all < 2 ^ 18 → result ≡ 0 }
+        ensures short_history { self.all < 2 ^ 18 → result ≡ 0 }
         ensures wide { (result ≡ 0) ⊎ (128 * levels ≤ result) }
     {
         let expected = self.expected();

@@ -2,7 +2,7 @@
 ghost use Rattle.std.specs.Prelude.{◌≡◌, ◌≢◌, ◌<◌, ◌≤◌, ◌-◌, ◌^◌, Err, All, IfOk, IfErr, OnOk, OnErr};
 ghost use Rattle.dd_store.specs.Nodes.{IsSound, count_of};
 ghost use Rattle.req_table.specs.ComputedTables.{IsRight};
-ghost use Rattle.reduce_up.specs.Known.{unknown, IsKeptWave};
+ghost use Rattle.reduce_up.specs.CacheProbe.{unknown, IsKeptWave};
 ghost use Rattle.reduce_up.specs.Waves.{IsEntry, AnswersWave};
 ghost use Rattle.expand_work.specs.Bounds.{most_of};
 ghost use Rattle.wave_engine.specs.Bounds.{AreAtMost, ArePast};
@@ -29,7 +29,7 @@ pub fn wave<R: Threads + Wait + Sync, G: Monitor>(
         (unknown computed.old entries.now) }
     ensures within_bound { most_of (G.bound crew.now.monitor.now) < 2 ^ 64 - 1
         → OnOk result (AreAtMost (most_of (G.bound crew.now.monitor.now)) store.old (unknown computed.old entries.now)) }
-    ensures alone { most_of (G.bound crew.now.monitor.now) < 2 ^ 64 - 1 → result ≢ Err WaveFault.NoWorker }
+    ensures bounded_needs_no_worker { most_of (G.bound crew.now.monitor.now) < 2 ^ 64 - 1 → result ≢ Err WaveFault.NoWorker }
     ensures memory { count_of store.old ≤ store.old.limit → result ≡ Err WaveFault.OutOfMemory → count_of store.new ≤ store.new.limit }
     ensures kept { IfOk result (λ answers. IsKeptWave computed.old entries.now answers.items computed.new) }
     ensures refused { OnErr result (computed.new ≡ computed.old) }

@@ -5,19 +5,19 @@ ghost use Rattle.dd_store.specs.declared.reference.Ref.{Ref as RefValue};
 ghost use Rattle.dd_store.specs.Nodes.{IsSound, count_of};
 ghost use Rattle.reduce_up.specs.Waves.{IsEntry, AnswersWave, requests_of};
 ghost use Rattle.expand_work.specs.Bounds.{most_of};
-ghost use Rattle.expand_work.specs.Gathered.{HaveExpanded};
+ghost use Rattle.expand_work.specs.WaveParts.{HaveExpanded};
 ghost use Rattle.wave_engine.specs.Bounds.{AreMoreThan, AreAtMost, ArePast};
-ghost use Rattle.wave_engine.specs.Down.{IsDown, IsDownWithin};
-ghost use Rattle.wave_engine.specs.Resting.{HaveReduced};
-ghost use Rattle.reduce_up.specs.Up.{ComesTo};
+ghost use Rattle.wave_engine.specs.ExpansionPhase.{IsExpandedTo, IsExpandedWithin};
+ghost use Rattle.wave_engine.specs.EngineView.{HaveReduced};
+ghost use Rattle.reduce_up.specs.ReductionPhase.{ResolvesTo};
 
 use crate::down::{Limits, expand, place_roots};
 use crate::front::{Frontier, hand_over};
 use crate::sizes::Sizes;
 use dd_store::{Ref, Store};
 use expand_work::{Crew, Monitor, Splits, WaveFault};
-use reduce_up::{Rooms, Up, reduce, root_answers};
-use req_table::{Op, Placed, Rows, Waiting};
+use reduce_up::{ReductionPhase, WaveMemory, reduce, root_answers};
+use req_table::{Op, PackedChild, Rows, Waiting};
 use std::alloc::{AllocError, Global};
 use std::slice;
 use std::sync::Wait;
@@ -30,33 +30,33 @@ const MOST_KEPT: usize = 1 << 10;
 /// What a wave's expansion leaves: the requests that wait, the children of those that do not, and what the entries come to. All that are
 /// ever split for it are counted.
 #[derive(Drop)]
-pub(crate) struct Down {
+pub(crate) struct ExpansionPhase {
     pub(crate) requests: Waiting,
     pub(crate) rows: Rows,
-    pub(crate) roots: Vec<Placed>,
+    pub(crate) roots: Vec<PackedChild>,
     pub(crate) splits: Splits,
 }
 
 /// Places and expands what the entries ask for, down to the first level with more requests than its limit. It refuses where they are
 /// more than the wave's limit in all.
-fn go_down(
+fn place_and_expand(
     alloc: Global,
     store: &Store,
     entries: &[(Op, Ref, Ref)],
-    down: &mut Down,
-    up: &mut Up,
+    down: &mut ExpansionPhase,
+    up: &mut ReductionPhase,
     limits: Limits,
 ) -> Result<u16, WaveFault>
     requires operands { All (IsEntry store.now) entries.now }
-    ensures down { IfOk result (λ v. IsDown store.now entries.now v down.new.requests down.new.rows down.new.roots.items
+    ensures down { IfOk result (λ v. IsExpandedTo store.now entries.now v down.new.requests down.new.rows down.new.roots.items
         down.old.splits down.new.splits) }
-    ensures few { limits.wave < 2 ^ 64 - 1 → IfOk result (λ v. IsDownWithin limits.wave store.now entries.now v down.new.requests
+    ensures few { limits.wave < 2 ^ 64 - 1 → IfOk result (λ v. IsExpandedWithin limits.wave store.now entries.now v down.new.requests
         down.new.rows down.new.roots.items down.old.splits down.new.splits) }
     ensures answers { OnOk result (length up.new.answers.items ≡ store.now.levels) }
     ensures counted { up.new.reductions ≡ up.old.reductions }
-    ensures alone { limits.level ≡ 2 ^ 64 - 1 → IfOk result (λ v. v ≡ store.now.levels) }
-    ensures refused { IfErr result (λ e. e ≢ WaveFault.Full) }
-    ensures served { IfErr result (λ e. e ≢ WaveFault.NoWorker) }
+    ensures unlimited_level_reaches_the_end { limits.level ≡ 2 ^ 64 - 1 → IfOk result (λ v. v ≡ store.now.levels) }
+    ensures never_full { IfErr result (λ e. e ≢ WaveFault.Full) }
+    ensures never_no_worker { IfErr result (λ e. e ≢ WaveFault.NoWorker) }
     ensures bounded { result ≡ Err WaveFault.TooManyRequests → limits.wave < 2 ^ 64 - 1 }
     ensures past { result ≡ Err WaveFault.TooManyRequests → AreMoreThan limits.wave store.now entries.now }
     ensures within_bound { limits.wave < 2 ^ 64 - 1 → IfOk result (λ v. v ≡ store.now.levels
@@ -76,10 +76,10 @@ fn go_down(
 #[derive(Drop)]
 pub(crate) struct Workspace<'a, R, G> {
     pub(crate) crew: &'a Crew<'a, R, G>,
-    pub(crate) down: Down,
-    pub(crate) up: Up,
+    pub(crate) down: ExpansionPhase,
+    pub(crate) up: ReductionPhase,
     /// The memory of the workers.
-    pub(crate) rooms: Rooms,
+    pub(crate) wave_memory: WaveMemory,
     /// How large the waves before were, of those that came to be reduced.
     sizes: Sizes,
 }
@@ -92,14 +92,14 @@ impl<'a, R: Threads + Wait + Sync, G: Monitor> Workspace<'a, R, G> {
         let alloc = crew.alloc;
         Workspace {
             crew,
-            down: Down {
+            down: ExpansionPhase {
                 requests: Waiting::new(alloc),
                 rows: Rows::new(alloc, MOST_KEPT),
                 roots: Vec::new(alloc),
                 splits: Splits::new(),
             },
-            up: Up::new(alloc),
-            rooms: Rooms::new(alloc),
+            up: ReductionPhase::new(alloc),
+            wave_memory: WaveMemory::new(alloc),
             sizes: Sizes::new(),
         }
     }
@@ -111,9 +111,9 @@ impl<'a, R: Threads + Wait + Sync, G: Monitor> Workspace<'a, R, G> {
 
     /// How many requests were expanded in all its waves, by the caller's thread and by workers.
     pub(crate) fn expanded(&self) -> u64
-        ensures { result ≡ (self.now.down.splits + self.now.rooms) % 2 ^ 64 }
+        ensures { result ≡ (self.now.down.splits + self.now.wave_memory) % 2 ^ 64 }
     {
-        self.rooms
+        self.wave_memory
             .expanded()
             .wrapping_add(self.down.splits.count() as u64)
     }
@@ -139,12 +139,12 @@ impl<'a, R: Threads + Wait + Sync, G: Monitor> Workspace<'a, R, G> {
         ensures bounded { result ≡ Err WaveFault.TooManyRequests → limits.wave < 2 ^ 64 - 1 }
         ensures past { result ≡ Err WaveFault.TooManyRequests → AreMoreThan limits.wave store.old entries.now }
         ensures within_bound { limits.wave < 2 ^ 64 - 1 → OnOk result (AreAtMost limits.wave store.old entries.now) }
-        ensures alone { limits.level ≡ 2 ^ 64 - 1 → result ≢ Err WaveFault.NoWorker }
+        ensures unlimited_level_needs_no_worker { limits.level ≡ 2 ^ 64 - 1 → result ≢ Err WaveFault.NoWorker }
         ensures untouched { result ≡ Err WaveFault.NoWorker → store.new ≡ store.old }
-        ensures rooms { result ≡ Err WaveFault.NoWorker → self.new.rooms ≡ self.old.rooms }
+        ensures wave_memory { result ≡ Err WaveFault.NoWorker → self.new.wave_memory ≡ self.old.wave_memory }
         ensures up { result ≡ Err WaveFault.NoWorker → self.new.up.reductions ≡ self.old.up.reductions }
-        ensures expanded { OnOk result (HaveExpanded store.old 1 (requests_of entries.now) (self.old.down.splits + self.old.rooms)
-            (self.new.down.splits + self.new.rooms)) }
+        ensures expanded { OnOk result (HaveExpanded store.old 1 (requests_of entries.now) (self.old.down.splits + self.old.wave_memory)
+            (self.new.down.splits + self.new.wave_memory)) }
         ensures reduced { OnOk result ((v : ℕ) × HaveReduced store.old
             (requests_of entries.now) v self.old.up.reductions self.new.up.reductions) }
         ensures memory { count_of store.old ≤ store.old.limit → result ≡ Err WaveFault.OutOfMemory → count_of store.new ≤ store.new.limit }
@@ -153,10 +153,10 @@ impl<'a, R: Threads + Wait + Sync, G: Monitor> Workspace<'a, R, G> {
         let _ = store.levels();
         let alloc = self.crew.alloc;
         let before = self.down.splits.count();
-        let from = go_down(alloc, store, entries, &mut self.down, &mut self.up, limits)?;
-        let alone = self.down.splits.count().wrapping_sub(before);
-        self.crew.monitor.at_requests(alone);
-        let most = limits.left(alone);
+        let from = place_and_expand(alloc, store, entries, &mut self.down, &mut self.up, limits)?;
+        let by_caller = self.down.splits.count().wrapping_sub(before);
+        self.crew.monitor.at_requests(by_caller);
+        let most = limits.left(by_caller);
         let frontier = Frontier {
             requests: &self.down.requests,
             from,
@@ -164,13 +164,13 @@ impl<'a, R: Threads + Wait + Sync, G: Monitor> Workspace<'a, R, G> {
         };
         let shared = hand_over(
             self.crew,
-            &mut self.rooms,
+            &mut self.wave_memory,
             store,
             entries,
             &frontier,
             &mut self.up.answers,
         )?;
-        self.sizes = self.sizes.then(alone.saturating_add(shared));
+        self.sizes = self.sizes.then(by_caller.saturating_add(shared));
         let parts = slice::from_mut(&mut self.down.rows);
         reduce(self.crew, store, parts, &mut self.up, from)?;
         let answers = self.up.answers.as_slice();
@@ -200,9 +200,9 @@ impl<'a, R: Threads + Wait + Sync, G: Monitor> Workspace<'a, R, G> {
         ensures past { result ≡ Err WaveFault.TooManyRequests → ArePast (G.bound self.old.crew.now.monitor.now) store.old entries.now }
         ensures within_bound { most_of (G.bound self.old.crew.now.monitor.now) < 2 ^ 64 - 1
             → OnOk result (AreAtMost (most_of (G.bound self.old.crew.now.monitor.now)) store.old entries.now) }
-        ensures alone { most_of (G.bound self.old.crew.now.monitor.now) < 2 ^ 64 - 1 → result ≢ Err WaveFault.NoWorker }
-        ensures expanded { OnOk result (HaveExpanded store.old 1 (requests_of entries.now) (self.old.down.splits + self.old.rooms)
-            (self.new.down.splits + self.new.rooms)) }
+        ensures bounded_needs_no_worker { most_of (G.bound self.old.crew.now.monitor.now) < 2 ^ 64 - 1 → result ≢ Err WaveFault.NoWorker }
+        ensures expanded { OnOk result (HaveExpanded store.old 1 (requests_of entries.now) (self.old.down.splits + self.old.wave_memory)
+            (self.new.down.splits + self.new.wave_memory)) }
         ensures reduced { OnOk result ((v : ℕ) × HaveReduced store.old
             (requests_of entries.now) v self.old.up.reductions self.new.up.reductions) }
         ensures memory { count_of store.old ≤ store.old.limit → result ≡ Err WaveFault.OutOfMemory → count_of store.new ≤ store.new.limit }
@@ -210,7 +210,9 @@ impl<'a, R: Threads + Wait + Sync, G: Monitor> Workspace<'a, R, G> {
     {
         let levels = store.levels();
         let limits = Limits {
-            level: self.crew.most_alone(self.sizes.expected_over(levels)),
+            level: self
+                .crew
+                .caller_level_limit(self.sizes.expected_over(levels)),
             wave: self.crew.monitor.most_requests(),
         };
         let before = self.down.splits.count();
@@ -218,11 +220,11 @@ impl<'a, R: Threads + Wait + Sync, G: Monitor> Workspace<'a, R, G> {
         if limits.wave == usize::MAX || !matches!(result, Err(WaveFault::NoWorker)) {
             return result;
         }
-        self.down.splits.back_to(before);
-        let alone = Limits {
+        self.down.splits.reset_to(before);
+        let caller_limits = Limits {
             level: usize::MAX,
             wave: limits.wave,
         };
-        self.attempt(store, entries, alone)
+        self.attempt(store, entries, caller_limits)
     }
 }

@@ -19,8 +19,8 @@ use wave_engine::{Engine, wave};
 #[derive(Drop)]
 struct Bound {
     most: usize,
-    alone: usize,
-    told: AtomicUsize,
+    caller_limit: usize,
+    reported: AtomicUsize,
     workers: AtomicUsize,
 }
 
@@ -35,8 +35,8 @@ impl Monitor for Bound {
         self.workers.fetch_add(1, Ordering::SeqCst);
     }
 
-    fn most_alone(&self, _workers: u32, _expected: usize) -> usize {
-        self.alone
+    fn caller_level_limit(&self, _workers: u32, _expected: usize) -> usize {
+        self.caller_limit
     }
 
     fn most_requests(&self) -> usize {
@@ -44,7 +44,7 @@ impl Monitor for Bound {
     }
 
     fn at_requests(&self, requests: usize) {
-        self.told.fetch_add(requests, Ordering::SeqCst);
+        self.reported.fetch_add(requests, Ordering::SeqCst);
     }
 }
 
@@ -52,7 +52,7 @@ impl Monitor for Bound {
 #[derive(Drop)]
 struct Seen {
     fault: Option<WaveFault>,
-    told: usize,
+    reported: usize,
     workers: usize,
     /// How many nodes it has added.
     added: u64,
@@ -85,7 +85,7 @@ fn within<R: Threads + Wait + Abort + Sync>(
     alloc: Global,
     workers: u32,
     most: usize,
-    alone: usize,
+    caller_limit: usize,
 ) -> Result<Seen, Fail>
     requires workers { (0 < workers) × (workers ≤ 16) }
 {
@@ -93,8 +93,8 @@ fn within<R: Threads + Wait + Abort + Sync>(
     let entries = product_of_sums(rt, alloc, &mut store);
     let monitor = Bound {
         most,
-        alone,
-        told: AtomicUsize::new(0),
+        caller_limit,
+        reported: AtomicUsize::new(0),
         workers: AtomicUsize::new(0),
     };
     let before = store.count();
@@ -107,7 +107,7 @@ fn within<R: Threads + Wait + Abort + Sync>(
     }
     Ok(Seen {
         fault,
-        told: monitor.told.load(Ordering::SeqCst),
+        reported: monitor.reported.load(Ordering::SeqCst),
         workers: monitor.workers.load(Ordering::SeqCst),
         added: store.count().saturating_sub(before),
     })
@@ -115,12 +115,12 @@ fn within<R: Threads + Wait + Abort + Sync>(
 
 /// Whether a wave was done, and each of its seven requests expanded once.
 fn is_done(seen: &Seen) -> bool {
-    seen.fault.is_none() && seen.told == 7 && seen.added > 0
+    seen.fault.is_none() && seen.reported == 7 && seen.added > 0
 }
 
 /// Whether a wave was refused for its requests before a node was made, and none were expanded past this bound.
 fn is_refused(seen: &Seen, most: usize) -> bool {
-    seen.fault == Some(WaveFault::TooManyRequests) && seen.told <= most && seen.added == 0
+    seen.fault == Some(WaveFault::TooManyRequests) && seen.reported <= most && seen.added == 0
 }
 
 // A wave of seven requests is done within a bound of seven and refused within less, by any number of workers, whichever level they are
@@ -128,12 +128,14 @@ fn is_refused(seen: &Seen, most: usize) -> bool {
 #[test]
 fn bound_of_a_wave(rt: HostRuntime) -> Result<(), Fail> {
     for workers in 1..17 {
-        for alone in [0, 1, 2, 4] {
-            let done = within(&rt, rt.alloc(), workers, 7, alone)?;
+        for caller_limit in [0, 1, 2, 4] {
+            let done = within(&rt, rt.alloc(), workers, 7, caller_limit)?;
             assert!(rt; is_done(&done));
-            assert!(rt; (done.workers > 0) == (alone == 0 || (alone < 4 && workers > 1)));
+            assert!(rt;
+                (done.workers > 0) == (caller_limit == 0 || (caller_limit < 4 && workers > 1))
+            );
             for most in [0, 1, 2, 3, 6] {
-                let refused = within(&rt, rt.alloc(), workers, most, alone)?;
+                let refused = within(&rt, rt.alloc(), workers, most, caller_limit)?;
                 assert!(rt; is_refused(&refused, most));
             }
         }
@@ -142,19 +144,19 @@ fn bound_of_a_wave(rt: HostRuntime) -> Result<(), Fail> {
 }
 
 /// That wave two hundred times within exactly its bound and within one less, by this number of workers and by the three numbers above it.
-fn two_hundred_turns<R: Threads + Wait + Abort + Sync>(
+fn two_hundred_rounds<R: Threads + Wait + Abort + Sync>(
     rt: &R,
     alloc: Global,
     least: u32,
 ) -> Result<(), Fail>
     requires workers { (0 < least) × (least ≤ 13) }
 {
-    for turn in 0..200 {
+    for round in 0..200 {
         for more in 0..4 {
-            let alone = turn % 3;
-            let done = within(rt, alloc, least + more, 7, alone)?;
+            let caller_limit = round % 3;
+            let done = within(rt, alloc, least + more, 7, caller_limit)?;
             assert!(rt; is_done(&done));
-            let refused = within(rt, alloc, least + more, 6, alone)?;
+            let refused = within(rt, alloc, least + more, 6, caller_limit)?;
             assert!(rt; is_refused(&refused, 6));
         }
     }
@@ -164,22 +166,22 @@ fn two_hundred_turns<R: Threads + Wait + Abort + Sync>(
 // However the threads run, a wave of exactly its bound is done, and one of one more is refused.
 #[test]
 fn bound_by_up_to_four(rt: HostRuntime) -> Result<(), Fail> {
-    two_hundred_turns(&rt, rt.alloc(), 1)
+    two_hundred_rounds(&rt, rt.alloc(), 1)
 }
 
 #[test]
 fn bound_by_up_to_eight(rt: HostRuntime) -> Result<(), Fail> {
-    two_hundred_turns(&rt, rt.alloc(), 5)
+    two_hundred_rounds(&rt, rt.alloc(), 5)
 }
 
 #[test]
 fn bound_by_up_to_twelve(rt: HostRuntime) -> Result<(), Fail> {
-    two_hundred_turns(&rt, rt.alloc(), 9)
+    two_hundred_rounds(&rt, rt.alloc(), 9)
 }
 
 #[test]
 fn bound_by_up_to_sixteen(rt: HostRuntime) -> Result<(), Fail> {
-    two_hundred_turns(&rt, rt.alloc(), 13)
+    two_hundred_rounds(&rt, rt.alloc(), 13)
 }
 
 // Within a bound a thread that cannot be started changes no answer: tests/growths.py refuses each start in turn, and each growth.
@@ -195,13 +197,13 @@ fn bound_without_a_thread(rt: HostRuntime) -> Result<(), Fail> {
 // Whoever expands them, the monitor is told of each of seven requests once: workers from the first, the second or the third level that has
 // any, or the caller's thread alone. One worker is called in for the whole wave or never.
 #[test]
-fn each_request_is_told_once(rt: HostRuntime) -> Result<(), Fail> {
+fn each_request_is_reported_once(rt: HostRuntime) -> Result<(), Fail> {
     for workers in [1, 2, 4] {
-        for (alone, called) in [(0, true), (1, true), (2, true), (4, false)] {
-            let done = within(&rt, rt.alloc(), workers, usize::MAX, alone)?;
+        for (caller_limit, called) in [(0, true), (1, true), (2, true), (4, false)] {
+            let done = within(&rt, rt.alloc(), workers, usize::MAX, caller_limit)?;
             assert!(rt; done.fault.is_none());
-            assert!(rt; done.told == 7);
-            let called = called && (workers > 1 || alone == 0);
+            assert!(rt; done.reported == 7);
+            let called = called && (workers > 1 || caller_limit == 0);
             assert!(rt; (done.workers > 0) == called);
         }
     }
@@ -209,17 +211,17 @@ fn each_request_is_told_once(rt: HostRuntime) -> Result<(), Fail> {
 }
 
 /// How many requests of that wave the caller's thread reduces, where four workers are called in likewise. All seven are expanded.
-fn reduced_alone<R: Threads + Wait + Abort + Sync>(
+fn reduced_by_caller<R: Threads + Wait + Abort + Sync>(
     rt: &R,
     alloc: Global,
-    alone: usize,
+    caller_limit: usize,
 ) -> Result<u64, Fail> {
     let mut store = Store::new(alloc, 4, 100)?;
     let entries = product_of_sums(rt, alloc, &mut store);
     let monitor = Bound {
         most: usize::MAX,
-        alone,
-        told: AtomicUsize::new(0),
+        caller_limit,
+        reported: AtomicUsize::new(0),
         workers: AtomicUsize::new(0),
     };
     let crew = crew_of(rt, alloc, 4, &monitor);
@@ -232,8 +234,8 @@ fn reduced_alone<R: Threads + Wait + Abort + Sync>(
 // The caller's thread reduces each of seven requests once where no worker is called in, else those of the levels before.
 #[test]
 fn each_request_is_reduced_once(rt: HostRuntime) -> Result<(), Fail> {
-    for (alone, reduced) in [(4, 7), (2, 3), (1, 1), (0, 0)] {
-        let found = reduced_alone(&rt, rt.alloc(), alone)?;
+    for (caller_limit, reduced) in [(4, 7), (2, 3), (1, 1), (0, 0)] {
+        let found = reduced_by_caller(&rt, rt.alloc(), caller_limit)?;
         assert!(rt; found == reduced);
     }
     Ok(())

@@ -7,7 +7,7 @@ ghost use Rattle.req_table.specs.Keys.{IsKey};
 use crate::plans::{C17, C17B, are_nands, read};
 use crate::waves::{How, Step, Way, known_at, request, run, start};
 use dd_store::{Ref, Store};
-use expand_work::Free;
+use expand_work::NoMonitor;
 use gate_plan::Plan;
 use net_order::order::{Match, Order};
 use net_order::pairing::pair;
@@ -149,10 +149,14 @@ impl Trace {
     fn diagram_of(&self, child: Child) -> Option<Ref> {
         match child {
             Child::Done(answer) => Some(answer),
-            Child::Ask { key, mark, .. } => {
+            Child::Ask {
+                key,
+                complement,
+                ..
+            } => {
                 for (other, answer) in self.found.as_slice() {
                     if *other == key {
-                        return Some(answer.marked(mark));
+                        return Some(answer.complement_if(complement));
                     }
                 }
                 None
@@ -173,7 +177,7 @@ impl Trace {
         let low = self.diagram_of(row.low).expect(rt, "no diagram");
         let high = self.diagram_of(row.high).expect(rt, "no diagram");
         let diagram = store.find(level, low, high).expect(rt, "no such node");
-        assert!(rt; diagram.is_marked());
+        assert!(rt; diagram.is_complement());
         write!(self.rows, "| {level} | ")?;
         self.write_request(row.key)?;
         self.rows.push_str(" | ")?;
@@ -254,7 +258,7 @@ fn rank_two_of_c17(rt: HostRuntime) -> Result<(), Fail> {
     let [first, second, third, fourth] = roots;
     assert!(rt; first == third);
     assert!(rt; owner(first, 2) == 1 && owner(second, 2) == 0 && owner(fourth, 2) == 1);
-    let expanded = expand_all(&rt, rt.alloc(), &store, &roots, 2, &Free)?;
+    let expanded = expand_all(&rt, rt.alloc(), &store, &roots, 2, &NoMonitor)?;
     let [first_port, second_port] = expanded.ports() else {
         return Err(Fail::from("there are not two ports"));
     };

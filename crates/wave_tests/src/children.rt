@@ -4,22 +4,22 @@ ghost use Rattle.req_table.specs.Keys.{IsKey};
 
 use crate::requests::{either, make_either, request, request_for, store_of, variable};
 use dd_store::{Ref, Store};
-use expand_work::{Asking, Splits, expand_row};
+use expand_work::{ChildSink, Splits, expand_row};
 use req_table::requests::child;
-use req_table::{Key, Op, Placed, PlacedChild, Row, Table, Waiting};
+use req_table::{Key, Op, PackedChild, PlacedChild, Row, Table, Waiting};
 use std::alloc::{AllocError, Global};
 use std::process::Abort;
 use std::test::Fail;
 
 /// What a child says, to be compared: its answer, or its level and owner, and whether it is the complement of what is asked for.
-pub fn tell(child: Placed) -> Result<Ref, (u16, u32, bool)> {
+pub fn placed_value(child: PackedChild) -> Result<Ref, (u16, u32, bool)> {
     match child.view() {
         PlacedChild::Done(answer) => Ok(answer),
         PlacedChild::Ask {
             level,
             number: owner,
-            mark,
-        } => Err((level, owner, mark)),
+            complement,
+        } => Err((level, owner, complement)),
     }
 }
 
@@ -44,7 +44,7 @@ pub fn root_of(rt: &impl Abort, store: &Store) -> Key
 }
 
 /// The children of one request, the requests that wait once it was expanded, and how many were split.
-fn expand_alone(
+fn expand_single(
     alloc: Global,
     store: &Store,
     root: Key,
@@ -62,16 +62,16 @@ fn expand_alone(
 }
 
 #[test]
-fn a_child_that_the_caller_asks_for_is_told_by_its_place(rt: HostRuntime) -> Result<(), Fail> {
+fn a_child_that_the_caller_asks_for_has_a_place(rt: HostRuntime) -> Result<(), Fail> {
     let store = row_store(&rt, rt.alloc());
     let root = root_of(&rt, &store);
-    let Ok((row, mut waiting, split)) = expand_alone(rt.alloc(), &store, root) else {
+    let Ok((row, mut waiting, split)) = expand_single(rt.alloc(), &store, root) else {
         return Err(Fail::from("the request was not expanded"));
     };
     assert!(rt; waiting.levels() == store.levels() as usize);
     assert!(rt; split == 1 && row.len() == 1);
     let (low, high) = row.at(0);
-    assert!(rt; tell(low) == Err((1, 0, false)) && tell(high) == Ok(Ref::TRUE));
+    assert!(rt; placed_value(low) == Err((1, 0, false)) && placed_value(high) == Ok(Ref::TRUE));
     assert!(rt; waiting.count(1) == 1 && waiting.count(2) == 0);
     assert!(rt; waiting.keys(1).key_at(0) == request(&rt, &store, Op::And, 1, 2));
     let b = variable(&rt, &store, 1);
@@ -82,7 +82,9 @@ fn a_child_that_the_caller_asks_for_is_told_by_its_place(rt: HostRuntime) -> Res
     let fresh = waiting
         .ask(&store, child(&store, Op::Xor, b, c))
         .expect(&rt, "out of memory");
-    assert!(rt; tell(held) == Err((1, 0, true)) && tell(fresh) == Err((1, 1, false)));
+    assert!(rt;
+        placed_value(held) == Err((1, 0, true)) && placed_value(fresh) == Err((1, 1, false))
+    );
     assert!(rt; waiting.count(1) == 2 && waiting.count(2) == 0);
     Ok(())
 }

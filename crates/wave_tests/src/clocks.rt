@@ -1,10 +1,10 @@
 //! Level clocks.
-use level_close::Clock;
+use level_close::EndCounts;
 use std::test::Fail;
 
 #[test]
 fn levels_close_when_all_senders_ended_them(rt: HostRuntime) -> Result<(), Fail> {
-    let mut clock = Clock::new(rt.alloc(), 2, 2)?;
+    let mut clock = EndCounts::new(rt.alloc(), 2, 2)?;
     clock.note(0, 0);
     assert!(rt; !clock.closed(0));
     clock.note(1, 0);

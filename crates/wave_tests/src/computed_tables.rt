@@ -5,11 +5,11 @@ ghost use Rattle.req_table.specs.ComputedTables.{IsRight};
 ghost use Rattle.reduce_up.specs.Waves.{IsEntry};
 
 use crate::narrow::Narrow;
-use crate::plans::{C17, Paired, built, read};
+use crate::plans::{C17, NamingModel, built, read};
 use crate::requests::request_for;
 use crate::waves::{WAYS, Way, crew_of};
 use dd_store::{Ref, Store};
-use expand_work::{Free, WaveFault};
+use expand_work::{NoMonitor, WaveFault};
 use net_order::order::{Match, Order};
 use net_order::pairing::pair;
 use req_table::{Child, ComputedTable, Op};
@@ -19,7 +19,7 @@ use std::sync::Wait;
 use std::sync::atomic::Ordering;
 use std::test::Fail;
 use std::thread::Threads;
-use wave_doors::{child_known, wave_one};
+use wave_doors::{child_with_computed, wave_on_one_thread};
 use wave_engine::wave;
 
 /// The first two variables of a store.
@@ -49,12 +49,12 @@ fn ask<R: Threads + Wait + Sync>(
     ensures known { IfOk result (Has store.new) }
 {
     let answers = match way {
-        Way::Alone(choices) => {
-            let crew = crew_of(rt, alloc, 2, &Free);
-            wave_one(&crew, store, computed, &[entry], choices)?
+        Way::OneThread(choices) => {
+            let crew = crew_of(rt, alloc, 2, &NoMonitor);
+            wave_on_one_thread(&crew, store, computed, &[entry], choices)?
         }
         Way::Threads => {
-            let crew = crew_of(rt, alloc, 2, &Free);
+            let crew = crew_of(rt, alloc, 2, &NoMonitor);
             wave(&crew, store, computed, &[entry])?
         }
         Way::Upto(most) => {
@@ -72,7 +72,7 @@ fn is_known(store: &Store, computed: &ComputedTable, op: Op, f: Ref, g: Ref, wan
     requires second { Has store.now g }
     requires right { IsRight store.now computed.now }
 {
-    match child_known(store, computed, op, f, g) {
+    match child_with_computed(store, computed, op, f, g) {
         Child::Done(answer) => answer == wanted,
         Child::Ask { .. } => false,
     }
@@ -105,7 +105,7 @@ static BUFFERED: &str =
     "INPUT(1)\nINPUT(2)\nINPUT(3)\nINPUT(6)\nINPUT(7)\nOUTPUT(22)\nOUTPUT(23)\na = BUFF(1)\nb = BUFF(2)\nc = BUFF(3)\nf = BUFF(6)\ng = BUFF(7)\n10 = NAND(a, c)\n11 = NAND(c, f)\n16 = NAND(b, 11)\n19 = NAND(11, g)\n22 = NAND(10, 16)\n23 = NAND(16, 19)\n";
 
 /// How often a worker comes to a level in the building of two netlists, each request of which is the workers'.
-fn told<R: Abort + Threads + Wait + Sync>(
+fn reported<R: Abort + Threads + Wait + Sync>(
     rt: &R,
     alloc: Global,
     first: &str,
@@ -117,22 +117,22 @@ fn told<R: Abort + Threads + Wait + Sync>(
     let mut store = Store::new(alloc, pairing.names().len() as u16, 100)?;
     let monitor = Narrow::new(0);
     let crew = crew_of(rt, alloc, 2, &monitor);
-    let paired = Paired {
+    let paired = NamingModel {
         first: &first,
         second: &second,
         pairing: &pairing,
     };
     built(&crew, &mut store, paired)?;
     assert!(rt; store.count() == 13);
-    Ok(monitor.told.load(Ordering::SeqCst))
+    Ok(monitor.reported.load(Ordering::SeqCst))
 }
 
 // What both netlists have at other ranks is asked for once: no level more is come to than where both are one text.
 #[test]
 fn other_ranks(rt: HostRuntime) -> Result<(), Fail> {
-    let same = told(&rt, rt.alloc(), C17, C17)?;
+    let same = reported(&rt, rt.alloc(), C17, C17)?;
     assert!(rt; same > 0);
-    assert!(rt; told(&rt, rt.alloc(), C17, BUFFERED)? == same);
-    assert!(rt; told(&rt, rt.alloc(), BUFFERED, C17)? == same);
+    assert!(rt; reported(&rt, rt.alloc(), C17, BUFFERED)? == same);
+    assert!(rt; reported(&rt, rt.alloc(), BUFFERED, C17)? == same);
     Ok(())
 }

@@ -5,7 +5,7 @@ use crate::waves::{crew_of, start};
 use crate::wide::{pairs, products, sums};
 use crate::widths::run_engine;
 use dd_store::{Store, Watch};
-use expand_work::{Free, Monitor};
+use expand_work::{Monitor, NoMonitor};
 use req_table::Op;
 use std::alloc::Global;
 use std::process::Abort;
@@ -15,23 +15,23 @@ use std::test::Fail;
 use std::thread::Threads;
 use wave_engine::Engine;
 
-/// Calls in workers as `Free` does, and hears whether any were.
+/// Calls in workers as `NoMonitor` does, and hears whether any were.
 #[derive(Drop)]
-struct Heard {
+struct CallWatcher {
     called: AtomicBool,
 }
 
-impl Watch for Heard {
+impl Watch for CallWatcher {
     fn at_shard(&self, _shard: u8, _level: u16) {}
 }
 
-impl Monitor for Heard {
+impl Monitor for CallWatcher {
     fn at_level(&self, _worker: u32, _level: u16) {
         self.called.store(true, Ordering::SeqCst);
     }
 
-    fn most_alone(&self, workers: u32, expected: usize) -> usize {
-        Free.most_alone(workers, expected)
+    fn caller_level_limit(&self, workers: u32, expected: usize) -> usize {
+        NoMonitor.caller_level_limit(workers, expected)
     }
 
     fn most_requests(&self) -> usize {
@@ -67,7 +67,7 @@ fn call_in<R: Threads + Wait + Abort + Sync>(
 ) -> Result<(), Fail>
     requires workers { (0 < workers) × (workers ≤ 16) }
 {
-    let monitor = Heard {
+    let monitor = CallWatcher {
         called: AtomicBool::new(false),
     };
     let crew = crew_of(rt, alloc, workers, &monitor);
@@ -80,13 +80,13 @@ fn call_in<R: Threads + Wait + Abort + Sync>(
     let terms = sums(rt, alloc);
     let made = run_engine(rt, &mut engine, &mut store, &mut known, terms.as_slice());
     assert!(rt; made.is_ok());
-    for (behind, count, called) in waves {
+    for (offset, count, called) in waves {
         monitor.called.store(false, Ordering::SeqCst);
-        let steps = pairs(rt, alloc, Op::Xor, SUMS + *behind as usize, *count);
+        let steps = pairs(rt, alloc, Op::Xor, SUMS + *offset as usize, *count);
         let made = run_engine(rt, &mut engine, &mut store, &mut known, steps.as_slice());
         assert!(rt; made.is_ok());
-        let heard = monitor.called.load(Ordering::SeqCst);
-        assert!(rt; heard == *called, "{behind} {count}");
+        let were_called = monitor.called.load(Ordering::SeqCst);
+        assert!(rt; were_called == *called, "{offset} {count}");
     }
     Ok(())
 }

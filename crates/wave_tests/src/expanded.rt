@@ -3,11 +3,11 @@ ghost use Rattle.std.specs.Prelude.{◌≡◌, ◌≤◌, ◌<◌, All};
 ghost use Rattle.reduce_up.specs.Waves.{IsEntry};
 ghost use Rattle.req_table.specs.Keys.{IsKey};
 
-use crate::meeting::{Meeting, TURNS, wait_for};
+use crate::meeting::{MAX_YIELDS, Meeting, wait_for};
 use crate::requests::{REACHED, five_roots, request, store_of, store_of_six, variable};
 use crate::waves::crew_of;
 use dd_store::{Ref, Store, Watch};
-use expand_work::{Free, Monitor};
+use expand_work::{Monitor, NoMonitor};
 use lane_queue::Port;
 use req_table::requests::owner;
 use req_table::{Child, ComputedTable, Key, Op, Record};
@@ -73,7 +73,7 @@ fn merged_roots(rt: HostRuntime) -> Result<(), Fail> {
     let roots = both_ways(&rt, &store);
     let [first, second] = roots;
     assert!(rt; first == second && owner(first, 4) == 1);
-    let expanded = expand_all(&rt, rt.alloc(), &store, &roots, 4, &Free)?;
+    let expanded = expand_all(&rt, rt.alloc(), &store, &roots, 4, &NoMonitor)?;
     let records = expanded.records();
     let b = variable(&rt, &store, 1);
     assert!(rt; is_record(records.level(0), first, Ref::FALSE, b) && records.level(1).is_empty());
@@ -179,9 +179,9 @@ impl Monitor for Holder {
         } else if worker == 0 {
             self.other.store(true, Ordering::SeqCst);
         } else {
-            let came = wait_for(&self.other, TURNS);
+            let came = wait_for(&self.other, MAX_YIELDS);
             self.held.store(came, Ordering::SeqCst);
-            let early = wait_for(&self.further, TURNS / 50);
+            let early = wait_for(&self.further, MAX_YIELDS / 50);
             self.early.store(early, Ordering::SeqCst);
         }
     }
@@ -193,7 +193,7 @@ impl Monitor for Holder {
 
 // A worker is told of a level when it is closed, which the next is not before both workers have left this one.
 #[test]
-fn told_of_closed_levels(rt: HostRuntime) -> Result<(), Fail> {
+fn levels_are_reported_when_closed(rt: HostRuntime) -> Result<(), Fail> {
     let store = store_of(&rt, rt.alloc(), 4);
     let roots = two_roots(&rt, &store);
     let monitor = Holder {
@@ -228,7 +228,7 @@ fn many_equal_roots(rt: HostRuntime) -> Result<(), Fail> {
     let store = store_of(&rt, rt.alloc(), 4);
     let key = request(&rt, &store, Op::And, 0, 2);
     let roots = copies(&rt, rt.alloc(), &store, key, 130);
-    let expanded = expand_all(&rt, rt.alloc(), &store, roots.as_slice(), 2, &Free)?;
+    let expanded = expand_all(&rt, rt.alloc(), &store, roots.as_slice(), 2, &NoMonitor)?;
     assert!(rt; put_by(expanded.ports()) == 18);
     let c = variable(&rt, &store, 2);
     assert!(rt; is_record(expanded.records().level(0), key, Ref::FALSE, c));
@@ -243,7 +243,7 @@ fn any_schedule(rt: HostRuntime) -> Result<(), Fail> {
     let roots = five_roots(&rt, &store);
     for (workers, runs, put) in [(1, 1, 4), (2, 10, 19), (3, 10, 40), (16, 200, 1031)] {
         for _ in 0..runs {
-            let expanded = expand_all(&rt, rt.alloc(), &store, &roots, workers, &Free)?;
+            let expanded = expand_all(&rt, rt.alloc(), &store, &roots, workers, &NoMonitor)?;
             let records = expanded.records();
             for level in 0..4 {
                 assert!(rt; records.level(level).len() == REACHED[level as usize]);

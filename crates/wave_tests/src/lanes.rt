@@ -2,11 +2,11 @@
 ghost use Rattle.std.specs.Prelude.{◌≡◌, ◌≤◌, ◌<◌, [], ◌∷◌, All, IfOk, length};
 ghost use Rattle.req_table.specs.Sizes.{sizes_of, IsKeyOf};
 ghost use Rattle.lane_queue.specs.PortView.{IsPortOf};
-ghost use Rattle.expand_work.specs.Worked.{IsFresh};
+ghost use Rattle.expand_work.specs.WorkerResult.{IsFresh};
 
 use crate::requests::{request, store_of};
 use dd_store::Store;
-use lane_queue::{Bundle, Lanes, Load, Port, Settled};
+use lane_queue::{Bundle, Lanes, Load, Port, SettledLanes};
 use req_table::requests::level_of;
 use req_table::{Key, Op};
 use std::alloc::{AllocError, Global};
@@ -93,7 +93,11 @@ pub(crate) fn end<R: Wait + Abort>(rt: &R, store: &Store, lanes: &Lanes, port: &
 }
 
 /// Settles lanes with all their ports.
-fn settle<R: Wait + Abort>(rt: &R, lanes: Lanes, ports: Vec<Port>) -> Result<Settled, AllocError>
+fn settle<R: Wait + Abort>(
+    rt: &R,
+    lanes: Lanes,
+    ports: Vec<Port>,
+) -> Result<SettledLanes, AllocError>
     requires { All (λ p. IsPortOf lanes p) ports.items }
     ensures { IfOk result (λ r. length r.left.items ≡ length lanes.lanes) }
 {
@@ -111,7 +115,7 @@ fn settle_both<R: Wait + Abort>(
     lanes: Lanes,
     first: Port,
     second: Port,
-) -> Result<Settled, AllocError>
+) -> Result<SettledLanes, AllocError>
     requires first { IsPortOf lanes first }
     requires second { IsPortOf lanes second }
     ensures { IfOk result (λ r. length r.left.items ≡ length lanes.lanes) }
@@ -236,7 +240,7 @@ fn what_waits_is_taken_at_once(rt: HostRuntime) -> Result<(), Fail> {
 }
 
 /// One port sends in a thread, another takes in a second one.
-fn hand_over<R: Threads + Wait + Abort + Sync>(
+fn send_and_take<R: Threads + Wait + Abort + Sync>(
     rt: &R,
     alloc: Global,
     store: &Store,
@@ -280,7 +284,7 @@ fn two_threads_keep_the_order(rt: HostRuntime) -> Result<(), Fail> {
         even,
         odd,
     };
-    let (first, second, items) = hand_over(&rt, rt.alloc(), &store, &lanes, sender, second);
+    let (first, second, items) = send_and_take(&rt, rt.alloc(), &store, &lanes, sender, second);
     assert!(rt; items.len() == 1001);
     for place in 0..1000 {
         let key = if place % 2 == 0 { even } else { odd };

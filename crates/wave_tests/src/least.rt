@@ -1,10 +1,10 @@
 //! The least assignment in declared order.
 ghost use Rattle.std.specs.Prelude.{All};
 ghost use Rattle.dd_store.specs.View.{Has};
-ghost use Rattle.counter_walk.specs.Arranged.{IsOrder};
+ghost use Rattle.counter_walk.specs.DeclaredOrder.{IsOrder};
 
 use crate::waves::known_at;
-use counter_walk::{by_level, least_declared};
+use counter_walk::{by_level, least_difference_declared};
 use dd_store::{Ref, Store};
 use std::alloc::Global;
 use std::process::Abort;
@@ -94,8 +94,16 @@ fn as_declared(rt: HostRuntime) -> Result<(), Fail> {
     for (first, second, bits) in wanted {
         let f = known_at(&rt, &store, known.as_slice(), first);
         let g = known_at(&rt, &store, known.as_slice(), second);
-        assert_found(&rt, least_declared(alloc, &store, f, g, &order)?, bits);
-        assert_found(&rt, least_declared(alloc, &store, g, f, &order)?, bits);
+        assert_found(
+            &rt,
+            least_difference_declared(alloc, &store, f, g, &order)?,
+            bits,
+        );
+        assert_found(
+            &rt,
+            least_difference_declared(alloc, &store, g, f, &order)?,
+            bits,
+        );
     }
     let levels = by_level(alloc, &[true, false, false], &order)?;
     assert!(rt; levels.as_slice() == [false, true, false].as_slice());

@@ -3,11 +3,11 @@ use std::sync::atomic::{AtomicBool, AtomicU32, Ordering};
 use std::thread;
 
 /// How often a thread lets others go on before it waits no longer.
-pub(crate) const TURNS: u32 = 10_000_000;
+pub(crate) const MAX_YIELDS: u32 = 10_000_000;
 
 /// Lets others go on until the flag is set, for so many turns at most, and says whether it is.
-pub(crate) fn wait_for(flag: &AtomicBool, turns: u32) -> bool {
-    for _ in 0..turns {
+pub(crate) fn wait_for(flag: &AtomicBool, yields: u32) -> bool {
+    for _ in 0..yields {
         if flag.load(Ordering::SeqCst) {
             return true;
         }
@@ -43,7 +43,7 @@ impl Meeting {
             self.met.store(true, Ordering::SeqCst);
         }
         let missed = self.missed.load(Ordering::SeqCst);
-        if !missed && !wait_for(&self.met, TURNS) {
+        if !missed && !wait_for(&self.met, MAX_YIELDS) {
             self.missed.store(true, Ordering::SeqCst);
         }
         self.present.fetch_sub(1, Ordering::SeqCst);

@@ -7,7 +7,7 @@ use std::sync::atomic::{AtomicU32, AtomicUsize, Ordering};
 #[derive(Drop)]
 pub(crate) struct Narrow {
     pub(crate) most: AtomicUsize,
-    pub(crate) told: AtomicU32,
+    pub(crate) reported: AtomicU32,
 }
 
 impl Narrow {
@@ -15,7 +15,7 @@ impl Narrow {
     pub(crate) fn new(most: usize) -> Narrow {
         Narrow {
             most: AtomicUsize::new(most),
-            told: AtomicU32::new(0),
+            reported: AtomicU32::new(0),
         }
     }
 }
@@ -26,10 +26,10 @@ impl Watch for Narrow {
 
 impl Monitor for Narrow {
     fn at_level(&self, _worker: u32, _level: u16) {
-        self.told.fetch_add(1, Ordering::SeqCst);
+        self.reported.fetch_add(1, Ordering::SeqCst);
     }
 
-    fn most_alone(&self, _workers: u32, _expected: usize) -> usize {
+    fn caller_level_limit(&self, _workers: u32, _expected: usize) -> usize {
         self.most.load(Ordering::SeqCst)
     }
 

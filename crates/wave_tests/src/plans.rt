@@ -6,8 +6,8 @@ ghost use Rattle.net_order.specs.Order.{first_level, second_level};
 
 use crate::waves::crew_of;
 use dd_store::{Ref, Store};
-use expand_work::{Crew, Free, Monitor, WaveFault};
-use gate_plan::{Built, Circuits, Plan, build};
+use expand_work::{Crew, Monitor, NoMonitor, WaveFault};
+use gate_plan::{CircuitDiagrams, Circuits, Plan, build};
 use net_bench::netlist::{Netlist, Signal};
 use net_bench::reader::parse_bench;
 use net_order::order::{Match, Order};
@@ -95,7 +95,7 @@ fn plan_of_c17(rt: HostRuntime) -> Result<(), Fail> {
 
 /// Two netlists without a condition, and the variables that their pairing gives them.
 #[derive(Clone, Copy)]
-pub(crate) struct Paired<'a> {
+pub(crate) struct NamingModel<'a> {
     pub(crate) first: &'a Netlist,
     pub(crate) second: &'a Netlist,
     pub(crate) pairing: &'a Pairing,
@@ -105,15 +105,15 @@ pub(crate) struct Paired<'a> {
 pub(crate) fn built<R: Threads + Wait + Sync, G: Monitor>(
     crew: &Crew<'_, R, G>,
     store: &mut Store,
-    both: Paired<'_>,
-) -> Result<Built, WaveFault>
+    both: NamingModel<'_>,
+) -> Result<CircuitDiagrams, WaveFault>
     requires paired { IsPaired (circuit both.first.now) (circuit both.second.now) None both.pairing.now }
     requires levels { store.old.levels ≡ length both.pairing.now.names }
     ensures first { IfOk result (λ b. AreDiagrams (circuit both.entry.first.now) (first_level both.entry.pairing.now) store.new b.first) }
     ensures second { IfOk result
         (λ b. AreDiagrams (circuit both.entry.second.now) (second_level both.entry.pairing.now) store.new b.second) }
 {
-    let Paired {
+    let NamingModel {
         first,
         second,
         pairing,
@@ -131,8 +131,8 @@ pub(crate) fn built<R: Threads + Wait + Sync, G: Monitor>(
 fn diagrams<R: Abort>(
     rt: &R,
     store: &Store,
-    both: Paired<'_>,
-    built: &Built,
+    both: NamingModel<'_>,
+    built: &CircuitDiagrams,
     name: &str,
 ) -> (Ref, Ref)
     requires first { AreDiagrams (circuit both.first.now) (first_level both.pairing.now) store.now built.now.first }
@@ -166,12 +166,12 @@ fn compare_builds<R: Abort + Threads + Wait + Sync>(
 {
     let Wanted { need, same } = wanted;
     let pairing = pair(alloc, first, second, None, Match::Name, &Order::Declared)?;
-    let both = Paired {
+    let both = NamingModel {
         first,
         second,
         pairing: &pairing,
     };
-    let crew = crew_of(rt, alloc, workers, &Free);
+    let crew = crew_of(rt, alloc, workers, &NoMonitor);
     let levels = pairing.names().len() as u16;
     let mut store = Store::new(alloc, levels, need)?;
     let made = built(&crew, &mut store, both)?;

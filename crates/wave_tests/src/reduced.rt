@@ -8,7 +8,7 @@ ghost use Rattle.reduce_up.specs.Waves.{IsClosureOf};
 
 use crate::waves::{A, C, D, known_at, node, request, start};
 use dd_store::{Ref, Store};
-use expand_work::{Free, WaveFault};
+use expand_work::{NoMonitor, WaveFault};
 use req_table::{Key, Op};
 use std::alloc::Global;
 use std::process::Abort;
@@ -71,7 +71,7 @@ fn reduced_within<R: Threads + Wait + Abort + Sync>(
     let records = closure_of(rt, alloc, &store, &roots, choices);
     closures_are_records(&store, &roots, &records);
     assert!(rt; store.count() == 4);
-    let results = reduce(rt, alloc, &mut store, &records, &Free)?;
+    let results = reduce(rt, alloc, &mut store, &records, &NoMonitor)?;
     let first = node(rt, &store, 0, Ref::FALSE, c);
     let last = node(rt, &store, 2, Ref::FALSE, d);
     assert!(rt; only(rt, &records, &results, 0, roots[0]) == first);

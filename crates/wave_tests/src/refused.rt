@@ -8,7 +8,7 @@ use crate::reduced::only;
 use crate::waves::{A, B, C, D, How, WAYS, Way, known_at, node, request, run, start};
 use counter_walk::value;
 use dd_store::{Ref, Store};
-use expand_work::{Free, WaveFault};
+use expand_work::{NoMonitor, WaveFault};
 use req_table::{Key, Op, Record};
 use std::alloc::Global;
 use std::process::Abort;
@@ -35,7 +35,7 @@ fn two_have_their_values<R: Abort>(rt: &R, store: &Store, a: Ref, b: Ref)
 }
 
 /// Two variables fill a store but for one node, and a wave that needs two more is refused.
-fn full_then_old<R: Abort + Threads + Wait + Sync>(
+fn full_store_keeps_its_nodes<R: Abort + Threads + Wait + Sync>(
     rt: &R,
     alloc: Global,
     way: Way,
@@ -54,9 +54,9 @@ fn full_then_old<R: Abort + Threads + Wait + Sync>(
 }
 
 #[test]
-fn limit_then_old(rt: HostRuntime) -> Result<(), Fail> {
+fn refused_wave_keeps_old_nodes(rt: HostRuntime) -> Result<(), Fail> {
     for way in WAYS {
-        full_then_old(&rt, rt.alloc(), way)?;
+        full_store_keeps_its_nodes(&rt, rt.alloc(), way)?;
     }
     Ok(())
 }
@@ -103,7 +103,7 @@ fn answers_are_right<R: Abort>(rt: &R, store: &Store, known: &[Ref])
 }
 
 /// A wave of three steps, which is tried a second time where memory or a thread was refused to it.
-fn again_where_refused<R: Abort + Threads + Wait + Sync>(
+fn again_if_refused<R: Abort + Threads + Wait + Sync>(
     rt: &R,
     alloc: Global,
     way: Way,
@@ -124,8 +124,8 @@ fn again_where_refused<R: Abort + Threads + Wait + Sync>(
 // With ample memory no wave is refused; run with refused growths and starts this shows what a refusal leaves behind.
 #[test]
 fn refused_wave(rt: HostRuntime) -> Result<(), Fail> {
-    for way in [Way::Alone(&[]), Way::Threads, Way::Upto(0)] {
-        again_where_refused(&rt, rt.alloc(), way)?;
+    for way in [Way::OneThread(&[]), Way::Threads, Way::Upto(0)] {
+        again_if_refused(&rt, rt.alloc(), way)?;
     }
     Ok(())
 }
@@ -144,7 +144,7 @@ fn refused_expansion(rt: HostRuntime) -> Result<(), Fail> {
         request(&rt, &store, known.as_slice(), (Op::And, A, C)),
         request(&rt, &store, known.as_slice(), (Op::And, C, D)),
     ];
-    let expanded = expand_all(&rt, rt.alloc(), &store, &roots, 2, &Free)?;
+    let expanded = expand_all(&rt, rt.alloc(), &store, &roots, 2, &NoMonitor)?;
     let records = expanded.records();
     assert!(rt; records.levels() == 4);
     let [first, last] = roots;
@@ -176,7 +176,7 @@ fn refused_reduction(rt: HostRuntime) -> Result<(), Fail> {
     ];
     let records = recorded(rt.alloc(), &store, &roots)?;
     closures_are_records(&store, &roots, &records);
-    let reduced = reduce(&rt, rt.alloc(), &mut store, &records, &Free);
+    let reduced = reduce(&rt, rt.alloc(), &mut store, &records, &NoMonitor);
     two_have_their_values(&rt, &store, a, b);
     let results = reduced?;
     let both = node(&rt, &store, 0, Ref::FALSE, b);

@@ -222,7 +222,7 @@ fn requests_wait_by_level(rt: HostRuntime) -> Result<(), Fail> {
     let mut keys = Table::new(rt.alloc());
     waiting.take(1, &mut keys);
     assert!(rt; keys.len() == 1 && keys.key_at(0) == key && waiting.count(1) == 0);
-    waiting.leave(&mut keys)?;
+    waiting.recycle(&mut keys)?;
     assert!(rt; keys.len() == 0 && waiting.next_level(0).is_none());
     Ok(())
 }
@@ -234,12 +234,12 @@ fn spare_table_keeps_its_memory(rt: HostRuntime) -> Result<(), Fail> {
     for level in 1..101 {
         table.admit(conjunction(&rt, 0, level))?;
     }
-    let room = table.room();
+    let capacity = table.capacity();
     let mut spare = SpareTables::new(rt.alloc());
     spare.put(table)?;
     spare.trim(100);
     let table = spare.take();
-    assert!(rt; spare.is_empty() && table.len() == 0 && room >= 100 && table.room() == room);
+    assert!(rt; spare.is_empty() && table.len() == 0 && capacity >= 100 && table.capacity() == capacity);
     spare.put(table)?;
     spare.trim(1);
     assert!(rt; spare.is_empty());

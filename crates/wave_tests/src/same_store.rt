@@ -28,7 +28,7 @@ fn below<R: Abort>(rt: &R, store: &Store, known: &[Ref], place: u64, level: u16)
 {
     let count = known.len() as u64;
     assert!(rt; count > 0);
-    let reference = known[(place % count) as usize].marked(place / count % 2 == 1);
+    let reference = known[(place % count) as usize].complement_if(place / count % 2 == 1);
     if store.top(reference) > level {
         reference
     } else {

@@ -1,10 +1,10 @@
 //! The limit and the slots of a store, and threads that share the shards of a level.
 ghost use Rattle.std.specs.Prelude.{◌≡◌, ◌<◌, ◌⊎◌, ℕ, Bool, length, Ok, IfOk, All};
-ghost use Rattle.dd_store.specs.Codes.{shard_of_pair};
+ghost use Rattle.dd_store.specs.Hashes.{shard_of_pair};
 ghost use Rattle.dd_store.specs.Graph.{Pair, IsRef, top};
 ghost use Rattle.dd_store.specs.Growing.{IsIn};
 ghost use Rattle.dd_store.specs.Levels.{list_at, all_at};
-ghost use Rattle.dd_store.specs.Marks.{mark_both, negate_of};
+ghost use Rattle.dd_store.specs.Complements.{complement_both, negate_of};
 ghost use Rattle.dd_store.specs.Nodes.{node};
 ghost use Rattle.dd_store.specs.View.{Has};
 
@@ -75,7 +75,7 @@ fn twice_in_one(
 ) -> Result<Vec<Vec<(Ref, Ref)>>, AllocError>
     ensures count { IfOk result (λ lists. length lists.items ≡ 16) }
     ensures only { IfOk result (λ lists. (s : ℕ) (p : Pair) → IsIn (list_at lists.items s) p
-        → (s ≡ shard) × (b : Bool) × (p ≡ mark_both b pair)) }
+        → (s ≡ shard) × (b : Bool) × (p ≡ complement_both b pair)) }
 {
     let (lo, hi) = pair;
     let mut lists = Vec::new(alloc);
@@ -147,7 +147,7 @@ fn four_parts(
 ) -> Result<Vec<Vec<Vec<(Ref, Ref)>>>, AllocError>
     ensures count { IfOk result (λ parts. All (λ part. length part.items ≡ 16) parts.items) }
     ensures only { IfOk result (λ parts. (s : ℕ) (p : Pair) → IsIn (all_at parts.items s) p
-        → (s < 16 → s ≡ shard) × (b : Bool) × ((p ≡ mark_both b first) ⊎ (p ≡ mark_both b second))) }
+        → (s < 16 → s ≡ shard) × (b : Bool) × ((p ≡ complement_both b first) ⊎ (p ≡ complement_both b second))) }
 {
     let (lo, hi) = first;
     let one = twice_in_one(alloc, shard, (lo, hi))?;
@@ -210,7 +210,7 @@ fn make_four<R: Threads + Sync, H: Watch + Sync>(
     let first = (Ref::TRUE, b);
     let second = (Ref::TRUE, Ref::FALSE);
     let parts = four_parts(alloc, 3, first, second)?;
-    let made = store.make_by(makers, 0, parts.as_slice());
+    let made = store.make_all(makers, 0, parts.as_slice());
     Ok(made)
 }
 

@@ -6,7 +6,7 @@ ghost use Rattle.reduce_up.specs.Waves.{IsEntry};
 
 use crate::narrow::Narrow;
 use dd_store::{Ref, Store};
-use expand_work::{Crew, Free, WaveFault, Workers};
+use expand_work::{Crew, NoMonitor, WaveFault, Workers};
 use gate_plan::conjoin;
 use req_table::requests::{normal, terminal_case};
 use req_table::{ComputedTable, Key, Op};
@@ -15,7 +15,7 @@ use std::process::Abort;
 use std::sync::Wait;
 use std::test::Fail;
 use std::thread::Threads;
-use wave_doors::wave_one;
+use wave_doors::wave_on_one_thread;
 use wave_engine::wave;
 
 // Operands are places in a list of known references: the constants, the variables by level, and the answers so far.
@@ -37,7 +37,7 @@ pub(crate) type Step = (Op, usize, usize);
 /// level with more requests than this.
 #[derive(Clone, Copy)]
 pub(crate) enum Way {
-    Alone(&'static [u8]),
+    OneThread(&'static [u8]),
     Threads,
     Upto(usize),
 }
@@ -51,9 +51,9 @@ pub(crate) struct How {
 
 /// The choices are none, few, and more than a small wave has events.
 pub(crate) const WAYS: [Way; 11] = [
-    Way::Alone(&[]),
-    Way::Alone(&[0, 1, 2]),
-    Way::Alone(&[255; 200]),
+    Way::OneThread(&[]),
+    Way::OneThread(&[0, 1, 2]),
+    Way::OneThread(&[255; 200]),
     Way::Threads,
     Way::Upto(0),
     Way::Upto(1),
@@ -139,12 +139,12 @@ fn answers_of<R: Threads + Wait + Sync>(
     let How { workers, way } = how;
     let mut computed = ComputedTable::new(alloc, 8)?;
     match way {
-        Way::Alone(choices) => {
-            let crew = crew_of(rt, alloc, workers, &Free);
-            wave_one(&crew, store, &mut computed, entries, choices)
+        Way::OneThread(choices) => {
+            let crew = crew_of(rt, alloc, workers, &NoMonitor);
+            wave_on_one_thread(&crew, store, &mut computed, entries, choices)
         }
         Way::Threads => {
-            let crew = crew_of(rt, alloc, workers, &Free);
+            let crew = crew_of(rt, alloc, workers, &NoMonitor);
             wave(&crew, store, &mut computed, entries)
         }
         Way::Upto(most) => {
@@ -234,7 +234,7 @@ fn with_all<R: Threads + Wait + Sync>(
     requires workers { (0 < workers) × (workers ≤ 16) }
     ensures keeps { Keeps store.old store.new }
 {
-    let crew = crew_of(rt, alloc, workers, &Free);
+    let crew = crew_of(rt, alloc, workers, &NoMonitor);
     conjoin(&crew, store, known, given)
 }
 

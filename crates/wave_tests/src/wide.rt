@@ -71,7 +71,7 @@ fn sums_within<R: Threads + Wait + Abort + Sync>(
     summed?;
     let core = How {
         workers: 2,
-        way: Way::Alone(&[1]),
+        way: Way::OneThread(&[1]),
     };
     run(rt, alloc, &mut store, &mut known, steps.as_slice(), core)?;
     assert!(rt; store.count() == 4_291 && known.len() == 4_293);
@@ -83,7 +83,7 @@ fn sums_within<R: Threads + Wait + Abort + Sync>(
 // enough. Where one less is allowed the caller's thread stops there, and the threads that share the level in `reduce` when it is done.
 #[test]
 fn wide_level(rt: HostRuntime) -> Result<(), Fail> {
-    for (way, left) in [(Way::Upto(0), 4_290), (Way::Alone(&[]), 4_291)] {
+    for (way, left) in [(Way::Upto(0), 4_290), (Way::OneThread(&[]), 4_291)] {
         sums_within(&rt, rt.alloc(), 4_291, 4_291, way)?;
         let refused = sums_within(&rt, rt.alloc(), 4_290, left, way);
         assert!(rt; refused == Err(WaveFault::Full));
@@ -172,7 +172,7 @@ impl Monitor for Shards {
 }
 
 /// How often each shard is come to in a wave of so many records at one level, and whether another level's is.
-fn told_shards<R: Threads + Wait + Abort + Sync>(
+fn reported_shards<R: Threads + Wait + Abort + Sync>(
     rt: &R,
     alloc: Global,
     records: usize,
@@ -196,12 +196,12 @@ fn told_shards<R: Threads + Wait + Abort + Sync>(
 // A level of 4,095 records is left to the caller's thread; of one with 4,096 each shard is told once.
 #[test]
 fn shards_of_a_wide_level(rt: HostRuntime) -> Result<(), Fail> {
-    let few = told_shards(&rt, rt.alloc(), 4_095, 2)?;
+    let few = reported_shards(&rt, rt.alloc(), 4_095, 2)?;
     assert!(rt; few == (0, false));
-    let many = told_shards(&rt, rt.alloc(), 4_096, 2)?;
+    let many = reported_shards(&rt, rt.alloc(), 4_096, 2)?;
     assert!(rt; many == (0x1111_1111_1111_1111, false));
-    let alone = told_shards(&rt, rt.alloc(), 4_096, 1)?;
-    assert!(rt; alone == (0, false));
+    let one_worker = reported_shards(&rt, rt.alloc(), 4_096, 1)?;
+    assert!(rt; one_worker == (0, false));
     Ok(())
 }
 

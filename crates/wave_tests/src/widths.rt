@@ -102,7 +102,7 @@ fn waves_of<R: Abort + Threads + Wait + Sync>(
     let mut known = start(rt, alloc, &mut store);
     let core = How {
         workers: 2,
-        way: Way::Alone(&[3, 1, 2]),
+        way: Way::OneThread(&[3, 1, 2]),
     };
     for _ in 0..5 {
         let steps = random_steps(rt, alloc, &mut random, known.len());
@@ -131,10 +131,10 @@ fn at_each_width<R: Abort + Threads + Wait + Sync>(
     let mut refused = false;
     for limit in [10_000, 40] {
         monitor.most.store(usize::MAX, Ordering::SeqCst);
-        let told = monitor.told.load(Ordering::SeqCst);
+        let reported = monitor.reported.load(Ordering::SeqCst);
         let wanted = waves_of(rt, engine, seed, limit);
         refused = refused || wanted.1;
-        assert!(rt; monitor.told.load(Ordering::SeqCst) == told);
+        assert!(rt; monitor.reported.load(Ordering::SeqCst) == reported);
         for width in 0..6 {
             monitor.most.store(width, Ordering::SeqCst);
             assert!(rt; waves_of(rt, engine, seed, limit) == wanted);
@@ -154,7 +154,7 @@ fn widths(rt: HostRuntime) -> Result<(), Fail> {
         for seed in 0..12 {
             refused = at_each_width(&rt, &mut engine, &monitor, seed) || refused;
         }
-        assert!(rt; refused && monitor.told.load(Ordering::SeqCst) > 0);
+        assert!(rt; refused && monitor.reported.load(Ordering::SeqCst) > 0);
     }
     Ok(())
 }

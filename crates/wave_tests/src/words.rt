@@ -1,7 +1,7 @@
 //! The words of references and of children, by hand, and lists of them.
 
 use dd_store::{NodeId, Ref};
-use req_table::{Placed, PlacedChild, Refs, Row, Rows};
+use req_table::{PackedChild, PlacedChild, Refs, Row, Rows};
 use std::process::Abort;
 use std::test::Fail;
 
@@ -29,13 +29,13 @@ fn words_of_references(rt: HostRuntime) {
 }
 
 /// Ends the test where a child is not asked for so.
-fn assert_asked(rt: &impl Abort, child: Placed, wanted: (u16, u32, bool)) {
+fn assert_asked(rt: &impl Abort, child: PackedChild, wanted: (u16, u32, bool)) {
     match child.view() {
         PlacedChild::Ask {
             level,
             number,
-            mark,
-        } => assert!(rt; (level, number, mark) == wanted),
+            complement,
+        } => assert!(rt; (level, number, complement) == wanted),
         PlacedChild::Done(_) => assert!(rt; false, "it is answered"),
     }
 }
@@ -43,23 +43,23 @@ fn assert_asked(rt: &impl Abort, child: Placed, wanted: (u16, u32, bool)) {
 // A request of a near level, of a far one and of one that is neither.
 #[test]
 fn words_of_children(rt: HostRuntime) {
-    let near = Placed::ask(255, 1, true);
-    let far = Placed::ask(256, 1, false);
-    let long = Placed::ask(4_096, 1, false);
-    assert!(rt; Placed::done(Ref::TRUE).word() == 1);
+    let near = PackedChild::ask(255, 1, true);
+    let far = PackedChild::ask(256, 1, false);
+    let long = PackedChild::ask(4_096, 1, false);
+    assert!(rt; PackedChild::done(Ref::TRUE).word() == 1);
     assert!(rt; near.word() == 3_217_031_171 && far.word() == 3_288_334_338);
     assert!(rt; long.word() == 9_223_389_629_040_820_225);
-    assert_asked(&rt, Placed::of_word(near.word()), (255, 1, true));
-    assert_asked(&rt, Placed::of_word(far.word()), (256, 1, false));
-    assert_asked(&rt, Placed::of_word(long.word()), (4_096, 1, false));
+    assert_asked(&rt, PackedChild::of_word(near.word()), (255, 1, true));
+    assert_asked(&rt, PackedChild::of_word(far.word()), (256, 1, false));
+    assert_asked(&rt, PackedChild::of_word(long.word()), (4_096, 1, false));
 }
 
 // The second pair does not fit in four bytes a word; what is put in the memory of both does.
 #[test]
 fn lists_of_children(rt: HostRuntime) -> Result<(), Fail> {
-    let near = Placed::ask(255, 1, true);
-    let long = Placed::ask(4_096, 1, false);
-    let answer = Placed::done(Ref::TRUE);
+    let near = PackedChild::ask(255, 1, true);
+    let long = PackedChild::ask(4_096, 1, false);
+    let answer = PackedChild::done(Ref::TRUE);
     let mut row = Row::new(rt.alloc());
     row.reserve(2)?;
     row.push((near, answer))?;
@@ -115,7 +115,7 @@ fn lists_of_references_are_joined(rt: HostRuntime) -> Result<(), Fail> {
 // Of four levels the first but one gets two pairs and the next one; both leave them again.
 #[test]
 fn rows_by_level(rt: HostRuntime) -> Result<(), Fail> {
-    let answer = Placed::done(Ref::TRUE);
+    let answer = PackedChild::done(Ref::TRUE);
     let mut rows = Rows::new(rt.alloc(), 1);
     rows.restart(rt.alloc(), 4)?;
     assert!(rt; rows.last_level(4).is_none() && rows.count() == 0);
@@ -134,7 +134,7 @@ fn rows_by_level(rt: HostRuntime) -> Result<(), Fail> {
     );
     let taken = rows.take(2);
     assert!(rt; taken.len() == 1 && rows.last_level(4) == Some(1));
-    rows.leave(1);
+    rows.clear_level(1);
     assert!(rt; rows.last_level(4).is_none() && rows.row(1).len() == 0);
     Ok(())
 }

@@ -3,14 +3,14 @@ ghost use Rattle.std.specs.Prelude.{◌≡◌, ◌≤◌, ◌<◌, All, IfOk, le
 ghost use Rattle.req_table.specs.Sizes.{sizes_of};
 ghost use Rattle.req_table.specs.Keys.{IsKey};
 ghost use Rattle.lane_queue.specs.PortView.{IsPortOf};
-ghost use Rattle.expand_work.specs.Worked.{IsFresh, IsWorked};
+ghost use Rattle.expand_work.specs.WorkerResult.{IsFresh, IsWorked};
 
-use crate::children::{root_of, row_store, tell};
+use crate::children::{placed_value, root_of, row_store};
 use crate::lanes::{end, open};
-use crate::meeting::{TURNS, wait_for};
+use crate::meeting::{MAX_YIELDS, wait_for};
 use crate::requests::{request, variable};
 use dd_store::{Ref, Store, Watch};
-use expand_work::{Free, Monitor, Part, Site, Space, WorkFault, work};
+use expand_work::{Monitor, NoMonitor, Part, WaveContext, WorkFault, WorkerMemory, work};
 use lane_queue::{Lanes, Port};
 use req_table::{Key, Op, Row, Table};
 use std::alloc::Global;
@@ -57,7 +57,7 @@ struct Task {
 }
 
 /// Runs the worker of the first of so many ports alone, on one root.
-fn work_alone<R: Wait + Abort, G: Monitor>(
+fn work_single<R: Wait + Abort, G: Monitor>(
     rt: &R,
     alloc: Global,
     store: &Store,
@@ -71,7 +71,7 @@ fn work_alone<R: Wait + Abort, G: Monitor>(
 {
     let (lanes, mut ports) = open(alloc, store, 1)?;
     let port = ports.pop().expect(rt, "no port");
-    let site = Site {
+    let context = WaveContext {
         alloc,
         lanes: &lanes,
         store,
@@ -81,7 +81,7 @@ fn work_alone<R: Wait + Abort, G: Monitor>(
         most: u64::MAX,
         keeps: task.keeps,
     };
-    work(rt, site, port, None, monitor)
+    work(rt, context, port, None, monitor)
 }
 
 /// Whether a level has this one request with these children.
@@ -98,8 +98,8 @@ fn is_row(
     keys.len() == 1
         && keys.key_at(0) == key
         && row.len() == 1
-        && tell(row.at(0).0) == low
-        && tell(row.at(0).1) == high
+        && placed_value(row.at(0).0) == low
+        && placed_value(row.at(0).1) == high
 }
 
 #[test]
@@ -108,13 +108,13 @@ fn one_worker_records_what_it_is_asked_for(rt: HostRuntime) -> Result<(), Fail> 
     let root = root_of(&rt, &store);
     let stop = AtomicBool::new(false);
     let task = Task { root, keeps: true };
-    let Ok(part) = work_alone(&rt, rt.alloc(), &store, task, &Free, &stop) else {
+    let Ok(part) = work_single(&rt, rt.alloc(), &store, task, &NoMonitor, &stop) else {
         return Err(Fail::from("no part"));
     };
     let c = variable(&rt, &store, 2);
     let child = request(&rt, &store, Op::And, 1, 2);
     let Part { port, space } = part;
-    let Space { tables, rows, .. } = space;
+    let WorkerMemory { tables, rows, .. } = space;
     assert!(rt;
         is_row(
             tables.keys(0),
@@ -137,11 +137,11 @@ fn the_table_of_an_expanded_level_serves_others(rt: HostRuntime) -> Result<(), F
     let root = root_of(&rt, &store);
     let stop = AtomicBool::new(false);
     let task = Task { root, keeps: false };
-    let Ok(part) = work_alone(&rt, rt.alloc(), &store, task, &Free, &stop) else {
+    let Ok(part) = work_single(&rt, rt.alloc(), &store, task, &NoMonitor, &stop) else {
         return Err(Fail::from("no part"));
     };
     let Part { space, .. } = part;
-    let Space { tables, rows, .. } = space;
+    let WorkerMemory { tables, rows, .. } = space;
     for level in 0..3 {
         assert!(rt; tables.keys(level).is_none());
     }
@@ -162,7 +162,7 @@ const STOPS: [(bool, u16, u64, bool); 5] = [
 fn a_flag_is_read_where_a_level_begins(rt: HostRuntime) -> Result<(), Fail> {
     let store = row_store(&rt, rt.alloc());
     let root = root_of(&rt, &store);
-    for (before, last, told, ends) in STOPS {
+    for (before, last, reported, ends) in STOPS {
         let stop = AtomicBool::new(before);
         let monitor = Watcher {
             seen: AtomicU64::new(0),
@@ -170,9 +170,9 @@ fn a_flag_is_read_where_a_level_begins(rt: HostRuntime) -> Result<(), Fail> {
             last,
         };
         let task = Task { root, keeps: false };
-        let fault = work_alone(&rt, rt.alloc(), &store, task, &monitor, &stop).err();
+        let fault = work_single(&rt, rt.alloc(), &store, task, &monitor, &stop).err();
         let want = if ends { None } else { Some(WorkFault::Stopped) };
-        assert!(rt; fault == want && monitor.seen.load(Ordering::SeqCst) == told);
+        assert!(rt; fault == want && monitor.seen.load(Ordering::SeqCst) == reported);
     }
     Ok(())
 }
@@ -185,7 +185,7 @@ struct Flags<'a> {
 }
 
 /// Works on no roots, and says how that ended once it has.
-fn work_until_told<R: Wait>(
+fn work_until_stopped<R: Wait>(
     rt: &R,
     alloc: Global,
     lanes: &Lanes,
@@ -197,7 +197,7 @@ fn work_until_told<R: Wait>(
     requires fresh { IsFresh port }
     requires sizes { lanes.now.sizes ≡ sizes_of store.now }
 {
-    let site = Site {
+    let context = WaveContext {
         alloc,
         lanes,
         store,
@@ -207,7 +207,7 @@ fn work_until_told<R: Wait>(
         most: u64::MAX,
         keeps: false,
     };
-    let fault = work(rt, site, port, None, &Free).err();
+    let fault = work(rt, context, port, None, &NoMonitor).err();
     flags.ended.store(true, Ordering::SeqCst);
     fault
 }
@@ -217,7 +217,7 @@ fn wait_for_item<R: Wait>(rt: &R, lanes: &Lanes, port: &mut Port)
     requires { IsPortOf lanes.now port.old }
     ensures { IsPortOf lanes.now port.new }
 {
-    for _ in 0..TURNS {
+    for _ in 0..MAX_YIELDS {
         if lanes.take(rt, port).is_some() {
             return;
         }
@@ -239,7 +239,7 @@ fn stop_in_a_wait<R: Wait + Abort>(
 {
     wait_for_item(rt, lanes, &mut port);
     flags.stop.store(true, Ordering::SeqCst);
-    if !wait_for(flags.ended, TURNS) {
+    if !wait_for(flags.ended, MAX_YIELDS) {
         end(rt, store, lanes, &mut port, 0);
     }
 }
@@ -264,7 +264,7 @@ fn stop_one_of_two<R: Threads + Wait + Abort + Sync>(
         rt,
         move || -> Option<WorkFault>
             requires { IsPortOf lanes.now first × IsFresh first × (lanes.now.sizes ≡ sizes_of store.now) }
-        { work_until_told(rt, alloc, lanes, first, store, Flags { stop, ended }) },
+        { work_until_stopped(rt, alloc, lanes, first, store, Flags { stop, ended }) },
         move || -> ()
             requires { IsPortOf lanes.now second × (lanes.now.sizes ≡ sizes_of store.now) }
         { stop_in_a_wait(rt, lanes, second, store, Flags { stop, ended }) },

@@ -15,12 +15,12 @@ loop-level-preserved c =
     let a : Ref = c.loop-level.first in
     let b : Ref = c.loop-level.second in
     let i = c.loop-level.invariant in
-    let la : c.stepped-first_low.result ≡ step s v a false = c.stepped-first_low.ensures.value in
-    let lb : c.stepped-second_low.result ≡ step s v b false = c.stepped-second_low.ensures.value in
+    let la : c.step_down-first_low.result ≡ step s v a false = c.step_down-first_low.ensures.value in
+    let lb : c.step_down-second_low.result ≡ step s v b false = c.step_down-second_low.ensures.value in
     elim c.if-same-2.branch [
       | then-same-2+in_ok-push w ↦
-          let ea : c.if-same-2.first ≡ step s v a true = w.first-is ∙ w.stepped-first.ensures.value in
-          let eb : c.if-same-2.second ≡ step s v b true = w.second-is ∙ w.stepped-second.ensures.value in
+          let ea : c.if-same-2.first ≡ step s v a true = w.first-is ∙ w.step_down-first.ensures.value in
+          let eb : c.if-same-2.second ≡ step s v b true = w.second-is ∙ w.step_down-second.ensures.value in
           let na : Has s (step s v a true) × (suc v ≤ top s (step s v a true)) = step_next s S v a i.first_has (omega arith) i.first_above true in
           let nb : Has s (step s v b true) × (suc v ≤ top s (step s v b true)) = step_next s S v b i.second_has (omega arith) i.second_above true in
           record {
@@ -51,5 +51,5 @@ returns c =
     let s : Nodes = c.args.store.now in
     record {
       least = walk_done s c.levels-levels.ensures.sound c.levels-levels.result c.loop-level.level c.loop-level.first c.loop-level.second c.args.f c.args.g c.loop-level.bits.items
-          c.levels-levels.ensures.value (omega arith) c.loop-level.invariant.walked c.requires.first_known c.requires.second_known (λ e. let t : c.same.result ≡ true = c.same.ensures.references.1 e in let f : c.same.result ≡ false = c.if-same.false in cc);
+          c.levels-levels.ensures.value (omega arith) c.loop-level.invariant.walked c.requires.first_in_store c.requires.second_in_store (λ e. let t : c.same.result ≡ true = c.same.ensures.references.1 e in let f : c.same.result ≡ false = c.if-same.false in cc);
     }

@@ -1,7 +1,7 @@
 //! The nodes of many pairs of children at one level, made at once by threads that share its shards.
 ghost use Rattle.std.specs.Prelude.{None, Some, ◌≡◌, ◌<◌, ◌≤◌, ℕ, [], length, All, IfOk, IfErr, IfSome, IfNone, MatchResult, vec_capacity};
 ghost use Rattle.std.specs.List.{AllZip};
-ghost use Rattle.dd_store.specs.Levels.{list_at, all_at, refs_at, plain_lists};
+ghost use Rattle.dd_store.specs.Levels.{list_at, all_at, refs_at, regular_lists};
 ghost use Rattle.dd_store.specs.Adding.{AreReady, GrowsLevel, IsLevelFault, IsMakeFault};
 ghost use Rattle.dd_store.specs.Nodes.{IsSound, IsThere, Extends};
 
@@ -23,9 +23,9 @@ impl Store {
     ) -> Option<StoreFault>
         requires lists { length lists.now ≡ 16 }
         requires ready { AreReady self.old level (list_at lists.now) }
-        ensures grows { GrowsLevel self.old self.new level (plain_lists (list_at lists.now)) }
+        ensures grows { GrowsLevel self.old self.new level (regular_lists (list_at lists.now)) }
         ensures sound { IsSound self.new }
-        ensures fault { IsLevelFault self.new level (plain_lists (list_at lists.now)) result }
+        ensures fault { IsLevelFault self.new level (regular_lists (list_at lists.now)) result }
     {
         let first = SHARDS * level as usize;
         let limit = self.limit;
@@ -51,11 +51,11 @@ impl Store {
     ) -> Result<(), StoreFault>
         requires lists { length lists.now ≡ 16 }
         requires ready { AreReady self.old level (list_at lists.now) }
-        ensures grows { GrowsLevel self.old self.new level (plain_lists (list_at lists.now)) }
+        ensures grows { GrowsLevel self.old self.new level (regular_lists (list_at lists.now)) }
         ensures sound { IsSound self.new }
         ensures extends { Extends self.old self.new }
-        ensures answer { MatchResult result (λ _. IsLevelFault self.new level (plain_lists (list_at lists.now)) None)
-            (λ f. IsLevelFault self.new level (plain_lists (list_at lists.now)) (Some f)) }
+        ensures answer { MatchResult result (λ _. IsLevelFault self.new level (regular_lists (list_at lists.now)) None)
+            (λ f. IsLevelFault self.new level (regular_lists (list_at lists.now)) (Some f)) }
     {
         match self.grow_level(rt, level, lists, watch) {
             None => Ok(()),
@@ -64,7 +64,7 @@ impl Store {
     }
 
     /// Adds the lists of several parts to the shards of a level, and says why references are missing.
-    fn make_level_by<R: Threads + Sync, H: Watch + Sync>(
+    fn make_level_parts<R: Threads + Sync, H: Watch + Sync>(
         &mut self,
         makers: &Makers<'_, R, H>,
         level: u16,
@@ -75,12 +75,12 @@ impl Store {
         requires ready { AreReady self.old level (all_at parts.now) }
         requires empty { refs.old.items ≡ [] }
         requires room { 16 ≤ vec_capacity refs.old }
-        ensures grows { GrowsLevel self.old self.new level (plain_lists (all_at parts.now)) }
+        ensures grows { GrowsLevel self.old self.new level (regular_lists (all_at parts.now)) }
         ensures sound { IsSound self.new }
         ensures sixteen { length refs.new.items ≡ 16 }
         ensures answers { IfNone result ((s : ℕ) → s < 16 → AllZip (λ p r. IsThere self.new level p.0 p.1 r) (all_at parts.now s)
             (refs_at refs.new.items s)) }
-        ensures fault { IfSome result (λ f. IsMakeFault self.new level (plain_lists (all_at parts.now)) f) }
+        ensures fault { IfSome result (λ f. IsMakeFault self.new level (regular_lists (all_at parts.now)) f) }
     {
         let first = SHARDS * level as usize;
         let limit = self.limit;
@@ -100,7 +100,7 @@ impl Store {
     /// shards, each some neighbouring ones, where they stand; what no thread could be started for, the caller's does, and each pair is
     /// sought once. Full is answered only where a shard alone holds as many nodes as the limit and lacks a pair of its lists. After a
     /// refusal some of the nodes may stand.
-    pub fn make_by<R: Threads + Sync, H: Watch + Sync>(
+    pub fn make_all<R: Threads + Sync, H: Watch + Sync>(
         &mut self,
         makers: &Makers<'_, R, H>,
         level: u16,
@@ -108,18 +108,18 @@ impl Store {
     ) -> Result<Vec<Vec<Ref>>, StoreFault>
         requires lists { All (λ part. length part.items ≡ 16) parts.now }
         requires ready { AreReady self.old level (all_at parts.now) }
-        ensures grows { GrowsLevel self.old self.new level (plain_lists (all_at parts.now)) }
+        ensures grows { GrowsLevel self.old self.new level (regular_lists (all_at parts.now)) }
         ensures sound { IsSound self.new }
         ensures extends { Extends self.old self.new }
         ensures sixteen { IfOk result (λ refs. length refs.items ≡ 16) }
         ensures answers { IfOk result (λ refs. (s : ℕ) → s < 16
             → AllZip (λ p r. IsThere self.new level p.0 p.1 r) (all_at parts.now s) (refs_at refs.items s)) }
-        ensures fault { IfErr result (λ f. IsMakeFault self.new level (plain_lists (all_at parts.now)) f) }
+        ensures fault { IfErr result (λ f. IsMakeFault self.new level (regular_lists (all_at parts.now)) f) }
     {
         let Ok(mut refs) = Vec::with_capacity(self.alloc, SHARDS) else {
             return Err(StoreFault::OutOfMemory);
         };
-        match self.make_level_by(makers, level, parts, &mut refs) {
+        match self.make_level_parts(makers, level, parts, &mut refs) {
             None => Ok(refs),
             Some(stopped) => Err(stopped),
         }

@@ -1,12 +1,12 @@
 //! What is read of a store: levels, children, cofactors, and the node that a pair of children has.
 ghost use Rattle.std.specs.Prelude.{Some, ◌≡◌, ◌<◌, ◌≤◌, length, true, false, IsSome};
 ghost use Rattle.dd_store.specs.Graph.{top, IsRef, Pair};
-ghost use Rattle.dd_store.specs.Marks.{is_marked};
+ghost use Rattle.dd_store.specs.Complements.{is_complement};
 ghost use Rattle.dd_store.specs.Nodes.{node, children, low_of, high_of, cofactor_of, IsFound, shard_at};
 ghost use Rattle.slot_table.specs.Probes.{IsSlotCount};
 
-use crate::codes::shard_of_plain;
-use crate::reference::{NodeId, Ref, Reference, SHARDS, marked_pair};
+use crate::hashes::shard_of_regular;
+use crate::reference::{NodeId, Ref, Reference, SHARDS, complement_pair};
 use crate::store::Store;
 
 impl Store {
@@ -26,8 +26,8 @@ impl Store {
         ensures { node self.now id ≡ Some result }
     {
         let place = SHARDS * id.level as usize + id.shard as usize;
-        let held = &self.shards[place];
-        held.shard.at(id.index as usize)
+        let shard_state = &self.shards[place];
+        shard_state.nodes.at(id.index as usize)
     }
 
     /// The children of a reference, low and high, in one read: those of its node, complemented where it has a mark.
@@ -36,7 +36,7 @@ impl Store {
         ensures { children self.now reference ≡ Some result }
     {
         match reference.view() {
-            Reference::Node { id, mark } => marked_pair(self.pair(id), mark),
+            Reference::Node { id, complement } => complement_pair(self.pair(id), complement),
             _ => (reference, reference),
         }
     }
@@ -47,7 +47,7 @@ impl Store {
         ensures { result ≡ low_of self.now reference }
     {
         match reference.view() {
-            Reference::Node { id, mark } => self.pair(id).0.marked(mark),
+            Reference::Node { id, complement } => self.pair(id).0.complement_if(complement),
             _ => reference,
         }
     }
@@ -58,7 +58,7 @@ impl Store {
         ensures { result ≡ high_of self.now reference }
     {
         match reference.view() {
-            Reference::Node { id, mark } => self.pair(id).1.marked(mark),
+            Reference::Node { id, complement } => self.pair(id).1.complement_if(complement),
             _ => reference,
         }
     }
@@ -66,16 +66,16 @@ impl Store {
     /// The cofactor: a reference's function with the bit of a level fixed. A reference that stands below the level is
     /// its own cofactor.
     pub fn cofactor(&self, reference: Ref, level: u16, bit: bool) -> Ref
-        requires here { IsRef (node self.now) reference }
+        requires in_store { IsRef (node self.now) reference }
         requires not_above { level ≤ top self.now.levels reference }
         requires level { level < self.now.levels }
         ensures { result ≡ cofactor_of self.now reference level bit }
     {
         match reference.view() {
-            Reference::Node { id, mark } if id.level == level => {
+            Reference::Node { id, complement } if id.level == level => {
                 let pair = self.pair(id);
                 let child = if bit { pair.1 } else { pair.0 };
-                child.marked(mark)
+                child.complement_if(complement)
             }
             _ => reference,
         }
@@ -83,14 +83,17 @@ impl Store {
 
     /// Both cofactors for the bit of a level, 0 and 1, in one read.
     pub fn cofactors(&self, reference: Ref, level: u16) -> (Ref, Ref)
-        requires here { IsRef (node self.now) reference }
+        requires in_store { IsRef (node self.now) reference }
         requires not_above { level ≤ top self.now.levels reference }
         requires level { level < self.now.levels }
         ensures low { result.0 ≡ cofactor_of self.now reference level false }
         ensures high { result.1 ≡ cofactor_of self.now reference level true }
     {
         match reference.view() {
-            Reference::Node { id, mark } if id.level == level => marked_pair(self.pair(id), mark),
+            Reference::Node { id, complement } if id.level == level => complement_pair(
+                self.pair(id),
+                complement,
+            ),
             _ => (reference, reference),
         }
     }
@@ -102,8 +105,8 @@ impl Store {
         ensures { IsSlotCount (length (shard_at self.now level shard)) result }
     {
         let place = SHARDS * level as usize + shard as usize;
-        let held = &self.shards[place];
-        held.shard.slots() as u64
+        let shard_state = &self.shards[place];
+        shard_state.nodes.slots() as u64
     }
 
     /// The reference of a level with these children, where there is one.
@@ -111,24 +114,24 @@ impl Store {
         requires { level < self.now.levels }
         ensures { IsFound self.now level lo hi result }
     {
-        let mark = hi.is_marked();
-        let pair = marked_pair((lo, hi), mark);
-        match self.find_plain(level, pair.0, pair.1) {
-            Some(found) => Some(found.marked(mark)),
+        let complement = hi.is_complement();
+        let pair = complement_pair((lo, hi), complement);
+        match self.find_regular(level, pair.0, pair.1) {
+            Some(found) => Some(found.complement_if(complement)),
             None => None,
         }
     }
 
     /// The node of a level with these children, the second without a mark, where there is one.
-    fn find_plain(&self, level: u16, lo: Ref, hi: Ref) -> Option<Ref>
+    fn find_regular(&self, level: u16, lo: Ref, hi: Ref) -> Option<Ref>
         requires level { level < self.now.levels }
-        requires plain { is_marked hi ≡ false }
+        requires regular { is_complement hi ≡ false }
         ensures { IsFound self.now level lo hi result }
     {
-        let shard = shard_of_plain(lo, hi);
+        let shard = shard_of_regular(lo, hi);
         let place = SHARDS * level as usize + shard as usize;
-        let held = &self.shards[place];
-        match held.shard.find((lo, hi)) {
+        let shard_state = &self.shards[place];
+        match shard_state.nodes.find((lo, hi)) {
             Some(index) => Some(Ref::node(NodeId {
                 level,
                 shard,

@@ -1,7 +1,7 @@
 //! The events on lanes: a request or an End is sent, the first item of a lane is taken, a request is kept.
 ghost use Rattle.std.specs.Prelude.{◌≡◌, ◌+◌, ◌<◌, All, IfOk, OnErr, MatchBool, IsTrue};
 ghost use Rattle.req_table.specs.Keys.{level_of};
-ghost use Rattle.wave_core.specs.View.{Does, Allows, by_place, IsOwnInOrder};
+ghost use Rattle.wave_core.specs.MachineView.{Does, Allows, by_place, IsOwnInOrder};
 ghost use Rattle.wave_core.specs.declared.Event.TheVariants.{Send, End, Take, Keep};
 
 use crate::lists::{count_items, put_both};
@@ -59,7 +59,7 @@ impl Machine {
         }
         let place = (by * self.workers + to) as usize;
         let lane = to as usize;
-        let level = self.ended[place];
+        let level = self.ends_sent[place];
         if !self.due[place].is_empty() {
             return Ok(false);
         }
@@ -74,7 +74,7 @@ impl Machine {
         self.sent[place].put(&item)?;
         match self.waiting[lane].put(&item) {
             Ok(()) => {
-                self.ended[place] = level + 1;
+                self.ends_sent[place] = level + 1;
                 Ok(true)
             }
             Err(fault) => {
@@ -125,7 +125,7 @@ impl Machine {
                 }
                 let _ = self.taken[lane].len();
                 let place = (by * self.workers + from) as usize;
-                self.counted[place] += 1;
+                self.ends_taken[place] += 1;
                 self.waiting[lane].pop();
                 Ok(true)
             }
@@ -192,7 +192,7 @@ impl Machine {
             return false;
         }
         let place = (by * self.workers + to) as usize;
-        let level = self.ended[place];
+        let level = self.ends_sent[place];
         self.due[place].is_empty() && level <= self.at[by as usize] && level < self.levels
     }
 

@@ -4,10 +4,10 @@ ghost use Rattle.std.specs.Prelude.{MatchOption, IfSome, IfOk, OnOk, OnErr, Matc
 ghost use Rattle.req_table.specs.Lanes.{IsClosed};
 ghost use Rattle.req_table.specs.Keys.{IsKey};
 ghost use Rattle.req_table.specs.declared.Key.{Key as KeyValue};
-ghost use Rattle.wave_core.specs.View.{View, IsKept, state_of, wave_of_view, Does, Allows, TookFairly, number_of, owe_of, owe_all, list_of};
-ghost use Rattle.wave_core.specs.View.{by_place};
+ghost use Rattle.wave_core.specs.MachineView.{MachineView, IsConsistent, state_of, wave_of_view, Does, Allows, TookFairly, number_of, due_with_child, due_with_children, list_of};
+ghost use Rattle.wave_core.specs.MachineView.{by_place};
 ghost use Rattle.req_table.specs.Settled.{key_of};
-ghost use Rattle.wave_core.specs.Step.{IsAtWork, asks_here, row_here};
+ghost use Rattle.wave_core.specs.Step.{IsAtClosedLevel, asks_here, row_here};
 ghost use Rattle.wave_core.specs.declared.Event.TheVariants.{Expand, Advance};
 
 use crate::machine::Machine;
@@ -20,12 +20,12 @@ impl Machine {
     /// Whether each worker has sent more Ends to `by` than the level, and `by` has taken them.
     fn is_ended(&self, by: u32, level: u16) -> bool
         requires { by < self.now.workers }
-        ensures { MatchBool result ((s : ℕ) → s < self.now.workers → level < number_of self.now.workers self.now.counted by s)
-            ((s : ℕ) × (s < self.now.workers) × (number_of self.now.workers self.now.counted by s ≤ level)) }
+        ensures { MatchBool result ((s : ℕ) → s < self.now.workers → level < number_of self.now.workers self.now.ends_taken by s)
+            ((s : ℕ) × (s < self.now.workers) × (number_of self.now.workers self.now.ends_taken by s ≤ level)) }
     {
         for sender in 0..self.workers {
             let place = (by * self.workers + sender) as usize;
-            if self.counted[place] <= level as u64 {
+            if self.ends_taken[place] <= level as u64 {
                 return false;
             }
         }
@@ -49,9 +49,9 @@ impl Machine {
     /// The level of `by`, where `by` has taken an End of it from every worker.
     fn closed_level(&self, store: &Store, by: u32) -> Option<u16>
         requires fair { by < self.now.workers → TookFairly store.now self.now by }
-        ensures kept { IsKept self.now }
-        ensures at_work { MatchOption result (¬ IsAtWork (wave_of_view store.now self.now) (state_of self.now) by)
-            (λ level. (level ≡ slice_index_or self.now.at by 0) × IsAtWork (wave_of_view store.now self.now) (state_of self.now) by) }
+        ensures kept { IsConsistent self.now }
+        ensures at_closed_level { MatchOption result (¬ IsAtClosedLevel (wave_of_view store.now self.now) (state_of self.now) by)
+            (λ level. (level ≡ slice_index_or self.now.at by 0) × IsAtClosedLevel (wave_of_view store.now self.now) (state_of self.now) by) }
     {
         if by >= self.workers {
             return None;
@@ -67,9 +67,9 @@ impl Machine {
     }
 
     /// Adds a child to what is due from `by`.
-    fn owe(&mut self, by: u32, child: &Child) -> Result<(), AllocError>
+    fn add_due(&mut self, by: u32, child: &Child) -> Result<(), AllocError>
         requires { by < self.old.workers }
-        ensures ok { OnOk result (let r : View = record self.old { due = owe_of self.old.workers by child.now self.old.due } in
+        ensures ok { OnOk result (let r : MachineView = record self.old { due = due_with_child self.old.workers by child.now self.old.due } in
             self.new ≡ r) }
         ensures err { OnErr result (self.new ≡ self.old) }
     {
@@ -83,11 +83,11 @@ impl Machine {
     }
 
     /// Takes such a child back.
-    fn forgive(&mut self, by: u32, child: &Child)
+    fn remove_due(&mut self, by: u32, child: &Child)
         requires { by < self.old.workers }
         ensures same { self.new.workers ≡ self.old.workers }
-        ensures back { (d : List (List KeyValue)) → self.old.due ≡ owe_of self.old.workers by child.now d
-            → (let r : View = record self.old { due = d } in self.new ≡ r) }
+        ensures back { (d : List (List KeyValue)) → self.old.due ≡ due_with_child self.old.workers by child.now d
+            → (let r : MachineView = record self.old { due = d } in self.new ≡ r) }
     {
         match child {
             Child::Done(_) => {}
@@ -99,30 +99,30 @@ impl Machine {
     }
 
     /// Adds both children of a record to what is due from `by`.
-    fn owe_both(&mut self, by: u32, added: &Record) -> Result<(), AllocError>
+    fn add_due_children(&mut self, by: u32, added: &Record) -> Result<(), AllocError>
         requires { by < self.old.workers }
-        ensures ok { OnOk result (let r : View = record self.old { due = owe_all self.old.workers by added.now self.old.due } in
+        ensures ok { OnOk result (let r : MachineView = record self.old { due = due_with_children self.old.workers by added.now self.old.due } in
             self.new ≡ r) }
         ensures err { OnErr result (self.new ≡ self.old) }
     {
-        self.owe(by, &added.low)?;
-        match self.owe(by, &added.high) {
+        self.add_due(by, &added.low)?;
+        match self.add_due(by, &added.high) {
             Ok(()) => Ok(()),
             Err(fault) => {
-                self.forgive(by, &added.low);
+                self.remove_due(by, &added.low);
                 Err(fault)
             }
         }
     }
 
     /// Takes both children of a record back.
-    fn forgive_both(&mut self, by: u32, added: &Record)
+    fn remove_due_children(&mut self, by: u32, added: &Record)
         requires { by < self.old.workers }
-        ensures { (d : List (List KeyValue)) → self.old.due ≡ owe_all self.old.workers by added.now d
-            → (let r : View = record self.old { due = d } in self.new ≡ r) }
+        ensures { (d : List (List KeyValue)) → self.old.due ≡ due_with_children self.old.workers by added.now d
+            → (let r : MachineView = record self.old { due = d } in self.new ≡ r) }
     {
-        self.forgive(by, &added.high);
-        self.forgive(by, &added.low);
+        self.remove_due(by, &added.high);
+        self.remove_due(by, &added.low);
     }
 
     /// The first key of the level of `by` that is not yet expanded.
@@ -150,7 +150,7 @@ impl Machine {
         requires level { level < self.old.levels }
         requires next { (more : List KeyValue) × (by_place self.old.levels self.old.tables by level ≡ map key_of
             (by_place self.old.levels self.old.rows by level) ++ added.now.key ∷ more) }
-        ensures ok { OnOk result (let r : View = record self.old {
+        ensures ok { OnOk result (let r : MachineView = record self.old {
           rows = slice_set self.old.rows (by * self.old.levels + level)
               (by_place self.old.levels self.old.rows by level ++ added.now ∷ []);
         } in self.new ≡ r) }
@@ -178,18 +178,18 @@ impl Machine {
             return Ok(false);
         };
         let record = split(store, key);
-        self.owe_both(by, &record)?;
+        self.add_due_children(by, &record)?;
         match self.note(by, level, &record) {
             Ok(()) => Ok(true),
             Err(fault) => {
-                self.forgive_both(by, &record);
+                self.remove_due_children(by, &record);
                 Err(fault)
             }
         }
     }
 
     /// Whether nothing is due from `by`.
-    fn is_paid(&self, by: u32) -> bool
+    fn has_nothing_due(&self, by: u32) -> bool
         requires { by < self.now.workers }
         ensures { MatchBool result ((to : ℕ) → to < self.now.workers → by_place self.now.workers self.now.due by to ≡ [])
             ((to : ℕ) × (to < self.now.workers) × ¬ (by_place self.now.workers self.now.due by to ≡ [])) }
@@ -217,7 +217,7 @@ impl Machine {
         if self.next_key(by, level).is_some() {
             return false;
         }
-        if !self.is_paid(by) {
+        if !self.has_nothing_due(by) {
             return false;
         }
         self.at[by as usize] = level + 1;
@@ -241,7 +241,7 @@ impl Machine {
         ensures { MatchBool result (Allows store.now self.now (Advance by)) (¬ Allows store.now self.now (Advance by)) }
     {
         match self.closed_level(store, by) {
-            Some(level) => self.next_key(by, level).is_none() && self.is_paid(by),
+            Some(level) => self.next_key(by, level).is_none() && self.has_nothing_due(by),
             None => false,
         }
     }

@@ -2,8 +2,8 @@
 ghost use Rattle.std.specs.Prelude.{◌≡◌, ℕ, ◌<◌, [], IfErr, OnOk, OnErr};
 ghost use Rattle.wave_core.specs.Cores.{core_wave, core_state, IsSameWave, Reaches};
 ghost use Rattle.wave_core.specs.Step.{State, IsFinished};
-ghost use Rattle.wave_core.specs.Drive.{all_events, AllowsOf, IsNumbered, IsDriven, IsTurn};
-ghost use Rattle.wave_core.specs.Fall.{core_measure};
+ghost use Rattle.wave_core.specs.Drive.{all_events, CountsAllowed, IsNthAllowed, IsDriven, IsChosenStep};
+ghost use Rattle.wave_core.specs.CoreMeasure.{core_measure};
 
 use crate::events::all_events;
 use crate::waves::Core;
@@ -13,7 +13,7 @@ use std::alloc::AllocError;
 impl<'a> Core<'a> {
     /// How many of the events are allowed.
     fn count_allowed(&self, events: &[Event]) -> usize
-        ensures { AllowsOf (core_wave self.now) (core_state self.now) events.now result }
+        ensures { CountsAllowed (core_wave self.now) (core_state self.now) events.now result }
     {
         let mut count = 0;
         for event in events {
@@ -25,9 +25,9 @@ impl<'a> Core<'a> {
     }
 
     /// The allowed one of a number, from 0.
-    fn numbered(&self, events: &[Event], number: usize) -> Event
-        requires { (m : ℕ) × (number < m) × AllowsOf (core_wave self.now) (core_state self.now) events.now m }
-        ensures { IsNumbered (core_wave self.now) (core_state self.now) events.now number result }
+    fn nth_allowed(&self, events: &[Event], number: usize) -> Event
+        requires { (m : ℕ) × (number < m) × CountsAllowed (core_wave self.now) (core_state self.now) events.now m }
+        ensures { IsNthAllowed (core_wave self.now) (core_state self.now) events.now number result }
     {
         let mut left = number;
         for event in events {
@@ -42,18 +42,18 @@ impl<'a> Core<'a> {
     }
 
     /// Does the allowed event that a choice numbers.
-    fn turn_by(&mut self, events: &[Event], choice: usize) -> Result<(), AllocError>
+    fn step_by_choice(&mut self, events: &[Event], choice: usize) -> Result<(), AllocError>
         requires events { events.now ≡ all_events (core_wave self.old) }
         requires more { ¬ IsFinished (core_wave self.old) (core_state self.old) }
         ensures same { IsSameWave self.old self.new }
-        ensures ok { OnOk result (IsTurn (core_wave self.old) (core_state self.old) choice (core_state self.new)) }
-        ensures falls { OnOk result (core_measure self.new < core_measure self.old) }
+        ensures ok { OnOk result (IsChosenStep (core_wave self.old) (core_state self.old) choice (core_state self.new)) }
+        ensures measure_decreases { OnOk result (core_measure self.new < core_measure self.old) }
         ensures err { OnErr result (self.new ≡ self.old) }
     {
         let _ = &self.machine;
         let count = self.count_allowed(events);
-        let event = self.numbered(events, choice % count);
-        match self.turn(event) {
+        let event = self.nth_allowed(events, choice % count);
+        match self.try_event(event) {
             Ok(true) => Ok(()),
             Ok(false) => unreachable!(),
             Err(fault) => Err(fault),
@@ -72,7 +72,7 @@ impl<'a> Core<'a> {
             if self.finished() {
                 return Ok(());
             }
-            self.turn_by(events, *choice as usize)?;
+            self.step_by_choice(events, *choice as usize)?;
         }
         Ok(())
     }
@@ -86,7 +86,7 @@ impl<'a> Core<'a> {
         ensures reached { Reaches self.old self.new }
     {
         while !self.finished() {
-            self.turn_by(events, 0)?;
+            self.step_by_choice(events, 0)?;
         }
         Ok(())
     }

@@ -1,24 +1,24 @@
 use Rattle.std.proofs.Common.{◌≡◌, refl, subst, sym, rules, List, Contains}
 use Rattle.std.proofs.lemmas.Result.{err_from_is_err_and}
 use Rattle.check_report.specs.declared.trials.Trial.{Trial}
-use Rattle.check_report.specs.Best.{order_of}
+use Rattle.check_report.specs.Attempts.{order_of}
 use Rattle.check_report.specs.Check.{IsCheckFault}
 use Rattle.check_report.specs.Trials.{AreGivenUpTrials, IsEnded, IsPairingIn, IsTried}
 use Rattle.check_report.proofs.Rounds.{accepted_paired, and_true, memory_ends, one_more, order_ends, tried_before, tried_last, tried_still}
 use Rattle.check_report.proofs.attempts.try_candidate.Goals as goal
 
 pub returns-in_err-pairing-clause-fault : goal.returns-in_err-pairing-clause-fault
-returns-in_err-pairing-clause-fault g c = λ told ga.
+returns-in_err-pairing-clause-fault g c = λ input ga.
     let e = err_from_is_err_and c.from_residual.result c.from_residual.ensures.1 in
-    rw (e.1, e.2) (c.args.candidate, subst (λ o. IsCheckFault told ⊥ ⊥ ⊥ c.args.task.now.settings.now.order c.args.task.now.settings.now.matching o c.in_err-pairing.field-0.0) c.order.ensures (c.in_err-pairing.ensures.fault told ga))
+    rw (e.1, e.2) (c.args.candidate, subst (λ o. IsCheckFault input ⊥ ⊥ ⊥ c.args.task.now.settings.now.order c.args.task.now.settings.now.matching o c.in_err-pairing.field-0.0) c.order.ensures (c.in_err-pairing.ensures.fault input ga))
 
 pub returns-in_err-pairing-clause-ends : goal.returns-in_err-pairing-clause-ends
 returns-in_err-pairing-clause-ends g c =
     let e = err_from_is_err_and c.from_residual.result c.from_residual.ensures.1 in
     rw (e.1, e.2) (order_ends c.in_err-pairing.field-0.0 c.in_err-pairing.ensures.refused.0 c.in_err-pairing.ensures.refused.1)
 
-pub returns-then-is_tried-clause-turn : goal.returns-then-is_tried-clause-turn
-returns-then-is_tried-clause-turn g c =
+pub returns-then-is_tried-clause-first_attempt : goal.returns-then-is_tried-clause-first_attempt
+returns-then-is_tried-clause-first_attempt g c =
     let task = c.args.task.now in
     let old = c.args.trials.now.items in
     let bound = g.G.Monitor.bound c.args.monitor.now in
@@ -26,13 +26,13 @@ returns-then-is_tried-clause-turn g c =
     let same : (t : Trial) × Contains old t × (t.pairing.names ≡ c.in_ok-pairing.pairing.names) = (let h = c.is_tried.ensures.tried c.if-is_tried.true in search rules) in
     (λ all gs. and_true task c.args.budget bound all old gs, tried_before task old c.args.candidate c.in_ok-pairing.pairing c.requires.own is same, λ k h. h)
 
-pub returns-in-Decided-clause-turn : goal.returns-in-Decided-clause-turn
-returns-in-Decided-clause-turn g c =
+pub returns-in-Decided-clause-first_attempt : goal.returns-in-Decided-clause-first_attempt
+returns-in-Decided-clause-first_attempt g c =
     let bound = g.G.Monitor.bound c.args.monitor.now in
     ((subst (IsEnded c.args.task.now c.args.declared c.args.budget bound _) c.in-Decided.is c.in_ok-verdicts.ensures.ended, refl), refl)
 
-pub returns-in-Ok-clause-turn : goal.returns-in-Ok-clause-turn
-returns-in-Ok-clause-turn g c =
+pub returns-in-Ok-clause-first_attempt : goal.returns-in-Ok-clause-first_attempt
+returns-in-Ok-clause-first_attempt g c =
     let task = c.args.task.now in
     let old = c.args.trials.now.items in
     let bound = g.G.Monitor.bound c.args.monitor.now in
@@ -48,6 +48,6 @@ pub returns-in-Err-clause-ends : goal.returns-in-Err-clause-ends
 returns-in-Err-clause-ends g c = memory_ends
 
 pub returns-in-Err-clause-fault : goal.returns-in-Err-clause-fault
-returns-in-Err-clause-fault g c = λ told ga.
+returns-in-Err-clause-fault g c = λ input ga.
     let is : IsPairingIn c.args.task.now (order_of c.args.candidate) c.in_ok-pairing.pairing = subst (λ o. IsPairingIn c.args.task.now o c.in_ok-pairing.pairing) c.order.ensures c.in_ok-pairing.ensures.paired in
-    (c.args.candidate, accepted_paired c.args.task.now told ga c.args.task.now.settings.now.order (order_of c.args.candidate) c.in_ok-pairing.pairing is)
+    (c.args.candidate, accepted_paired c.args.task.now input ga c.args.task.now.settings.now.order (order_of c.args.candidate) c.in_ok-pairing.pairing is)

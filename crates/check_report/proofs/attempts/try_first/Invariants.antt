@@ -1,5 +1,5 @@
 use Rattle.std.proofs.Common.{◌<◌, ℕ, get_or}
-use Rattle.check_report.specs.declared.choice.Candidate.TheVariants.{Interleave}
+use Rattle.check_report.specs.declared.strategy.Candidate.TheVariants.{Interleave}
 use Rattle.check_report.specs.Trials.{AreGivenUpTrials, IsTried}
 use Rattle.check_report.proofs.Rounds.{candidates}
 use Rattle.check_report.proofs.attempts.try_first.Given as goal

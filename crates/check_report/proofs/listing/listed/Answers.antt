@@ -18,8 +18,8 @@ returns-clause-full g c = c.text_for.ensures.full _ (given_as _ _ _ _ _ c.as_ref
 pub returns-clause-fault : goal.returns-clause-fault
 returns-clause-fault g c = none_failed_in _ _ _ _ _ _ c.text_for.result (c.text_for.ensures.fault _ (given_as _ _ _ _ _ c.as_ref-condition.ensures.value c.in-Ok.ensures.read))
 
-pub returns-clause-passed : goal.returns-clause-passed
-returns-clause-passed g c = c.text_for.ensures.passed _ (given_as _ _ _ _ _ c.as_ref-condition.ensures.value c.in-Ok.ensures.read)
+pub returns-clause-earlier_given_up : goal.returns-clause-earlier_given_up
+returns-clause-earlier_given_up g c = c.text_for.ensures.earlier_given_up _ (given_as _ _ _ _ _ c.as_ref-condition.ensures.value c.in-Ok.ensures.read)
 
 pub returns-clause-given_up : goal.returns-clause-given_up
 returns-clause-given_up g c = c.text_for.ensures.given_up _ (given_as _ _ _ _ _ c.as_ref-condition.ensures.value c.in-Ok.ensures.read)

@@ -7,7 +7,7 @@ use Rattle.check_report.proofs.Namings.{naming_refused, naming_whole}
 use Rattle.check_report.proofs.trials.named.Goals as goal
 
 pub returns-in-Err-clause-fault : goal.returns-in-Err-clause-fault
-returns-in-Err-clause-fault g c = λ told ga.
+returns-in-Err-clause-fault g c = λ input ga.
     let task = c.args.task.now in (
       circuit task.first.now,
       circuit task.second.now,
@@ -16,8 +16,8 @@ returns-in-Err-clause-fault g c = λ told ga.
       naming_refused c.in-Err.fault task.settings.now.matching (circuit task.first.now) (circuit task.second.now) (condition task.given) Declared c.in-Err.ensures.refused,
     )
 
-pub returns-in-Err-clause-whole : goal.returns-in-Err-clause-whole
-returns-in-Err-clause-whole g c = λ e.
+pub returns-in-Err-clause-any_number_of_inputs : goal.returns-in-Err-clause-any_number_of_inputs
+returns-in-Err-clause-any_number_of_inputs g c = λ e.
     let task = c.args.task.now in
     let same : c.in-Err.fault ≡ TooManyInputs = cc in
     naming_whole c.in-Err.fault task.settings.now.matching (circuit task.first.now) (circuit task.second.now) (condition task.given) Declared c.in-Err.ensures.refused same

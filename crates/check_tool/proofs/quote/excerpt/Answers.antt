@@ -9,5 +9,5 @@ returns c =
     let whole = c.args.whole.now in
     let long : 100 < length whole = search rules in
     let front : string_bytes c.in_ok-front.front ≡ map shown (take 100 whole) = search rules in
-    let told : string_bytes c.in_ok-front.front ++ codes "... (cut)" ≡ excerpt whole = ap (λ b. b ++ codes "... (cut)") front ∙ excerpt_cut whole long in
-    subst (λ b. IfOk c.format.result (λ s. string_bytes s ≡ b)) told c.format.ensures.ok
+    let bytes_at : string_bytes c.in_ok-front.front ++ codes "... (cut)" ≡ excerpt whole = ap (λ b. b ++ codes "... (cut)") front ∙ excerpt_cut whole long in
+    subst (λ b. IfOk c.format.result (λ s. string_bytes s ≡ b)) bytes_at c.format.ensures.ok

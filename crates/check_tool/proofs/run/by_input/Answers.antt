@@ -25,21 +25,21 @@ pub returns-clause-report : goal.returns-clause-report
 returns-clause-report g c =
     let o = c.args.run.now.options.now in
     let input = g.R.Source.remaining c.args.input.now in
-    let told = g.F.Folder.told c.args.folder.now in
+    let bytes_at = g.F.Folder.bytes_at c.args.folder.now in
     let tries = g.F.Folder.tries c.args.folder.now in
     let text = c.in_ok-text.text.items in
-    let texts = input_texts told input o c.requires.texts text c.in-Some.one.now c.in-Some.two.now (Some c.new-first.result) (Some c.new-second.result) (search rules) (search rules) c.in_ok-text.ensures.text c.in_ok-text.ensures.short
+    let texts = input_texts bytes_at input o c.requires.texts text c.in-Some.one.now c.in-Some.two.now (Some c.new-first.result) (Some c.new-second.result) (search rules) (search rules) c.in_ok-text.ensures.text c.in_ok-text.ensures.short
     (split_parts _ _ c.split_input.result c.in-Some.one c.in-Some.two (search rules) (search rules) c.split_input.ensures) in
-    ran told input o told refl _ _ texts tries tries _ (subst (λ t. Extends tries tries (opened (text_paths t))) (sym c.requires.texts) (extends_none tries)) _ c.compare.result c.compare.ensures.report
+    ran bytes_at input o bytes_at refl _ _ texts tries tries _ (subst (λ t. Extends tries tries (opened (text_paths t))) (sym c.requires.texts) (extends_none tries)) _ c.compare.result c.compare.ensures.report
 
 pub returns-clause-fault : goal.returns-clause-fault
 returns-clause-fault g c =
     let o = c.args.run.now.options.now in
     let broken = HasFailedAt g.F.File.Source.origin g.F.File.Source.has_failed in
     let input = g.R.Source.remaining c.args.input.now in
-    let told = g.F.Folder.told c.args.folder.now in
+    let bytes_at = g.F.Folder.bytes_at c.args.folder.now in
     let tries = g.F.Folder.tries c.args.folder.now in
     let text = c.in_ok-text.text.items in
-    let texts = input_texts told input o c.requires.texts text c.in-Some.one.now c.in-Some.two.now (Some c.new-first.result) (Some c.new-second.result) (search rules) (search rules) c.in_ok-text.ensures.text c.in_ok-text.ensures.short
+    let texts = input_texts bytes_at input o c.requires.texts text c.in-Some.one.now c.in-Some.two.now (Some c.new-first.result) (Some c.new-second.result) (search rules) (search rules) c.in_ok-text.ensures.text c.in_ok-text.ensures.short
     (split_parts _ _ c.split_input.result c.in-Some.one c.in-Some.two (search rules) (search rules) c.split_input.ensures) in
-    failed told input o told refl _ _ texts tries tries _ (subst (λ t. Extends tries tries (opened (text_paths t))) (sym c.requires.texts) (extends_none tries)) _ broken _ (IsTrue false) (IsTrue false) (never _) (never _) c.compare.result c.compare.ensures.fault
+    failed bytes_at input o bytes_at refl _ _ texts tries tries _ (subst (λ t. Extends tries tries (opened (text_paths t))) (sym c.requires.texts) (extends_none tries)) _ broken _ (IsTrue false) (IsTrue false) (never _) (never _) c.compare.result c.compare.ensures.fault

@@ -1,4 +1,4 @@
-use Rattle.check_tool.proofs.Comparing.{run_by_cones, run_fault, run_front, run_full, run_given_up, run_hired, run_only, run_opened, run_passed, run_read, run_report, run_unbounded}
+use Rattle.check_tool.proofs.Comparing.{run_by_cones, run_fault, run_front, run_full, run_given_up, run_thread_for_named_order, run_only, run_opened, run_earlier_given_up, run_read, run_report, run_unbounded}
 use Rattle.check_tool.proofs.run.run_options.Goals as goal
 
 pub returns-in-None-clause-report : goal.returns-in-None-clause-report
@@ -7,8 +7,8 @@ returns-in-None-clause-report g c = run_report _ _ _ _ _ _ c.run_by.result c.run
 pub returns-in-None-clause-opened : goal.returns-in-None-clause-opened
 returns-in-None-clause-opened g c = run_opened _ _ _ _ _ _ c.run_by.result c.run_by.ensures.report
 
-pub returns-in-None-clause-passed : goal.returns-in-None-clause-passed
-returns-in-None-clause-passed g c = run_passed _ _ _ _ _ _ c.run_by.result c.run_by.ensures.report
+pub returns-in-None-clause-earlier_given_up : goal.returns-in-None-clause-earlier_given_up
+returns-in-None-clause-earlier_given_up g c = run_earlier_given_up _ _ _ _ _ _ c.run_by.result c.run_by.ensures.report
 
 pub returns-in-None-clause-fault : goal.returns-in-None-clause-fault
 returns-in-None-clause-fault g c = run_fault _ _ _ _ _ _ _ _ c.run_by.result c.run_by.ensures.fault
@@ -22,14 +22,14 @@ returns-in-None-clause-given_up g c = run_given_up _ _ _ _ _ _ _ _ c.run_by.resu
 pub returns-in-None-clause-by_cones : goal.returns-in-None-clause-by_cones
 returns-in-None-clause-by_cones g c = run_by_cones _ _ _ _ _ _ _ _ c.run_by.result c.run_by.ensures.fault
 
-pub returns-in-None-clause-hired : goal.returns-in-None-clause-hired
-returns-in-None-clause-hired g c = run_hired _ _ _ _ _ _ _ _ c.run_by.result c.run_by.ensures.fault
+pub returns-in-None-clause-thread_for_named_order : goal.returns-in-None-clause-thread_for_named_order
+returns-in-None-clause-thread_for_named_order g c = run_thread_for_named_order _ _ _ _ _ _ _ _ c.run_by.result c.run_by.ensures.fault
 
 pub returns-in-None-clause-only : goal.returns-in-None-clause-only
 returns-in-None-clause-only g c = run_only _ _ _ _ _ _ _ _ c.run_by.result c.run_by.ensures.fault
 
-pub returns-in-None-clause-unbounded : goal.returns-in-None-clause-unbounded
-returns-in-None-clause-unbounded g c = run_unbounded _ _ _ _ _ _ _ _ c.run_by.result c.run_by.ensures.fault
+pub returns-in-None-clause-never_too_many_requests : goal.returns-in-None-clause-never_too_many_requests
+returns-in-None-clause-never_too_many_requests g c = run_unbounded _ _ _ _ _ _ _ _ c.run_by.result c.run_by.ensures.fault
 
 pub returns-in-None-clause-unwritten : goal.returns-in-None-clause-unwritten
 returns-in-None-clause-unwritten g c = run_front _ _ _ _ _ _ _ _ c.run_by.result c.run_by.ensures.fault
@@ -43,8 +43,8 @@ returns-in-Some-clause-report g c = run_report _ _ _ _ _ _ c.run_by-ended.result
 pub returns-in-Some-clause-opened : goal.returns-in-Some-clause-opened
 returns-in-Some-clause-opened g c = run_opened _ _ _ _ _ _ c.run_by-ended.result c.run_by-ended.ensures.report
 
-pub returns-in-Some-clause-passed : goal.returns-in-Some-clause-passed
-returns-in-Some-clause-passed g c = run_passed _ _ _ _ _ _ c.run_by-ended.result c.run_by-ended.ensures.report
+pub returns-in-Some-clause-earlier_given_up : goal.returns-in-Some-clause-earlier_given_up
+returns-in-Some-clause-earlier_given_up g c = run_earlier_given_up _ _ _ _ _ _ c.run_by-ended.result c.run_by-ended.ensures.report
 
 pub returns-in-Some-clause-fault : goal.returns-in-Some-clause-fault
 returns-in-Some-clause-fault g c = run_fault _ _ _ _ _ _ _ _ c.run_by-ended.result c.run_by-ended.ensures.fault
@@ -58,14 +58,14 @@ returns-in-Some-clause-given_up g c = run_given_up _ _ _ _ _ _ _ _ c.run_by-ende
 pub returns-in-Some-clause-by_cones : goal.returns-in-Some-clause-by_cones
 returns-in-Some-clause-by_cones g c = run_by_cones _ _ _ _ _ _ _ _ c.run_by-ended.result c.run_by-ended.ensures.fault
 
-pub returns-in-Some-clause-hired : goal.returns-in-Some-clause-hired
-returns-in-Some-clause-hired g c = run_hired _ _ _ _ _ _ _ _ c.run_by-ended.result c.run_by-ended.ensures.fault
+pub returns-in-Some-clause-thread_for_named_order : goal.returns-in-Some-clause-thread_for_named_order
+returns-in-Some-clause-thread_for_named_order g c = run_thread_for_named_order _ _ _ _ _ _ _ _ c.run_by-ended.result c.run_by-ended.ensures.fault
 
 pub returns-in-Some-clause-only : goal.returns-in-Some-clause-only
 returns-in-Some-clause-only g c = run_only _ _ _ _ _ _ _ _ c.run_by-ended.result c.run_by-ended.ensures.fault
 
-pub returns-in-Some-clause-unbounded : goal.returns-in-Some-clause-unbounded
-returns-in-Some-clause-unbounded g c = run_unbounded _ _ _ _ _ _ _ _ c.run_by-ended.result c.run_by-ended.ensures.fault
+pub returns-in-Some-clause-never_too_many_requests : goal.returns-in-Some-clause-never_too_many_requests
+returns-in-Some-clause-never_too_many_requests g c = run_unbounded _ _ _ _ _ _ _ _ c.run_by-ended.result c.run_by-ended.ensures.fault
 
 pub returns-in-Some-clause-unwritten : goal.returns-in-Some-clause-unwritten
 returns-in-Some-clause-unwritten g c = run_front _ _ _ _ _ _ _ _ c.run_by-ended.result c.run_by-ended.ensures.fault

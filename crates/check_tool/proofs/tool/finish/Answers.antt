@@ -11,7 +11,7 @@ pub returns-in-Ok-clause-ending : goal.returns-in-Ok-clause-ending
 returns-in-Ok-clause-ending g c = inl (record {
   unopened = grows_none _ _ c.save.ensures.unopened;
   saved_all = c.in-Ok.ensures.saved;
-  said = c.tell.ensures.said;
+  said = c.say_if_verbose.ensures.said;
   code = c.status_of_done.ensures.status;
 })
 
@@ -33,7 +33,7 @@ returns-in-Err-clause-ending g c =
         unopened = none_opened o cause.obstacle fault cause.is (tries before) (tries between) (tries after) [] again.0 (grows_none (tries before) (tries between) c.save.ensures.unopened) again.1 again.2;
         saved_part = subst (λ s. Extends (saves before) s (saves_of o c.args.done.now false)) (sym c.refuse_run.ensures.unsaved) c.in-Err.ensures.saved;
         cause = cause;
-        line = subst (λ t. IsSaidOf t o w fault c.refuse_run.result) c.save.ensures.kept c.refuse_run.ensures.said;
+        line = subst (λ t. IsSaidOf t o w fault c.refuse_run.result) c.save.ensures.files_unchanged c.refuse_run.ensures.said;
       },
     )
 
@@ -41,6 +41,6 @@ pub returns-in-Err-clause-reported : goal.returns-in-Err-clause-reported
 returns-in-Err-clause-reported g c two =
     let after = c.refuse_run.new.errors in
     let w : Written = record { held = g.E.Sink.contents c.args.errors.now; holds = g.E.Sink.contents after; has_failed = g.E.Sink.has_failed after; has_stopped = g.E.Sink.has_stopped after } in
-    let code = code_of (g.F.Folder.told c.save.new.folder) c.args.options.now w c.in-Err.fault c.refuse_run.result c.refuse_run.ensures.said in
+    let code = code_of (g.F.Folder.bytes_at c.save.new.folder) c.args.options.now w c.in-Err.fault c.refuse_run.result c.refuse_run.ensures.said in
     let three = sym two ∙ code ∙ ap fault_status c.in-Err.ensures.fault.is in
     absurd (omega (arith, three))

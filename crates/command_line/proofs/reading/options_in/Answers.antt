@@ -4,7 +4,7 @@ use Rattle.command_line.specs.Words.{IsMemory}
 use Rattle.command_line.proofs.reading.options_in.Goals as goal
 
 pub returns-in-Some-clause-refused : goal.returns-in-Some-clause-refused
-returns-in-Some-clause-refused c = inl (c.in-Some.ensures, c.conflict.ensures)
+returns-in-Some-clause-refused c = inl (c.in-Some.ensures, c.refuse_conflict.ensures)
 
 pub returns-in_default-memory_in-clause-refused : goal.returns-in_default-memory_in-clause-refused
 returns-in_default-memory_in-clause-refused c =

@@ -1,5 +1,5 @@
 use Rattle.clap.specs.Words.{found_of, rows_of}
-use Rattle.command_line.proofs.Asked.{asked, refused_for}
+use Rattle.command_line.proofs.FromMatches.{asked, refused_for}
 use Rattle.command_line.proofs.reading.read_options.Goals as goal
 
 pub returns-clause-options : goal.returns-clause-options

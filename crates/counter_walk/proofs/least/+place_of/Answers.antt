@@ -3,17 +3,17 @@ use Rattle.std.specs.Prelude.{IfOk}
 use Rattle.std.proofs.lemmas.Result.{IfOk-weaker}
 use Rattle.dd_store.specs.declared.reference.Ref.{Ref}
 use Rattle.dd_store.specs.Nodes.{Nodes}
-use Rattle.counter_walk.specs.declared.least.Pair.{Pair}
-use Rattle.counter_walk.specs.Lines.{differs, IsPairOf}
+use Rattle.counter_walk.specs.declared.least.DiffPair.{DiffPair}
+use Rattle.counter_walk.specs.Lines.{differs, IsDiffPairOf}
 use Rattle.counter_walk.proofs.Pairing.{level_here, falls, below, choice_of, differs_same, differs_opposite, differs_pair}
-use Rattle.counter_walk.proofs.Standing.{IsReady, IsAdded, ready_constant, ready_choice, placed, Stands-agree}
+use Rattle.counter_walk.proofs.LineDenotes.{IsReady, IsAdded, ready_constant, ready_choice, placed, LineDenotes-agree}
 use Rattle.counter_walk.proofs.least.+place_of.Goals as goal
 use Rattle.counter_walk.proofs.least.+place_of.Goals.{then-same, else-same+then-same-2, else-same+else-same-2+in_ok-place_of+in_ok-place_of-2}
 
 -- the pair's level, where there is a line of two cofactors
 pub cofactors-requires-clause-level : goal.cofactors-requires-clause-level
 cofactors-requires-clause-level t c =
-    let k : IsPairOf c.args.store.now c.args.f c.args.g c.normal-pair.result = c.normal-pair.ensures c.args.store.now c.levels.ensures.sound c.requires.first_known c.requires.second_known in
+    let k : IsDiffPairOf c.args.store.now c.args.f c.args.g c.normal-pair.result = c.normal-pair.ensures c.args.store.now c.levels.ensures.sound c.requires.first_in_store c.requires.second_in_store in
     let l = level_here c.args.store.now c.levels.ensures.sound c.normal-pair.result.first c.normal-pair.result.second c.top.result c.top-else-same-2.result c.min-level.result k.first k.second
     (λ e. let x : c.same.result ≡ true = c.same.ensures.references.1 e in let y : c.same.result ≡ false = c.if-same.false in cc)
     (λ e. let x : c.same-else-same.result ≡ true = c.same-else-same.ensures.references.1 (e ∙ sym c.negate.ensures.value) in let y : c.same-else-same.result ≡ false = c.if-same-2.false in cc)
@@ -22,7 +22,7 @@ cofactors-requires-clause-level t c =
 
 pub cofactors-requires-else-same-2-clause-level : goal.cofactors-requires-else-same-2-clause-level
 cofactors-requires-else-same-2-clause-level t c =
-    let k : IsPairOf c.args.store.now c.args.f c.args.g c.normal-pair.result = c.normal-pair.ensures c.args.store.now c.levels.ensures.sound c.requires.first_known c.requires.second_known in
+    let k : IsDiffPairOf c.args.store.now c.args.f c.args.g c.normal-pair.result = c.normal-pair.ensures c.args.store.now c.levels.ensures.sound c.requires.first_in_store c.requires.second_in_store in
     let l = level_here c.args.store.now c.levels.ensures.sound c.normal-pair.result.first c.normal-pair.result.second c.top.result c.top-else-same-2.result c.min-level.result k.first k.second
     (λ e. let x : c.same.result ≡ true = c.same.ensures.references.1 e in let y : c.same.result ≡ false = c.if-same.false in cc)
     (λ e. let x : c.same-else-same.result ≡ true = c.same-else-same.ensures.references.1 (e ∙ sym c.negate.ensures.value) in let y : c.same-else-same.result ≡ false = c.if-same-2.false in cc)
@@ -31,7 +31,7 @@ cofactors-requires-else-same-2-clause-level t c =
 
 pub bounds-order-level : goal.bounds-order-level
 bounds-order-level t c =
-    let k : IsPairOf c.args.store.now c.args.f c.args.g c.normal-pair.result = c.normal-pair.ensures c.args.store.now c.levels.ensures.sound c.requires.first_known c.requires.second_known in
+    let k : IsDiffPairOf c.args.store.now c.args.f c.args.g c.normal-pair.result = c.normal-pair.ensures c.args.store.now c.levels.ensures.sound c.requires.first_in_store c.requires.second_in_store in
     let l = level_here c.args.store.now c.levels.ensures.sound c.normal-pair.result.first c.normal-pair.result.second c.top.result c.top-else-same-2.result c.min-level.result k.first k.second
     (λ e. let x : c.same.result ≡ true = c.same.ensures.references.1 e in let y : c.same.result ≡ false = c.if-same.false in cc)
     (λ e. let x : c.same-else-same.result ≡ true = c.same-else-same.ensures.references.1 (e ∙ sym c.negate.ensures.value) in let y : c.same-else-same.result ≡ false = c.if-same-2.false in cc)
@@ -43,8 +43,8 @@ bounds-order-level t c =
 pub place_of-requires : goal.place_of-requires
 place_of-requires t c =
     let s : Nodes = c.args.store.now in
-    let p : Pair = c.normal-pair.result in
-    let k : IsPairOf s c.args.f c.args.g p = c.normal-pair.ensures s c.levels.ensures.sound c.requires.first_known c.requires.second_known in
+    let p : DiffPair = c.normal-pair.result in
+    let k : IsDiffPairOf s c.args.f c.args.g p = c.normal-pair.ensures s c.levels.ensures.sound c.requires.first_in_store c.requires.second_in_store in
     let l = level_here s c.levels.ensures.sound p.first p.second c.top.result c.top-else-same-2.result c.min-level.result k.first k.second
     (λ e. let x : c.same.result ≡ true = c.same.ensures.references.1 e in let y : c.same.result ≡ false = c.if-same.false in cc)
     (λ e. let x : c.same-else-same.result ≡ true = c.same-else-same.ensures.references.1 (e ∙ sym c.negate.ensures.value) in let y : c.same-else-same.result ≡ false = c.if-same-2.false in cc)
@@ -61,8 +61,8 @@ place_of-requires t c =
 pub place_of-requires-else-same-2 : goal.place_of-requires-else-same-2
 place_of-requires-else-same-2 t c =
     let s : Nodes = c.args.store.now in
-    let p : Pair = c.normal-pair.result in
-    let k : IsPairOf s c.args.f c.args.g p = c.normal-pair.ensures s c.levels.ensures.sound c.requires.first_known c.requires.second_known in
+    let p : DiffPair = c.normal-pair.result in
+    let k : IsDiffPairOf s c.args.f c.args.g p = c.normal-pair.ensures s c.levels.ensures.sound c.requires.first_in_store c.requires.second_in_store in
     let l = level_here s c.levels.ensures.sound p.first p.second c.top.result c.top-else-same-2.result c.min-level.result k.first k.second
     (λ e. let x : c.same.result ≡ true = c.same.ensures.references.1 e in let y : c.same.result ≡ false = c.if-same.false in cc)
     (λ e. let x : c.same-else-same.result ≡ true = c.same-else-same.ensures.references.1 (e ∙ sym c.negate.ensures.value) in let y : c.same-else-same.result ≡ false = c.if-same-2.false in cc)
@@ -76,8 +76,8 @@ place_of-requires-else-same-2 t c =
     let d = c.decreases in
     (omega arith, (x.0, (y.0, (c.requires.order, c.in_ok-place_of.ensures.table))))
 
-pair_is : (t : ℕ) (c : goal.After-add_line t) → IsPairOf c.args.store.now c.args.f c.args.g c.normal-pair.result
-pair_is t c = c.normal-pair.ensures c.args.store.now c.levels.ensures.sound c.requires.first_known c.requires.second_known
+pair_is : (t : ℕ) (c : goal.After-add_line t) → IsDiffPairOf c.args.store.now c.args.f c.args.g c.normal-pair.result
+pair_is t c = c.normal-pair.ensures c.args.store.now c.levels.ensures.sound c.requires.first_in_store c.requires.second_in_store
 
 ready : (t : ℕ) (c : goal.After-add_line t)
     → IsReady c.args.store.now c.args.order.now (differs c.args.store.now c.args.order.now c.normal-pair.result.first c.normal-pair.result.second)
@@ -85,8 +85,8 @@ ready : (t : ℕ) (c : goal.After-add_line t)
 ready t c =
     let s : Nodes = c.args.store.now in
     let order : List ℕ = c.args.order.now in
-    let p : Pair = c.normal-pair.result in
-    let k : IsPairOf s c.args.f c.args.g p = pair_is t c in
+    let p : DiffPair = c.normal-pair.result in
+    let k : IsDiffPairOf s c.args.f c.args.g p = pair_is t c in
     let h : List Bool → Bool = differs s order p.first p.second in
     elim c.if-same.branch [
       | then-same w ↦
@@ -134,9 +134,9 @@ kept t c Q to =
 pub returns-in-Some-clause-place : goal.returns-in-Some-clause-place
 returns-in-Some-clause-place t c =
     let s : Nodes = c.args.store.now in
-    let p : Pair = c.normal-pair.result in
-    let k : IsPairOf s c.args.f c.args.g p = c.normal-pair.ensures s c.levels.ensures.sound c.requires.first_known c.requires.second_known in
-    Stands-agree s.levels c.args.table.now.lines.items c.in-Some.place.now (differs s c.args.order.now p.first p.second) (differs s c.args.order.now c.args.f c.args.g)
+    let p : DiffPair = c.normal-pair.result in
+    let k : IsDiffPairOf s c.args.f c.args.g p = c.normal-pair.ensures s c.levels.ensures.sound c.requires.first_in_store c.requires.second_in_store in
+    LineDenotes-agree s.levels c.args.table.now.lines.items c.in-Some.place.now (differs s c.args.order.now p.first p.second) (differs s c.args.order.now c.args.f c.args.g)
     (differs_pair s c.args.order.now c.args.f c.args.g p k)
     (c.requires.table.found p c.in-Some.place.now (sym c.in-Some.ensures.value))
 
@@ -149,6 +149,6 @@ returns-clause-keeps t c = kept t c _ (λ p k. k.keeps)
 pub returns-clause-place : goal.returns-clause-place
 returns-clause-place t c =
     kept t c _
-    (λ q k. Stands-agree c.args.store.now.levels c.add_line.new.table.lines.items q
+    (λ q k. LineDenotes-agree c.args.store.now.levels c.add_line.new.table.lines.items q
     (differs c.args.store.now c.args.order.now c.normal-pair.result.first c.normal-pair.result.second) (differs c.args.store.now c.args.order.now c.args.f c.args.g)
     (differs_pair c.args.store.now c.args.order.now c.args.f c.args.g c.normal-pair.result (pair_is t c)) k.place)

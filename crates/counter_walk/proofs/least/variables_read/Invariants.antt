@@ -1,5 +1,5 @@
 use Rattle.std.proofs.Common.{◌≡◌, ◌<◌, ℕ, true, false, length, get_or, slice_get, Some}
-use Rattle.counter_walk.specs.declared.least.Line.TheVariants.{Branch}
+use Rattle.counter_walk.specs.declared.least.DiffLine.TheVariants.{Branch}
 use Rattle.counter_walk.proofs.least.variables_read.Given as goal
 
 -- the variables of the lines so far are marked

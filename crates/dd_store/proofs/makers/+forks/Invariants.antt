@@ -1,8 +1,8 @@
 use Prim.Native.Nat.{◌+◌, ◌*◌}
 use Rattle.dd_store.proofs.makers.+forks.Given as goal
 
-abbrev pub decreases-make_apart : goal.decreases-make_apart
-decreases-make_apart g l = 4 * l.threads
+abbrev pub decreases-make_in_parallel : goal.decreases-make_in_parallel
+decreases-make_in_parallel g l = 4 * l.threads
 
 abbrev pub decreases-share_and_rest : goal.decreases-share_and_rest
 decreases-share_and_rest g l = 4 * l.threads + 3

@@ -1,10 +1,10 @@
 use Rattle.std.proofs.Common.{rules, ◌+◌, ◌%◌, ◌^◌, map, length, sym, ap, ◌∙◌, subst, arith}
 use Rattle.dd_store.specs.Nodes.{Nodes}
-use Rattle.expand_work.specs.Gathered.{AreParts, AreSettled}
-use Rattle.expand_work.specs.Lean.{AreLean}
-use Rattle.expand_work.specs.Spaces.{records_in, noted_in}
+use Rattle.expand_work.specs.WaveParts.{AreParts, AreSettled}
+use Rattle.expand_work.specs.OwnerRows.{AreRowsByOwner}
+use Rattle.expand_work.specs.MemoryPool.{records_in, noted_in}
 use Rattle.lane_queue.specs.Joining.{ArePorts, AreRetired}
-use Rattle.expand_work.proofs.Expanding.{new_ports, parts_ports, are_parts, are_settled, records_as, noted_as, parts_lean}
+use Rattle.expand_work.proofs.Expanding.{new_ports, parts_ports, are_parts, are_settled, records_as, noted_as, parts_by_owner}
 use Rattle.expand_work.proofs.Tallying.{have_expanded, few_reached}
 use Rattle.expand_work.proofs.parts.expand_parts.Goals as goal
 
@@ -37,13 +37,13 @@ returns-clause-settled g c =
 
 pub invariant_of-parts : goal.invariant_of-parts
 invariant_of-parts g c =
-    subst (λ (z : Nodes). AreLean (map (records_in z) c.in_ok-ports.filled.items) c.in_ok-ports.rows.items) (sym c.of.ensures)
-    (parts_lean c.args.store.now c.in_ok-lanes.lanes c.args.roots.now c.in_ok-parts.parts.items c.in_ok-parts.ensures.parts c.in_ok-ports.filled.items c.in_ok-ports.ensures.spaces c.in_ok-ports.rows.items c.in_ok-ports.ensures.rows)
+    subst (λ (z : Nodes). AreRowsByOwner (map (records_in z) c.in_ok-ports.filled.items) c.in_ok-ports.rows.items) (sym c.of.ensures)
+    (parts_by_owner c.args.store.now c.in_ok-lanes.lanes c.args.roots.now c.in_ok-parts.parts.items c.in_ok-parts.ensures.parts c.in_ok-ports.filled.items c.in_ok-ports.ensures.spaces c.in_ok-ports.rows.items c.in_ok-ports.ensures.rows)
 
 pub invariant_of-parts-2 : goal.invariant_of-parts-2
 invariant_of-parts-2 g c =
-    subst (λ (z : Nodes). AreLean (map (records_in z) c.in_ok-ports.filled.items) c.in_ok-ports.rows.items) (sym c.of.ensures)
-    (parts_lean c.args.store.now c.in_ok-lanes.lanes c.args.roots.now c.in_ok-parts.parts.items c.in_ok-parts.ensures.parts c.in_ok-ports.filled.items c.in_ok-ports.ensures.spaces c.in_ok-ports.rows.items c.in_ok-ports.ensures.rows)
+    subst (λ (z : Nodes). AreRowsByOwner (map (records_in z) c.in_ok-ports.filled.items) c.in_ok-ports.rows.items) (sym c.of.ensures)
+    (parts_by_owner c.args.store.now c.in_ok-lanes.lanes c.args.roots.now c.in_ok-parts.parts.items c.in_ok-parts.ensures.parts c.in_ok-ports.filled.items c.in_ok-ports.ensures.spaces c.in_ok-ports.rows.items c.in_ok-ports.ensures.rows)
 
 pub returns-clause-expanded : goal.returns-clause-expanded
 returns-clause-expanded g c =

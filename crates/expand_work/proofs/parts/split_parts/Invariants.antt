@@ -1,6 +1,6 @@
 use Rattle.std.proofs.Common.{◌≡◌, ◌++◌, map}
 use Rattle.expand_work.specs.declared.part.Part.{Part}
-use Rattle.expand_work.specs.Spaces.{rows_in, without_rows}
+use Rattle.expand_work.specs.MemoryPool.{rows_in, without_rows}
 use Rattle.expand_work.proofs.parts.split_parts.Given as goal
 
 abbrev pub invariant-loop-part : goal.invariant-loop-part

@@ -9,4 +9,4 @@ abbrev pub invariant-loop-port : goal.invariant-loop-port
 invariant-loop-port g l =
     (l.yielded ++ l.port-iterator.rest.items ≡ l.fn.ports.items)
     × (length l.fn.ports.items ≤ vec_capacity l.children)
-    × AllZip (WorksFor l.site.lanes.now l.site.store.now l.site.roots.now) l.children.items l.yielded
+    × AllZip (WorksFor l.context.lanes.now l.context.store.now l.context.roots.now) l.children.items l.yielded

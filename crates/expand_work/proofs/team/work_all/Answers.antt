@@ -3,14 +3,14 @@ use Rattle.std.proofs.lemmas.Result.{IfOk-weaker}
 use Rattle.std.specs.Prelude.{IfOk}
 use Rattle.std.specs.List.{AllZip}
 use Rattle.expand_work.specs.Team.{IsPromised}
-use Rattle.expand_work.specs.Worked.{IsWorked}
+use Rattle.expand_work.specs.WorkerResult.{IsWorked}
 use Rattle.expand_work.proofs.Teams.{all_worked, no_more_threads, each_has_its, judged}
 use Rattle.expand_work.proofs.team.work_all.Goals as goal
 
 pub join_all-others-requires : goal.join_all-others-requires
 join_all-others-requires g c =
     let rest = c.pop.new.self.items in
-    let few = no_more_threads c.args.site.lanes.now c.args.site.store.now c.args.site.roots.now c.in_ok-children.children.items rest c.in_ok-children.ensures in
+    let few = no_more_threads c.args.context.lanes.now c.args.context.store.now c.args.context.roots.now c.in_ok-children.children.items rest c.in_ok-children.ensures in
     let n = ap (λ z. length z) c.in-Some.ensures.items in
     let m = length-append rest (c.in-Some.own ∷ []) in
     let k = c.in_ok-parts.ensures.capacity in
@@ -19,9 +19,9 @@ join_all-others-requires g c =
 
 pub returns : goal.returns
 returns g c =
-    let l = c.args.site.lanes.now in
-    let s = c.args.site.store.now in
-    let r = c.args.site.roots.now in
+    let l = c.args.context.lanes.now in
+    let s = c.args.context.store.now in
+    let r = c.args.context.roots.now in
     let children = c.in_ok-children.children.items in
     let ports = c.args.ports.items in
     let rest = c.pop.new.self.items in
@@ -33,4 +33,4 @@ returns g c =
     all_worked l ports rest own c.requires.ports c.in-Some.ensures.items s r children j.before.items v.items j.part works
     (subst (λ z. IfOk z (λ w. AllZip IsPromised children w.items)) j.others_are c.join_all-others.ensures.parts)
     (subst (λ z. IfOk z (λ p. IsWorked l s r own.number p)) j.last_is c.work-last.ensures) j.all) c.with_last-joined.ensures.parts) in
-    record { parts = parts; fault = search rules; unbounded = search rules }
+    record { parts = parts; fault = search rules; never_too_many_requests = search rules }

@@ -4,24 +4,24 @@ use Rattle.expand_work.proofs.worker.do_level.Goals as goal
 
 pub expand_level-requires-clause-closing : goal.expand_level-requires-clause-closing
 expand_level-requires-clause-closing g c κs within =
-    let said = c.in_ok-speak.ensures in
+    let sent_level = c.in_ok-send_level.ensures in
     let took = c.in_ok-take_until_closed.ensures in
     record {
       before = c.args.worker;
-      spoken = c.speak.new.worker;
+      after_sending = c.send_level.new.worker;
       working = c.requires.working;
-      has_spoken = said;
+      has_sent_level = sent_level;
       same = took.same;
-      heard = took.heard;
+      received = took.received;
       stays = took.stays;
       noted = took.noted;
       closed = took.closed;
-      rows = said.rows;
-      due = said.due;
+      rows = sent_level.rows;
+      due = sent_level.due;
     }
 
 pub returns : goal.returns
 returns g c =
-    let said = c.in_ok-speak.ensures in
+    let sent_level = c.in_ok-send_level.ensures in
     let done = c.in_ok-expand_level.ensures in
-    (done.working, done.number ∙ ap (λ (q : PortView). q.number) c.in_ok-take_until_closed.ensures.same ∙ said.is_ended.port.0 ∙ said.is_kept.port.0 ∙ said.is_sent.port.0)
+    (done.working, done.number ∙ ap (λ (q : PortView). q.number) c.in_ok-take_until_closed.ensures.same ∙ sent_level.is_ended.port.0 ∙ sent_level.is_kept.port.0 ∙ sent_level.is_sent.port.0)

@@ -2,12 +2,12 @@ use Rattle.std.proofs.Common.{rules, arith, ◌∙◌, ◌≡◌, ◌+◌, ◌<�
 use Rattle.std.proofs.lemmas.Result.{err_from_is_err_and}
 use Rattle.std.proofs.lemmas.List.{length-set}
 use Rattle.gate_plan.specs.Building.{input_level, levelled_of, AreFolded}
-use Rattle.gate_plan.specs.Needing.{IsPlacedValue}
+use Rattle.gate_plan.specs.Needing.{IsPlannedValue}
 use Rattle.gate_plan.specs.Plans.{plan_steps}
 use Rattle.gate_plan.specs.Asking.{IsPast}
 use Rattle.gate_plan.proofs.Asked.{wave_unasked, wave_held, wave_past}
 use Rattle.expand_work.specs.declared.fault.WaveFault.TheVariants.{TooManyRequests}
-use Rattle.reduce_up.proofs.Known.{fault_of_all}
+use Rattle.reduce_up.proofs.Probing.{fault_of_all}
 use Rattle.gate_plan.proofs.Counted.{wave_adds, wave_fault}
 use Rattle.gate_plan.proofs.Running.{steps_fit, fold_next, all_entries, all_asked}
 use Rattle.gate_plan.proofs.Together.{refs_there, there_at, set_left, set_each, answers_long, answers_own, answers_rest}
@@ -27,14 +27,14 @@ wave-requires-clause-operands g c κs within =
 
 pub returns-in_err-answers-clause-adds : goal.returns-in_err-answers-clause-adds
 returns-in_err-answers-clause-adds g c =
-    wave_adds c.args.store.now c.wave.new.store c.as_slice.result.now (IsPlacedValue c.args.store.now.levels c.args.sides.now)
+    wave_adds c.args.store.now c.wave.new.store c.as_slice.result.now (IsPlannedValue c.args.store.now.levels c.args.sides.now)
     (all_asked c.args.sides.now c.requires.plans c.args.store.now c.args.built.now c.args.rank c.args.fold c.as_slice.result.now c.requires.folded (c.as_slice.ensures.value ∙ c.in-Ok.ensures)) c.wave.ensures.wave.adds
 
 pub returns-in_err-answers-clause-fault : goal.returns-in_err-answers-clause-fault
 returns-in_err-answers-clause-fault g c =
     let p = err_from_is_err_and c.from_residual.result c.from_residual.ensures.1 in
     rw (p.1, p.2) (
-    wave_fault c.args.store.now c.wave.new.store c.as_slice.result.now (IsPlacedValue c.args.store.now.levels c.args.sides.now)
+    wave_fault c.args.store.now c.wave.new.store c.as_slice.result.now (IsPlannedValue c.args.store.now.levels c.args.sides.now)
     (all_asked c.args.sides.now c.requires.plans c.args.store.now c.args.built.now c.args.rank c.args.fold c.as_slice.result.now c.requires.folded (c.as_slice.ensures.value ∙ c.in-Ok.ensures))
     c.wave.ensures.wave.adds.keeps _ (fault_of_all c.args.store.now c.wave.new.store c.args.engine.now.held c.as_slice.result.now _ c.in_err-answers.ensures.wave.fault)
     )
@@ -87,7 +87,7 @@ loop-i-preserved g c =
 
 pub returns-clause-adds : goal.returns-clause-adds
 returns-clause-adds g c =
-    wave_adds c.args.store.now c.wave.new.store c.as_slice.result.now (IsPlacedValue c.args.store.now.levels c.args.sides.now)
+    wave_adds c.args.store.now c.wave.new.store c.as_slice.result.now (IsPlannedValue c.args.store.now.levels c.args.sides.now)
     (all_asked c.args.sides.now c.requires.plans c.args.store.now c.args.built.now c.args.rank c.args.fold c.as_slice.result.now c.requires.folded (c.as_slice.ensures.value ∙ c.in-Ok.ensures)) c.wave.ensures.wave.adds
 
 pub returns-clause-next : goal.returns-clause-next

@@ -4,7 +4,7 @@ use Rattle.expand_work.specs.declared.fault.WaveFault.TheVariants.{OutOfMemory}
 use Rattle.reduce_up.proofs.Reduction.{adds_none}
 use Rattle.gate_plan.specs.Building.{input_level, folds_at}
 use Rattle.gate_plan.specs.Need.{IsCounted}
-use Rattle.gate_plan.specs.Needing.{IsPlacedValue}
+use Rattle.gate_plan.specs.Needing.{IsPlannedValue}
 use Rattle.gate_plan.specs.Asking.{AnyAsksAt}
 use Rattle.gate_plan.specs.Plans.{plan_copies, plan_folds}
 use Rattle.gate_plan.proofs.Asked.{none_unasked, next_unasked, rank_unasked, still_within, within_kept}
@@ -23,7 +23,7 @@ copy_rank-requires-clause-below g c = (
 pub loop-fold-init : goal.loop-fold-init
 loop-fold-init g c = record {
   sound = c.levels.ensures.sound;
-  adds = adds_none c.args.store.now c.args.store.now (IsCounted c.args.store.now.levels (IsPlacedValue c.args.store.now.levels c.args.sides.now)) refl;
+  adds = adds_none c.args.store.now c.args.store.now (IsCounted c.args.store.now.levels (IsPlannedValue c.args.store.now.levels c.args.sides.now)) refl;
   held = c.requires.held;
   bound = refl;
   within = none_unasked c.args.store.now c.args.store.now (λ j. AnyAsksAt c.args.sides.now c.args.store.now c.args.rank j) (inr refl);
@@ -32,12 +32,12 @@ loop-fold-init g c = record {
 
 pub returns-in_err-build_fold-clause-adds : goal.returns-in_err-build_fold-clause-adds
 returns-in_err-build_fold-clause-adds g c =
-    adds_next c.args.store.now c.loop-fold.store c.build_fold.new.store (λ n. IsPlacedValue n c.args.sides.now) c.loop-fold.invariant.sound c.loop-fold.invariant.adds c.build_fold.ensures.adds
+    adds_next c.args.store.now c.loop-fold.store c.build_fold.new.store (λ n. IsPlannedValue n c.args.sides.now) c.loop-fold.invariant.sound c.loop-fold.invariant.adds c.build_fold.ensures.adds
 
 pub loop-fold-preserved : goal.loop-fold-preserved
 loop-fold-preserved g c = record {
   sound = c.build_fold.ensures.sound;
-  adds = adds_next c.args.store.now c.loop-fold.store c.build_fold.new.store (λ n. IsPlacedValue n c.args.sides.now) c.loop-fold.invariant.sound c.loop-fold.invariant.adds c.build_fold.ensures.adds;
+  adds = adds_next c.args.store.now c.loop-fold.store c.build_fold.new.store (λ n. IsPlannedValue n c.args.sides.now) c.loop-fold.invariant.sound c.loop-fold.invariant.adds c.build_fold.ensures.adds;
   held = c.in_ok-build_fold.ensures.held;
   bound = c.build_fold.ensures.bound ∙ c.loop-fold.invariant.bound;
   within = next_unasked c.args.store.now c.loop-fold.store c.build_fold.new.store (λ S j. AnyAsksAt c.args.sides.now S c.args.rank j) c.loop-fold.fold c.loop-fold.invariant.within c.in_ok-build_fold.ensures.within;

@@ -3,15 +3,15 @@ use Rattle.dd_store.specs.Nodes.{IsSound}
 use Rattle.reduce_up.specs.Reducing.{AddsDescribed}
 use Rattle.gate_plan.specs.Building.{AllFolded}
 use Rattle.gate_plan.specs.Need.{IsCounted}
-use Rattle.gate_plan.specs.Asking.{AnyAsksAt, IsWithinOrUnasked, IsHeldWithin}
-use Rattle.gate_plan.specs.Needing.{IsPlacedValue}
+use Rattle.gate_plan.specs.Asking.{AnyAsksAt, IsWithinOrUnasked, IsRightAndWithinLimit}
+use Rattle.gate_plan.specs.Needing.{IsPlannedValue}
 use Rattle.gate_plan.proofs.building.build_rank.Given as goal
 
 abbrev pub invariant-loop-fold : goal.invariant-loop-fold
 invariant-loop-fold g l = record {
   sound : IsSound l.store;
-  adds : AddsDescribed l.fn.store l.store (IsCounted l.fn.store.levels (IsPlacedValue l.fn.store.levels l.sides));
-  held : IsHeldWithin l.store l.engine.held;
+  adds : AddsDescribed l.fn.store l.store (IsCounted l.fn.store.levels (IsPlannedValue l.fn.store.levels l.sides));
+  held : IsRightAndWithinLimit l.store l.engine.held;
   bound : l.engine.bound ≡ l.fn.engine.bound;
   within : IsWithinOrUnasked ((j : ℕ) × (j < l.fold) × AnyAsksAt l.sides l.store l.rank j) l.fn.store l.store;
   folded : AllFolded l.sides l.store l.built l.rank l.fold;

@@ -1,13 +1,13 @@
 use Rattle.std.proofs.Common.{rules, ◌≡◌, ◌<◌, ◌-◌, ◌^◌, ◌∙◌, List, Err, OnOk, ap, subst}
 use Rattle.std.proofs.lemmas.Result.{IfErr-weaker, IfOk-weaker, on_ok_weaker}
-use Rattle.req_table.specs.ComputedTables.{Held}
+use Rattle.req_table.specs.ComputedTables.{ComputedView}
 use Rattle.expand_work.specs.declared.fault.WaveFault.TheVariants.{TooManyRequests}
 use Rattle.expand_work.specs.Bounds.{most_of}
 use Rattle.wave_engine.specs.Bounds.{AreAtMost, ArePast}
 use Rattle.gate_plan.specs.Conjoining.{conjunctions}
 use Rattle.reduce_up.specs.Waves.{Entry, AnswersEach, IsWaveFault, IsWithinLimit}
 use Rattle.gate_plan.proofs.Conjoined.{conjoined, entries_known, past_all, at_most_all}
-use Rattle.reduce_up.proofs.Known.{fault_of_all, within_all}
+use Rattle.reduce_up.proofs.Probing.{fault_of_all, within_all}
 use Rattle.gate_plan.proofs.conjoining.conjoin.Goals as goal
 
 pub wave-requires-clause-operands : goal.wave-requires-clause-operands
@@ -27,7 +27,7 @@ returns-clause-within g c =
     on_ok_weaker c.wave.result
     (λ h.
     subst (λ z. IsWithinLimit c.args.store.now z c.wave.new.store) (c.as_slice.ensures.value ∙ c.in_ok-entries.ensures)
-    (within_all c.args.store.now c.wave.new.store c.in_ok-computed.computed c.as_slice.result.now (ap (λ (m : Held). m.pairs) c.in_ok-computed.ensures.empty) h))
+    (within_all c.args.store.now c.wave.new.store c.in_ok-computed.computed c.as_slice.result.now (ap (λ (m : ComputedView). m.pairs) c.in_ok-computed.ensures.empty) h))
     c.wave.ensures.wave.within
 
 pub returns-clause-fault : goal.returns-clause-fault
@@ -51,6 +51,6 @@ returns-clause-within_bound g c =
     on_ok_weaker c.wave.result
     (λ h.
     subst (AreAtMost (most_of (g.G.Monitor.bound c.args.crew.now.monitor.now)) c.args.store.now) (c.as_slice.ensures.value ∙ c.in_ok-entries.ensures)
-    (at_most_all (most_of (g.G.Monitor.bound c.args.crew.now.monitor.now)) c.args.store.now c.in_ok-computed.computed c.as_slice.result.now (ap (λ (m : Held). m.pairs) c.in_ok-computed.ensures.empty) h))
+    (at_most_all (most_of (g.G.Monitor.bound c.args.crew.now.monitor.now)) c.args.store.now c.in_ok-computed.computed c.as_slice.result.now (ap (λ (m : ComputedView). m.pairs) c.in_ok-computed.ensures.empty) h))
     (c.wave.ensures.within_bound bounded) in
     search (rules, within)

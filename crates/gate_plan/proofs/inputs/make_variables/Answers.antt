@@ -33,7 +33,7 @@ loop-level-preserved c =
     let low : c.loop-level.level < S.levels = (let e = c.loop-level.invariant.adds.keeps.levels in omega arith) in
     let grown : new ≡ vs ++ c.in-Ok.variable ∷ [] = pushed c.push.result new vs c.in-Ok.variable c.push.ensures.items (sym c.if-is_err.ensures.value) in
     let next : (v : ℕ) → v < c.loop-level.level + 1 → Has T (reference_of new v) × ((x : List Bool) → den T (reference_of new v) x ≡ bit x v) =
-    variable_next S T vs new c.loop-level.level c.in-Ok.variable c.loop-level.invariant.sound kept c.loop-level.invariant.each grown c.in-Ok.ensures.here c.in-Ok.ensures.meaning c.loop-level.invariant.has c.loop-level.invariant.bits in
+    variable_next S T vs new c.loop-level.level c.in-Ok.variable c.loop-level.invariant.sound kept c.loop-level.invariant.each grown c.in-Ok.ensures.in_store c.in-Ok.ensures.meaning c.loop-level.invariant.has c.loop-level.invariant.bits in
     record {
       sound = c.variable.ensures.sound;
       adds = adds_next c.args.store.now S T IsVariable c.loop-level.invariant.sound c.loop-level.invariant.adds (variable_adds S T c.loop-level.level c.in-Ok.variable c.variable.ensures.sound low c.in-Ok.ensures.made c.in-Ok.ensures.meaning);

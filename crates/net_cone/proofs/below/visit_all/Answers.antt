@@ -16,10 +16,10 @@ loop-place-preserved c =
         | inr on ↦
             let same : c.loop-place.place ≡ k = omega arith in
             subst (λ j. IsVisited c.visit.new.seen (get_or c.args.signals.now j d)) same
-            (subst (IsVisited c.visit.new.seen) (c.index-signals-place.is ∙ get_or_default c.args.signals.now c.loop-place.place s d low) c.in_ok-visit.ensures.here)
+            (subst (IsVisited c.visit.new.seen) (c.index-signals-place.is ∙ get_or_default c.args.signals.now c.loop-place.place s d low) c.in_ok-visit.ensures.signal_visited)
       ];
       kept = λ t was. c.in_ok-visit.ensures.kept t (c.loop-place.invariant.kept t was);
-      only = λ t now. elim (c.in_ok-visit.ensures.only t now) [
+      only = λ t now. elim (c.in_ok-visit.ensures.new_ones_wait t now) [
         | inl was ↦ elim (c.loop-place.invariant.only t was) [
           | inl before ↦ inl before
           | inr (among, waits) ↦ inr (among, c.in_ok-visit.ensures.waiting t waits)

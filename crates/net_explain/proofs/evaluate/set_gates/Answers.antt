@@ -4,7 +4,7 @@ use Rattle.net_explain.proofs.evaluate.set_gates.Goals as goal
 
 pub loop-place-init : goal.loop-place-init
 loop-place-init c = record {
-  set = none_set c.args.net.now c.requires.sound c.args.bits.now c.requires.each;
+  set = none_set c.args.net.now c.requires.sound c.args.bits.now c.requires.one_per_signal;
   kept = λ i d low. refl;
 }
 

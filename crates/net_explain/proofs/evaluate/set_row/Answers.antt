@@ -1,14 +1,14 @@
 use Rattle.std.proofs.Common.{◌≡◌, ◌∙◌, ◌+◌, subst, sym}
 use Rattle.std.specs.Prelude.{Contains}
 use Rattle.std.proofs.lemmas.List.{take_all}
-use Rattle.net_explain.specs.Ranked.{rank_row}
+use Rattle.net_explain.specs.RankRows.{rank_row}
 use Rattle.net_explain.specs.Values.{AreSet}
 use Rattle.net_explain.proofs.Rows.{row_is, signal_low}
 use Rattle.net_explain.proofs.Setting.{kept_more, row_done, row_step}
 use Rattle.net_explain.proofs.evaluate.set_row.Goals as goal
 
-pub set_gate-requires-clause-inside : goal.set_gate-requires-clause-inside
-set_gate-requires-clause-inside c =
+pub set_gate-requires-clause-in_bounds : goal.set_gate-requires-clause-in_bounds
+set_gate-requires-clause-in_bounds c =
     let row : c.as_slice-row.result.now ≡ rank_row c.args.net.now (c.args.place + 1) =
     row_is (λ w. w.items) c.args.net.now c.args.rows.now c.args.place c.index-rows-place.result c.as_slice-row.result.now c.requires.rows c.requires.place c.index-rows-place.is c.as_slice-row.ensures.value in
     signal_low c.args.net.now c.requires.sound (c.args.place + 1) c.index-row-i.result

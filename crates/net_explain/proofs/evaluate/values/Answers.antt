@@ -13,4 +13,4 @@ returns-clause-labelling c =
 
 pub returns-clause-functions : goal.returns-clause-functions
 returns-clause-functions c =
-    function_value c.args.net.now c.rows_of.ensures.sound (level_in c.args.naming.now c.args.which) c.args.at.now _ (returns-clause-labelling c)
+    function_value c.args.net.now c.gates_by_rank.ensures.sound (level_in c.args.naming.now c.args.which) c.args.at.now _ (returns-clause-labelling c)

@@ -1,7 +1,7 @@
 use Rattle.std.proofs.Common.{◌+◌, sym, subst, take, List, ℕ}
 use Rattle.std.specs.List.{AllZip}
 use Rattle.std.proofs.lemmas.List.{take_all}
-use Rattle.net_order.specs.Order.{HasLevels, Sided}
+use Rattle.net_order.specs.Order.{HasLevels, NamedNetlistModel}
 use Rattle.net_order.proofs.Tabling.{zip_more}
 use Rattle.net_order.proofs.levels.all_levels.Goals as goal
 
@@ -12,4 +12,4 @@ loop-i-preserved c =
 
 pub returns : goal.returns
 returns c =
-    subst (λ (sides : List Sided). AllZip (HasLevels c.args.table.now) sides c.loop-i.all.items) (take_all c.loop-i.i c.args.sides.now c.loop-i-test.false) c.loop-i.invariant
+    subst (λ (sides : List NamedNetlistModel). AllZip (HasLevels c.args.table.now) sides c.loop-i.all.items) (take_all c.loop-i.i c.args.sides.now c.loop-i-test.false) c.loop-i.invariant

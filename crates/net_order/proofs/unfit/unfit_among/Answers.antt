@@ -20,6 +20,6 @@ returns-then-has c =
 pub loop-i-preserved : goal.loop-i-preserved
 loop-i-preserved c =
     let low : c.loop-i.i < length c.args.list.now = omega (arith, c.loop-i-test.true, c.len-i-end.ensures.value) in
-    fits_here c.args.variables.now c.loop-i.before c.args.list.now c.loop-i.i c.at-name.result.now c.at-name.ensures low (sym c.if-not-has.ensures) c.count.new.self (sym c.has-in-loop-i.ensures ∙ c.if-has.false)
-    c.in_ok-count.ensures.added ∙
+    fits_here c.args.variables.now c.loop-i.before c.args.list.now c.loop-i.i c.at-name.result.now c.at-name.ensures low (sym c.if-not-has.ensures) c.intern.new.self (sym c.has-in-loop-i.ensures ∙ c.if-has.false)
+    c.in_ok-intern.ensures.added ∙
     c.loop-i.invariant

@@ -8,5 +8,5 @@ name-requires c = grind (arith, c.requires c.loop-variable.variable-index c.vari
 
 pub loop-variable-preserved : goal.loop-variable-preserved
 loop-variable-preserved c =
-    one_more (named c.args.side.now) c.args.variables.now c.loop-variable.variable-index c.variable-item.result c.name.result.now c.loop-variable.table c.count.new.self
-    c.loop-variable-test.true c.variable-item.is c.name.ensures c.in_ok-count.ensures.added ∙ c.loop-variable.invariant
+    one_more (named c.args.side.now) c.args.variables.now c.loop-variable.variable-index c.variable-item.result c.name.result.now c.loop-variable.table c.intern.new.self
+    c.loop-variable-test.true c.variable-item.is c.name.ensures c.in_ok-intern.ensures.added ∙ c.loop-variable.invariant

@@ -6,7 +6,7 @@ use Rattle.net_order.proofs.walk.walk_below.Given as goal
 
 abbrev pub invariant-loop-frame : goal.invariant-loop-frame
 invariant-loop-frame l =
-    IsWalk l.paths.way (circuit l.paths.net.now) (fold with_number l.fn.found.items (below l.paths.way (circuit l.paths.net.now) l.root)) l.found.items l.seen.items (reverse l.stack.items)
+    IsWalk l.ordered_net.operand_order (circuit l.ordered_net.net.now) (fold with_number l.fn.found.items (below l.ordered_net.operand_order (circuit l.ordered_net.net.now) l.root)) l.found.items l.seen.items (reverse l.stack.items)
 
 abbrev pub decreases-loop-frame : goal.decreases-loop-frame
-decreases-loop-frame l = steps_left l.paths.way (circuit l.paths.net.now) (reverse l.stack.items)
+decreases-loop-frame l = steps_left l.ordered_net.operand_order (circuit l.ordered_net.net.now) (reverse l.stack.items)

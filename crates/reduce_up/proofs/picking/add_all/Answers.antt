@@ -1,7 +1,7 @@
 use Rattle.std.proofs.Common.{◌≡◌, ◌+◌, ◌++◌, ◌∷◌, [], List, take, ◌∙◌, sym, ap, append_assoc}
 use Rattle.std.proofs.lemmas.List.{take_more}
 use Rattle.dd_store.specs.declared.reference.Ref.{Ref}
-use Rattle.reduce_up.specs.Placed.{joined}
+use Rattle.reduce_up.specs.AnswersByLevel.{joined}
 use Rattle.reduce_up.proofs.Joined.{turn_more}
 use Rattle.reduce_up.proofs.picking.add_all.Goals as goal
 

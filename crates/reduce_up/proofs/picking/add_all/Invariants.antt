@@ -1,5 +1,5 @@
 use Rattle.std.proofs.Common.{◌≡◌, ◌++◌, take}
-use Rattle.reduce_up.specs.Placed.{joined}
+use Rattle.reduce_up.specs.AnswersByLevel.{joined}
 use Rattle.reduce_up.proofs.picking.add_all.Given as goal
 
 abbrev pub invariant-loop-part : goal.invariant-loop-part

@@ -2,8 +2,8 @@ use Rattle.std.proofs.Common.{◌≡◌, ◌++◌, length}
 use Rattle.reduce_up.specs.Division.{ArePicked}
 use Rattle.reduce_up.proofs.picking.join_picked.Given as goal
 
-abbrev pub invariant-loop-share : goal.invariant-loop-share
-invariant-loop-share l = record {
-  gone : l.yielded ++ l.share-iterator.rest.items ≡ l.fn.shares.items;
-  picked : ArePicked l.parts l.homes l.refs (length l.yielded) l.answers.items;
+abbrev pub invariant-loop-task : goal.invariant-loop-task
+invariant-loop-task l = record {
+  taken_so_far : l.yielded ++ l.task-iterator.rest.items ≡ l.fn.tasks.items;
+  picked : ArePicked l.parts l.origins l.refs (length l.yielded) l.answers.items;
 }

@@ -3,5 +3,5 @@ use Rattle.reduce_up.specs.Division.{source}
 use Rattle.reduce_up.proofs.Picked.{ArePicking}
 use Rattle.reduce_up.proofs.picking.pick.Given as goal
 
-abbrev pub invariant-loop-home : goal.invariant-loop-home
-invariant-loop-home l = ArePicking (take l.home-index l.homes.numbers.items) (λ s. get_or l.starts s 0) (source l.refs l.homes) l.places.items l.answers
+abbrev pub invariant-loop-origin : goal.invariant-loop-origin
+invariant-loop-origin l = ArePicking (take l.origin-index l.origins.numbers.items) (λ s. get_or l.starts s 0) (source l.refs l.origins) l.places.items l.answers

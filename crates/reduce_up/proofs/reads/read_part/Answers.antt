@@ -1,18 +1,18 @@
 use Rattle.std.proofs.Common.{◌≤◌, length, subst, arith}
 use Rattle.std.proofs.lemmas.Option.{slice_get_within, get_or_from_slice_get}
 use Rattle.dd_store.specs.Graph.{Pair}
-use Rattle.req_table.specs.declared.placed.Placed.{Placed}
-use Rattle.reduce_up.specs.Steps.{BothComeTo}
+use Rattle.req_table.specs.declared.packed_child.PackedChild.{PackedChild}
+use Rattle.reduce_up.specs.Steps.{BothResolveTo}
 use Rattle.reduce_up.proofs.Parted.{read_none, read_more, read_whole}
 use Rattle.reduce_up.proofs.reads.read_part.Goals as goal
 use Rattle.reduce_up.proofs.reads.read_part.Goals.{After-at-pair}
 
 -- what the next children come to
-comes : (c : After-at-pair) → (p : Pair) × BothComeTo c.args.answers.now c.at-pair.result p
+comes : (c : After-at-pair) → (p : Pair) × BothResolveTo c.args.answers.now c.at-pair.result p
 comes c =
-    let x : Placed × Placed = c.at-pair.result in
-    subst (λ z. (p : Pair) × BothComeTo c.args.answers.now z p) (get_or_from_slice_get c.args.children.now c.loop-place.place x x c.at-pair.ensures)
-    (c.requires.come c.loop-place.place x (slice_get_within c.args.children.now c.loop-place.place x c.at-pair.ensures))
+    let x : PackedChild × PackedChild = c.at-pair.result in
+    subst (λ z. (p : Pair) × BothResolveTo c.args.answers.now z p) (get_or_from_slice_get c.args.children.now c.loop-place.place x x c.at-pair.ensures)
+    (c.requires.resolvable c.loop-place.place x (slice_get_within c.args.children.now c.loop-place.place x c.at-pair.ensures))
 
 pub loop-place-init : goal.loop-place-init
 loop-place-init c = record {
@@ -36,4 +36,4 @@ loop-place-preserved c = record {
 pub returns : goal.returns
 returns c =
     let over : length c.args.children.now ≤ c.loop-place.place = omega arith in
-    read_whole c.args.answers.now c.args.children.now c.loop-place.place c.loop-place.divided.lists c.loop-place.divided.homes over c.loop-place.invariant.read
+    read_whole c.args.answers.now c.args.children.now c.loop-place.place c.loop-place.divided.lists c.loop-place.divided.origins over c.loop-place.invariant.read

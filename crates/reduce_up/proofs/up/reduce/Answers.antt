@@ -1,10 +1,10 @@
 use Rattle.std.proofs.Common.{◌≡◌, ◌<◌, ◌≤◌, ◌∙◌, List, length, Some, All, refl, arith}
 use Rattle.std.proofs.lemmas.Result.{err_from_is_err_and}
 use Rattle.req_table.specs.declared.Key.{Key}
-use Rattle.req_table.specs.declared.placed.Placed.{Placed}
+use Rattle.req_table.specs.declared.packed_child.PackedChild.{PackedChild}
 use Rattle.req_table.specs.Places.{IsLastLevel}
 use Rattle.reduce_up.specs.OverParts.{over_parts}
-use Rattle.reduce_up.specs.Up.{MayReduce}
+use Rattle.reduce_up.specs.ReductionPhase.{MayReduce}
 use Rattle.reduce_up.specs.Waves.{Entry}
 use Rattle.reduce_up.proofs.OverParts.{all_long}
 use Rattle.reduce_up.proofs.Reduced.{none_reduced}
@@ -44,7 +44,7 @@ module _ (g : Over) (c : In-Some g) where
   last = c.in-Some.ensures c.args.store.now.levels (let a = c.loop-number.invariant.bound in let b = c.requires.bound in omega (arith, a, b))
 
   -- all parts have it
-  has_level : All (λ (rows : List (List (Placed × Placed))). c.in-Some.number < length rows) c.loop-number.parts
+  has_level : All (λ (rows : List (List (PackedChild × PackedChild))). c.in-Some.number < length rows) c.loop-number.parts
   has_level = all_long (λ n. c.in-Some.number < n) c.loop-number.parts c.args.parts.now c.loop-number.invariant.levels
       (λ k d lt. let e : length _ ≡ c.args.store.now.levels = c.requires.levels k d lt in let f = fit own c.in-Some.number last in omega (arith, e, f))
 
@@ -94,15 +94,15 @@ returns-in_err-reduce_at-clause-fault g c = λ E T M.
     let p = err_from_is_err_and c.from_residual.result c.from_residual.ensures.1 in
     rw (p.1, p.2) (fault_over o c.in-Some.number h c.reduce_at.new.store L.adds c.in_err-reduce_at.field-0.0 L.fault)
 
-pub returns-in_err-reduce_at-clause-served : goal.returns-in_err-reduce_at-clause-served
-returns-in_err-reduce_at-clause-served g c =
-    let w = (goal.at.returns-in_err-reduce_at-clause-served g c).In-Some in
+pub returns-in_err-reduce_at-clause-never_no_worker : goal.returns-in_err-reduce_at-clause-never_no_worker
+returns-in_err-reduce_at-clause-never_no_worker g c =
+    let w = (goal.at.returns-in_err-reduce_at-clause-never_no_worker g c).In-Some in
     let p = err_from_is_err_and c.from_residual.result c.from_residual.ensures.1 in
     rw (p.1, p.2) (no_other_cause c.reduce_at.new.store c.requires.ready.1 c.in-Some.number c.in_err-reduce_at.field-0.0 (c.in_err-reduce_at.ensures.level _ (ready_over (own g w) c.in-Some.number (last g w))).fault).0
 
-pub returns-in_err-reduce_at-clause-unbounded : goal.returns-in_err-reduce_at-clause-unbounded
-returns-in_err-reduce_at-clause-unbounded g c =
-    let w = (goal.at.returns-in_err-reduce_at-clause-unbounded g c).In-Some in
+pub returns-in_err-reduce_at-clause-never_too_many_requests : goal.returns-in_err-reduce_at-clause-never_too_many_requests
+returns-in_err-reduce_at-clause-never_too_many_requests g c =
+    let w = (goal.at.returns-in_err-reduce_at-clause-never_too_many_requests g c).In-Some in
     let p = err_from_is_err_and c.from_residual.result c.from_residual.ensures.1 in
     rw (p.1, p.2) (no_other_cause c.reduce_at.new.store c.requires.ready.1 c.in-Some.number c.in_err-reduce_at.field-0.0 (c.in_err-reduce_at.ensures.level _ (ready_over (own g w) c.in-Some.number (last g w))).fault).1
 

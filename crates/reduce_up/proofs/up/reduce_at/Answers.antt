@@ -3,9 +3,9 @@ use Rattle.std.proofs.lemmas.List.{length-set}
 use Rattle.dd_store.specs.declared.reference.Ref.{Ref}
 use Rattle.req_table.specs.declared.Key.{Key}
 use Rattle.req_table.specs.Places.{row}
-use Rattle.req_table.proofs.Standing.{row_own, row_other}
+use Rattle.req_table.proofs.AtPlace.{row_own, row_other}
 use Rattle.reduce_up.specs.OverParts.{level_over}
-use Rattle.reduce_up.specs.Up.{IsReadyAt, ReducesLevel}
+use Rattle.reduce_up.specs.ReductionPhase.{IsReadyAt, ReducesLevel}
 use Rattle.reduce_up.proofs.Raising.{ready_beside, past_fault}
 use Rattle.reduce_up.proofs.up.reduce_at.Given.{Over}
 use Rattle.reduce_up.proofs.up.reduce_at.Goals as goal

@@ -1,9 +1,9 @@
 use Rattle.std.proofs.Common.{◌+◌, ◌<◌, take, length, ap, ◌≡◌, ℕ, ◌∙◌, refl, List, [], ◌∷◌, ◌++◌, slice_get, Some, sym, subst, arith}
 use Rattle.dd_store.specs.declared.reference.Ref.{Ref}
-use Rattle.req_table.specs.declared.placed.Placed.{Placed}
+use Rattle.req_table.specs.declared.packed_child.PackedChild.{PackedChild}
 use Rattle.req_table.specs.Places.{row}
 use Rattle.reduce_up.specs.OverParts.{level_over}
-use Rattle.reduce_up.specs.Up.{AskedAt, IsLevelReduced, AreMore}
+use Rattle.reduce_up.specs.ReductionPhase.{AskedAt, IsLevelReduced, AreMore}
 use Rattle.reduce_up.proofs.Noting.{on_ok}
 use Rattle.reduce_up.proofs.OverParts.{stands_over, over_more}
 use Rattle.reduce_up.proofs.Raising.{low_comes, high_comes, is_record, refused_one, adds_one, one_more, level_start, level_given_up, level_whole}
@@ -13,7 +13,7 @@ use Rattle.reduce_up.proofs.up.reduce_level.Goals as goal
 use Rattle.reduce_up.proofs.up.reduce_level.Goals.{After-at-pair}
 
 -- the next request's children, where they stand among all of the level
-abbrev children : After-at-pair → List (Placed × Placed)
+abbrev children : After-at-pair → List (PackedChild × PackedChild)
 children c = level_over c.args.level.now.parts.now c.args.level.now.number
 
 abbrev next : After-at-pair → ℕ
@@ -21,7 +21,7 @@ next c = length (level_over (take c.loop-part.part-index c.args.level.now.parts.
 
 stands : (c : After-at-pair) → slice_get (children c) (next c) ≡ Some c.at-pair.result
 stands c = stands_over c.args.level.now.parts.now c.args.level.now.number c.loop-part.part-index c.part-item.result (let t = c.loop-part-test.true in omega (arith, t)) c.part-item.is c.loop-place.place c.at-pair.result
-    (subst (λ (z : List (Placed × Placed)). slice_get z c.loop-place.place ≡ Some c.at-pair.result) c.row-children.ensures c.at-pair.ensures)
+    (subst (λ (z : List (PackedChild × PackedChild)). slice_get z c.loop-place.place ≡ Some c.at-pair.result) c.row-children.ensures c.at-pair.ensures)
 
 pub returns-then-is_err-clause-level : goal.returns-then-is_err-clause-level
 returns-then-is_err-clause-level c = λ T R. level_given_up _ _ _ _ _ (adds_none _ _ (AskedAt c.args.store.now T c.args.level.now.number) refl)
@@ -40,7 +40,7 @@ pub make-requires : goal.make-requires
 make-requires c =
     let w = (goal.at.make-requires c).After-at-pair in
     let r = is_record _ c.requires.held _ _ _ _ c.requires.ready _ _ _ (c.loop-place.invariant.reduced _ c.requires.ready) _ (stands w) c.resolve-low.result c.resolve-high.result c.resolve-low.ensures c.resolve-high.ensures in
-    record { level = r.key.bounded; lo_here = r.low.has; hi_here = r.high.has; above_lo = r.low.below; above_hi = r.high.below }
+    record { level = r.key.bounded; lo_in_store = r.low.has; hi_in_store = r.high.has; above_lo = r.low.below; above_hi = r.high.below }
 
 pub returns-in-Err-clause-level : goal.returns-in-Err-clause-level
 returns-in-Err-clause-level c = λ T R.

@@ -2,7 +2,7 @@ use Rattle.std.proofs.Common.{◌+◌, List, length, take}
 use Rattle.dd_store.specs.Nodes.{IsSound}
 use Rattle.req_table.specs.declared.Key.{Key}
 use Rattle.reduce_up.specs.OverParts.{level_over}
-use Rattle.reduce_up.specs.Up.{IsReadyAt, IsLevelReduced, AreMore}
+use Rattle.reduce_up.specs.ReductionPhase.{IsReadyAt, IsLevelReduced, AreMore}
 use Rattle.reduce_up.proofs.up.reduce_level.Given as goal
 
 abbrev pub invariant-loop-part : goal.invariant-loop-part

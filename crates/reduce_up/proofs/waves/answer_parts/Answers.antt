@@ -4,13 +4,13 @@ use Rattle.std.proofs.lemmas.List.{length-map}
 use Rattle.std.proofs.lemmas.Result.{err_from_is_err_and}
 use Rattle.dd_store.specs.declared.reference.Ref.{Ref}
 use Rattle.dd_store.specs.Nodes.{Nodes}
-use Rattle.expand_work.specs.Gathered.{PartsView}
+use Rattle.expand_work.specs.WaveParts.{PartsView}
 use Rattle.req_table.specs.declared.Key.{Key}
-use Rattle.req_table.specs.declared.placed.Placed.{Placed}
+use Rattle.req_table.specs.declared.packed_child.PackedChild.{PackedChild}
 use Rattle.reduce_up.specs.ByPlace.{AreExpanded}
 use Rattle.reduce_up.specs.Numbers.{keys_of, AreNumbered}
 use Rattle.reduce_up.specs.OverParts.{over_parts}
-use Rattle.reduce_up.specs.Up.{ComesTo, IsWithinBelow, MayReduce}
+use Rattle.reduce_up.specs.ReductionPhase.{ResolvesTo, IsWithinBelow, MayReduce}
 use Rattle.reduce_up.specs.Waves.{Entry, IsEntry, AnswersEach, IsWithinLimit, entries_for}
 use Rattle.reduce_up.proofs.Answering.{roots_come, roots_answered, within_both}
 use Rattle.reduce_up.proofs.Noting.{on_ok}
@@ -50,7 +50,7 @@ module _ (g : Over) (c : After-as_mut_slice g) where
   ready = numbered_ready _ c.levels-levels.ensures.sound _ _ c.requires.roots _ c.requires.parts _ _ numbered _ long
 
   may : MayReduce S E c.levels-levels.result (over_parts S.levels c.as_mut_slice.result.now) c.fit.new.self.answers.items T
-  may = subst (λ (z : ℕ × List (List (List (Placed × Placed)))). MayReduce S E z.0 (over_parts S.levels z.1) c.fit.new.self.answers.items T) (λ i. (sym c.levels-levels.ensures.value i, sym c.as_mut_slice.ensures.value i)) ready
+  may = subst (λ (z : ℕ × List (List (List (PackedChild × PackedChild)))). MayReduce S E z.0 (over_parts S.levels z.1) c.fit.new.self.answers.items T) (λ i. (sym c.levels-levels.ensures.value i, sym c.as_mut_slice.ensures.value i)) ready
 
   limited : (s : Nodes) → IsWithinBelow S T 0 s → IsWithinLimit S E s
   limited s h = within_both S c.levels-levels.ensures.sound E good T c.in-Ok.placed.items expanded.rooted S.levels S s ready.ready.reduced.within h
@@ -88,9 +88,9 @@ returns-clause-wave g c =
     let R = c.in_ok-reduce.ensures.reduced _ _ (may g w) in
     let adds = c.reduce.ensures.adds _ _ (may g w) in
     let found = c.in-Ok-root_answers.answers.items in
-    let come : AllZip (ComesTo c.reduce.new.up.answers.items) c.in-Ok.placed.items found =
-    subst (λ (z : List Placed × List (List Ref)). AllZip (ComesTo z.1) z.0 found) (λ i. (c.as_slice.ensures.value i, c.as_slice-known.ensures.value i)) c.in-Ok-root_answers.ensures in
+    let resolvable : AllZip (ResolvesTo c.reduce.new.up.answers.items) c.in-Ok.placed.items found =
+    subst (λ (z : List PackedChild × List (List Ref)). AllZip (ResolvesTo z.1) z.0 found) (λ i. (c.as_slice.ensures.value i, c.as_slice-known.ensures.value i)) c.in-Ok-root_answers.ensures in
     let answers : AnswersEach (S g w) (E g w) c.reduce.new.store found =
     roots_answered (S g w) c.levels-levels.ensures.sound (E g w) (good g w) (T g w) c.reduce.new.up.answers.items c.reduce.new.store (expanded g w).admitted adds.keeps (λ v q k r h x. R.answered v q k r (omega arith) h x)
-    (E g w) (good g w) c.in-Ok.placed.items (expanded g w).rooted found come in
+    (E g w) (good g w) c.in-Ok.placed.items (expanded g w).rooted found resolvable in
     wave_done (S g w) (E g w) (E g w) c.reduce.new.store c.in-Ok-root_answers.answers c.reduce.ensures.sound adds answers (limited g w c.reduce.new.store R.within)

@@ -5,7 +5,7 @@ use Rattle.dd_store.specs.View.{Has}
 use Rattle.req_table.specs.declared.Op.{Op}
 use Rattle.req_table.specs.declared.Key.{Key}
 use Rattle.req_table.specs.declared.Child.{Child}
-use Rattle.req_table.specs.Keys.{level_of, child, child_of, IsDeeper, IsHalf}
+use Rattle.req_table.specs.Keys.{level_of, child, child_of, IsDeeper, IsCofactorChild}
 use Rattle.req_table.proofs.ComputedTables.{cofactor_at}
 use Rattle.req_table.proofs.Waved.{bounded, first_of, second_of, child_deeper, child_half}
 use Rattle.req_table.proofs.requests.split.Goals as goal
@@ -59,10 +59,10 @@ pub returns-clause-low : goal.returns-clause-low
 returns-clause-low c =
     let w = (goal.at.returns-clause-low c).After-cofactors-second in
     let low : c.child-low.result ≡ child_of c.args.store.now c.args.key false = of_cofactors c.args.store.now c.args.key false c.op-op.ensures.value (first_low w) (second_low w) c.child-low.ensures.value in
-    subst (IsHalf c.args.store.now c.args.key false) (sym low) (child_half c.args.store.now c.levels.ensures.sound c.args.key c.requires false)
+    subst (IsCofactorChild c.args.store.now c.args.key false) (sym low) (child_half c.args.store.now c.levels.ensures.sound c.args.key c.requires false)
 
 pub returns-clause-high : goal.returns-clause-high
 returns-clause-high c =
     let w = (goal.at.returns-clause-high c).After-cofactors-second in
     let high : c.child-high.result ≡ child_of c.args.store.now c.args.key true = of_cofactors c.args.store.now c.args.key true c.op-op.ensures.value (first_high w) (second_high w) c.child-high.ensures.value in
-    subst (IsHalf c.args.store.now c.args.key true) (sym high) (child_half c.args.store.now c.levels.ensures.sound c.args.key c.requires true)
+    subst (IsCofactorChild c.args.store.now c.args.key true) (sym high) (child_half c.args.store.now c.levels.ensures.sound c.args.key c.requires true)

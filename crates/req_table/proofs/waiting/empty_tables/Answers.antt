@@ -1,5 +1,5 @@
 use Rattle.std.proofs.Common.{rules}
-use Rattle.req_table.proofs.Standing.{made_empty}
+use Rattle.req_table.proofs.AtPlace.{made_empty}
 use Rattle.req_table.proofs.waiting.empty_tables.Goals as goal
 
 pub returns : goal.returns

@@ -10,6 +10,6 @@ pub returns-then-count-limit-clause-row : goal.returns-then-count-limit-clause-r
 returns-then-count-limit-clause-row g c =
     let empty : (length c.args.row.now == 0) ≡ false = sym c.is_empty.ensures ∙ c.if-is_empty.false in
     let some : 0 < length c.args.row.now = grind (arith, nat_tests) in
-    let over : c.note_row.new.store.limit < count_of c.note_row.new.store = omega arith in
-    row_given_up c.args.store.now c.args.results.now c.args.level c.args.row.now 0 c.note_row.new.store c.note_row.new.results Full c.note_row.ensures.left
-    (row_over c.note_row.new.store c.args.level c.args.row.now some over)
+    let over : c.reduce_row_by_size.new.store.limit < count_of c.reduce_row_by_size.new.store = omega arith in
+    row_given_up c.args.store.now c.args.results.now c.args.level c.args.row.now 0 c.reduce_row_by_size.new.store c.reduce_row_by_size.new.results Full c.reduce_row_by_size.ensures.left
+    (row_over c.reduce_row_by_size.new.store c.args.level c.args.row.now some over)

@@ -4,8 +4,8 @@ use Rattle.reduce_up.proofs.Reduction.{resolved, record_done}
 use Rattle.reduce_up.proofs.Missing.{record_fault}
 use Rattle.wave_doors.proofs.levels.reduce_record.Goals as goal
 
-pub make-requires-clause-lo_here : goal.make-requires-clause-lo_here
-make-requires-clause-lo_here c =
+pub make-requires-clause-lo_in_store : goal.make-requires-clause-lo_in_store
+make-requires-clause-lo_in_store c =
     let a : IsAnswerAt c.args.store.now c.args.level c.args.entry.key false c.resolve-low.result = resolved c.args.store.now c.args.level c.args.entry.key false c.args.entry.low c.args.results.now c.resolve-low.result c.requires.record_at.low c.requires.answers c.resolve-low.ensures in
     a.has
 
@@ -14,8 +14,8 @@ make-requires-clause-above_lo c =
     let a : IsAnswerAt c.args.store.now c.args.level c.args.entry.key false c.resolve-low.result = resolved c.args.store.now c.args.level c.args.entry.key false c.args.entry.low c.args.results.now c.resolve-low.result c.requires.record_at.low c.requires.answers c.resolve-low.ensures in
     a.below
 
-pub make-requires-clause-hi_here : goal.make-requires-clause-hi_here
-make-requires-clause-hi_here c =
+pub make-requires-clause-hi_in_store : goal.make-requires-clause-hi_in_store
+make-requires-clause-hi_in_store c =
     let a : IsAnswerAt c.args.store.now c.args.level c.args.entry.key true c.resolve-high.result = resolved c.args.store.now c.args.level c.args.entry.key true c.args.entry.high c.args.results.now c.resolve-high.result c.requires.record_at.high c.requires.answers c.resolve-high.ensures in
     a.has
 

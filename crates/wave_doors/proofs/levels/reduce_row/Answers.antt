@@ -2,7 +2,7 @@ use Rattle.std.proofs.Common.{rules, ◌≡◌, ℕ, sym, subst}
 use Rattle.req_table.specs.declared.Record.{Record}
 use Rattle.std.specs.Prelude.{Err}
 use Rattle.expand_work.specs.declared.fault.WaveFault.TheVariants.{OutOfMemory}
-use Rattle.reduce_up.specs.Reducing.{IsRowFault, ReducesRow, Notes}
+use Rattle.reduce_up.specs.Reducing.{IsRowFault, ReducesRow, NotesAnswer}
 use Rattle.reduce_up.proofs.Reduction.{record_kept, row_fault, row_given_up}
 use Rattle.wave_doors.proofs.Reduction.{member, ready_more, row_stopped, row_next}
 use Rattle.wave_doors.proofs.levels.reduce_row.Goals as goal
@@ -49,7 +49,7 @@ returns-then-is_err c =
 pub loop-entry-preserved : goal.loop-entry-preserved
 loop-entry-preserved c =
     let r : Record = c.entry-item.result in
-    let notes : Notes c.loop-entry.results r.key c.in-Ok.answer c.note.new.self = search rules in
+    let notes : NotesAnswer c.loop-entry.results r.key c.in-Ok.answer c.note.new.self = search rules in
     row_next c.args.store.now c.args.results.now c.args.level c.args.row.now c.loop-entry.entry-index c.loop-entry.store c.loop-entry.results c.reduce_record.new.store r c.in-Ok.answer c.note.new.self
     c.requires.held c.requires.row c.loop-entry-test.true c.entry-item.is c.loop-entry.invariant c.reduce_record.ensures.sound c.reduce_record.ensures.adds
     c.in-Ok.ensures.answer notes

@@ -2,9 +2,9 @@ use Rattle.std.proofs.Common.{◌++◌, ◌∙◌, [], List, ap, get_or, length,
 use Rattle.req_table.specs.declared.Record.{Record}
 use Rattle.req_table.specs.Keys.{IsKey}
 use Rattle.req_table.specs.Settled.{key_of}
-use Rattle.expand_work.specs.Expanded.{row_of}
-use Rattle.expand_work.specs.Gathered.{PartsView}
-use Rattle.expand_work.specs.Lean.{records_of}
+use Rattle.expand_work.specs.WavePorts.{row_of}
+use Rattle.expand_work.specs.WaveParts.{PartsView}
+use Rattle.expand_work.specs.OwnerRows.{records_of}
 use Rattle.wave_doors.proofs.Merging.{level_more}
 use Rattle.wave_doors.proofs.merge.level_records.Goals as goal
 

@@ -1,6 +1,6 @@
 use Rattle.std.proofs.Common.{◌≡◌, ℕ, ◌<◌, [], map, length, get_or}
 use Rattle.req_table.specs.Settled.{level_of_rows}
-use Rattle.expand_work.specs.Expanded.{row_of}
+use Rattle.expand_work.specs.WavePorts.{row_of}
 use Rattle.wave_doors.proofs.merge.merge_rows.Given as goal
 
 abbrev pub invariant-loop-level : goal.invariant-loop-level

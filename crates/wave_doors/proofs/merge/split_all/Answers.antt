@@ -2,7 +2,7 @@ use Rattle.std.proofs.Common.{◌++◌, ◌∙◌, ◌∷◌, [], take, ap, sym,
 use Rattle.std.proofs.lemmas.List.{map_more}
 use Rattle.std.proofs.lemmas.Option.{get_or_from_slice_get}
 use Rattle.req_table.specs.Keys.{record_of}
-use Rattle.expand_work.specs.Lean.{records_of}
+use Rattle.expand_work.specs.OwnerRows.{records_of}
 use Rattle.wave_doors.proofs.merge.split_all.Goals as goal
 
 pub loop-place-preserved : goal.loop-place-preserved

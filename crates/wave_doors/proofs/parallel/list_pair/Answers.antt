@@ -1,5 +1,5 @@
 use Rattle.std.proofs.Common.{◌≡◌, ◌≢◌, ◌∷◌, ◌++◌, [], rules, sym, ap, ◌∙◌, subst, set, arith}
-use Rattle.dd_store.specs.Codes.{shard_of_pair}
+use Rattle.dd_store.specs.Hashes.{shard_of_pair}
 use Rattle.dd_store.specs.Levels.{list_at}
 use Rattle.dd_store.proofs.LevelFacts.{list_read}
 use Rattle.dd_store.proofs.Storing.{small_shard}

@@ -1,5 +1,5 @@
 use Rattle.std.proofs.Common.{◌≡◌, rules, [], ◌∷◌, ◌++◌, ap, sym, ◌∙◌, subst}
-use Rattle.reduce_up.specs.Placed.{joined, ArePlaced}
+use Rattle.reduce_up.specs.AnswersByLevel.{joined, ArePlaced}
 use Rattle.wave_doors.proofs.Placing.{joined_more, placed_more}
 use Rattle.wave_doors.proofs.results.grow.Goals as goal
 

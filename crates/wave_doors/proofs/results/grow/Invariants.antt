@@ -1,5 +1,5 @@
 use Rattle.std.proofs.Common.{◌≡◌, ◌+◌, ◌-◌}
-use Rattle.reduce_up.specs.Placed.{joined, ArePlaced}
+use Rattle.reduce_up.specs.AnswersByLevel.{joined, ArePlaced}
 use Rattle.wave_doors.proofs.results.grow.Given as goal
 
 abbrev pub invariant-loop-alloc : goal.invariant-loop-alloc

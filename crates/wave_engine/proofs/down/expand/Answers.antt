@@ -3,10 +3,10 @@ use Rattle.std.proofs.lemmas.List.{length-set, set-set, set-get_or}
 use Rattle.slot_table.specs.Lists.{IsOnce}
 use Rattle.dd_store.specs.Nodes.{Nodes}
 use Rattle.req_table.specs.declared.Key.{Key}
-use Rattle.req_table.specs.declared.placed.Placed.{Placed}
+use Rattle.req_table.specs.declared.packed_child.PackedChild.{PackedChild}
 use Rattle.req_table.specs.Keys.{IsKey}
 use Rattle.req_table.specs.Places.{row}
-use Rattle.req_table.proofs.Standing.{made_empty}
+use Rattle.req_table.proofs.AtPlace.{made_empty}
 use Rattle.reduce_up.specs.ByPlace.{AreExpanded}
 use Rattle.wave_engine.proofs.Children.{keys_stand, row_taken}
 use Rattle.wave_engine.proofs.Counting.{too_many, all_counted}
@@ -100,28 +100,28 @@ loop-next-preserved c =
     let S : Nodes = c.args.store.now in
     let es = c.args.entries.now in
     let W : List (List Key) = c.loop-next.down.requests in
-    let rows : List (List (Placed × Placed)) = c.loop-next.down.rows in
+    let rows : List (List (PackedChild × PackedChild)) = c.loop-next.down.rows in
     let next : ℕ = w.in-Some.next in
     let T : List (List Key) = c.loop-next.invariant.going.0 in
     let g : Going w next = here w in
     let keys : List Key = row W next in
-    let pairs : List (Placed × Placed) = c.expand_row.new.row in
+    let pairs : List (PackedChild × PackedChild) = c.expand_row.new.row in
     let left : List (List Key) = c.expand_row.new.asks in
     let u = row_taken S c.levels-levels.ensures.sound es W next w.in-Some.ensures.1 (waiting_admitted _ _ _ g.waits _ _ g.expanded.admitted) c.take.new.self c.take.new.keys c.take.ensures.rest c.take.ensures.keys pairs left c.in_ok-expand_row.ensures.taken in
     let U : List (List Key) = set left next keys in
-    let put : c.put.new.self ≡ set rows next pairs = c.put.ensures ∙ ap (λ (z : List (List (Placed × Placed))). set z next pairs) c.take-pairs.ensures.rest ∙ set-set rows next [] pairs in
-    let gone : c.leave.new.self ≡ set U next [] = c.leave.ensures.same ∙ sym (set-set left next keys [] ∙ ap (set left next) (sym u.none) ∙ set-get_or left next []) in
+    let put : c.put.new.self ≡ set rows next pairs = c.put.ensures ∙ ap (λ (z : List (List (PackedChild × PackedChild))). set z next pairs) c.take-pairs.ensures.rest ∙ set-set rows next [] pairs in
+    let emptied : c.recycle.new.self ≡ set U next [] = c.recycle.ensures.same ∙ sym (set-set left next keys [] ∙ ap (set left next) (sym u.none) ∙ set-get_or left next []) in
     let rest : ℕ = c.saturating_sub-left.result in
     let more : ℕ = c.expand_row.new.splits in
     let bound : ℕ = c.args.limits.wave in
     record {
       bound = let f = fit w in omega (arith, f);
       few = c.loop-next.invariant.few;
-      keys = c.leave.ensures.empty;
+      keys = c.recycle.ensures.empty;
       going = (
         splice next T U,
-        subst (λ (z : List (List Key)). IsGoing S es c.loop-next.down.roots.items (next + 1) z c.put.new.self bound rest c.args.down.now.splits more (splice next T U)) (sym gone)
-            (subst (λ (z : List (List (Placed × Placed))). IsGoing S es c.loop-next.down.roots.items (next + 1) (set U next []) z bound rest c.args.down.now.splits more (splice next T U)) (sym put)
+        subst (λ (z : List (List Key)). IsGoing S es c.loop-next.down.roots.items (next + 1) z c.put.new.self bound rest c.args.down.now.splits more (splice next T U)) (sym emptied)
+            (subst (λ (z : List (List (PackedChild × PackedChild))). IsGoing S es c.loop-next.down.roots.items (next + 1) (set U next []) z bound rest c.args.down.now.splits more (splice next T U)) (sym put)
             (going_next S es c.loop-next.down.roots.items next W rows bound c.loop-next.left c.args.down.now.splits c.loop-next.down.splits T g (fit w) c.count-count.ensures.once U pairs u.expanded c.count-count.result rest more c.count-count.ensures.value
             (λ bounded. elim c.else-limits-lt18446744073709551615.branch [
               | else-limits-lt18446744073709551615-via-then-limits-lt18446744073709551615+else-count-left b ↦

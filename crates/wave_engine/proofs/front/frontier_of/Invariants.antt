@@ -1,5 +1,5 @@
 use Rattle.std.proofs.Common.{◌≡◌, ◌≤◌, ◌-◌, take, drop}
-use Rattle.reduce_up.specs.Placed.{joined}
+use Rattle.reduce_up.specs.AnswersByLevel.{joined}
 use Rattle.wave_engine.proofs.front.frontier_of.Given as goal
 
 abbrev pub invariant-loop-level : goal.invariant-loop-level

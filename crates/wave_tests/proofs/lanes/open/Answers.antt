@@ -1,6 +1,6 @@
 use Rattle.std.proofs.Common.{◌<◌, subst, sym}
 use Rattle.expand_work.proofs.Expanding.{fresh_port}
-use Rattle.expand_work.specs.Worked.{IsFresh}
+use Rattle.expand_work.specs.WorkerResult.{IsFresh}
 use Rattle.wave_tests.proofs.lanes.open.Goals as goal
 
 pub returns-clause-fresh : goal.returns-clause-fresh

@@ -10,6 +10,6 @@ returns g c =
     let new = c.make.new.self in
     let made = c.expect-made.result in
     let old = still_known c.args.store.now new (keeps c.args.store.now new c.make.ensures.extends) c.args.known.now.items c.requires in
-    let has : Has new made = rw c.expect-made.ensures at c.make.ensures.here in
+    let has : Has new made = rw c.expect-made.ensures at c.make.ensures.in_store in
     rw (rw c.expect.ensures at c.push.ensures.items)
     (All-append (Has new) c.args.known.now.items (made ∷ []) old (All-cons (Has new) made [] has (All-nil (Has new))))

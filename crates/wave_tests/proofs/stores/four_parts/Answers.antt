@@ -2,7 +2,7 @@ use Rattle.std.proofs.Common.{◌≡◌, ℕ, ◌<◌, Bool, List, [], ◌∷◌
 use Rattle.std.specs.declared.vec.Vec.{Vec}
 use Rattle.std.specs.declared.alloc.Global.{Global}
 use Rattle.dd_store.specs.Graph.{Pair}
-use Rattle.dd_store.specs.Marks.{mark_both}
+use Rattle.dd_store.specs.Complements.{complement_both}
 use Rattle.dd_store.specs.Growing.{IsIn}
 use Rattle.dd_store.specs.Levels.{list_at, all_at}
 use Rattle.dd_store.proofs.Noting.{in_either, all_at-push}
@@ -10,7 +10,7 @@ use Rattle.wave_tests.proofs.stores.four_parts.Goals as goal
 
 -- each pair is one of two or its complements, and stands in the list of their shard
 abbrev Fits : ℕ → Pair → Pair → (ℕ → List Pair) → Type 0
-Fits shard a b lists = (s : ℕ) (p : Pair) → IsIn (lists s) p → (s < 16 → s ≡ shard) × (t : Bool) × ((p ≡ mark_both t a) ⊎ (p ≡ mark_both t b))
+Fits shard a b lists = (s : ℕ) (p : Pair) → IsIn (lists s) p → (s < 16 → s ≡ shard) × (t : Bool) × ((p ≡ complement_both t a) ⊎ (p ≡ complement_both t b))
 
 none_fit : (shard : ℕ) (a b : Pair) → Fits shard a b (all_at [])
 none_fit shard a b s p h = absurd (cc h.1)

@@ -1,7 +1,7 @@
 use Rattle.std.proofs.Common.{rules}
 use Rattle.std.proofs.lemmas.List.Elements.{All-pop}
 use Rattle.lane_queue.specs.PortView.{PortView, IsPortOf}
-use Rattle.expand_work.specs.Worked.{IsFresh}
+use Rattle.expand_work.specs.WorkerResult.{IsFresh}
 use Rattle.wave_tests.proofs.workers.a_flag_is_read_in_a_wait.Goals as goal
 
 pub stop_one_of_two-fault-requires-clause-first : goal.stop_one_of_two-fault-requires-clause-first

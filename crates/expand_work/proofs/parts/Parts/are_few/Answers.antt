@@ -1,12 +1,12 @@
 use Rattle.std.proofs.Common.{◌≡◌, ℕ, ◌+◌, ◌<◌, ◌-◌, ◌^◌, List, length, take, ap, sym, ◌∙◌, arith}
 use Rattle.std.specs.List.{sum_by}
 use Rattle.std.proofs.lemmas.List.Sums.{sum_by_more}
-use Rattle.req_table.specs.declared.placed.Placed.{Placed}
+use Rattle.req_table.specs.declared.packed_child.PackedChild.{PackedChild}
 use Rattle.expand_work.proofs.parts.Parts.are_few.Goals as goal
 
 pub loop-rows-preserved : goal.loop-rows-preserved
 loop-rows-preserved c = λ low.
-    let f : List (List (Placed × Placed)) → ℕ = λ levels. sum_by (λ (row : List (Placed × Placed)). length row) levels in
+    let f : List (List (PackedChild × PackedChild)) → ℕ = λ levels. sum_by (λ (row : List (PackedChild × PackedChild)). length row) levels in
     let xs = c.deref-rows-items.result.now in
     let i = c.loop-rows.rows-index in
     let lt : i < length xs = (let t = c.loop-rows-test.true in omega (arith, t)) in

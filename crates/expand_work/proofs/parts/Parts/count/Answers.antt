@@ -2,15 +2,15 @@ use Rattle.std.proofs.Common.{◌≡◌, ℕ, ◌+◌, ◌<◌, ◌%◌, ◌^◌
 use Rattle.std.specs.List.{sum_by}
 use Rattle.std.proofs.lemmas.List.{take_all}
 use Rattle.std.proofs.lemmas.List.Sums.{sum_by_more}
-use Rattle.req_table.specs.declared.placed.Placed.{Placed}
-use Rattle.expand_work.specs.Gathered.{PartsView}
-use Rattle.expand_work.specs.Lean.{AreLean}
-use Rattle.expand_work.proofs.Leaning.{lean_count}
+use Rattle.req_table.specs.declared.packed_child.PackedChild.{PackedChild}
+use Rattle.expand_work.specs.WaveParts.{PartsView}
+use Rattle.expand_work.specs.OwnerRows.{AreRowsByOwner}
+use Rattle.expand_work.proofs.OwnerRows.{by_owner_count}
 use Rattle.expand_work.proofs.parts.Parts.count.Goals as goal
 
 pub loop-rows-preserved : goal.loop-rows-preserved
 loop-rows-preserved c =
-    let f : List (List (Placed × Placed)) → ℕ = λ levels. sum_by (λ (row : List (Placed × Placed)). length row) levels in
+    let f : List (List (PackedChild × PackedChild)) → ℕ = λ levels. sum_by (λ (row : List (PackedChild × PackedChild)). length row) levels in
     let xs = c.deref-rows-items.result.now in
     let i = c.loop-rows.rows-index in
     let lt : i < length xs = (let t = c.loop-rows-test.true in omega (arith, t)) in
@@ -23,5 +23,5 @@ pub returns : goal.returns
 returns c =
     let rows = c.self.inside.rows.items in
     c.loop-rows.invariant
-    ∙ ap (λ (xs : List (List (List (Placed × Placed)))). sum_by (λ (levels : List (List (Placed × Placed))). sum_by (λ (row : List (Placed × Placed)). length row) levels) xs % 2 ^ 64) (take_all c.loop-rows.rows-index c.deref-rows-items.result.now (let t = c.loop-rows-test.false in omega (arith, t)) ∙ c.deref-rows-items.ensures.value)
-    ∙ ap (λ n. n % 2 ^ 64) (lean_count c.args.self.now.rows rows (subst (λ (q : PartsView). AreLean q.rows rows) c.self.view_is c.self.invariant))
+    ∙ ap (λ (xs : List (List (List (PackedChild × PackedChild)))). sum_by (λ (levels : List (List (PackedChild × PackedChild))). sum_by (λ (row : List (PackedChild × PackedChild)). length row) levels) xs % 2 ^ 64) (take_all c.loop-rows.rows-index c.deref-rows-items.result.now (let t = c.loop-rows-test.false in omega (arith, t)) ∙ c.deref-rows-items.ensures.value)
+    ∙ ap (λ n. n % 2 ^ 64) (by_owner_count c.args.self.now.rows rows (subst (λ (q : PartsView). AreRowsByOwner q.rows rows) c.self.view_is c.self.invariant))

@@ -3,7 +3,7 @@ use Rattle.std.proofs.lemmas.List.{get_or_default}
 use Rattle.std.proofs.lemmas.Result.{IfOk-weaker}
 use Rattle.req_table.specs.declared.Key.{Key}
 use Rattle.expand_work.specs.Work.{at}
-use Rattle.expand_work.specs.Noted.{Enters, EntersAt}
+use Rattle.expand_work.specs.PlacesBySender.{Enters, EntersAt}
 use Rattle.expand_work.proofs.tables.Tables.admit.Goals as goal
 
 pub returns : goal.returns

@@ -1,7 +1,7 @@
 use Rattle.std.proofs.Common.{◌≡◌, ◌∙◌, List, ℕ, sym, ap, subst, slice_get, Some}
 use Rattle.net_bench.specs.Circuit.{find}
 use Rattle.net_bench.specs.NameTable.{names_in}
-use Rattle.net_bench.proofs.Names.{found_place, found_nowhere}
+use Rattle.net_bench.proofs.Names.{found_place, found_missing}
 use Rattle.net_bench.proofs.name_table.NameTable.find.Goals as goal
 
 pub returns-in-Number : goal.returns-in-Number
@@ -19,4 +19,4 @@ returns-in-Slot c =
     let names : List (List ℕ) = names_in c.self.inside.bytes.items c.self.inside.spans.items in
     let one = subst (λ (z : List ℕ). (i : ℕ) → slice_get (names_in z c.as_slice-2.result.now) i ≡ Some c.args.name.now → ⊥) c.as_slice.ensures.value c.in-Slot.ensures.0 in
     let absent = subst (λ z. (i : ℕ) → slice_get (names_in c.self.inside.bytes.items z) i ≡ Some c.args.name.now → ⊥) c.as_slice-2.ensures.value one in
-    sym (found_nowhere names c.args.name.now absent) ∙ ap (λ ns. find ns c.args.name.now) c.self.view_is
+    sym (found_missing names c.args.name.now absent) ∙ ap (λ ns. find ns c.args.name.now) c.self.view_is

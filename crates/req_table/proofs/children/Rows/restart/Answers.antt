@@ -1,6 +1,6 @@
 use Rattle.std.proofs.Common.{sym, subst}
 use Rattle.req_table.specs.Places.{AreEmpty}
-use Rattle.req_table.proofs.Standing.{taken_all, all_empty}
+use Rattle.req_table.proofs.AtPlace.{taken_all, all_empty}
 use Rattle.req_table.proofs.children.Rows.restart.Goals as goal
 
 pub returns : goal.returns

@@ -1,4 +1,4 @@
-use Rattle.req_table.proofs.Standing.{taken_all}
+use Rattle.req_table.proofs.AtPlace.{taken_all}
 use Rattle.req_table.proofs.waiting.Waiting.restart.Goals as goal
 
 pub returns : goal.returns

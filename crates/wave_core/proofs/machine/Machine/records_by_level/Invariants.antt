@@ -1,6 +1,6 @@
 use Rattle.std.proofs.Common.{◌≡◌, ℕ, ◌<◌, [], map, length, get_or}
 use Rattle.req_table.specs.Settled.{level_of_rows}
-use Rattle.wave_core.specs.View.{by_place}
+use Rattle.wave_core.specs.MachineView.{by_place}
 use Rattle.wave_core.proofs.machine.Machine.records_by_level.Given as goal
 
 abbrev pub invariant-loop-level : goal.invariant-loop-level

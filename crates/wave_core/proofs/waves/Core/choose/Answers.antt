@@ -18,7 +18,7 @@ loop-choice-preserved c =
     let x = c.loop-choice.self in
     let open' = of_false c.finished.result (IsFinished (core_wave x) (core_state x)) (¬ IsFinished (core_wave x) (core_state x)) c.if-finished.false c.finished.ensures.value in
     record {
-      same = same_then v x c.turn_by.new.self c.loop-choice.invariant.same c.turn_by.ensures.same;
-      drives = chosen v x c.turn_by.new.self c.args.choices.now c.loop-choice.choice-index _ c.loop-choice-test.true (get_or_default c.args.choices.now c.loop-choice.choice-index 0 _ c.loop-choice-test.true) c.loop-choice.invariant.same open' c.in_ok-turn_by.ensures.ok c.loop-choice.invariant.drives;
-      runs = reaches_more v x c.turn_by.new.self _ c.loop-choice.invariant.same c.in_ok-turn_by.ensures.ok c.loop-choice.invariant.runs;
+      same = same_then v x c.step_by_choice.new.self c.loop-choice.invariant.same c.step_by_choice.ensures.same;
+      drives = chosen v x c.step_by_choice.new.self c.args.choices.now c.loop-choice.choice-index _ c.loop-choice-test.true (get_or_default c.args.choices.now c.loop-choice.choice-index 0 _ c.loop-choice-test.true) c.loop-choice.invariant.same open' c.in_ok-step_by_choice.ensures.ok c.loop-choice.invariant.drives;
+      runs = reaches_more v x c.step_by_choice.new.self _ c.loop-choice.invariant.same c.in_ok-step_by_choice.ensures.ok c.loop-choice.invariant.runs;
     }

@@ -10,9 +10,9 @@ loop-self-preserved c =
     let x = c.loop-self.self in
     let open' = of_false c.finished.result (IsFinished (core_wave x) (core_state x)) (¬ IsFinished (core_wave x) (core_state x)) c.loop-self-test.true c.finished.ensures.value in
     record {
-      same = same_then v x c.turn_by.new.self c.loop-self.invariant.same c.turn_by.ensures.same;
-      drives = finishes v x c.turn_by.new.self c.loop-self.invariant.same open' c.in_ok-turn_by.ensures.ok c.loop-self.invariant.drives;
-      runs = reaches_more v x c.turn_by.new.self 0 c.loop-self.invariant.same c.in_ok-turn_by.ensures.ok c.loop-self.invariant.runs;
+      same = same_then v x c.step_by_choice.new.self c.loop-self.invariant.same c.step_by_choice.ensures.same;
+      drives = finishes v x c.step_by_choice.new.self c.loop-self.invariant.same open' c.in_ok-step_by_choice.ensures.ok c.loop-self.invariant.drives;
+      runs = reaches_more v x c.step_by_choice.new.self 0 c.loop-self.invariant.same c.in_ok-step_by_choice.ensures.ok c.loop-self.invariant.runs;
     }
 
 pub returns-clause-ok : goal.returns-clause-ok

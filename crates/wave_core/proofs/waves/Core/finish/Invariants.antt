@@ -1,6 +1,6 @@
 use Rattle.std.proofs.Common.{[]}
 use Rattle.wave_core.specs.Cores.{IsSameWave, Reaches}
-use Rattle.wave_core.specs.Fall.{core_measure}
+use Rattle.wave_core.specs.CoreMeasure.{core_measure}
 use Rattle.wave_core.proofs.Drives.{DrivesOn}
 use Rattle.wave_core.proofs.waves.Core.finish.Given as goal
 

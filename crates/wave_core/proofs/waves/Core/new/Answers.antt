@@ -1,6 +1,6 @@
 use Rattle.std.proofs.Common.{◌≡◌, arith}
 use Rattle.req_table.specs.Keys.{wave_at}
-use Rattle.wave_core.specs.View.{state_of}
+use Rattle.wave_core.specs.MachineView.{state_of}
 use Rattle.wave_core.specs.Counting.{noted}
 use Rattle.wave_core.proofs.Cores.{start_keeps}
 use Rattle.wave_core.proofs.Counted.{starts_at_none}

@@ -1,28 +1,28 @@
 use Rattle.std.proofs.Common.{◌<◌, ◌-◌, ◌^◌, refl, sym, subst}
 use Rattle.std.specs.Prelude.{Ok, Err}
 use Rattle.req_table.specs.ComputedTables.{IsRight}
-use Rattle.reduce_up.specs.Known.{unknown}
+use Rattle.reduce_up.specs.CacheProbe.{unknown}
 use Rattle.reduce_up.specs.Waves.{AnswersWave}
 use Rattle.expand_work.specs.Bounds.{most_of}
 use Rattle.wave_engine.specs.Bounds.{AreAtMost}
-use Rattle.wave_engine.specs.Resting.{AtRest}
+use Rattle.wave_engine.specs.EngineView.{EngineView}
 use Rattle.wave_engine.proofs.Both.{counted_on, counted_view, reduced_on, reduced_view}
 use Rattle.wave_engine.proofs.engine.Engine.wave.Goals as goal
 
 pub wave-requires-clause-right : goal.wave-requires-clause-right
-wave-requires-clause-right g c κs within = subst (λ (e : AtRest). IsRight c.args.store.now e.held) (sym c.self.view_is) c.requires.right
+wave-requires-clause-right g c κs within = subst (λ (e : EngineView). IsRight c.args.store.now e.held) (sym c.self.view_is) c.requires.right
 
 pub returns-in-Ok-clause-wave : goal.returns-in-Ok-clause-wave
 returns-in-Ok-clause-wave g c =
-    subst (λ (e : AtRest). AnswersWave c.args.store.now c.args.entries.now (unknown e.held c.args.entries.now) (Ok c.in-Ok.answers) c.wave.new.store) c.self.view_is c.in-Ok.ensures.wave
+    subst (λ (e : EngineView). AnswersWave c.args.store.now c.args.entries.now (unknown e.held c.args.entries.now) (Ok c.in-Ok.answers) c.wave.new.store) c.self.view_is c.in-Ok.ensures.wave
 
 pub returns-in-Err-clause-wave : goal.returns-in-Err-clause-wave
 returns-in-Err-clause-wave g c =
-    subst (λ (e : AtRest). AnswersWave c.args.store.now c.args.entries.now (unknown e.held c.args.entries.now) (Err c.in-Err.fault) c.wave.new.store) c.self.view_is c.in-Err.ensures.wave
+    subst (λ (e : EngineView). AnswersWave c.args.store.now c.args.entries.now (unknown e.held c.args.entries.now) (Err c.in-Err.fault) c.wave.new.store) c.self.view_is c.in-Err.ensures.wave
 
 pub returns-in-Ok-clause-within_bound : goal.returns-in-Ok-clause-within_bound
 returns-in-Ok-clause-within_bound g c =
-    subst (λ (e : AtRest). most_of e.bound < 2 ^ 64 - 1 → AreAtMost (most_of e.bound) c.args.store.now (unknown e.held c.args.entries.now)) c.self.view_is c.in-Ok.ensures.within_bound
+    subst (λ (e : EngineView). most_of e.bound < 2 ^ 64 - 1 → AreAtMost (most_of e.bound) c.args.store.now (unknown e.held c.args.entries.now)) c.self.view_is c.in-Ok.ensures.within_bound
 
 pub returns-in-Ok-clause-expanded : goal.returns-in-Ok-clause-expanded
 returns-in-Ok-clause-expanded g c =

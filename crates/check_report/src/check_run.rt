@@ -1,0 +1,248 @@
+//! From readers to a report.
+ghost use Rattle.std.specs.Prelude.{None, ◌≡◌, ◌≢◌, ◌<◌, ◌-◌, ◌^◌, ℕ, List, Option, IfOk, IfErr, IfSome, IsSomeAnd, OnOk, OnErr, IsTrue};
+ghost use Rattle.std.specs.Prelude.{Err};
+ghost use Rattle.std.specs.Io.KnownBytes.{Appends};
+ghost use Rattle.expand_work.specs.Bounds.{most_of};
+ghost use Rattle.net_order.specs.declared.order.Order.{Order as OrderValue};
+ghost use Rattle.report_text.specs.declared.outcome.Outcome.{Outcome};
+ghost use Rattle.report_text.specs.Writing.{AppendsFront};
+ghost use Rattle.check_report.specs.declared.strategy.Attempt.{Attempt as AttemptValue};
+ghost use Rattle.check_report.specs.Attempts.{AreGivenUp, AreTried, IsAllowed, IsGivenUpWithin, MayGoByCones, NamesOrder, last_budget};
+ghost use Rattle.check_report.specs.Check.{IsCheckFault};
+ghost use Rattle.check_report.specs.Deciding.{IsFoundBy, IsReportBy, IsUnknown};
+ghost use Rattle.check_report.specs.Devices.{HasFailedIn, device_text, device_texts};
+ghost use Rattle.check_report.specs.Dumping.{Bytes, IsReportWithVcd, bytes_in};
+ghost use Rattle.check_report.specs.Explaining.{IsReportFault};
+ghost use Rattle.check_report.specs.Limits.{AreBeyond};
+ghost use Rattle.check_report.specs.Widths.{AreTooWide};
+
+use crate::decision::decide;
+use crate::fault::CheckFault;
+use crate::full_report::{ReportTexts, task_report};
+use crate::reading::{Netlists, read_netlists};
+use crate::strategy::Attempt;
+use crate::task::{Context, Task};
+use expand_work::{Monitor, WaveFault};
+use net_bench::device::{Sink, Source};
+use net_order::order::OrderFault;
+use report_text::{Outcome, Verdicts, write_whole};
+use std::sync::Wait;
+use std::thread::Threads;
+
+/// Reads two netlists, and a condition where there is one, and compares their outputs and the next states of their registers where it
+/// holds, in the order that is asked for, or in the best; then it says which attempt that was. The gates' diagrams are built by as many
+/// threads as the settings have workers. The answer is never `CheckFault::Write`.
+pub fn judge<H: Threads + Wait + Sync, R1: Source, R2: Source, R3: Source, G: Monitor>(
+    context: &Context<'_, H, G>,
+    first: &mut R1,
+    second: &mut R2,
+    given: &mut Option<R3>,
+) -> Result<(Verdicts, Option<Attempt>), CheckFault>
+    // The verdicts are those of what was read, in an order that the settings allow, or of each pair by its cones. In them two outputs, or
+    // the next states of two registers, are called equal exactly where their functions agree wherever the condition holds. The nodes that
+    // are needed in this order are within the limit, and within the budget of the attempt. A pair is undecided only where its
+    // cones have more variables than a pairing has, or each attempt of them was given up.
+    ensures verdicts { let input = device_texts (R1.remaining first.old) (R2.remaining second.old) (device_text R3.remaining given.old) in
+        let s = context.now.settings.now in
+        IfOk result (λ r. IsFoundBy input s (G.bound context.now.monitor.now) r.0 r.1) }
+    // Each attempt within a smaller budget than that of the one that is told was given up, and within the first budget each before it.
+    ensures earlier_given_up { let input = device_texts (R1.remaining first.old) (R2.remaining second.old) (device_text R3.remaining given.old) in
+        let s = context.now.settings.now in
+        IfOk result (λ r. IfSome r.1 (AreGivenUp input s.matching (last_budget s.order s.limit) (G.bound context.now.monitor.now))) }
+    // Full comes only where they are not within the limit, in each order that the settings allow.
+    ensures full { let input = device_texts (R1.remaining first.old) (R2.remaining second.old) (device_text R3.remaining given.old) in
+        let s = context.now.settings.now in
+        result ≡ Err (CheckFault.Wave WaveFault.Full) → (order : OrderValue) → IsAllowed s.order order
+        → AreBeyond input s.matching order s.limit }
+    // GivenUp comes only where orders are tried, and no cones, and each attempt within the limit was given up.
+    ensures given_up { let input = device_texts (R1.remaining first.old) (R2.remaining second.old) (device_text R3.remaining given.old) in
+        let s = context.now.settings.now in
+        result ≡ Err CheckFault.GivenUp → AreTried s.order × ((order : OrderValue) → IsAllowed s.order order
+        → IsGivenUpWithin input s.matching s.limit (G.bound context.now.monitor.now) order) }
+    // Where pairs may be judged by their cones, no nodes and no requests are wanted.
+    ensures by_cones { MayGoByCones context.now.settings.now.order
+        → (result ≢ Err (CheckFault.Wave WaveFault.Full)) × (result ≢ Err CheckFault.GivenUp) }
+    // There the whole may have any number of variables.
+    ensures any_number_of_inputs { MayGoByCones context.now.settings.now.order → result ≢ Err (CheckFault.Order OrderFault.TooManyInputs) }
+    // A name that is picked is refused only where the first netlist has no such output or register.
+    ensures only { result ≡ Err CheckFault.Only → IsUnknown
+        (device_texts (R1.remaining first.old) (R2.remaining second.old) (device_text R3.remaining given.old)) context.now.settings.now.picked }
+    // TooManyRequests comes only where one wave reaches more than the monitor allows, in an order that the settings allow.
+    ensures past { let input = device_texts (R1.remaining first.old) (R2.remaining second.old) (device_text R3.remaining given.old) in
+        let s = context.now.settings.now in
+        result ≡ Err (CheckFault.Wave WaveFault.TooManyRequests)
+        → (order : OrderValue) × IsAllowed s.order order × IsSomeAnd (G.bound context.now.monitor.now) (AreTooWide input s.matching order) }
+    // A thread that cannot be started refuses nothing if the monitor sets a bound, nor if an order is sought or cones may be taken, whatever
+    // the monitor.
+    ensures needs_no_thread { most_of (G.bound context.now.monitor.now) < 2 ^ 64 - 1 → result ≢ Err (CheckFault.Wave WaveFault.NoWorker) }
+    ensures thread_for_named_order { result ≡ Err (CheckFault.Wave WaveFault.NoWorker) → NamesOrder context.now.settings.now.order }
+    // A fault has its cause, and what comes before it was accepted.
+    ensures fault { let input = device_texts (R1.remaining first.old) (R2.remaining second.old) (device_text R3.remaining given.old) in
+        let s = context.now.settings.now in
+        IfErr result (λ fault. (order : OrderValue) × IsAllowed s.order order
+        × IsCheckFault input (IsTrue (R1.has_failed first.new)) (IsTrue (R2.has_failed second.new))
+        (HasFailedIn R3.has_failed given.new) s.order s.matching order fault) }
+    ensures unwritten { result ≢ Err CheckFault.Write }
+    ensures origins { (R1.origin first.new ≡ R1.origin first.old) × (R2.origin second.new ≡ R2.origin second.old)
+        × (device_text R3.origin given.new ≡ device_text R3.origin given.old) }
+{
+    let nets = read_netlists(context.alloc, first, second, given)?;
+    let Netlists {
+        first: one,
+        second: two,
+        given: three,
+    } = nets;
+    let condition = three.as_ref();
+    let task = Task {
+        rt: context.rt,
+        alloc: context.alloc,
+        first: &one,
+        second: &two,
+        given: condition,
+        settings: context.settings,
+    };
+    decide(&task, context.monitor)
+}
+
+/// The report of what is read, with its VCD and its counts, and the attempt that it comes from.
+fn reported<H: Threads + Wait + Sync, R1: Source, R2: Source, R3: Source, G: Monitor>(
+    context: &Context<'_, H, G>,
+    first: &mut R1,
+    second: &mut R2,
+    given: &mut Option<R3>,
+) -> Result<(ReportTexts, Outcome, Option<Attempt>), CheckFault>
+    ensures report { let input = device_texts (R1.remaining first.old) (R2.remaining second.old) (device_text R3.remaining given.old) in
+        let s = context.now.settings.now in
+        IfOk result (λ r. IsReportWithVcd input s (G.bound context.now.monitor.now) r.2 r.1 r.0.report.items (bytes_in r.0.vcd)) }
+    ensures earlier_given_up { let input = device_texts (R1.remaining first.old) (R2.remaining second.old) (device_text R3.remaining given.old) in
+        let s = context.now.settings.now in
+        IfOk result (λ r. IfSome r.2 (AreGivenUp input s.matching (last_budget s.order s.limit) (G.bound context.now.monitor.now))) }
+    ensures full { let input = device_texts (R1.remaining first.old) (R2.remaining second.old) (device_text R3.remaining given.old) in
+        let s = context.now.settings.now in
+        result ≡ Err (CheckFault.Wave WaveFault.Full) → (order : OrderValue) → IsAllowed s.order order
+        → AreBeyond input s.matching order s.limit }
+    ensures given_up { let input = device_texts (R1.remaining first.old) (R2.remaining second.old) (device_text R3.remaining given.old) in
+        let s = context.now.settings.now in
+        result ≡ Err CheckFault.GivenUp → AreTried s.order × ((order : OrderValue) → IsAllowed s.order order
+        → IsGivenUpWithin input s.matching s.limit (G.bound context.now.monitor.now) order) }
+    // Where pairs may be judged by their cones, no nodes and no requests are wanted.
+    ensures by_cones { MayGoByCones context.now.settings.now.order
+        → (result ≢ Err (CheckFault.Wave WaveFault.Full)) × (result ≢ Err CheckFault.GivenUp) }
+    // There the whole may have any number of variables.
+    ensures any_number_of_inputs { MayGoByCones context.now.settings.now.order → result ≢ Err (CheckFault.Order OrderFault.TooManyInputs) }
+    // A name that is picked is refused only where the first netlist has no such output or register.
+    ensures only { result ≡ Err CheckFault.Only → IsUnknown
+        (device_texts (R1.remaining first.old) (R2.remaining second.old) (device_text R3.remaining given.old)) context.now.settings.now.picked }
+    ensures past { let input = device_texts (R1.remaining first.old) (R2.remaining second.old) (device_text R3.remaining given.old) in
+        let s = context.now.settings.now in
+        result ≡ Err (CheckFault.Wave WaveFault.TooManyRequests)
+        → (order : OrderValue) × IsAllowed s.order order × IsSomeAnd (G.bound context.now.monitor.now) (AreTooWide input s.matching order) }
+    ensures needs_no_thread { most_of (G.bound context.now.monitor.now) < 2 ^ 64 - 1 → result ≢ Err (CheckFault.Wave WaveFault.NoWorker) }
+    ensures thread_for_named_order { result ≡ Err (CheckFault.Wave WaveFault.NoWorker) → NamesOrder context.now.settings.now.order }
+    ensures fault { let input = device_texts (R1.remaining first.old) (R2.remaining second.old) (device_text R3.remaining given.old) in
+        let s = context.now.settings.now in
+        IfErr result (IsReportFault input (IsTrue (R1.has_failed first.new)) (IsTrue (R2.has_failed second.new))
+        (HasFailedIn R3.has_failed given.new) s) }
+    ensures unwritten { result ≢ Err CheckFault.Write }
+    ensures origins { (R1.origin first.new ≡ R1.origin first.old) × (R2.origin second.new ≡ R2.origin second.old)
+        × (device_text R3.origin given.new ≡ device_text R3.origin given.old) }
+{
+    let nets = read_netlists(context.alloc, first, second, given)?;
+    let Netlists {
+        first: one,
+        second: two,
+        given: three,
+    } = nets;
+    let conditional = three.as_ref();
+    let task = Task {
+        rt: context.rt,
+        alloc: context.alloc,
+        first: &one,
+        second: &two,
+        given: conditional,
+        settings: context.settings,
+    };
+    task_report(&task, context.monitor)
+}
+
+/// Compares two netlists as `judge` does, and writes the report, with what explains the pairs that are asked for behind it. Nothing is
+/// written before the whole report stands. Where that is asked for, the values of the first pair that differs are answered beside it, as a
+/// VCD.
+pub fn check<H: Threads + Wait + Sync, R1: Source, R2: Source, R3: Source, G: Monitor, W: Sink>(
+    context: &Context<'_, H, G>,
+    first: &mut R1,
+    second: &mut R2,
+    given: &mut Option<R3>,
+    out: &mut W,
+) -> Result<(Outcome, Option<Attempt>, Option<Vec<u8>>), CheckFault>
+    // What was written is the report of what was read, in an order that the settings allow, or of each pair by its cones, and nothing
+    // else. In it two outputs, or the next states of two registers, are called equal exactly where their functions agree wherever the
+    // condition holds. The nodes that are needed in this order are within the limit, and within the budget of the attempt. A pair is
+    // undecided only where its cones have more variables than a pairing has, or each attempt of them was given up.
+    ensures report { let input = device_texts (R1.remaining first.old) (R2.remaining second.old) (device_text R3.remaining given.old) in
+        let s = context.now.settings.now in
+        IfOk result (λ r. (bytes : List ℕ) × IsReportBy input s (G.bound context.now.monitor.now) r.1 r.0 bytes
+        × Appends (W.contents out.old) (W.contents out.new) bytes) }
+    // The VCD is that of the first pair that differs in this very report, at its assignment; there is none where none is asked for, or none
+    // differs.
+    ensures vcd { let input = device_texts (R1.remaining first.old) (R2.remaining second.old) (device_text R3.remaining given.old) in
+        let s = context.now.settings.now in
+        IfOk result (λ r. (bytes : List ℕ) × IsReportWithVcd input s (G.bound context.now.monitor.now) r.1 r.0 bytes (bytes_in r.2)
+        × Appends (W.contents out.old) (W.contents out.new) bytes) }
+    // Each attempt within a smaller budget than that of the one that is told was given up, and within the first budget each before it.
+    ensures earlier_given_up { let input = device_texts (R1.remaining first.old) (R2.remaining second.old) (device_text R3.remaining given.old) in
+        let s = context.now.settings.now in
+        IfOk result (λ r. IfSome r.1 (AreGivenUp input s.matching (last_budget s.order s.limit) (G.bound context.now.monitor.now))) }
+    // Full comes only where they are not within the limit, in each order that the settings allow.
+    ensures full { let input = device_texts (R1.remaining first.old) (R2.remaining second.old) (device_text R3.remaining given.old) in
+        let s = context.now.settings.now in
+        result ≡ Err (CheckFault.Wave WaveFault.Full) → (order : OrderValue) → IsAllowed s.order order
+        → AreBeyond input s.matching order s.limit }
+    // GivenUp comes only where orders are tried, and no cones, and each attempt within the limit was given up.
+    ensures given_up { let input = device_texts (R1.remaining first.old) (R2.remaining second.old) (device_text R3.remaining given.old) in
+        let s = context.now.settings.now in
+        result ≡ Err CheckFault.GivenUp → AreTried s.order × ((order : OrderValue) → IsAllowed s.order order
+        → IsGivenUpWithin input s.matching s.limit (G.bound context.now.monitor.now) order) }
+    // Where pairs may be judged by their cones, no nodes and no requests are wanted.
+    ensures by_cones { MayGoByCones context.now.settings.now.order
+        → (result ≢ Err (CheckFault.Wave WaveFault.Full)) × (result ≢ Err CheckFault.GivenUp) }
+    // There the whole may have any number of variables.
+    ensures any_number_of_inputs { MayGoByCones context.now.settings.now.order → result ≢ Err (CheckFault.Order OrderFault.TooManyInputs) }
+    // A name that is picked is refused only where the first netlist has no such output or register.
+    ensures only { result ≡ Err CheckFault.Only → IsUnknown
+        (device_texts (R1.remaining first.old) (R2.remaining second.old) (device_text R3.remaining given.old)) context.now.settings.now.picked }
+    // TooManyRequests comes only where one wave reaches more than the monitor allows, in an order that the settings allow.
+    ensures past { let input = device_texts (R1.remaining first.old) (R2.remaining second.old) (device_text R3.remaining given.old) in
+        let s = context.now.settings.now in
+        result ≡ Err (CheckFault.Wave WaveFault.TooManyRequests)
+        → (order : OrderValue) × IsAllowed s.order order × IsSomeAnd (G.bound context.now.monitor.now) (AreTooWide input s.matching order) }
+    // A thread that cannot be started refuses nothing if the monitor sets a bound, nor if an order is sought or cones may be taken, whatever
+    // the monitor.
+    ensures needs_no_thread { most_of (G.bound context.now.monitor.now) < 2 ^ 64 - 1 → result ≢ Err (CheckFault.Wave WaveFault.NoWorker) }
+    ensures thread_for_named_order { result ≡ Err (CheckFault.Wave WaveFault.NoWorker) → NamesOrder context.now.settings.now.order }
+    // A fault has its cause, and what comes before it was accepted. What is to be explained is refused only where the first netlist has no
+    // such output or register.
+    ensures fault { let input = device_texts (R1.remaining first.old) (R2.remaining second.old) (device_text R3.remaining given.old) in
+        let s = context.now.settings.now in
+        IfErr result (IsReportFault input (IsTrue (R1.has_failed first.new)) (IsTrue (R2.has_failed second.new))
+        (HasFailedIn R3.has_failed given.new) s) }
+    // Where the writing failed, a front part of the report was written, and the device has failed or taken nothing of the rest.
+    ensures unwritten { let input = device_texts (R1.remaining first.old) (R2.remaining second.old) (device_text R3.remaining given.old) in
+        let s = context.now.settings.now in
+        result ≡ Err CheckFault.Write → (o : Outcome) × (tried : Option AttemptValue) × (bytes : List ℕ) × (vcd : Option Bytes)
+        × IsReportWithVcd input s (G.bound context.now.monitor.now) tried o bytes (bytes_in vcd)
+        × AppendsFront (W.contents out.old) (W.contents out.new) (W.has_failed out.new) (W.has_stopped out.new) bytes }
+    // At any other fault nothing was written.
+    ensures untouched { OnErr result (result ≢ Err CheckFault.Write → out.new ≡ out.old) }
+    // A writer that took the report has not failed, and took some bytes at each write.
+    ensures written { OnOk result ((W.has_failed out.new ≡ W.has_failed out.old) × (W.has_stopped out.new ≡ W.has_stopped out.old)) }
+    ensures origins { (R1.origin first.new ≡ R1.origin first.old) × (R2.origin second.new ≡ R2.origin second.old)
+        × (device_text R3.origin given.new ≡ device_text R3.origin given.old) }
+{
+    let (texts, outcome, tried) = reported(context, first, second, given)?;
+    let ReportTexts { report, vcd } = texts;
+    match write_whole(out, report.as_slice()) {
+        Ok(()) => Ok((outcome, tried, vcd)),
+        Err(_) => Err(CheckFault::Write),
+    }
+}

@@ -1,0 +1,125 @@
+//! The report of two netlists that were read, with what explains pairs behind it, and the VCD of the first pair that differs.
+ghost use Rattle.std.specs.Prelude.{◌≡◌, ◌≢◌, ◌++◌, ◌<◌, ◌-◌, ◌^◌, ℕ, List, Option, IfOk, IfErr, IfSome, IsSomeAnd, Err, is_some};
+ghost use Rattle.expand_work.specs.Bounds.{most_of};
+ghost use Rattle.net_bench.specs.Circuit.{circuit};
+ghost use Rattle.net_order.specs.declared.order.Order.{Order as OrderValue};
+ghost use Rattle.check_report.specs.Attempts.{AreGivenUp, AreTried, IsAllowed, IsGivenUpWithin, MayGoByCones, NamesOrder, last_budget};
+ghost use Rattle.check_report.specs.Attempts.{reported_kind};
+ghost use Rattle.check_report.specs.Causing.{AreCauses};
+ghost use Rattle.check_report.specs.Check.{AreAccepted, IsCheckFault};
+ghost use Rattle.check_report.specs.Deciding.{IsUnknown};
+ghost use Rattle.check_report.specs.Dumping.{IsReportWithVcd, bytes_in};
+ghost use Rattle.check_report.specs.Explaining.{AreTargetsIn, IsAppended, IsReportFault, reported_order};
+ghost use Rattle.check_report.specs.Limits.{AreBeyond};
+ghost use Rattle.check_report.specs.PairSelection.{share_of};
+ghost use Rattle.check_report.specs.Tasks.{OfTask};
+ghost use Rattle.check_report.specs.Trials.{EndsAtOnce, ordered_names};
+ghost use Rattle.check_report.specs.Widths.{AreTooWide};
+ghost use Rattle.report_text.specs.Causes.{Caused};
+ghost use Rattle.report_text.specs.Json.{form_text};
+
+use crate::causes::{causes, listed};
+use crate::decision::decide;
+use crate::explanations::{explanations_after, has_pairs};
+use crate::fault::CheckFault;
+use crate::report::form_text;
+use crate::strategy::Attempt;
+use crate::task::Task;
+use crate::vcd_dump::dump;
+use expand_work::{Monitor, WaveFault};
+use net_order::order::OrderFault;
+use report_text::{Outcome, Verdicts};
+use std::sync::Wait;
+use std::thread::Threads;
+
+/// What is told of a comparison.
+#[derive(Drop)]
+pub(crate) struct ReportTexts {
+    pub(crate) report: Vec<u8>,
+    /// The values of the first pair that differs, where they are asked for and one does.
+    pub(crate) vcd: Option<Vec<u8>>,
+}
+
+/// The bytes of a report, with the causes that it tells, and behind them what explains the pairs that are asked for.
+fn full_text<H>(
+    task: &Task<'_, H>,
+    tried: Option<Attempt>,
+    verdicts: &Verdicts,
+) -> Result<Vec<u8>, CheckFault>
+    requires names { verdicts.now.variables ≡ ordered_names task.now (reported_order task.now.settings.now.order tried) }
+    requires known { AreTargetsIn (circuit task.now.first.now) task.now.settings.now.explain.items }
+    requires accepted { OfTask task.now (λ input s. (order : OrderValue) × IsAllowed s.order order
+        × AreAccepted input s.order s.matching order) }
+    ensures text { OfTask task.now (λ input s. IfOk result (λ text. (causes : Option (List Caused))
+        × AreCauses s.causes input s tried verdicts.now causes
+        × (explanations : List ℕ) × IsAppended s.explain.items input s tried verdicts.now explanations
+        × (text.items ≡ form_text s.json s.assignment s.matching (reported_kind s.order tried) (is_some input.given)
+        (share_of s.picked) causes verdicts.now ++ explanations))) }
+    ensures fault { OfTask task.now (λ input s. IfErr result (λ fault. (order : OrderValue) × IsAllowed s.order order
+        × IsCheckFault input ⊥ ⊥ ⊥ s.order s.matching order fault)) }
+    ensures ends { IfErr result EndsAtOnce }
+    ensures any_number_of_inputs { MayGoByCones task.now.settings.now.order → result ≢ Err (CheckFault.Order OrderFault.TooManyInputs) }
+{
+    let given = task.given.is_some();
+    let causes = match causes(task, tried, verdicts) {
+        Ok(causes) => causes,
+        Err(fault) => return Err(fault),
+    };
+    let list = listed(&causes);
+    let Ok(mut text) = form_text(task.alloc, task.settings, tried, given, list, verdicts) else {
+        return Err(CheckFault::OutOfMemory);
+    };
+    let explanations = match explanations_after(task, tried, verdicts) {
+        Ok(explanations) => explanations,
+        Err(fault) => return Err(fault),
+    };
+    match text.extend_from_slice(explanations.as_slice()) {
+        Ok(()) => Ok(text),
+        Err(_) => Err(CheckFault::OutOfMemory),
+    }
+}
+
+/// The report of a task with its VCD and its counts, and the attempt that it comes from. What is to be explained is looked for before
+/// anything is compared.
+pub(crate) fn task_report<H: Threads + Wait + Sync, G: Monitor>(
+    task: &Task<'_, H>,
+    monitor: &G,
+) -> Result<(ReportTexts, Outcome, Option<Attempt>), CheckFault>
+    ensures report { OfTask task.now (λ input s. IfOk result
+        (λ r. IsReportWithVcd input s (G.bound monitor.now) r.2 r.1 r.0.report.items (bytes_in r.0.vcd))) }
+    ensures full { OfTask task.now (λ input s.
+        result ≡ Err (CheckFault.Wave WaveFault.Full) → (order : OrderValue) → IsAllowed s.order order
+        → AreBeyond input s.matching order s.limit) }
+    ensures given_up { OfTask task.now (λ input s.
+        result ≡ Err CheckFault.GivenUp → AreTried s.order × ((order : OrderValue) → IsAllowed s.order order
+        → IsGivenUpWithin input s.matching s.limit (G.bound monitor.now) order)) }
+    ensures by_cones { MayGoByCones task.now.settings.now.order
+        → (result ≢ Err (CheckFault.Wave WaveFault.Full)) × (result ≢ Err CheckFault.GivenUp) }
+    ensures any_number_of_inputs { MayGoByCones task.now.settings.now.order → result ≢ Err (CheckFault.Order OrderFault.TooManyInputs) }
+    ensures only { OfTask task.now (λ input s. result ≡ Err CheckFault.Only → IsUnknown input s.picked) }
+    ensures fault { OfTask task.now (λ input s. IfErr result (IsReportFault input ⊥ ⊥ ⊥ s)) }
+    ensures unwritten { result ≢ Err CheckFault.Write }
+    ensures past { OfTask task.now (λ input s.
+        result ≡ Err (CheckFault.Wave WaveFault.TooManyRequests)
+        → (o : OrderValue) × IsAllowed s.order o × IsSomeAnd (G.bound monitor.now) (AreTooWide input s.matching o)) }
+    ensures earlier_given_up { OfTask task.now (λ input s.
+        IfOk result (λ r. IfSome r.2 (AreGivenUp input s.matching (last_budget s.order s.limit) (G.bound monitor.now)))) }
+    ensures needs_no_thread { most_of (G.bound monitor.now) < 2 ^ 64 - 1 → result ≢ Err (CheckFault.Wave WaveFault.NoWorker) }
+    ensures thread_for_named_order { result ≡ Err (CheckFault.Wave WaveFault.NoWorker) → NamesOrder task.now.settings.now.order }
+{
+    if !has_pairs(task.first, task.settings.explain.as_slice()) {
+        return Err(CheckFault::Explain);
+    }
+    let (verdicts, tried) = match decide(task, monitor) {
+        Ok((verdicts, tried)) => (verdicts, tried),
+        Err(fault) => return Err(fault),
+    };
+    let report = match full_text(task, tried, &verdicts) {
+        Ok(report) => report,
+        Err(fault) => return Err(fault),
+    };
+    match dump(task, tried, &verdicts) {
+        Ok(vcd) => Ok((ReportTexts { report, vcd }, verdicts.outcome(), tried)),
+        Err(fault) => Err(fault),
+    }
+}

@@ -1,0 +1,7 @@
+use Rattle.std.proofs.Common.{take}
+use Rattle.check_tool.specs.Running.{AreTargetsOf}
+use Rattle.check_tool.proofs.settings.all_targets.Given as goal
+
+-- those so far
+abbrev pub invariant-loop-word : goal.invariant-loop-word
+invariant-loop-word l = AreTargetsOf (take l.word-index l.words) l.targets.items

@@ -1,5 +1,0 @@
-use Rattle.dd_store.specs.WordLaws.{word_is}
-use Rattle.dd_store.proofs.reference.RefSpread.spread.Goals as goal
-
-pub returns : goal.returns
-returns c = word_is c.self.inside.word c.args.self.now c.self.invariant c.self.view_is

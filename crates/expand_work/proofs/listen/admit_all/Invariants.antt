@@ -1,8 +1,0 @@
-use Rattle.std.proofs.Common.{take}
-use Rattle.expand_work.specs.Noted.{Notes}
-use Rattle.expand_work.specs.Work.{Offered}
-use Rattle.expand_work.proofs.listen.admit_all.Given as goal
-
-abbrev pub invariant-loop-ask : goal.invariant-loop-ask
-invariant-loop-ask l =
-    Offered (take l.ask-index l.asks) l.initial.tables l.tables × Notes l.from (take l.ask-index l.asks) l.initial.tables l.tables l.initial.noted l.noted

@@ -1,6 +1,0 @@
-use Rattle.lane_queue.specs.PortView.{lanes_scope}
-use Rattle.expand_work.proofs.Closing.{closed_by_clock}
-use Rattle.expand_work.proofs.listen.take_until_closed.Goals as goal
-
-pub returns-then-closed-clause-closed : goal.returns-then-closed-clause-closed
-returns-then-closed-clause-closed g c = closed_by_clock (lanes_scope c.args.site.lanes.now) c.loop-turn.port.taken c.loop-turn.senders.clock c.loop-turn.tables c.args.level c.loop-turn.invariant.1 (c.closed.ensures.0 c.if-closed.true)

@@ -1,7 +1,0 @@
-use Rattle.std.proofs.Common.{◌≡◌, map}
-use Rattle.std.specs.Prelude.{slice_index}
-use Rattle.net_order.specs.Force.{drawn_to, numbers_below}
-use Rattle.net_order.proofs.drawing.step.Given as goal
-
-abbrev pub invariant-loop-vertex : goal.invariant-loop-vertex
-invariant-loop-vertex l = l.drawn.items ≡ map (λ v. drawn_to (slice_index l.totals v) (slice_index l.shares v) (slice_index l.places v)) (numbers_below l.vertex)

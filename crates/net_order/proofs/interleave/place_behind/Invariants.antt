@@ -1,5 +1,0 @@
-use Rattle.net_order.proofs.Weaving.{Behind}
-use Rattle.net_order.proofs.interleave.place_behind.Given as goal
-
-abbrev pub invariant-loop-i : goal.invariant-loop-i
-invariant-loop-i l = Behind l.last l.order l.i

@@ -1,0 +1,62 @@
+//! An order that is a list of names, some of which may be no variables and which may lack some.
+ghost use Rattle.std.specs.Prelude.{◌≡◌, ◌≤◌, filter, if◌then◌else◌, length, IfErr, IfOk, OnOk};
+ghost use Rattle.net_bench.specs.Circuit.{is_name_in, with_name};
+ghost use Rattle.net_order.specs.Order.{declared, extended};
+ghost use Rattle.net_order.specs.Tables.{with_names};
+
+use crate::names::Names;
+use crate::order::OrderFault;
+use crate::side::NamedNetlist;
+use crate::variables::{MAX_VARIABLES, add_all};
+use net_bench::name_table::NameTable;
+use std::alloc::{AllocError, Global};
+
+/// Puts a name into the table where it is a variable and not there yet.
+fn add_if_known(
+    alloc: Global,
+    table: &mut NameTable,
+    variables: &NameTable,
+    name: &[u8],
+) -> Result<(), AllocError>
+    ensures { OnOk result (table.new ≡ (if is_name_in variables.now name.now then with_name table.old name.now else table.old)) }
+{
+    if variables.has(name) {
+        table.intern(alloc, name)?;
+    }
+    Ok(())
+}
+
+/// Puts those names of the list that are variables into the table, each where it is not there yet.
+fn add_known(
+    alloc: Global,
+    table: &mut NameTable,
+    variables: &NameTable,
+    list: &Names,
+) -> Result<(), AllocError>
+    ensures { OnOk result (table.new ≡ with_names table.old (filter (is_name_in variables.now) list.now)) }
+{
+    for i in 0..list.len() {
+        add_if_known(alloc, table, variables, list.at(i))?;
+    }
+    Ok(())
+}
+
+/// The names of the list that are variables, then the others as they are declared.
+pub fn extended_table(
+    alloc: Global,
+    sides: &[NamedNetlist<'_>],
+    given: &[NamedNetlist<'_>],
+    variables: &NameTable,
+    list: &Names,
+) -> Result<NameTable, OrderFault>
+    requires all { variables.now ≡ declared sides.now given.now }
+    requires few { length variables.now ≤ MAX_VARIABLES }
+    ensures ok { IfOk result (λ t. t ≡ extended sides.now given.now list.now) }
+    ensures few { IfOk result (λ t. length t ≤ MAX_VARIABLES) }
+    ensures err { IfErr result (λ fault. fault ≡ OrderFault.OutOfMemory) }
+{
+    let mut table = NameTable::new(alloc);
+    add_known(alloc, &mut table, variables, list)?;
+    add_all(alloc, &mut table, sides, given)?;
+    Ok(table)
+}

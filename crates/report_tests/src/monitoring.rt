@@ -1,0 +1,260 @@
+//! What a monitor is told of a comparison, in one order, in the best, and by workers.
+ghost use Rattle.std.specs.Prelude.{◌<◌, ◌≤◌};
+
+use crate::failing::C17;
+use check_report::{CheckFault, Context, PairFilter, Settings, Strategy, judge};
+use dd_store::Watch;
+use expand_work::{AttemptEnd, Monitor};
+use net_bench::device::StdDevice;
+use net_order::order::{Match, Order};
+use std::alloc::{AllocError, Global};
+use std::sync::Wait;
+use std::sync::atomic::{AtomicU64, AtomicUsize, Ordering};
+use std::test::Fail;
+use std::thread::Threads;
+
+/// Adds up what it is told: how often of a rank, their numbers, those of the last ranks, the nodes, the requests, the attempts that have
+/// decided, those that were given up for a wave's requests, and how often a worker came to a level. The caller's thread may have so many
+/// requests of a level.
+#[derive(Drop)]
+struct CountingMonitor {
+    caller_limit: usize,
+    times: AtomicUsize,
+    ranks: AtomicU64,
+    last_ranks: AtomicU64,
+    nodes: AtomicU64,
+    requests: AtomicUsize,
+    decided: AtomicUsize,
+    wide: AtomicUsize,
+    levels: AtomicUsize,
+}
+
+impl CountingMonitor {
+    /// One that has heard nothing.
+    fn new(caller_limit: usize) -> CountingMonitor {
+        CountingMonitor {
+            caller_limit,
+            times: AtomicUsize::new(0),
+            ranks: AtomicU64::new(0),
+            last_ranks: AtomicU64::new(0),
+            nodes: AtomicU64::new(0),
+            requests: AtomicUsize::new(0),
+            decided: AtomicUsize::new(0),
+            wide: AtomicUsize::new(0),
+            levels: AtomicUsize::new(0),
+        }
+    }
+}
+
+impl Watch for CountingMonitor {
+    fn at_shard(&self, _shard: u8, _level: u16) {}
+}
+
+impl Monitor for CountingMonitor {
+    fn at_level(&self, _worker: u32, _level: u16) {
+        self.levels.fetch_add(1, Ordering::SeqCst);
+    }
+
+    fn caller_level_limit(&self, _workers: u32, _expected: usize) -> usize {
+        self.caller_limit
+    }
+
+    fn most_requests(&self) -> usize {
+        usize::MAX
+    }
+
+    fn at_rank(&self, rank: u32, ranks: u32, nodes: u64) {
+        self.times.fetch_add(1, Ordering::SeqCst);
+        self.ranks.fetch_add(u64::from(rank), Ordering::SeqCst);
+        self.last_ranks
+            .fetch_add(u64::from(ranks), Ordering::SeqCst);
+        self.nodes.fetch_add(nodes, Ordering::SeqCst);
+    }
+
+    fn at_requests(&self, requests: usize) {
+        self.requests.fetch_add(requests, Ordering::SeqCst);
+    }
+
+    fn at_attempt(&self, _budget: u64, end: AttemptEnd) {
+        if matches!(end, AttemptEnd::Decided { .. }) {
+            self.decided.fetch_add(1, Ordering::SeqCst);
+        }
+        if matches!(end, AttemptEnd::TooManyRequests { .. }) {
+            self.wide.fetch_add(1, Ordering::SeqCst);
+        }
+    }
+}
+
+/// What a monitor was told, added up as by a listener.
+#[derive(Clone, Copy, Drop, Debug, PartialEq, Eq)]
+struct Counts {
+    times: usize,
+    ranks: u64,
+    last_ranks: u64,
+    nodes: u64,
+    requests: usize,
+    decided: usize,
+    wide: usize,
+    levels: usize,
+}
+
+/// By how many workers a netlist is compared, and the most requests of a level before they are called in.
+#[derive(Clone, Copy, Drop)]
+struct WorkerSetup {
+    workers: u32,
+    caller_limit: usize,
+}
+
+/// By the caller's thread only.
+const CALLER_ONLY: WorkerSetup = WorkerSetup {
+    workers: 1,
+    caller_limit: usize::MAX,
+};
+
+/// What a monitor is told of the comparison of a netlist with itself, within so many nodes.
+fn counts_of<R: Threads + Wait + Sync>(
+    rt: &R,
+    alloc: Global,
+    text: &str,
+    order: Strategy,
+    limit: u32,
+    called: WorkerSetup,
+) -> Result<Counts, CheckFault>
+    requires workers { (0 < called.workers) × (called.workers ≤ 16) }
+{
+    let settings = Settings {
+        matching: Match::Name,
+        order,
+        picked: PairFilter::All,
+        workers: called.workers,
+        limit: u64::from(limit.max(1)),
+        sizes: false,
+        json: false,
+        explain: Vec::new(alloc),
+        assignment: None,
+        vcd: false,
+        causes: false,
+    };
+    let monitor = CountingMonitor::new(called.caller_limit);
+    let mut first = StdDevice::new(text.as_bytes());
+    let mut second = StdDevice::new(text.as_bytes());
+    let mut nothing: Option<StdDevice<&[u8]>> = None;
+    let context = Context {
+        rt,
+        alloc,
+        settings: &settings,
+        monitor: &monitor,
+    };
+    judge(&context, &mut first, &mut second, &mut nothing)?;
+    Ok(Counts {
+        times: monitor.times.load(Ordering::SeqCst),
+        ranks: monitor.ranks.load(Ordering::SeqCst),
+        last_ranks: monitor.last_ranks.load(Ordering::SeqCst),
+        nodes: monitor.nodes.load(Ordering::SeqCst),
+        requests: monitor.requests.load(Ordering::SeqCst),
+        decided: monitor.decided.load(Ordering::SeqCst),
+        wide: monitor.wide.load(Ordering::SeqCst),
+        levels: monitor.levels.load(Ordering::SeqCst),
+    })
+}
+
+// C17 has three ranks. The limit is above the first budget, so the best order's one attempt is bounded by that.
+#[test]
+fn counts_of_a_bounded_attempt(rt: HostRuntime) -> Result<(), Fail> {
+    let single = counts_of(
+        &rt,
+        rt.alloc(),
+        C17,
+        Strategy::One(Order::Interleave),
+        70_000,
+        CALLER_ONLY,
+    )?;
+    assert!(rt; single.times == 3 && single.ranks == 6 && single.last_ranks == 9);
+    assert!(rt; single.nodes > 15 && single.requests > 0);
+    let best = counts_of(&rt, rt.alloc(), C17, Strategy::Best, 70_000, CALLER_ONLY)?;
+    assert!(rt; single.decided == 0 && single.wide == 0);
+    assert!(rt;
+        best == Counts {
+            decided: 1,
+            ..single
+        }
+    );
+    Ok(())
+}
+
+// Workers are called into the waves of an attempt, each of which has a bound, and expand the same requests.
+#[test]
+fn workers_in_an_attempt(rt: HostRuntime) -> Result<(), Fail> {
+    let called = WorkerSetup {
+        workers: 2,
+        caller_limit: 0,
+    };
+    let best = counts_of(&rt, rt.alloc(), C17, Strategy::Best, 70_000, CALLER_ONLY)?;
+    let shared = counts_of(&rt, rt.alloc(), C17, Strategy::Best, 70_000, called)?;
+    let auto = counts_of(&rt, rt.alloc(), C17, Strategy::Auto, 70_000, called)?;
+    assert!(rt; best.levels == 0 && shared.levels > 0 && auto.levels > 0);
+    let levels = shared.levels;
+    assert!(rt; shared == Counts { levels, ..best });
+    assert!(rt; auto.decided == 1 && auto.requests == best.requests);
+    Ok(())
+}
+
+/// So many nodes are enough in each order that is tried.
+const LIMIT: u32 = 3_500;
+
+/// Each of two products compares so many pairs of inputs.
+const COMPARED: usize = 7;
+
+/// Puts the inputs of these letters in, one behind the other, between two texts.
+fn add_list(
+    text: &mut String,
+    alloc: Global,
+    front: &str,
+    letters: &[&str],
+    back: &str,
+) -> Result<(), AllocError> {
+    text.push_str(front)?;
+    for letter in letters {
+        for place in 0..COMPARED {
+            text.push_str(&format!(in alloc; "{letter}{place}, ")?)?;
+        }
+    }
+    text.push_str(back)
+}
+
+/// Two products that exclude each other, of comparisons of inputs that stand far apart where they are met as by the deepest output.
+fn far_apart(alloc: Global) -> Result<String, AllocError> {
+    let mut text = String::new(alloc);
+    text.push_str("OUTPUT(p)\nOUTPUT(o)\nINPUT(z)\ny = NOT(z)\no = AND(f, g)\n")?;
+    for place in 0..COMPARED {
+        for letter in ["a", "b", "c", "d"] {
+            text.push_str(&format!(in alloc; "INPUT({letter}{place})\n")?)?;
+        }
+        text.push_str(&format!(in alloc; "e{place} = XNOR(a{place}, b{place})\n")?)?;
+        text.push_str(&format!(in alloc; "h{place} = XNOR(c{place}, d{place})\n")?)?;
+    }
+    add_list(&mut text, alloc, "q = XOR(", &["a", "c", "b", "d"], "z)\n")?;
+    text.push_str("r = NOT(q)\ns = NOT(r)\nt = NOT(s)\np = NOT(t)\n")?;
+    add_list(&mut text, alloc, "f = AND(", &["e"], "z)\n")?;
+    add_list(&mut text, alloc, "g = AND(", &["h"], "y)\n")?;
+    Ok(text)
+}
+
+// In the first order that is tried the nodes are within the limit, and the last wave has more than eight requests for each node of it: this
+// attempt is given up, and one in another order decides.
+#[test]
+fn requests_for_each_node(rt: HostRuntime) -> Result<(), Fail> {
+    let text = far_apart(rt.alloc())?;
+    let single = counts_of(
+        &rt,
+        rt.alloc(),
+        &text,
+        Strategy::One(Order::Interleave),
+        LIMIT,
+        CALLER_ONLY,
+    )?;
+    assert!(rt; single.requests > 8 * LIMIT as usize);
+    let best = counts_of(&rt, rt.alloc(), &text, Strategy::Best, LIMIT, CALLER_ONLY)?;
+    assert!(rt; best.decided == 1 && best.wide == 1);
+    Ok(())
+}

@@ -1,4 +1,0 @@
-use Rattle.wave_core.proofs.waves.Core.numbered.Goals as goal
-
-pub loop-event-init : goal.loop-event-init
-loop-event-init c = record { numbers = λ e n. n; more = c.requires }
