@@ -18,7 +18,7 @@ use Rattle.dd_store.proofs.View.{of_part, part-negate, same_ref}
 use Rattle.net_bench.specs.Circuit.{Circuit}
 use Rattle.net_order.specs.Order.{NamingModel}
 use Rattle.gate_plan.specs.Need.{IsCounted, IsLean, IsComplete, HasNode}
-use Rattle.check_report.specs.Limits.{IsNeededIn, HasAllNeeded, FitsWithin, Exceeds}
+use Rattle.compare_built.specs.Limits.{IsNeededIn, HasAllNeeded, FitsWithin, Exceeds}
 use Rattle.check_report.proofs.Pigeons.{Among, without, pigeons}
 use Rattle.check_report.proofs.Numbering.{refs_of, length-all_refs, distinct_all, has_each, is_node}
 

@@ -9,24 +9,24 @@ use Rattle.net_order.specs.declared.order.OrderFault.TheVariants.{TooManyInputs}
 use Rattle.net_order.specs.Order.{NamingModel, condition, max_variables}
 use Rattle.net_order.proofs.InputLevels.{names_count}
 use Rattle.report_text.specs.Lines.{Found}
-use Rattle.check_report.specs.Details.{details_in}
-use Rattle.check_report.specs.declared.strategy.Attempt.{Attempt}
-use Rattle.check_report.specs.declared.strategy.Strategy.{Strategy}
-use Rattle.check_report.specs.declared.strategy.Strategy.TheVariants.{Auto}
-use Rattle.check_report.specs.declared.fault.CheckFault.{CheckFault}
-use Rattle.check_report.specs.declared.fault.CheckFault.TheVariants.{GivenUp, Only, Order as OrderRefused, Wave, Write}
-use Rattle.check_report.specs.declared.settings.Settings.{Settings}
-use Rattle.check_report.specs.declared.task.Task.{Task}
+use Rattle.compare_built.specs.Details.{details_in}
+use Rattle.compare_built.specs.declared.strategy.Attempt.{Attempt}
+use Rattle.compare_built.specs.declared.strategy.Strategy.{Strategy}
+use Rattle.compare_built.specs.declared.strategy.Strategy.TheVariants.{Auto}
+use Rattle.compare_built.specs.declared.fault.CheckFault.{CheckFault}
+use Rattle.compare_built.specs.declared.fault.CheckFault.TheVariants.{GivenUp, Only, Order as OrderRefused, Wave, Write}
+use Rattle.compare_built.specs.declared.settings.Settings.{Settings}
+use Rattle.compare_built.specs.declared.task.Task.{Task}
 use Rattle.net_order.specs.declared.order.Match.{Match}
-use Rattle.check_report.specs.Attempts.{IsAllowed, IsChosen, MayGoByCones, whole_limit}
-use Rattle.check_report.specs.Check.{AreAccepted, AreGiven, IsCheckFault, IsJudged}
-use Rattle.check_report.specs.ConeRounds.{EndsAuto, EndsCones, IsFoundByCones}
-use Rattle.check_report.specs.Deciding.{MayTakeCones, IsFoundBy}
-use Rattle.check_report.specs.Deciding.IsFoundBy.{by_cones, in_order}
-use Rattle.check_report.specs.Devices.{DeviceTexts}
-use Rattle.check_report.specs.Trials.{AreAllGivenUp, EndsAtOnce, EndsSearch, IsGivingUp, IsNamingIn}
-use Rattle.check_report.proofs.Reporting.{any_for, late_fault, late_whole}
-use Rattle.check_report.proofs.Rounds.{accepted, given_up_in_input}
+use Rattle.compare_built.specs.Attempts.{IsAllowed, IsChosen, MayGoByCones, whole_limit}
+use Rattle.compare_built.specs.Check.{AreAccepted, AreGiven, IsCheckFault, IsJudged}
+use Rattle.cone_check.specs.ConeRounds.{EndsAuto, EndsCones, IsFoundByCones}
+use Rattle.explain_report.specs.Deciding.{MayTakeCones, IsFoundBy}
+use Rattle.explain_report.specs.Deciding.IsFoundBy.{by_cones, in_order}
+use Rattle.compare_built.specs.Devices.{DeviceTexts}
+use Rattle.order_search.specs.Trials.{AreAllGivenUp, EndsAtOnce, EndsSearch, IsGivingUp, IsNamingIn}
+use Rattle.order_search.proofs.Reporting.{any_for, late_fault, late_whole}
+use Rattle.order_search.proofs.Rounds.{accepted, given_up_in_input}
 
 -- ---- what is found
 

@@ -3,14 +3,14 @@ use Rattle.std.proofs.Common.{◌≡◌, ◌∙◌, ap, sym, subst, ℕ, Bool, L
 use Rattle.net_order.specs.declared.order.Match.{Match}
 use Rattle.net_order.specs.declared.order.Order.{Order}
 use Rattle.net_order.specs.OrderText.{order_text}
-use Rattle.check_report.specs.declared.verdict_order.Details.{Details}
-use Rattle.check_report.specs.Devices.{DeviceTexts}
-use Rattle.check_report.specs.declared.strategy.Strategy.{Strategy}
-use Rattle.check_report.specs.declared.strategy.Strategy.TheVariants.{One, Best, Auto, Cones}
-use Rattle.check_report.specs.declared.strategy.Attempt.{Attempt}
-use Rattle.check_report.specs.declared.strategy.Candidate.TheVariants.{Declared}
-use Rattle.check_report.specs.Attempts.{IsAllowed, IsFound}
-use Rattle.check_report.specs.Check.{IsJudged}
+use Rattle.compare_built.specs.declared.verdict_order.Details.{Details}
+use Rattle.compare_built.specs.Devices.{DeviceTexts}
+use Rattle.compare_built.specs.declared.strategy.Strategy.{Strategy}
+use Rattle.compare_built.specs.declared.strategy.Strategy.TheVariants.{One, Best, Auto, Cones}
+use Rattle.compare_built.specs.declared.strategy.Attempt.{Attempt}
+use Rattle.compare_built.specs.declared.strategy.Candidate.TheVariants.{Declared}
+use Rattle.compare_built.specs.Attempts.{IsAllowed, IsFound}
+use Rattle.compare_built.specs.Check.{IsJudged}
 use Rattle.report_text.specs.Lines.{Found}
 use Rattle.check_report.specs.Listing.{IsOrderPrinted}
 

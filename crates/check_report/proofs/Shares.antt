@@ -10,9 +10,9 @@ use Rattle.net_bench.specs.Circuit.{Circuit}
 use Rattle.net_bench.specs.declared.netlist.GateLine.{GateLine}
 use Rattle.net_cone.specs.Cones.{HasGates, IsBelow}
 use Rattle.net_order.specs.Force.{numbers_below}
-use Rattle.check_report.specs.declared.subject.Subject.{Subject}
-use Rattle.check_report.specs.PairSelection.{AreShares, ComesBefore, HasWeight, serpentine_share}
-use Rattle.check_report.proofs.SerpentineOrder.{number_at, numbers_long, shares_long}
+use Rattle.compare_built.specs.declared.subject.Subject.{Subject}
+use Rattle.compare_built.specs.PairSelection.{AreShares, ComesBefore, HasWeight, serpentine_share}
+use Rattle.cone_check.proofs.SerpentineOrder.{number_at, numbers_long, shares_long}
 
 -- ---- a pair's share is one of those that there are
 

@@ -5,8 +5,8 @@ use Rattle.net_order.specs.declared.order.Match.{Match}
 use Rattle.net_order.specs.declared.order.Order.{Order}
 use Rattle.net_order.specs.Order.{NamingModel}
 use Rattle.net_order.specs.OrderText.{order_text}
-use Rattle.check_report.specs.Devices.{DeviceTexts}
-use Rattle.check_report.specs.Check.{ArePaired}
+use Rattle.compare_built.specs.Devices.{DeviceTexts}
+use Rattle.compare_built.specs.Check.{ArePaired}
 
 -- The bytes are the order file of the variables of what the devices gave, from level 0 on.
 pub record IsOrderPrinted (input : DeviceTexts) (how : Match) (order : Order) (bytes : List ℕ) : Type 0 where

@@ -6,13 +6,13 @@ ghost use Rattle.net_order.specs.declared.order.Order.{Order};
 ghost use Rattle.net_order.specs.Order.{NamingModel, IsPairing};
 ghost use Rattle.dd_store.specs.Functions.{Agree, IsLeastDifference};
 ghost use Rattle.report_text.specs.declared.outcome.Outcome.{Outcome};
-ghost use Rattle.check_report.specs.declared.verdict_order.Details.{Details};
-ghost use Rattle.check_report.specs.Conditions.{HasOneOutput, HoldsWhere, restricted, AgreeWhere, IsLeastWhere};
-ghost use Rattle.check_report.specs.declared.subject.Subject.{Subject};
-ghost use Rattle.check_report.specs.PairSelection.{AreShares};
-ghost use Rattle.check_report.specs.Limits.{FitsWithin, Exceeds};
+ghost use Rattle.compare_built.specs.declared.verdict_order.Details.{Details};
+ghost use Rattle.compare_built.specs.Conditions.{HasOneOutput, HoldsWhere, restricted, AgreeWhere, IsLeastWhere};
+ghost use Rattle.compare_built.specs.declared.subject.Subject.{Subject};
+ghost use Rattle.compare_built.specs.PairSelection.{AreShares};
+ghost use Rattle.compare_built.specs.Limits.{FitsWithin, Exceeds};
 ghost use Rattle.report_text.specs.Lines.{Found};
-ghost use Rattle.check_report.specs.Report.{IsReport};
+ghost use Rattle.compare_built.specs.Report.{IsReport};
 
 /// What two netlists need, with a condition or without, is never both within a limit and beyond it.
 pub fn limits()

@@ -4,16 +4,16 @@ ghost use Rattle.expand_work.specs.declared.fault.WaveFault.TheVariants.{Full, N
 ghost use Rattle.net_order.specs.declared.order.Order.{Order as OrderValue};
 ghost use Rattle.net_order.specs.declared.order.Order.TheVariants.{Declared};
 ghost use Rattle.net_order.specs.OrderText.{order_text};
-ghost use Rattle.check_report.specs.Attempts.{AreGivenUp, AreTried, IsAllowed, IsFound, IsGivenUpWithin, MayGoByCones, last_budget};
-ghost use Rattle.check_report.specs.Check.{IsCheckFault};
-ghost use Rattle.check_report.specs.Limits.{AreBeyond};
+ghost use Rattle.compare_built.specs.Attempts.{AreGivenUp, AreTried, IsAllowed, IsFound, IsGivenUpWithin, MayGoByCones, last_budget};
+ghost use Rattle.compare_built.specs.Check.{IsCheckFault};
+ghost use Rattle.compare_built.specs.Limits.{AreBeyond};
 ghost use Rattle.check_report.specs.Listing.{IsOrderPrinted};
-ghost use Rattle.check_report.specs.Tasks.{OfTask};
+ghost use Rattle.order_search.specs.Tasks.{OfTask};
 
 use crate::decision::find_best_order;
-use crate::fault::CheckFault;
-use crate::strategy::{Attempt, Strategy};
-use crate::task::Task;
+use compare_built::fault::CheckFault;
+use compare_built::strategy::{Attempt, Strategy};
+use compare_built::task::Task;
 use expand_work::Monitor;
 use net_order::names::Names;
 use net_order::order::Order;

@@ -3,11 +3,11 @@ ghost use Rattle.std.specs.Prelude.{◌≡◌, IfOk, IfErr, IfSome, IsTrue, opti
 ghost use Rattle.net_bench.specs.Circuit.{circuit};
 ghost use Rattle.net_order.specs.declared.order.Match.{Match};
 ghost use Rattle.net_order.specs.declared.order.Order.{Order};
-ghost use Rattle.check_report.specs.declared.strategy.Strategy.{Strategy};
-ghost use Rattle.check_report.specs.Check.{AreGiven, IsCheckFault, IsCondition, IsConditionFault, IsFaultOfReading};
-ghost use Rattle.check_report.specs.Devices.{HasFailedIn, device_text, device_texts};
+ghost use Rattle.compare_built.specs.declared.strategy.Strategy.{Strategy};
+ghost use Rattle.compare_built.specs.Check.{AreGiven, IsCheckFault, IsCondition, IsConditionFault, IsFaultOfReading};
+ghost use Rattle.compare_built.specs.Devices.{HasFailedIn, device_text, device_texts};
 
-use crate::fault::CheckFault;
+use compare_built::fault::CheckFault;
 use net_bench::device::Source;
 use net_bench::netlist::Netlist;
 use net_bench::reader::read_bench;

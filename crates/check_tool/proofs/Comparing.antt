@@ -1,12 +1,12 @@
 -- From a check to a comparison of two texts, and from that to a run of the texts that the options name.
 use Rattle.std.proofs.Common.{◌≡◌, ◌≢◌, ◌∙◌, ◌++◌, ◌⊎◌, inl, inr, ℕ, Bool, false, List, [], Option, Some, None, Result, Ok, Err, IfOk, IfErr, OnOk, refl, sym, subst}
 use Rattle.std.specs.Prelude.{IfSome}
-use Rattle.check_report.specs.Devices.{device_texts}
-use Rattle.check_report.specs.declared.strategy.Attempt.{Attempt}
-use Rattle.check_report.specs.declared.fault.CheckFault.{CheckFault}
-use Rattle.check_report.specs.declared.fault.CheckFault.TheVariants.{Only, Wave, GivenUp, Write}
-use Rattle.check_report.specs.declared.settings.Settings.{Settings}
-use Rattle.check_report.specs.Attempts.{AreGivenUp, MayGoByCones as MayCheckByCones, NamesOrder as NamesCheckOrder, last_budget}
+use Rattle.compare_built.specs.Devices.{device_texts}
+use Rattle.compare_built.specs.declared.strategy.Attempt.{Attempt}
+use Rattle.compare_built.specs.declared.fault.CheckFault.{CheckFault}
+use Rattle.compare_built.specs.declared.fault.CheckFault.TheVariants.{Only, Wave, GivenUp, Write}
+use Rattle.compare_built.specs.declared.settings.Settings.{Settings}
+use Rattle.compare_built.specs.Attempts.{AreGivenUp, MayGoByCones as MayCheckByCones, NamesOrder as NamesCheckOrder, last_budget}
 use Rattle.expand_work.specs.declared.fault.WaveFault.TheVariants.{Full, NoWorker, TooManyRequests}
 use Rattle.command_line.specs.declared.options.Options.{Options}
 use Rattle.command_line.specs.declared.options.Texts.TheVariants.{Input}

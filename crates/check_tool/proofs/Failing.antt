@@ -1,9 +1,9 @@
 -- Devices that have failed, from the parts of a run to the run.
 use Rattle.std.proofs.Common.{◌≡◌, ◌⊎◌, inl, inr, ℕ, Bool, false, List, Option, Some, None, ◌∙◌, sym, subst, IsTrue}
 use Rattle.std.specs.Prelude.{IfSome}
-use Rattle.check_report.specs.declared.fault.CheckFault.{CheckFault}
-use Rattle.check_report.specs.declared.fault.CheckFault.TheVariants.{First, Second, Given, GivenOutputs, Order as OrderRefused, Only, Explain, Wave, GivenUp, Write, OutOfMemory}
-use Rattle.check_report.specs.Check.{IsCheckFault}
+use Rattle.compare_built.specs.declared.fault.CheckFault.{CheckFault}
+use Rattle.compare_built.specs.declared.fault.CheckFault.TheVariants.{First, Second, Given, GivenOutputs, Order as OrderRefused, Only, Explain, Wave, GivenUp, Write, OutOfMemory}
+use Rattle.compare_built.specs.Check.{IsCheckFault}
 use Rattle.net_order.specs.declared.order.Match.{Match}
 use Rattle.net_order.specs.declared.order.Order.{Order}
 use Rattle.net_order.specs.declared.order.OrderFault.{OrderFault}
@@ -11,11 +11,11 @@ use Rattle.net_order.specs.declared.order.OrderFault.TheVariants.{Read as OrderR
 use Rattle.net_order.specs.OrderText.{IsBadText}
 use Rattle.command_line.specs.declared.options.Texts.{Texts}
 use Rattle.check_tool.specs.Opening.{HasFailedAt}
-use Rattle.check_report.specs.Devices.{device_texts, device_text, HasFailedIn}
+use Rattle.compare_built.specs.Devices.{device_texts, device_text, HasFailedIn}
 use Rattle.std.specs.Borrow.{Bor}
-use Rattle.check_report.specs.declared.strategy.Strategy.{Strategy}
-use Rattle.check_report.specs.declared.settings.Settings.{Settings}
-use Rattle.check_report.specs.Explaining.{IsReportFault}
+use Rattle.compare_built.specs.declared.strategy.Strategy.{Strategy}
+use Rattle.compare_built.specs.declared.settings.Settings.{Settings}
+use Rattle.explain_report.specs.Explaining.{IsReportFault}
 use Rattle.check_tool.specs.Running.{HasFirstFailed, HasSecondFailed, HasGivenFailed, IsGivenFrom, IsOrderRefused}
 
 -- what a failure of the devices implies stands in the cause of a fault in its place

@@ -1,7 +1,7 @@
 -- The netlist that is read once more for a name that it does not have.
 use Rattle.std.proofs.Common.{ℕ, List, Option, Some, None, subst}
 use Rattle.net_bench.specs.Circuit.{Circuit}
-use Rattle.check_report.specs.Check.{Gives}
+use Rattle.compare_built.specs.Check.{Gives}
 use Rattle.check_tool.specs.Running.{IsReadOf}
 
 -- the circuit of a file that is opened once more is that of what it told

@@ -1,18 +1,18 @@
 -- What a check says by its settings, by the options.
 use Rattle.std.proofs.Common.{◌≡◌, inl, inr, sym, subst, ℕ, List, Option, None}
 use Rattle.std.specs.Prelude.{IfSome, IsSomeAnd}
-use Rattle.check_report.specs.Attempts.{AreGivenUp, AreTried as TriesOrders, IsAllowed, IsGivenUpWithin, MayGoByCones as MayCheckByCones, NamesOrder as NamesCheckOrder, last_budget}
-use Rattle.check_report.specs.Check.{IsCheckFault}
-use Rattle.check_report.specs.Devices.{DeviceTexts}
-use Rattle.check_report.specs.Deciding.{IsUnknown}
-use Rattle.check_report.specs.Dumping.{IsReportWithVcd}
-use Rattle.check_report.specs.Explaining.{IsReportFault}
-use Rattle.check_report.specs.Limits.{AreBeyond}
-use Rattle.check_report.specs.declared.strategy.Attempt.{Attempt}
-use Rattle.check_report.specs.declared.strategy.Strategy.{Strategy}
-use Rattle.check_report.specs.declared.fault.CheckFault.{CheckFault}
-use Rattle.check_report.specs.declared.pair_filter.PairFilter.{PairFilter}
-use Rattle.check_report.specs.declared.settings.Settings.{Settings}
+use Rattle.compare_built.specs.Attempts.{AreGivenUp, AreTried as TriesOrders, IsAllowed, IsGivenUpWithin, MayGoByCones as MayCheckByCones, NamesOrder as NamesCheckOrder, last_budget}
+use Rattle.compare_built.specs.Check.{IsCheckFault}
+use Rattle.compare_built.specs.Devices.{DeviceTexts}
+use Rattle.explain_report.specs.Deciding.{IsUnknown}
+use Rattle.explain_report.specs.Dumping.{IsReportWithVcd}
+use Rattle.explain_report.specs.Explaining.{IsReportFault}
+use Rattle.compare_built.specs.Limits.{AreBeyond}
+use Rattle.compare_built.specs.declared.strategy.Attempt.{Attempt}
+use Rattle.compare_built.specs.declared.strategy.Strategy.{Strategy}
+use Rattle.compare_built.specs.declared.fault.CheckFault.{CheckFault}
+use Rattle.compare_built.specs.declared.pair_filter.PairFilter.{PairFilter}
+use Rattle.compare_built.specs.declared.settings.Settings.{Settings}
 use Rattle.report_text.specs.declared.outcome.Outcome.{Outcome}
 use Rattle.net_order.specs.declared.order.Match.{Match}
 use Rattle.net_order.specs.declared.order.Order.{Order}

@@ -4,17 +4,17 @@ use Rattle.std.specs.Prelude.{◌≡◌, ◌≢◌, ◌⊎◌, ℕ, Bool, false,
 use Rattle.std.specs.Io.KnownBytes.{Appends}
 use Rattle.net_order.specs.declared.order.Order.{Order}
 use Rattle.expand_work.specs.declared.fault.WaveFault.TheVariants.{Full, NoWorker, TooManyRequests}
-use Rattle.check_report.specs.Devices.{DeviceTexts, device_texts}
-use Rattle.check_report.specs.Limits.{AreBeyond}
-use Rattle.check_report.specs.Attempts.{AreGivenUp, AreTried as TriesOrders, IsAllowed, IsGivenUpWithin, MayGoByCones as MayCheckByCones}
-use Rattle.check_report.specs.Attempts.{NamesOrder as NamesCheckOrder, last_budget}
-use Rattle.check_report.specs.Deciding.{IsUnknown}
-use Rattle.check_report.specs.Explaining.{IsReportFault}
-use Rattle.check_report.specs.declared.fault.CheckFault.{CheckFault}
-use Rattle.check_report.specs.declared.fault.CheckFault.TheVariants.{Only, Wave, GivenUp, Write}
-use Rattle.check_report.specs.declared.strategy.Strategy.{Strategy}
-use Rattle.check_report.specs.declared.pair_filter.PairFilter.{PairFilter}
-use Rattle.check_report.specs.declared.settings.Settings.{Settings}
+use Rattle.compare_built.specs.Devices.{DeviceTexts, device_texts}
+use Rattle.compare_built.specs.Limits.{AreBeyond}
+use Rattle.compare_built.specs.Attempts.{AreGivenUp, AreTried as TriesOrders, IsAllowed, IsGivenUpWithin, MayGoByCones as MayCheckByCones}
+use Rattle.compare_built.specs.Attempts.{NamesOrder as NamesCheckOrder, last_budget}
+use Rattle.explain_report.specs.Deciding.{IsUnknown}
+use Rattle.explain_report.specs.Explaining.{IsReportFault}
+use Rattle.compare_built.specs.declared.fault.CheckFault.{CheckFault}
+use Rattle.compare_built.specs.declared.fault.CheckFault.TheVariants.{Only, Wave, GivenUp, Write}
+use Rattle.compare_built.specs.declared.strategy.Strategy.{Strategy}
+use Rattle.compare_built.specs.declared.pair_filter.PairFilter.{PairFilter}
+use Rattle.compare_built.specs.declared.settings.Settings.{Settings}
 use Rattle.command_line.specs.declared.options.Options.{Options}
 use Rattle.check_tool.specs.declared.done.Done.{Done}
 use Rattle.check_tool.specs.declared.fault.ToolFault.{ToolFault}

@@ -13,13 +13,13 @@ use Rattle.net_order.specs.declared.order.OrderFault.TheVariants.{OutOfMemory as
 use Rattle.net_order.specs.declared.order.OrderFault.TheVariants.{Read as OrderReadFailed}
 use Rattle.expand_work.specs.declared.fault.WaveFault.{WaveFault}
 use Rattle.expand_work.specs.declared.fault.WaveFault.TheVariants.{OutOfMemory as NoWaveMemory, NoWorker, Full, TooManyRequests}
-use Rattle.check_report.specs.declared.fault.CheckFault.{CheckFault}
-use Rattle.check_report.specs.declared.fault.CheckFault.TheVariants.{First, Second, Given, GivenOutputs, Order, Only, Explain, Wave}
-use Rattle.check_report.specs.declared.fault.CheckFault.TheVariants.{GivenUp, Write, OutOfMemory as NoCheckMemory}
+use Rattle.compare_built.specs.declared.fault.CheckFault.{CheckFault}
+use Rattle.compare_built.specs.declared.fault.CheckFault.TheVariants.{First, Second, Given, GivenOutputs, Order, Only, Explain, Wave}
+use Rattle.compare_built.specs.declared.fault.CheckFault.TheVariants.{GivenUp, Write, OutOfMemory as NoCheckMemory}
 use Rattle.report_text.specs.declared.cause.PairName.{PairName}
-use Rattle.check_report.specs.Check.{Gives}
-use Rattle.check_report.specs.Explaining.{IsTargetIn}
-use Rattle.check_report.specs.PairSelection.{IsNamedIn}
+use Rattle.compare_built.specs.Check.{Gives}
+use Rattle.explain_report.specs.Explaining.{IsTargetIn}
+use Rattle.compare_built.specs.PairSelection.{IsNamedIn}
 use Rattle.command_line.specs.declared.options.Picks.{Picks}
 use Rattle.command_line.specs.declared.options.Picks.TheVariants.{All as AllPicks, Only as OnlyPicks, Share as SharePicks}
 use Rattle.command_line.specs.declared.options.Options.{Options}

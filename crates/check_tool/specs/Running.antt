@@ -12,20 +12,20 @@ use Rattle.net_order.specs.declared.order.OrderFault.{OrderFault}
 use Rattle.net_order.specs.declared.order.OrderFault.TheVariants.{Read as OrderReadFailed, OutOfMemory as NoOrderMemory}
 use Rattle.net_order.specs.OrderText.{IsOrderText, IsBadText}
 use Rattle.check_report.specs.Listing.{IsOrderPrinted}
-use Rattle.check_report.specs.Check.{IsCheckFault}
-use Rattle.check_report.specs.Devices.{DeviceTexts, device_texts}
-use Rattle.check_report.specs.declared.fault.CheckFault.{CheckFault}
-use Rattle.check_report.specs.Limits.{AreBeyond}
-use Rattle.check_report.specs.Attempts.{AreGivenUp, AreTried as TriesOrders, IsAllowed, IsFound, IsGivenUpWithin, last_budget}
-use Rattle.check_report.specs.declared.strategy.Attempt.{Attempt}
-use Rattle.check_report.specs.declared.strategy.Strategy.{Strategy}
-use Rattle.check_report.specs.declared.strategy.Strategy.TheVariants.{One as Ordered, Best as TheBest, Auto as Found, Cones as ByCones}
-use Rattle.check_report.specs.declared.pair_filter.PairFilter.{PairFilter}
-use Rattle.check_report.specs.declared.pair_filter.PairFilter.TheVariants.{All as AllPairs, Only as OnlyPairs, Share as SharedPairs}
-use Rattle.check_report.specs.declared.settings.Settings.{Settings}
-use Rattle.check_report.specs.Deciding.{IsUnknown}
-use Rattle.check_report.specs.Dumping.{IsReportWithVcd, bytes_in}
-use Rattle.check_report.specs.Explaining.{IsUnexplained}
+use Rattle.compare_built.specs.Check.{IsCheckFault}
+use Rattle.compare_built.specs.Devices.{DeviceTexts, device_texts}
+use Rattle.compare_built.specs.declared.fault.CheckFault.{CheckFault}
+use Rattle.compare_built.specs.Limits.{AreBeyond}
+use Rattle.compare_built.specs.Attempts.{AreGivenUp, AreTried as TriesOrders, IsAllowed, IsFound, IsGivenUpWithin, last_budget}
+use Rattle.compare_built.specs.declared.strategy.Attempt.{Attempt}
+use Rattle.compare_built.specs.declared.strategy.Strategy.{Strategy}
+use Rattle.compare_built.specs.declared.strategy.Strategy.TheVariants.{One as Ordered, Best as TheBest, Auto as Found, Cones as ByCones}
+use Rattle.compare_built.specs.declared.pair_filter.PairFilter.{PairFilter}
+use Rattle.compare_built.specs.declared.pair_filter.PairFilter.TheVariants.{All as AllPairs, Only as OnlyPairs, Share as SharedPairs}
+use Rattle.compare_built.specs.declared.settings.Settings.{Settings}
+use Rattle.explain_report.specs.Deciding.{IsUnknown}
+use Rattle.explain_report.specs.Dumping.{IsReportWithVcd, bytes_in}
+use Rattle.explain_report.specs.Explaining.{IsUnexplained}
 use Rattle.report_text.specs.declared.cause.PairName.{PairName}
 use Rattle.report_text.specs.declared.outcome.PairKind.{PairKind}
 use Rattle.report_text.specs.declared.outcome.PairKind.TheVariants.{Output, NextState}

@@ -1,7 +1,7 @@
 -- What a run saves in the file that it is given for that.
 use Rattle.std.specs.Prelude.{◌≡◌, ℕ, Bool, List, [], ◌∷◌, Option, Some, None}
 use Rattle.std.specs.Borrow.{Bor}
-use Rattle.check_report.specs.Dumping.{bytes_in}
+use Rattle.explain_report.specs.Dumping.{bytes_in}
 use Rattle.command_line.specs.declared.options.Options.{Options}
 use Rattle.check_tool.specs.declared.done.Done.{Done}
 use Rattle.check_tool.specs.declared.done.Done.TheVariants.{Compared, OrderPrinted}

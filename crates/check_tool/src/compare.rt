@@ -1,7 +1,7 @@
 //! The comparison of two texts that are at hand, behind the files that are opened for it.
 ghost use Rattle.std.specs.Prelude.{◌≡◌, ◌≢◌, ◌⊎◌, None, IfOk, IfErr, OnOk, OnErr, IsTrue, Err};
-ghost use Rattle.check_report.specs.Devices.{HasFailedIn, device_text, device_texts};
-ghost use Rattle.check_report.specs.declared.fault.CheckFault.TheVariants.{Write};
+ghost use Rattle.compare_built.specs.Devices.{HasFailedIn, device_text, device_texts};
+ghost use Rattle.compare_built.specs.declared.fault.CheckFault.TheVariants.{Write};
 ghost use Rattle.check_tool.specs.Comparing.{IsChecked, IsUnchecked, IsReady, IsUnready, IsComparison, IsFailedComparison};
 ghost use Rattle.check_tool.specs.Ending.{written};
 ghost use Rattle.check_tool.specs.Opening.{HasFailedAt};

@@ -3,7 +3,7 @@ ghost use Rattle.std.specs.Prelude.{◌≡◌, ◌≤◌, ◌++◌, [], codes, d
 ghost use Rattle.net_bench.specs.FaultText.{fault_text};
 ghost use Rattle.net_order.specs.Fault.{order_fault_text};
 ghost use Rattle.expand_work.specs.Fault.{wave_fault_text};
-ghost use Rattle.check_report.specs.Texts.{check_fault_text};
+ghost use Rattle.compare_built.specs.Texts.{check_fault_text};
 ghost use Rattle.check_tool.specs.Faults.{file_role_text, tool_fault_text, words_text, text_status, order_status, check_status, fault_status};
 
 use crate::folder::Obstacle;

@@ -1,8 +1,8 @@
 //! The files that a run opens, and what is read of them before its texts are compared.
 ghost use Rattle.std.specs.Prelude.{◌≡◌, ◌∷◌, [], List, IfOk, IfErr, OnOk, IfSome, Some, is_ok};
-ghost use Rattle.check_report.specs.declared.strategy.Strategy.{Strategy as StrategyValue};
+ghost use Rattle.compare_built.specs.declared.strategy.Strategy.{Strategy as StrategyValue};
 ghost use Rattle.command_line.specs.declared.options.OrderChoice.TheVariants.{Auto, Cones};
-ghost use Rattle.check_report.specs.Devices.{device_text};
+ghost use Rattle.compare_built.specs.Devices.{device_text};
 ghost use Rattle.net_order.specs.OrderText.{IsOrderText};
 ghost use Rattle.check_tool.specs.Opening.{Extends, HasFailedAt, Try, opened};
 ghost use Rattle.check_tool.specs.Running.{IsOpenFault, order_paths, path_in, later_paths, IsGivenOf, IsGivenFrom, IsOrderOf};

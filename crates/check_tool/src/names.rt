@@ -1,8 +1,8 @@
 //! The name that a fault refuses, of those that pick pairs and of those that are to be explained.
 ghost use Rattle.std.specs.Prelude.{◌≡◌, ◌++◌, ◌∷◌, [], List, Contains, IfOk, IfSome, string_bytes};
 ghost use Rattle.net_bench.specs.Circuit.{circuit};
-ghost use Rattle.check_report.specs.Check.{Gives};
-ghost use Rattle.check_report.specs.PairSelection.{IsNamedIn};
+ghost use Rattle.compare_built.specs.Check.{Gives};
+ghost use Rattle.compare_built.specs.PairSelection.{IsNamedIn};
 ghost use Rattle.check_tool.specs.Helping.{names_text, picked_names, refused_names, refused_paths, IsFirstCircuit, IsQuoted};
 ghost use Rattle.check_tool.specs.Helping.{IsRefusedName, IsUnknownTargetWord, IsUnknownPick, IsUnknownTarget};
 ghost use Rattle.check_tool.specs.Opening.{AreTried, Extends, Try};

@@ -1,6 +1,6 @@
 //! A run with its options, over any folder, input and output.
 ghost use Rattle.std.specs.Prelude.{◌≡◌, ◌≢◌, ℕ, Bool, false, List, Option, None, IfOk, IfErr, OnOk, OnErr, IfSome, IsTrue, Err};
-ghost use Rattle.check_report.specs.declared.fault.CheckFault.TheVariants.{Only, Wave, GivenUp, Write};
+ghost use Rattle.compare_built.specs.declared.fault.CheckFault.TheVariants.{Only, Wave, GivenUp, Write};
 ghost use Rattle.command_line.specs.declared.options.Texts.TheVariants.{Input, Files, InputAndFile, FileAndInput};
 ghost use Rattle.expand_work.specs.declared.fault.WaveFault.TheVariants.{Full, NoWorker, TooManyRequests};
 ghost use Rattle.check_tool.specs.Comparing.{IsRunOf, IsFailedRun};

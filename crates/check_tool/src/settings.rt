@@ -1,6 +1,6 @@
 //! From the options of a run to the settings of its check.
 ghost use Rattle.std.specs.Prelude.{◌≡◌, ◌≤◌, ◌++◌, List, ℕ, IfOk, IfErr, map, take};
-ghost use Rattle.check_report.specs.declared.strategy.Strategy.{Strategy as StrategyValue};
+ghost use Rattle.compare_built.specs.declared.strategy.Strategy.{Strategy as StrategyValue};
 ghost use Rattle.command_line.specs.declared.options.OrderChoice.{OrderChoice as OrderValue};
 ghost use Rattle.check_tool.specs.Running.{AreSettings, AreTargetsOf, IsKindAndName, IsPickedOf, limit_of, limit_in};
 

@@ -16,9 +16,9 @@ use Rattle.gate_plan.specs.Need.{IsComplete}
 use Rattle.gate_plan.specs.Needing.{IsNeededValue}
 use Rattle.gate_plan.proofs.Counted.{no_node, not_complete}
 use Rattle.gate_plan.proofs.Needs.{complete}
-use Rattle.check_report.specs.Conditions.{HasOneOutput}
-use Rattle.check_report.specs.Limits.{Exceeds, FitsWithin, IsComparedValue, IsNeededIn}
-use Rattle.check_report.proofs.Subjects.{subjects_inside}
+use Rattle.compare_built.specs.Conditions.{HasOneOutput}
+use Rattle.compare_built.specs.Limits.{Exceeds, FitsWithin, IsComparedValue, IsNeededIn}
+use Rattle.compare_built.proofs.Subjects.{subjects_inside}
 use Rattle.limit_law.proofs.Drawing.{IsGood, IsStuck}
 use Rattle.limit_law.proofs.Covering.{Covered, Covers, covers_both}
 use Rattle.limit_law.proofs.Values.{all_read, all_read_with, covers_built, covers_compared}

@@ -13,12 +13,12 @@ use Rattle.net_order.specs.Order.{NamingModel}
 use Rattle.gate_plan.specs.Building.{Levelled, levelled}
 use Rattle.gate_plan.specs.Folds.{IsFoldValue, IsVariable, value_so_far}
 use Rattle.gate_plan.specs.Needing.{IsValueOf}
-use Rattle.check_report.specs.Conditions.{HasOneOutput, HoldsWhere, output_of, restricted}
-use Rattle.check_report.specs.Comparing.{IsInside}
-use Rattle.check_report.specs.Limits.{IsComparedValue, IsFunctionIn}
-use Rattle.check_report.specs.Report.{subjects}
-use Rattle.check_report.specs.declared.subject.Subject.{Subject}
-use Rattle.check_report.proofs.Determined.{one_function, output_inside}
+use Rattle.compare_built.specs.Conditions.{HasOneOutput, HoldsWhere, output_of, restricted}
+use Rattle.compare_built.specs.Comparing.{IsInside}
+use Rattle.compare_built.specs.Limits.{IsComparedValue, IsFunctionIn}
+use Rattle.compare_built.specs.Report.{subjects}
+use Rattle.compare_built.specs.declared.subject.Subject.{Subject}
+use Rattle.compare_built.proofs.Determined.{one_function, output_inside}
 use Rattle.limit_law.proofs.Covering.{Covers, covers_one, covers_both, covers_less, covers_below, covers_list}
 
 -- ---- the labels of one netlist

@@ -12,8 +12,8 @@ ghost use Rattle.net_bench.specs.Circuit.{Net, IsNet, circuit};
 ghost use Rattle.net_order.specs.declared.order.Match.{Match};
 ghost use Rattle.net_order.specs.declared.order.Order.{Order};
 ghost use Rattle.net_order.specs.Order.{NamingModel, IsPairing};
-ghost use Rattle.check_report.specs.Conditions.{HasOneOutput};
-ghost use Rattle.check_report.specs.Limits.{FitsWithin, Exceeds};
+ghost use Rattle.compare_built.specs.Conditions.{HasOneOutput};
+ghost use Rattle.compare_built.specs.Limits.{FitsWithin, Exceeds};
 
 /// What two netlists need, with a condition or without, is within a limit or beyond it.
 pub fn fits_or_exceeds()

@@ -3,8 +3,8 @@ use Rattle.std.proofs.lemmas.Result.{err_from_is_err_and}
 use Rattle.std.specs.Io.KnownBytes.{Appends}
 use Rattle.report_text.specs.Writing.{AppendsFront}
 use Rattle.expand_work.specs.declared.fault.WaveFault.TheVariants.{NoWorker}
-use Rattle.check_report.specs.declared.fault.CheckFault.TheVariants.{GivenUp, Only, Wave}
-use Rattle.check_report.proofs.Trying.{found_accepted}
+use Rattle.compare_built.specs.declared.fault.CheckFault.TheVariants.{GivenUp, Only, Wave}
+use Rattle.explain_report.proofs.Trying.{found_accepted}
 use Rattle.check_report.proofs.check_run.check.Goals as goal
 
 pub returns-in-Ok-clause-report : goal.returns-in-Ok-clause-report

@@ -1,5 +1,5 @@
 use Rattle.std.proofs.lemmas.Result.{err_from_is_err_and}
-use Rattle.check_report.proofs.Trying.{some_order, given_as, one_output_of, none_failed_in}
+use Rattle.explain_report.proofs.Trying.{some_order, given_as, one_output_of, none_failed_in}
 use Rattle.check_report.proofs.check_run.judge.Goals as goal
 
 pub invariant_of-task : goal.invariant_of-task

@@ -1,6 +1,6 @@
 use Rattle.std.proofs.lemmas.Result.{err_from_is_err_and}
-use Rattle.check_report.proofs.Explaining.{early_report_fault, none_failed_report}
-use Rattle.check_report.proofs.Trying.{some_order, given_as, one_output_of}
+use Rattle.explain_report.proofs.Explaining.{early_report_fault, none_failed_report}
+use Rattle.explain_report.proofs.Trying.{some_order, given_as, one_output_of}
 use Rattle.check_report.proofs.check_run.reported.Goals as goal
 
 pub invariant_of-task : goal.invariant_of-task

@@ -6,19 +6,19 @@ use Rattle.net_order.specs.declared.order.OrderFault.TheVariants.{TooManyInputs}
 use Rattle.net_order.specs.Order.{NamingModel, condition, max_variables}
 use Rattle.std.proofs.lemmas.Bool.{true≢false}
 use Rattle.report_text.specs.Lines.{Found}
-use Rattle.check_report.specs.declared.strategy.Attempt.{Attempt}
-use Rattle.check_report.specs.declared.strategy.Candidate.TheVariants.{Declared}
-use Rattle.check_report.specs.declared.strategy.Strategy.TheVariants.{Auto}
-use Rattle.check_report.specs.declared.fault.CheckFault.TheVariants.{Only, Order as OrderRefused}
-use Rattle.check_report.specs.Attempts.{AreGivenUp, IsAllowed, IsBudget, IsChosen, MayGoByCones, order_of}
-use Rattle.check_report.specs.Check.{IsCheckFault}
-use Rattle.check_report.specs.Deciding.IsFoundBy.{in_order}
-use Rattle.check_report.specs.Trials.{AreAllGivenUp, IsNamingIn, IsPairingIn}
+use Rattle.compare_built.specs.declared.strategy.Attempt.{Attempt}
+use Rattle.compare_built.specs.declared.strategy.Candidate.TheVariants.{Declared}
+use Rattle.compare_built.specs.declared.strategy.Strategy.TheVariants.{Auto}
+use Rattle.compare_built.specs.declared.fault.CheckFault.TheVariants.{Only, Order as OrderRefused}
+use Rattle.compare_built.specs.Attempts.{AreGivenUp, IsAllowed, IsBudget, IsChosen, MayGoByCones, order_of}
+use Rattle.compare_built.specs.Check.{IsCheckFault}
+use Rattle.explain_report.specs.Deciding.IsFoundBy.{in_order}
+use Rattle.order_search.specs.Trials.{AreAllGivenUp, IsNamingIn, IsPairingIn}
 use Rattle.check_report.proofs.Findings.{allowed_fault, auto_cause, many_cause}
-use Rattle.check_report.proofs.Namings.{as_pairing}
+use Rattle.order_search.proofs.Namings.{as_pairing}
 use Rattle.check_report.proofs.Printing.{never_tried}
-use Rattle.check_report.proofs.Reporting.{late_fault}
-use Rattle.check_report.proofs.Rounds.{accepted_paired, judged, order_ends, earlier_in_input, within}
+use Rattle.order_search.proofs.Reporting.{late_fault}
+use Rattle.order_search.proofs.Rounds.{accepted_paired, judged, order_ends, earlier_in_input, within}
 use Rattle.check_report.proofs.decision.compare_auto.Goals as goal
 
 -- ---- no naming

@@ -1,6 +1,6 @@
 use Rattle.std.proofs.Common.{subst, sym, inr}
-use Rattle.check_report.specs.Deciding.{MayTakeCones}
-use Rattle.check_report.proofs.Rounds.{order_ends}
+use Rattle.explain_report.specs.Deciding.{MayTakeCones}
+use Rattle.order_search.proofs.Rounds.{order_ends}
 use Rattle.check_report.proofs.decision.compare_by_cones.Goals as goal
 
 pub returns-in-Ok-clause-found : goal.returns-in-Ok-clause-found

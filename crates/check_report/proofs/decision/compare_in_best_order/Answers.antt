@@ -1,8 +1,8 @@
 use Rattle.std.proofs.Common.{◌≡◌, ap, sym, subst, refl, Err}
 use Rattle.expand_work.specs.declared.fault.WaveFault.TheVariants.{Full}
-use Rattle.check_report.specs.declared.fault.CheckFault.TheVariants.{Wave, GivenUp}
-use Rattle.check_report.specs.Attempts.{IsGivenUpWithin, order_of}
-use Rattle.check_report.specs.Limits.{AreBeyond}
+use Rattle.compare_built.specs.declared.fault.CheckFault.TheVariants.{Wave, GivenUp}
+use Rattle.compare_built.specs.Attempts.{IsGivenUpWithin, order_of}
+use Rattle.compare_built.specs.Limits.{AreBeyond}
 use Rattle.check_report.proofs.decision.compare_in_best_order.Goals as goal
 
 pub returns-in-Ok-clause-chosen : goal.returns-in-Ok-clause-chosen

@@ -4,11 +4,11 @@ use Rattle.net_bench.specs.Circuit.{circuit}
 use Rattle.net_order.specs.Order.{NamingModel, condition}
 use Rattle.expand_work.specs.declared.fault.WaveFault.TheVariants.{Full, TooManyRequests}
 use Rattle.report_text.specs.Lines.{Found}
-use Rattle.check_report.specs.declared.fault.CheckFault.TheVariants.{Wave}
-use Rattle.check_report.specs.Limits.{AreBeyond}
-use Rattle.check_report.proofs.Reporting.{late_fault}
-use Rattle.check_report.proofs.Rounds.{accepted_paired, beyond, judged, within}
-use Rattle.check_report.proofs.Widening.{wide_given}
+use Rattle.compare_built.specs.declared.fault.CheckFault.TheVariants.{Wave}
+use Rattle.compare_built.specs.Limits.{AreBeyond}
+use Rattle.order_search.proofs.Reporting.{late_fault}
+use Rattle.order_search.proofs.Rounds.{accepted_paired, beyond, judged, within}
+use Rattle.compare_built.proofs.Widening.{wide_given}
 use Rattle.check_report.proofs.decision.compare_in_order.Goals as goal
 
 pub returns-in-Ok-clause-chosen : goal.returns-in-Ok-clause-chosen

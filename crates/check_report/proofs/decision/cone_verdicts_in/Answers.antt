@@ -1,7 +1,7 @@
 use Rattle.std.proofs.Common.{◌≡◌, ◌∙◌, ap, Err}
 use Rattle.net_bench.specs.Circuit.{circuit}
 use Rattle.net_order.specs.declared.order.OrderFault.TheVariants.{TooManyInputs}
-use Rattle.check_report.specs.declared.fault.CheckFault.TheVariants.{Only, Order as OrderRefused}
+use Rattle.compare_built.specs.declared.fault.CheckFault.TheVariants.{Only, Order as OrderRefused}
 use Rattle.check_report.proofs.Findings.{cones_end, cones_fault, cones_whole, found_by_cones}
 use Rattle.check_report.proofs.decision.cone_verdicts_in.Goals as goal
 

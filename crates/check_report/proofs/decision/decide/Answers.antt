@@ -1,5 +1,5 @@
 use Rattle.std.proofs.Common.{refl, subst, sym}
-use Rattle.check_report.specs.Attempts.{IsAllowed, MayGoByCones, NamesOrder}
+use Rattle.compare_built.specs.Attempts.{IsAllowed, MayGoByCones, NamesOrder}
 use Rattle.net_order.specs.declared.order.Order.TheVariants as orders
 use Rattle.check_report.proofs.Findings.{allowed_fault, found_in_order, never_full, never_given_up, never_past, never_served, never_written, same_allowed}
 use Rattle.check_report.proofs.Printing.{never_tried}

@@ -2,9 +2,9 @@ use Rattle.std.proofs.Common.{◌≡◌, ◌∙◌, ap, refl, inr, Err}
 use Rattle.expand_work.specs.declared.fault.WaveFault.TheVariants.{Full}
 use Rattle.net_order.specs.Order.{NamingModel}
 use Rattle.report_text.specs.Lines.{Found}
-use Rattle.check_report.specs.declared.fault.CheckFault.TheVariants.{Wave, GivenUp}
-use Rattle.check_report.specs.Attempts.{order_of}
-use Rattle.check_report.proofs.Rounds.{judged, earlier_in_input, beyond_in_input, given_up_in_input, within}
+use Rattle.compare_built.specs.declared.fault.CheckFault.TheVariants.{Wave, GivenUp}
+use Rattle.compare_built.specs.Attempts.{order_of}
+use Rattle.order_search.proofs.Rounds.{judged, earlier_in_input, beyond_in_input, given_up_in_input, within}
 use Rattle.check_report.proofs.decision.find_best_order.Goals as goal
 
 pub returns-in-Ok-clause-judged : goal.returns-in-Ok-clause-judged

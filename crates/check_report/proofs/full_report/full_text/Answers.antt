@@ -1,12 +1,12 @@
 use Rattle.std.proofs.Common.{◌∙◌, ◌++◌, ℕ, List, ap₂, sym}
 use Rattle.std.specs.Prelude.{is_some}
 use Rattle.net_order.specs.Order.{condition}
-use Rattle.check_report.specs.Attempts.{reported_kind}
-use Rattle.check_report.specs.Causing.{causes_in}
-use Rattle.check_report.specs.PairSelection.{share_of}
-use Rattle.check_report.proofs.Explaining.{condition_some, condition_in_input}
-use Rattle.check_report.proofs.Rounds.{memory_ends}
-use Rattle.check_report.proofs.Trying.{form_as}
+use Rattle.compare_built.specs.Attempts.{reported_kind}
+use Rattle.explain_report.specs.Causing.{causes_in}
+use Rattle.compare_built.specs.PairSelection.{share_of}
+use Rattle.explain_report.proofs.Explaining.{condition_some, condition_in_input}
+use Rattle.order_search.proofs.Rounds.{memory_ends}
+use Rattle.explain_report.proofs.Trying.{form_as}
 use Rattle.check_report.proofs.full_report.full_text.Goals as goal
 
 pub returns-in-Ok-extend_from_slice-clause-text : goal.returns-in-Ok-extend_from_slice-clause-text

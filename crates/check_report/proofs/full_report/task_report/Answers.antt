@@ -1,4 +1,4 @@
-use Rattle.check_report.proofs.Trying.{found_accepted}
+use Rattle.explain_report.proofs.Trying.{found_accepted}
 use Rattle.check_report.proofs.full_report.task_report.Goals as goal
 
 pub full_text-requires-clause-accepted : goal.full_text-requires-clause-accepted

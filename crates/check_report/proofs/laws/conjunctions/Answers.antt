@@ -1,6 +1,6 @@
 use Rattle.std.proofs.Common.{refl}
-use Rattle.check_report.specs.Conditions.{restricted}
-use Rattle.check_report.proofs.Restricting.{agree_both, agree_where, least_both, least_where}
+use Rattle.compare_built.specs.Conditions.{restricted}
+use Rattle.compare_built.proofs.Restricting.{agree_both, agree_where, least_both, least_where}
 use Rattle.check_report.proofs.laws.conjunctions.Goals as goal
 
 pub returns : goal.returns

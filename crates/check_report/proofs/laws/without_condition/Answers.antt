@@ -1,4 +1,4 @@
-use Rattle.check_report.proofs.Restricting.{all_equal, all_least, all_whole}
+use Rattle.compare_built.proofs.Restricting.{all_equal, all_least, all_whole}
 use Rattle.check_report.proofs.laws.without_condition.Goals as goal
 
 pub returns : goal.returns

@@ -1,4 +1,4 @@
-use Rattle.check_report.proofs.Trying.{some_order, given_as, one_output_of, none_failed_in}
+use Rattle.explain_report.proofs.Trying.{some_order, given_as, one_output_of, none_failed_in}
 use Rattle.check_report.proofs.listing.listed.Goals as goal
 
 pub invariant_of-task : goal.invariant_of-task

@@ -1,9 +1,9 @@
 use Rattle.std.proofs.Common.{◌≡◌, ap, subst, Err}
 use Rattle.std.specs.Io.KnownBytes.{Appends}
 use Rattle.report_text.specs.Writing.{AppendsFront}
-use Rattle.check_report.specs.declared.fault.CheckFault.TheVariants.{GivenUp}
+use Rattle.compare_built.specs.declared.fault.CheckFault.TheVariants.{GivenUp}
 use Rattle.check_report.proofs.Printing.{found_allowed}
-use Rattle.check_report.proofs.Trying.{accepted_in}
+use Rattle.explain_report.proofs.Trying.{accepted_in}
 use Rattle.check_report.proofs.listing.print_order.Goals as goal
 
 pub returns-in-Ok-write_whole-clause-order : goal.returns-in-Ok-write_whole-clause-order

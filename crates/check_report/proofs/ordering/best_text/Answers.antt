@@ -1,13 +1,13 @@
 use Rattle.std.proofs.Common.{◌≡◌, ◌∙◌, ap, sym, subst, refl, Err}
 use Rattle.expand_work.specs.declared.fault.WaveFault.TheVariants.{Full}
 use Rattle.net_order.specs.OrderText.{order_text}
-use Rattle.check_report.specs.Details.{details_in}
-use Rattle.check_report.specs.declared.fault.CheckFault.TheVariants.{Wave, GivenUp}
-use Rattle.check_report.specs.Attempts.{IsGivenUpWithin, order_of}
-use Rattle.check_report.specs.Check.{IsCheckFault}
-use Rattle.check_report.specs.Limits.{AreBeyond}
+use Rattle.compare_built.specs.Details.{details_in}
+use Rattle.compare_built.specs.declared.fault.CheckFault.TheVariants.{Wave, GivenUp}
+use Rattle.compare_built.specs.Attempts.{IsGivenUpWithin, order_of}
+use Rattle.compare_built.specs.Check.{IsCheckFault}
+use Rattle.compare_built.specs.Limits.{AreBeyond}
 use Rattle.check_report.proofs.Printing.{printed}
-use Rattle.check_report.proofs.Trying.{accepted_in}
+use Rattle.explain_report.proofs.Trying.{accepted_in}
 use Rattle.check_report.proofs.ordering.best_text.Goals as goal
 
 pub returns-in-Ok-file_of-clause-text : goal.returns-in-Ok-file_of-clause-text

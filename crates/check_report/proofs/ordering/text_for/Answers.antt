@@ -1,7 +1,7 @@
 use Rattle.std.proofs.Common.{refl, subst, sym}
 use Rattle.net_order.specs.declared.order.Order.TheVariants as orders
-use Rattle.check_report.specs.declared.strategy.Candidate.TheVariants.{Declared}
-use Rattle.check_report.specs.Attempts.{IsAllowed, MayGoByCones}
+use Rattle.compare_built.specs.declared.strategy.Candidate.TheVariants.{Declared}
+use Rattle.compare_built.specs.Attempts.{IsAllowed, MayGoByCones}
 use Rattle.check_report.proofs.Findings.{allowed_fault, same_allowed}
 use Rattle.check_report.proofs.Printing.{never_tried}
 use Rattle.check_report.proofs.ordering.text_for.Goals as goal

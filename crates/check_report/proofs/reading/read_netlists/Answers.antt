@@ -1,6 +1,6 @@
 use Rattle.std.proofs.Common.{◌∙◌, ap, Err}
 use Rattle.net_bench.specs.Circuit.{circuit}
-use Rattle.check_report.proofs.Trying.{condition_fault}
+use Rattle.explain_report.proofs.Trying.{condition_fault}
 use Rattle.check_report.proofs.reading.read_netlists.Goals as goal
 
 pub returns-in-Err-clause-fault : goal.returns-in-Err-clause-fault

@@ -1,5 +1,5 @@
 use Rattle.std.proofs.Common.{Err, ap, inr, refl}
-use Rattle.check_report.specs.Devices.{device_text, device_texts}
+use Rattle.compare_built.specs.Devices.{device_text, device_texts}
 use Rattle.check_tool.specs.declared.done.Done.TheVariants.{Compared, OrderPrinted}
 use Rattle.check_tool.proofs.OptionsToSettings.{given_up_unbound, none_past, earlier_given_up_unbound, report_unbound}
 use Rattle.check_tool.proofs.compare.check_or_print.Goals as goal

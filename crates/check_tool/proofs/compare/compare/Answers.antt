@@ -1,6 +1,6 @@
 use Rattle.std.proofs.Common.{IsTrue, inl}
 use Rattle.std.proofs.lemmas.Result.{err_from_is_err_and}
-use Rattle.check_report.specs.Devices.{HasFailedIn}
+use Rattle.compare_built.specs.Devices.{HasFailedIn}
 use Rattle.check_tool.specs.Opening.{HasFailedAt}
 use Rattle.check_tool.proofs.Comparing.{compared, uncompared}
 use Rattle.check_tool.proofs.Failing.{given_failed}

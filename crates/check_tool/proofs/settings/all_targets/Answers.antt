@@ -1,7 +1,7 @@
 use Rattle.std.proofs.Common.{◌≡◌, ◌+◌, ◌∷◌, [], ◌++◌, ℕ, List, Bor, get_or, sym, subst, take}
 use Rattle.std.proofs.lemmas.List.{take_more}
 use Rattle.report_text.specs.declared.cause.PairName.{PairName}
-use Rattle.check_report.proofs.Adding.{zip_push}
+use Rattle.compare_built.proofs.Adding.{zip_push}
 use Rattle.check_tool.specs.Running.{AreTargetsOf, IsKindAndName}
 use Rattle.check_tool.proofs.settings.all_targets.Goals as goal
 

@@ -1,7 +1,7 @@
 use Rattle.std.proofs.Common.{◌≡◌, ◌≢◌, ◌∙◌, ◌⊎◌, ap, sym, subst, inr, Result, Ok, Err, OnErr, arith}
 use Rattle.std.specs.Io.KnownBytes.{Keeps}
 use Rattle.check_tool.specs.declared.done.Done.{Done}
-use Rattle.check_report.specs.declared.fault.CheckFault.TheVariants.{Write}
+use Rattle.compare_built.specs.declared.fault.CheckFault.TheVariants.{Write}
 use Rattle.check_tool.specs.declared.fault.ToolFault.{ToolFault}
 use Rattle.check_tool.specs.declared.fault.ToolFault.TheVariants.{Check, OutOfMemory}
 use Rattle.check_tool.specs.Ending.{DeviceState, FailsToSave, Finishes, IsSaidOf, RunEffects, Written, written_from, run_effects_of, written}

@@ -1,7 +1,7 @@
 use Rattle.std.proofs.Common.{◌≡◌, ◌∙◌, ◌++◌, ℕ, List, [], ap, sym, subst}
 use Rattle.std.specs.Prelude.{codes, decimal}
 use Rattle.std.proofs.lemmas.List.{append_assoc}
-use Rattle.check_report.specs.Attempts.{candidate_text}
+use Rattle.compare_built.specs.Attempts.{candidate_text}
 use Rattle.check_tool.specs.Ending.{Written, Says, IsAttemptSaid}
 use Rattle.check_tool.proofs.verbose.say_attempt.Goals as goal
 

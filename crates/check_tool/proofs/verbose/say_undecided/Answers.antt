@@ -1,6 +1,6 @@
 use Rattle.std.proofs.Common.{◌≡◌, ◌≢◌, ◌∙◌, ◌++◌, ℕ, zero, suc, List, [], refl, ap, subst}
 use Rattle.std.specs.Prelude.{codes, decimal}
-use Rattle.check_report.specs.Cones.{cone_limit}
+use Rattle.compare_built.specs.Cones.{cone_limit}
 use Rattle.command_line.specs.declared.options.Options.{Options}
 use Rattle.check_tool.specs.Running.{limit_of}
 use Rattle.check_tool.specs.Ending.{Written, Says, IsUndecidedSaid, undecided_line}

@@ -1,7 +1,0 @@
-use Rattle.std.proofs.Common.{◌≡◌, take}
-use Rattle.check_report.specs.Arrangement.{places_among}
-use Rattle.check_report.proofs.arrangement.arrangement.Given as goal
-
--- the places so far
-abbrev pub invariant-loop-level : goal.invariant-loop-level
-invariant-loop-level l = l.order.items ≡ places_among l.reported.names (take l.level l.built.names)

@@ -1,9 +1,0 @@
-use Rattle.std.proofs.Common.{◌≡◌, [], All, length}
-use Rattle.check_report.specs.Batches.{jobs_in}
-use Rattle.check_report.proofs.batches.empty_batches.Given as goal
-
-abbrev pub invariant-loop : goal.invariant-loop
-invariant-loop l = record {
-  each : length l.batches.items ≡ l.counter;
-  none : All (λ batch. batch ≡ []) (jobs_in l.batches.items);
-}

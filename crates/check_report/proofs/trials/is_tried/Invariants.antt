@@ -1,6 +1,0 @@
-use Rattle.std.proofs.Common.{◌≢◌, All, take}
-use Rattle.check_report.specs.declared.trials.Trial.{Trial}
-use Rattle.check_report.proofs.trials.is_tried.Given as goal
-
-abbrev pub invariant-loop-trial : goal.invariant-loop-trial
-invariant-loop-trial l = All (λ (t : Trial). t.pairing.names ≢ l.names) (take l.trial-index l.trials)

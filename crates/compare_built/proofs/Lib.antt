@@ -1,0 +1,13 @@
+pub mod Subjects
+pub mod Adding
+pub mod Calling
+pub mod Restricting
+pub mod Rearranging
+pub mod Conditional
+pub mod Limiting
+pub mod Determined
+pub mod Widening
+pub mod Scattering
+pub mod Supporting
+pub mod Places
+pub mod Picks

@@ -1,0 +1,114 @@
+-- Pairs that are judged alone, each by its cones.
+use Rattle.std.specs.Prelude.{◌≡◌, ◌<◌, ◌/◌, ◌⊎◌, ◌↔◌, ℕ, min, max, ◌*◌, ◌++◌, Bool, List, [], Option, Some, None, length, slice_index}
+use Rattle.std.specs.Prelude.{All, ⊤}
+use Rattle.std.specs.List.{AllZip, slice_index_or}
+use Rattle.expand_work.specs.Bounds.{most_of}
+use Rattle.net_bench.specs.Circuit.{Circuit, Net, circuit, variables_of}
+use Rattle.net_cone.specs.Cones.{IsCone}
+use Rattle.net_order.specs.declared.order.Match.TheVariants.{Name}
+use Rattle.net_order.specs.Order.{NamingModel, IsPairing, max_variables, variables_in}
+use Rattle.report_text.specs.declared.verdict.Verdict.{Verdict}
+use Rattle.report_text.specs.declared.verdict.Verdict.TheVariants.{Undecided}
+use Rattle.report_text.specs.Lines.{Found}
+use Rattle.compare_built.specs.declared.strategy.Candidate.{Candidate}
+use Rattle.compare_built.specs.declared.subject.Subject.{Subject}
+use Rattle.compare_built.specs.Attempts.{IsBudget, order_of}
+use Rattle.compare_built.specs.Conditions.{AgreeWhere, HoldsWhere, output_of}
+use Rattle.compare_built.specs.Limits.{Exceeds, FitsWithin}
+use Rattle.compare_built.specs.declared.verdict_order.Details.{Details}
+use Rattle.compare_built.specs.Report.{AreFunctions, CallsEqual, Compared, IsVerdictOf}
+use Rattle.compare_built.specs.Widths.{IsTooWide}
+
+-- ---- cones
+
+-- the names of a netlist's variables, by signal, are those that a naming gives to their levels
+pub record AreNamed (c : Circuit) (levels : List ℕ) (p : NamingModel) (names : List (List ℕ)) : Type 0 where
+  pub each : length names ≡ length c.names
+  pub variables : All (λ s. slice_index_or names s [] ≡ slice_index_or p.names (slice_index levels s) []) (variables_of c)
+
+-- This is the cone of a signal, whose variables have the names of a naming.
+pub record IsConeIn (c : Circuit) (levels : List ℕ) (p : NamingModel) (root : ℕ) (cone : Circuit) : Type 0 where
+  pub whole : Net
+  pub part : Net
+  pub names : List (List ℕ)
+  pub from : List ℕ
+  pub is_whole : circuit whole ≡ c
+  pub is_part : circuit part ≡ cone
+  pub named : AreNamed c levels p names
+  pub cone_of : IsCone whole root names part from
+
+-- the cone of the condition's output, where there is a condition
+abbrev pub IsConditionCone : Option Circuit → NamingModel → Option Circuit → Type 0
+IsConditionCone None p None = ⊤
+IsConditionCone None p (Some w) = ⊥
+IsConditionCone (Some c) p None = ⊥
+IsConditionCone (Some c) p (Some w) = IsConeIn c p.given p (output_of c) w
+
+-- the cones of a pair, and of the condition
+pub record AreCones (a b : Circuit) (given : Option Circuit) (p : NamingModel) (s : Subject) (k m : Circuit) (w : Option Circuit) : Type 0 where
+  pub first : IsConeIn a p.first p s.first k
+  pub second : IsConeIn b p.second p s.second m
+  pub condition : IsConditionCone given p w
+
+-- ---- attempts
+
+-- The most nodes that a pair may need by its cones: a quarter of the limit, so that four pairs are judged at once within it.
+abbrev pub cone_limit : (limit : ℕ) → ℕ
+cone_limit limit = max 1 (limit / 4)
+
+-- in each candidate's order of their variables an attempt of the cones was given up, as they need more nodes than so many, or one wave
+-- reaches more requests than eight for each of these nodes, or than the monitor's bound where that is less
+abbrev pub AreGivenUpIn : (budget : ℕ) → (bound : Option ℕ) → (first second : Circuit) → (condition : Option Circuit) → Type 0
+AreGivenUpIn budget bound first second condition = (c : Candidate) → (q : NamingModel) × IsPairing Name first second condition (order_of c) q
+    × (Exceeds budget first second condition q ⊎ IsTooWide (min (budget * 8) (most_of bound)) first second condition q)
+
+-- Within so many nodes a pair is not decided by its cones: they have more variables together than a pairing has, or each attempt was given
+-- up.
+pub record IsUndecidedWithin (budget : ℕ) (bound : Option ℕ) (a b : Circuit) (given : Option Circuit) (p : NamingModel) (s : Subject) : Type 0 where
+  pub first : Circuit
+  pub second : Circuit
+  pub condition : Option Circuit
+  pub cones : AreCones a b given p s first second condition
+  pub cause : (max_variables < length (variables_in Name first second condition)) ⊎ AreGivenUpIn budget bound first second condition
+
+-- No budget up to the cones' limit decides a pair.
+abbrev pub IsUndecided : (limit : ℕ) → (bound : Option ℕ) → Circuit → Circuit → Option Circuit → NamingModel → Subject → Type 0
+IsUndecided limit bound a b given p s = (budget : ℕ) → IsBudget (cone_limit limit) budget → IsUndecidedWithin budget bound a b given p s
+
+-- The cones of a pair need so many nodes at most, in some candidate's order of their variables.
+pub record FitByCones (limit : ℕ) (a b : Circuit) (given : Option Circuit) (p : NamingModel) (s : Subject) : Type 0 where
+  pub first : Circuit
+  pub second : Circuit
+  pub condition : Option Circuit
+  pub cones : AreCones a b given p s first second condition
+  pub candidate : Candidate
+  pub pairing : NamingModel
+  pub paired : IsPairing Name first second condition (order_of candidate) pairing
+  pub fit : FitsWithin limit first second condition pairing
+
+-- ---- verdicts
+
+-- The verdict of a pair over the variables of the naming: that of its functions where the condition holds, where this says that its cones
+-- are within their limit, or Undecided where that says that no attempt decides it.
+pub data IsVerdictOrUndecided (n : ℕ) (asked : Details) (within left : Type 0) (holds : List Bool → Bool) (c : Compared) : Verdict → Type 0 where
+  decided : {v : Verdict} → within → IsVerdictOf n asked holds c v → (CallsEqual v ↔ AgreeWhere n holds c.first c.second)
+      → IsVerdictOrUndecided n asked within left holds c v
+  undecided : left → IsVerdictOrUndecided n asked within left holds c (Undecided c.role c.name)
+
+-- The same of the pair that is meant.
+pub record IsConeVerdict (asked : Details) (within left : Subject → Type 0) (a b : Circuit) (given : Option Circuit) (p : NamingModel) (s : Subject)
+    (v : Verdict) : Type 0 where
+  pub holds : List Bool → Bool
+  pub condition : HoldsWhere given p holds
+  pub compared : Compared
+  pub functions : AreFunctions a b p s compared
+  pub verdict : IsVerdictOrUndecided (length p.names) asked (within s) (left s) holds compared v
+
+-- What a comparison by cones finds: a verdict for each pair that is picked, then these lines of what has no partner. The variables stand by
+-- level.
+pub record AreConeVerdicts (asked : Details) (within left : Subject → Type 0) (a b : Circuit) (given : Option Circuit) (p : NamingModel)
+    (pairs : List Subject) (unmatched_lines : List Verdict) (found : Found) : Type 0 where
+  pub variables : found.variables ≡ p.names
+  pub of_pairs : List Verdict
+  pub verdicts : AllZip (IsConeVerdict asked within left a b given p) pairs of_pairs
+  pub all : found.verdicts ≡ of_pairs ++ unmatched_lines

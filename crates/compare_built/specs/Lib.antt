@@ -1,0 +1,14 @@
+pub mod Devices
+pub mod Conditions
+pub mod Report
+pub mod Comparing
+pub mod Arrangement
+pub mod Check
+pub mod Limits
+pub mod Widths
+pub mod Attempts
+pub mod Cones
+pub mod PairSelection
+pub mod Texts
+pub mod Scatter
+pub mod Details

@@ -1,0 +1,202 @@
+//! What is compared, and its diagrams where the condition holds.
+ghost use Rattle.std.specs.Prelude.{◌≡◌, ◌≢◌, ◌++◌, ◌-◌, ◌^◌, ◌<◌, length, map, All, OnOk, IfOk, IfErr, IsSomeAnd};
+ghost use Rattle.expand_work.specs.Bounds.{most_of};
+ghost use Rattle.net_bench.specs.Circuit.{circuit};
+ghost use Rattle.net_order.specs.Order.{condition};
+ghost use Rattle.dd_store.specs.Nodes.{IsSound};
+ghost use Rattle.dd_store.specs.View.{Keeps};
+ghost use Rattle.gate_plan.specs.Building.{reference_of};
+ghost use Rattle.gate_plan.specs.Needing.{HasNeed};
+ghost use Rattle.compare_built.specs.Check.{IsComparisonFault};
+ghost use Rattle.compare_built.specs.Comparing.{AreBuilt, AreCompared, as_built, references};
+ghost use Rattle.compare_built.specs.Limits.{HasAll, IsOver};
+ghost use Rattle.compare_built.specs.Widths.{IsWideWhere};
+ghost use Rattle.compare_built.specs.Report.{next_of, next_subject, output_subject, subjects};
+
+use crate::fault::CheckFault;
+use crate::subject::Subject;
+use crate::task::Task;
+use dd_store::{Ref, Store};
+use expand_work::{Crew, Monitor, WaveFault};
+use gate_plan::{CircuitDiagrams, conjoin};
+use net_bench::netlist::{Netlist, Signal};
+use net_order::naming::Naming;
+use net_order::pairing::Pairing;
+use report_text::PairKind;
+use std::alloc::{AllocError, Global};
+use std::sync::Wait;
+use std::thread::Threads;
+
+/// What is compared, in the order of the report, and its diagrams: the first netlist's of each, then the second's.
+#[derive(Drop)]
+pub struct ComparedPairs {
+    pub subjects: Vec<Subject>,
+    pub references: Vec<Ref>,
+}
+
+/// The signal that a register takes next. There are no more registers than variables.
+fn next_state(net: &Netlist, register: Signal) -> Signal
+    ensures { result ≡ next_of (circuit net.now) register }
+{
+    let registers = net.registers();
+    for i in 0..registers.len() {
+        if registers[i].out == register {
+            return registers[i].operands.as_slice()[0];
+        }
+    }
+    Signal::of(0)
+}
+
+/// Puts the pairs of outputs at the end.
+fn add_outputs(naming: &Naming, subjects: &mut Vec<Subject>) -> Result<(), AllocError>
+    ensures { OnOk result (subjects.new.items ≡ subjects.old.items ++ map output_subject naming.now.outputs.pairs) }
+{
+    let pairs = naming.output_pairs();
+    for i in 0..pairs.len() {
+        let (first, second) = pairs[i];
+        subjects.push(Subject {
+            role: PairKind::Output,
+            named: first,
+            first,
+            second,
+        })?;
+    }
+    Ok(())
+}
+
+/// Puts the next states of the pairs of registers at the end.
+fn add_next_states(
+    one: &Netlist,
+    two: &Netlist,
+    naming: &Naming,
+    subjects: &mut Vec<Subject>,
+) -> Result<(), AllocError>
+    ensures { OnOk result (subjects.new.items ≡ subjects.old.items
+        ++ map (next_subject (circuit one.now) (circuit two.now)) naming.now.registers.pairs) }
+{
+    let pairs = naming.next_pairs();
+    for i in 0..pairs.len() {
+        let (first, second) = pairs[i];
+        subjects.push(Subject {
+            role: PairKind::NextState,
+            named: first,
+            first: next_state(one, first),
+            second: next_state(two, second),
+        })?;
+    }
+    Ok(())
+}
+
+/// All that is compared, in the order of the report.
+pub fn subjects_of(
+    alloc: Global,
+    first: &Netlist,
+    second: &Netlist,
+    naming: &Naming,
+) -> Result<Vec<Subject>, AllocError>
+    ensures { IfOk result (λ v. v.items ≡ subjects (circuit first.now) (circuit second.now) naming.now) }
+{
+    let mut subjects = Vec::new(alloc);
+    add_outputs(naming, &mut subjects)?;
+    add_next_states(first, second, naming, &mut subjects)?;
+    Ok(subjects)
+}
+
+/// Puts the first netlist's diagrams of what is compared at the end.
+fn add_first(
+    built: &CircuitDiagrams,
+    subjects: &[Subject],
+    references: &mut Vec<Ref>,
+) -> Result<(), AllocError>
+    requires { All (λ subject. subject.first < length built.now.first) subjects.now }
+    ensures { OnOk result (references.new.items ≡ references.old.items
+        ++ map (λ subject. reference_of built.now.first subject.first) subjects.now) }
+{
+    for i in 0..subjects.len() {
+        references.push(built.first(subjects[i].first))?;
+    }
+    Ok(())
+}
+
+/// Puts the second netlist's diagrams of what is compared at the end.
+fn add_second(
+    built: &CircuitDiagrams,
+    subjects: &[Subject],
+    references: &mut Vec<Ref>,
+) -> Result<(), AllocError>
+    requires { All (λ subject. subject.second < length built.now.second) subjects.now }
+    ensures { OnOk result (references.new.items ≡ references.old.items
+        ++ map (λ subject. reference_of built.now.second subject.second) subjects.now) }
+{
+    for i in 0..subjects.len() {
+        references.push(built.second(subjects[i].second))?;
+    }
+    Ok(())
+}
+
+/// The diagrams of what is compared: the first netlist's of each, then the second's.
+fn references_of(
+    alloc: Global,
+    built: &CircuitDiagrams,
+    subjects: &[Subject],
+) -> Result<Vec<Ref>, AllocError>
+    requires first { All (λ subject. subject.first < length built.now.first) subjects.now }
+    requires second { All (λ subject. subject.second < length built.now.second) subjects.now }
+    ensures { IfOk result (λ v. v.items ≡ references built.now subjects.now) }
+{
+    let mut references = Vec::new(alloc);
+    add_first(built, subjects, &mut references)?;
+    add_second(built, subjects, &mut references)?;
+    Ok(references)
+}
+
+/// What is compared, and its diagrams where the condition holds, which one wave makes of those that are built. Without a condition they
+/// are those.
+pub fn compared_pairs_of<H: Threads + Wait + Sync, G: Monitor>(
+    task: &Task<'_, H>,
+    store: &mut Store,
+    built: &CircuitDiagrams,
+    pairing: &Pairing,
+    crew: &Crew<'_, H, G>,
+) -> Result<ComparedPairs, CheckFault>
+    requires built { AreBuilt (circuit task.now.first.now) (circuit task.now.second.now)
+        (condition task.now.given) pairing.now store.old built.now }
+    ensures sound { IsSound store.new }
+    ensures keeps { Keeps store.old store.new }
+    ensures compared { IfOk result (λ shown. AreCompared as_built (circuit task.now.first.now) (circuit task.now.second.now)
+        (condition task.now.given) pairing.now store.new shown.subjects.items shown.references.items) }
+    ensures need { HasNeed (circuit task.now.first.now) (circuit task.now.second.now) (condition task.now.given) pairing.now store.old →
+        OnOk result (HasAll (circuit task.now.first.now) (circuit task.now.second.now) (condition task.now.given) pairing.now store.new) }
+    ensures full { HasNeed (circuit task.now.first.now) (circuit task.now.second.now) (condition task.now.given) pairing.now store.old →
+        result ≡ Err (CheckFault.Wave WaveFault.Full) → IsOver (circuit task.now.first.now) (circuit task.now.second.now)
+        (condition task.now.given) pairing.now store.new }
+    ensures past { result ≡ Err (CheckFault.Wave WaveFault.TooManyRequests)
+        → IsSomeAnd (G.bound crew.now.monitor.now) (λ n. IsSomeAnd
+        (condition task.now.given) (λ c. IsWideWhere n (circuit task.now.first.now) (circuit task.now.second.now) c pairing.now)) }
+    ensures needs_no_thread { most_of (G.bound crew.now.monitor.now) < 2 ^ 64 - 1 → result ≢ Err (CheckFault.Wave WaveFault.NoWorker) }
+    ensures err { IfErr result IsComparisonFault }
+{
+    let _ = store.levels();
+    let _ = task.first.inputs();
+    let _ = task.second.inputs();
+    let Ok(subjects) = subjects_of(task.alloc, task.first, task.second, pairing.naming()) else {
+        return Err(CheckFault::OutOfMemory);
+    };
+    let Ok(references) = references_of(task.alloc, built, subjects.as_slice()) else {
+        return Err(CheckFault::OutOfMemory);
+    };
+    let Some(given) = task.given else {
+        return Ok(ComparedPairs {
+            subjects,
+            references,
+        });
+    };
+    let holds = built.given(given.outputs()[0]);
+    match conjoin(crew, store, references.as_slice(), holds) {
+        Ok(references) => Ok(ComparedPairs {
+            subjects,
+            references,
+        }),
+        Err(fault) => Err(CheckFault::Wave(fault)),
+    }
+}

@@ -1,0 +1,178 @@
+//! What a comparison of two netlists finds, within so many nodes.
+ghost use Rattle.std.specs.Prelude.{◌≡◌, ◌≢◌, ◌<◌, ◌-◌, ◌^◌, false, IfOk, IfErr, IsSomeAnd, OnOk, Err};
+ghost use Rattle.expand_work.specs.Bounds.{most_of};
+ghost use Rattle.net_bench.specs.Circuit.{circuit};
+ghost use Rattle.net_order.specs.Order.{condition};
+ghost use Rattle.gate_plan.specs.Building.{IsPaired};
+ghost use Rattle.compare_built.specs.Arrangement.{ArePairings};
+ghost use Rattle.compare_built.specs.Report.{AreVerdicts};
+ghost use Rattle.compare_built.specs.Details.{details_in};
+ghost use Rattle.compare_built.specs.Check.{IsComparisonFault};
+ghost use Rattle.compare_built.specs.Comparing.{AreCompared, IsVerdictOrder, as_built, as_reported, details_of};
+ghost use Rattle.compare_built.specs.Limits.{FitsWithin, Exceeds};
+ghost use Rattle.compare_built.specs.Widths.{IsTooWide};
+
+use crate::arrangement::arrangement;
+use crate::compared_pairs::{ComparedPairs, compared_pairs_of};
+use crate::fault::CheckFault;
+use crate::task::Task;
+use crate::verdict_order::{VerdictOrder, details_in, wants_support};
+use crate::verdicts::{Comparison, verdicts_of};
+use dd_store::Store;
+use expand_work::{Crew, Monitor, WaveFault, Workers};
+use gate_plan::{Circuits, build};
+use net_order::pairing::Pairing;
+use report_text::Verdict;
+use std::sync::Wait;
+use std::thread::Threads;
+
+/// What is shown of two netlists that are paired, in a store of its own, within so many nodes.
+fn built_within<H: Threads + Wait + Sync, G: Monitor>(
+    task: &Task<'_, H>,
+    pairing: &Pairing,
+    limit: u64,
+    monitor: &G,
+) -> Result<(Store, ComparedPairs), CheckFault>
+    requires paired { IsPaired (circuit task.now.first.now) (circuit task.now.second.now) (condition task.now.given) pairing.now }
+    requires small { limit < 2 ^ 32 }
+    ensures compared { IfOk result (λ r. AreCompared as_built (circuit task.now.first.now) (circuit task.now.second.now)
+        (condition task.now.given) pairing.now r.0 r.1.subjects.items r.1.references.items) }
+    ensures err { IfErr result IsComparisonFault }
+    ensures within { OnOk result (FitsWithin limit (circuit task.now.first.now) (circuit task.now.second.now)
+        (condition task.now.given) pairing.now) }
+    ensures full { result ≡ Err (CheckFault.Wave WaveFault.Full)
+        → Exceeds limit (circuit task.now.first.now) (circuit task.now.second.now) (condition task.now.given) pairing.now }
+    ensures past { result ≡ Err (CheckFault.Wave WaveFault.TooManyRequests)
+        → IsSomeAnd (G.bound monitor.now) (λ n. IsTooWide n (circuit task.now.first.now) (circuit task.now.second.now)
+        (condition task.now.given) pairing.now) }
+    ensures needs_no_thread { most_of (G.bound monitor.now) < 2 ^ 64 - 1 → result ≢ Err (CheckFault.Wave WaveFault.NoWorker) }
+{
+    let _ = task.first.inputs();
+    let _ = task.second.inputs();
+    let levels = pairing.names().len() as u16;
+    let Ok(mut store) = Store::new(task.alloc, levels, limit) else {
+        return Err(CheckFault::OutOfMemory);
+    };
+    let crew = Crew {
+        rt: task.rt,
+        alloc: task.alloc,
+        workers: Workers::new(task.settings.workers),
+        monitor,
+    };
+    let circuits = Circuits {
+        first: task.first,
+        second: task.second,
+        given: task.given,
+        pairing,
+    };
+    let built = match build(&crew, &mut store, &circuits) {
+        Ok(built) => built,
+        Err(fault) => return Err(CheckFault::Wave(fault)),
+    };
+    match compared_pairs_of(task, &mut store, &built, pairing, &crew) {
+        Ok(shown) => Ok((store, shown)),
+        Err(fault) => Err(fault),
+    }
+}
+
+/// The verdicts of what is shown of two netlists, as they are told over the variables of a pairing.
+fn verdicts_in<H>(
+    task: &Task<'_, H>,
+    pairing: &Pairing,
+    verdict_order: VerdictOrder<'_>,
+    store: &Store,
+    shown: &ComparedPairs,
+) -> Result<Vec<Verdict>, CheckFault>
+    requires compared { AreCompared (as_reported verdict_order) (circuit task.now.first.now) (circuit task.now.second.now)
+        (condition task.now.given) pairing.now store.now shown.now.subjects.items shown.now.references.items }
+    requires order { IsVerdictOrder store.now.levels verdict_order }
+    ensures ok { IfOk result (λ v. AreVerdicts (details_of verdict_order.entry) (circuit task.now.first.now) (circuit task.now.second.now)
+        (condition task.now.given) pairing.now (record { variables = pairing.now.names; verdicts = v.items })) }
+    ensures err { IfErr result IsComparisonFault }
+    ensures never_out_of_nodes { result ≢ Err (CheckFault.Wave WaveFault.Full) }
+    ensures never_too_many_requests { result ≢ Err (CheckFault.Wave WaveFault.TooManyRequests) }
+    ensures needs_no_thread { result ≢ Err (CheckFault.Wave WaveFault.NoWorker) }
+{
+    let comparison = Comparison {
+        first: task.first,
+        second: task.second,
+        given: task.given,
+        pairing,
+        store,
+        subjects: shown.subjects.as_slice(),
+        references: shown.references.as_slice(),
+        verdict_order,
+    };
+    match verdicts_of(task.alloc, &comparison) {
+        Ok(verdicts) => Ok(verdicts),
+        Err(_) => Err(CheckFault::OutOfMemory),
+    }
+}
+
+/// What a comparison of two netlists that are paired finds, within so many nodes.
+pub fn compare<H: Threads + Wait + Sync, G: Monitor>(
+    task: &Task<'_, H>,
+    pairing: &Pairing,
+    limit: u64,
+    monitor: &G,
+) -> Result<Vec<Verdict>, CheckFault>
+    requires paired { IsPaired (circuit task.now.first.now) (circuit task.now.second.now) (condition task.now.given) pairing.now }
+    requires small { limit < 2 ^ 32 }
+    ensures ok { IfOk result (λ v. AreVerdicts (details_in task.now.settings.now) (circuit task.now.first.now) (circuit task.now.second.now)
+        (condition task.now.given) pairing.now (record { variables = pairing.now.names; verdicts = v.items })) }
+    ensures err { IfErr result IsComparisonFault }
+    ensures within { OnOk result (FitsWithin limit (circuit task.now.first.now) (circuit task.now.second.now)
+        (condition task.now.given) pairing.now) }
+    ensures full { result ≡ Err (CheckFault.Wave WaveFault.Full)
+        → Exceeds limit (circuit task.now.first.now) (circuit task.now.second.now) (condition task.now.given) pairing.now }
+    ensures past { result ≡ Err (CheckFault.Wave WaveFault.TooManyRequests)
+        → IsSomeAnd (G.bound monitor.now) (λ n. IsTooWide n (circuit task.now.first.now) (circuit task.now.second.now)
+        (condition task.now.given) pairing.now) }
+    ensures needs_no_thread { most_of (G.bound monitor.now) < 2 ^ 64 - 1 → result ≢ Err (CheckFault.Wave WaveFault.NoWorker) }
+{
+    let (store, shown) = built_within(task, pairing, limit, monitor)?;
+    let asked = details_in(task.settings);
+    verdicts_in(
+        task,
+        pairing,
+        VerdictOrder::ByLevel { asked },
+        &store,
+        &shown,
+    )
+}
+
+/// What a comparison of two netlists finds, within so many nodes, told over the variables of another pairing of them than that by which
+/// the diagrams are built.
+pub fn compare_as_declared<H: Threads + Wait + Sync, G: Monitor>(
+    task: &Task<'_, H>,
+    pairing: &Pairing,
+    declared: &Pairing,
+    limit: u64,
+    monitor: &G,
+) -> Result<Vec<Verdict>, CheckFault>
+    requires paired { ArePairings task.now.settings.now.matching (circuit task.now.first.now) (circuit task.now.second.now)
+        (condition task.now.given) pairing.now declared.now }
+    requires no_sizes { task.now.settings.now.sizes ≡ false }
+    requires small { limit < 2 ^ 32 }
+    ensures ok { IfOk result (λ v. AreVerdicts (details_in task.now.settings.now) (circuit task.now.first.now) (circuit task.now.second.now)
+        (condition task.now.given) declared.now (record { variables = declared.now.names; verdicts = v.items })) }
+    ensures err { IfErr result IsComparisonFault }
+    ensures within { OnOk result (FitsWithin limit (circuit task.now.first.now) (circuit task.now.second.now)
+        (condition task.now.given) pairing.now) }
+    ensures full { result ≡ Err (CheckFault.Wave WaveFault.Full)
+        → Exceeds limit (circuit task.now.first.now) (circuit task.now.second.now) (condition task.now.given) pairing.now }
+    ensures past { result ≡ Err (CheckFault.Wave WaveFault.TooManyRequests)
+        → IsSomeAnd (G.bound monitor.now) (λ n. IsTooWide n (circuit task.now.first.now) (circuit task.now.second.now)
+        (condition task.now.given) pairing.now) }
+    ensures needs_no_thread { most_of (G.bound monitor.now) < 2 ^ 64 - 1 → result ≢ Err (CheckFault.Wave WaveFault.NoWorker) }
+{
+    let (store, shown) = built_within(task, pairing, limit, monitor)?;
+    let Ok(order) = arrangement(task.alloc, pairing, declared) else {
+        return Err(CheckFault::OutOfMemory);
+    };
+    let verdict_order = VerdictOrder::Arranged {
+        order: order.as_slice(),
+        support: wants_support(task.settings.assignment),
+    };
+    verdicts_in(task, declared, verdict_order, &store, &shown)
+}

@@ -1,0 +1,201 @@
+-- Pairs that are judged by their cones: what a comparison of cones says of the whole.
+use Rattle.std.proofs.Common.{◌≡◌, ap, sym, refl, subst, arith, ◌⊎◌, inl, inr, ℕ, suc, ◌<◌, ◌≤◌, ◌*◌, Bool, true, false, List, [], ◌∷◌, map, length, get_or, All, Option, Some, None, Result, Ok, min}
+use Rattle.std.specs.Prelude.{◌==◌, IfSome, cond, filter, zip, option_map, slice_index}
+use Rattle.std.specs.List.{AllZip}
+use Rattle.std.proofs.lemmas.List.Elements.{All-cons, All-filter, All-head, All-nil, All-tail}
+use Rattle.expand_work.specs.Bounds.{most_of}
+use Rattle.gate_plan.proofs.Signals.{function, some_function}
+use Rattle.net_bench.specs.Circuit.{Circuit, Net, IsNet, circuit}
+use Rattle.net_bench.specs.Labels.{IsFunctionOf}
+use Rattle.net_order.specs.declared.order.Match.{Match}
+use Rattle.net_order.specs.declared.order.Match.TheVariants.{Name}
+use Rattle.net_order.specs.declared.order.Order.{Order}
+use Rattle.net_order.specs.Order.{IsPairing, NamingModel, condition, max_variables, name_of, variables_in}
+use Rattle.report_text.specs.declared.verdict.Verdict.{Verdict}
+use Rattle.report_text.specs.declared.verdict.Verdict.TheVariants.{Undecided}
+use Rattle.report_text.specs.Lines.{Found}
+use Rattle.report_text.specs.declared.assignment.Assignment.{Assignment}
+use Rattle.compare_built.specs.declared.verdict_order.Details.{Details}
+use Rattle.compare_built.specs.Details.{unsized}
+use Rattle.compare_built.specs.declared.strategy.Candidate.{Candidate}
+use Rattle.compare_built.specs.declared.fault.CheckFault.{CheckFault}
+use Rattle.cone_check.specs.declared.rounds.PairJob.{PairJob}
+use Rattle.compare_built.specs.declared.subject.Subject.{Subject}
+use Rattle.compare_built.specs.declared.task.Task.{Task}
+use Rattle.compare_built.specs.Attempts.{order_of}
+use Rattle.compare_built.specs.Conditions.{HoldsWhere, everywhere, output_of}
+use Rattle.compare_built.specs.Cones.{AreCones, FitByCones, IsUndecidedWithin, IsConeVerdict, IsVerdictOrUndecided}
+use Rattle.compare_built.specs.Cones.IsVerdictOrUndecided.{decided, undecided}
+use Rattle.std.specs.Borrow.{Bor}
+use Rattle.std.specs.Option.{option_copied}
+use Rattle.net_cone.specs.declared.cone.Cone.{Cone}
+use Rattle.compare_built.specs.declared.pair_filter.PairFilter.{PairFilter}
+use Rattle.cone_check.specs.ConeRounds.{IsKnown, circuit_in, circuit_of, left_of}
+use Rattle.compare_built.specs.Limits.{Exceeds, FitsWithin}
+use Rattle.compare_built.specs.PairSelection.{ArePicked, is_pair_of, of_share}
+use Rattle.compare_built.specs.PairSelection.ArePicked.{all, named, shared}
+use Rattle.compare_built.specs.Report.{AreVerdicts, Compared, subjects}
+use Rattle.compare_built.specs.Scatter.{IsConePairing, IsOfNet, widened_verdict}
+use Rattle.order_search.specs.Trials.{HasTooManyVariables, IsDecidedWithin, IsCandidateGivenUp}
+use Rattle.compare_built.specs.Widths.{IsTooWide}
+use Rattle.cone_check.proofs.ConeVerdicts.{reported_widened}
+
+-- ---- what a pair is told
+
+-- what is told of a pair that is decided is told of it, whatever is left, and where more nodes are allowed
+pub reported_decided : (asked : Details) (within more other : Subject → Type 0) (a b : Circuit) (given : Option Circuit) (p : NamingModel) (s : Subject) (v : Verdict) → (within s → more s) → IsConeVerdict asked within (λ t. ⊥) a b given p s v →
+    IsConeVerdict asked more other a b given p s v
+reported_decided asked within more other a b given p s v wider t = record {
+  holds = t.holds;
+  condition = t.condition;
+  compared = t.compared;
+  functions = t.functions;
+  verdict = by (length p.names) t.holds t.compared v t.verdict;
+}
+  where
+    by : (n : ℕ) (holds : List Bool → Bool) (c : Compared) (v : Verdict) → IsVerdictOrUndecided n asked (within s) ⊥ holds c v → IsVerdictOrUndecided n asked (more s) (other s) holds c v
+    by n holds c v (decided few is equal) = decided (wider few) is equal
+    by n holds c v (undecided never) = absurd never
+
+-- where fewer nodes are enough, so are more
+pub more_nodes : (budget limit : ℕ) (a b : Circuit) (given : Option Circuit) (p : NamingModel) (s : Subject) → budget ≤ limit → FitByCones budget a b given p s → FitByCones limit a b given p s
+more_nodes budget limit a b given p s le few = record {
+  first = few.first;
+  second = few.second;
+  condition = few.condition;
+  cones = few.cones;
+  candidate = few.candidate;
+  pairing = few.pairing;
+  paired = few.paired;
+  fit = record {
+    store = few.fit.store;
+    sound = few.fit.sound;
+    levels = few.fit.levels;
+    lean = few.fit.lean;
+    complete = few.fit.complete;
+    within = let low = few.fit.within in omega (arith, low, le);
+  };
+}
+
+some_holds : (given : Option Circuit) (p : NamingModel) → IfSome given IsOfNet → (holds : List Bool → Bool) × HoldsWhere given p holds
+some_holds None p is = (everywhere, refl)
+some_holds (Some c) p is =
+    let f = function is.net is.sound (slice_index p.given) (length p.names) (output_of c) in
+    (f, subst (λ (d : Circuit). IsFunctionOf d (slice_index p.given) (length p.names) (output_of c) f) is.is_circuit (some_function is.net is.sound (slice_index p.given) (length p.names) (output_of c)))
+
+-- a pair that is left is told as undecided
+pub reported_left : (asked : Details) (within left : Subject → Type 0) (n m : Net) (given : Option Circuit) (p : NamingModel) (s : Subject) → IsNet n → IsNet m → IfSome given IsOfNet → left s →
+    IsConeVerdict asked within left (circuit n) (circuit m) given p s (Undecided s.role (name_of (circuit n) s.named))
+reported_left asked within left n m given p s first second net is =
+    let c : Compared = record {
+      role = s.role;
+      name = name_of (circuit n) s.named;
+      first = function n first (slice_index p.first) (length p.names) s.first;
+      second = function m second (slice_index p.second) (length p.names) s.second;
+    } in
+    let holds = some_holds given p net in
+    record {
+      holds = holds.0;
+      condition = holds.1;
+      compared = c;
+      functions = record {
+        role = refl;
+        name = refl;
+        first = some_function n first (slice_index p.first) (length p.names) s.first;
+        second = some_function m second (slice_index p.second) (length p.names) s.second;
+      };
+      verdict = undecided is;
+    }
+
+-- ---- a comparison of cones
+
+module _ {H : Type 0} (task : Task H) (k m : Circuit) (w : Option Circuit) (by_name : task.settings.now.matching ≡ Name) (first : circuit task.first.now ≡ k) (second : circuit task.second.now ≡ m) (given : condition task.given ≡ w) where
+  as_cones : (P : Match → Circuit → Circuit → Option Circuit → Type 0) → P task.settings.now.matching (circuit task.first.now) (circuit task.second.now) (condition task.given) → P Name k m w
+  as_cones P h = subst (λ g. P Name k m g) given (subst (λ c. P Name k c (condition task.given)) second
+      (subst (λ c. P Name c (circuit task.second.now) (condition task.given)) first (subst (λ how. P how (circuit task.first.now) (circuit task.second.now) (condition task.given)) by_name h)))
+
+  pub pairing_of_cones : (order : Order) (q : NamingModel) → IsPairing task.settings.now.matching (circuit task.first.now) (circuit task.second.now) (condition task.given) order q → IsPairing Name k m w order q
+  pairing_of_cones order q h = as_cones (λ how a b g. IsPairing how a b g order q) h
+
+  pub verdicts_of_cones : (asked : Details) (q : NamingModel) (found : Found) → AreVerdicts asked (circuit task.first.now) (circuit task.second.now) (condition task.given) q found → AreVerdicts asked k m w q found
+  verdicts_of_cones asked q found h = as_cones (λ how a b g. AreVerdicts asked a b g q found) h
+
+  pub left_by_cones : (a b : Circuit) (c : Option Circuit) (p : NamingModel) (s : Subject) → AreCones a b c p s k m w → (budget : ℕ) (bound : Option ℕ) →
+      ((x : Candidate) → IsCandidateGivenUp task budget bound x) → IsUndecidedWithin budget bound a b c p s
+  left_by_cones a b c p s cones budget bound earlier_given_up = record {
+    first = k;
+    second = m;
+    condition = w;
+    cones = cones;
+    cause = inr (λ x. as_cones (λ how a b g. (q : NamingModel) × IsPairing how a b g (order_of x) q × (Exceeds budget a b g q ⊎ IsTooWide (min (budget * 8) (most_of bound)) a b g q))
+        ((earlier_given_up x).pairing, (earlier_given_up x).paired, (earlier_given_up x).cause));
+  }
+
+  pub many_by_cones : (a b : Circuit) (c : Option Circuit) (p : NamingModel) (s : Subject) → AreCones a b c p s k m w → (budget : ℕ) (bound : Option ℕ) → HasTooManyVariables task → IsUndecidedWithin budget bound a b c p s
+  many_by_cones a b c p s cones budget bound many = record {
+    first = k;
+    second = m;
+    condition = w;
+    cones = cones;
+    cause = inl (as_cones (λ how a b g. max_variables < length (variables_in how a b g)) many);
+  }
+
+  pub within_by_cones : (a b : Circuit) (c : Option Circuit) (p : NamingModel) (s : Subject) → AreCones a b c p s k m w → (budget : ℕ) → IsDecidedWithin task budget → FitByCones budget a b c p s
+  within_by_cones a b c p s cones budget few =
+      let h = as_cones (λ how a b g. IsPairing how a b g (order_of few.candidate) few.pairing × FitsWithin budget a b g few.pairing) (few.paired, few.fit) in
+      record { first = k; second = m; condition = w; cones = cones; candidate = few.candidate; pairing = few.pairing; paired = h.0; fit = h.1 }
+
+-- a verdict by cones, or none, over all variables
+pub known_by_cones : (which : Option Assignment) (a b : Circuit) (given : Option Circuit) (p : NamingModel) (s : Subject) (k m : Circuit) (w : Option Circuit) (places : List ℕ) (q : NamingModel) →
+    IsConePairing a b given p s k m w places q → (within left : Subject → Type 0) (found reported : Option Verdict) →
+    reported ≡ option_map (widened_verdict s.role (name_of a s.named) (length p.names) places) found →
+    IfSome found (λ v. AreVerdicts (unsized which) k m w q (record { variables = q.names; verdicts = v ∷ [] })) → IfSome found (λ v. within s) → (found ≡ None → left s) →
+    IsKnown (IsConeVerdict (unsized which) within (λ t. ⊥) a b given p) left s reported
+known_by_cones which a b given p s k m w places q is within left None reported e are few none = subst (IsKnown (IsConeVerdict (unsized which) within (λ t. ⊥) a b given p) left s) (sym e) (none refl)
+known_by_cones which a b given p s k m w places q is within left (Some v) reported e are few none =
+    subst (IsKnown (IsConeVerdict (unsized which) within (λ t. ⊥) a b given p) left s) (sym e) (reported_widened a b given p s k m w places q is which within (λ t. ⊥) v few are)
+
+-- ---- turns
+
+-- the pairs that are left are some of all
+pub all_left : (P : Subject → Type 0) (ss : List Subject) (known : List (Option Verdict)) → All P ss → All P (left_of ss known)
+all_left P [] known h = h
+all_left P (s ∷ ss) [] h = All-nil P
+all_left P (s ∷ ss) (None ∷ known) h = All-cons P s (left_of ss known) (All-head P s ss h) (all_left P ss known (All-tail P s ss h))
+all_left P (s ∷ ss) (Some v ∷ known) h = all_left P ss known (All-tail P s ss h)
+
+-- what the turns came to, pair by pair
+pub results_zip : (R : Subject → Result (Option Verdict) CheckFault → Type 0) (jobs : List PairJob) (found : List (Option Verdict)) →
+    ((i : ℕ) (t : PairJob) → i < length jobs → R (get_or jobs i t).subject (get_or jobs i t).ended) → map (λ (t : PairJob). t.ended) jobs ≡ map Ok found →
+    AllZip (λ s o. R s (Ok o)) (map (λ (t : PairJob). t.subject) jobs) found
+results_zip R [] [] h e = tt
+results_zip R [] (o ∷ found) h e = cc
+results_zip R (t ∷ jobs) [] h e = cc
+results_zip R (t ∷ jobs) (o ∷ found) h e =
+    let same : t.ended ≡ Ok o = cc in
+    let rest : map (λ (u : PairJob). u.ended) jobs ≡ map Ok found = cc in
+    (subst (R t.subject) same (h 0 t (omega arith)), results_zip R jobs found (λ i u lt. h (suc i) u (omega (arith, lt))) rest)
+
+-- ---- picks
+
+pair_inside : (P : Subject → Type 0) (k : ℕ) (ss : List Subject) (shares : List ℕ) → All P ss → All P (of_share k (zip ss shares))
+pair_inside P k [] shares h = h
+pair_inside P k (s ∷ ss) [] h = All-nil P
+pair_inside P k (s ∷ ss) (n ∷ shares) h = by (pair_inside P k ss shares (All-tail P s ss h)) (n == k)
+  where
+    by : All P (of_share k (zip ss shares)) → (b : Bool) →
+        All P (map (λ (x : Subject × ℕ). x.0) (cond b ((s, n) ∷ filter (λ (x : Subject × ℕ). x.1 == k) (zip ss shares)) (filter (λ (x : Subject × ℕ). x.1 == k) (zip ss shares))))
+    by rest true = All-cons P s (of_share k (zip ss shares)) (All-head P s ss h) rest
+    by rest false = rest
+
+-- the pairs that are picked are some of all
+pub picked_inside : (P : Subject → Type 0) (a b : Circuit) (p : NamingModel) {picked : PairFilter} {pairs : List Subject} {unmatched_lines : List Verdict} →
+    ArePicked a b p picked pairs unmatched_lines → All P (subjects a b p) → All P pairs
+picked_inside P a b p all h = h
+picked_inside P a b p (named {names = names} of) h = All-filter (is_pair_of a names.items) P (subjects a b p) h
+picked_inside P a b p (shared {share = share} {shares = shares} of) h = pair_inside P share.number (subjects a b p) shares h
+
+-- the condition's cone, as it is lent
+pub as_cone : (o : Option Cone) (r : Option (Bor Cone)) → option_copied r ≡ o → circuit_in o ≡ circuit_of r
+as_cone o None e = ap circuit_in (sym e)
+as_cone o (Some cone) e = ap circuit_in (sym e)

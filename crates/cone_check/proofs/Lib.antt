@@ -1,0 +1,10 @@
+pub mod ConePairs
+pub mod ConeVerdicts
+pub mod Called
+pub mod Filling
+pub mod ByCones
+pub mod SerpentineOrder
+pub mod JobRounds
+pub mod Gathering
+pub mod Ended
+pub mod ConeTasks

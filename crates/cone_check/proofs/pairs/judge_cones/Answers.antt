@@ -1,0 +1,34 @@
+use Rattle.std.proofs.Common.{◌≡◌, ap, subst, map, Ok}
+use Rattle.std.specs.Prelude.{IfSome}
+use Rattle.net_cone.specs.Cones.{variable_name}
+use Rattle.net_order.specs.declared.order.Order.{Order}
+use Rattle.net_order.specs.Order.{NamingModel}
+use Rattle.cone_check.specs.ConeRounds.{IsWidened}
+use Rattle.order_search.specs.Trials.{IsPairingIn}
+use Rattle.cone_check.proofs.ConeTasks.{judged_pair, many_pair, one_pair}
+use Rattle.cone_check.proofs.pairs.judge_cones.Goals as goal
+
+pub try_cones-requires-clause-one : goal.try_cones-requires-clause-one
+try_cones-requires-clause-one g c κs within =
+    let w = c.args.context.now in
+    let task = c.task_of-task.result in
+    let P : NamingModel → Type 0 = λ q. (order : Order) × IsPairingIn task order q × (q.names ≡ map (variable_name c.names.result.now) c.as_slice.result.now) in
+    let p = subst (λ o. IfSome o P) c.in-Some.is c.in_ok-paired.ensures.paired in
+    let named : c.in-Some.pairing.names ≡ map (variable_name w.naming.now.names) c.in-Ok.places.items =
+    subst (λ ps. c.in-Some.pairing.names ≡ map (variable_name w.naming.now.names) ps) c.as_slice.ensures.value
+    (subst (λ ns. c.in-Some.pairing.names ≡ map (variable_name ns) c.as_slice.result.now) c.names.ensures p.2) in
+    one_pair w c.args.subject.now c.args.cones.now task c.requires.ready c.requires.cones c.task_of-task.ensures c.inputs.ensures.sound c.inputs-2.ensures.sound c.in-Ok.places.items c.in-Some.pairing c.in-Ok.ensures.places
+    (p.0, p.1, named)
+
+pub returns-in-Ok-over_all_variables : goal.returns-in-Ok-over_all_variables
+returns-in-Ok-over_all_variables g c =
+    let w = c.args.context.now in
+    let task = c.task_of-task.result in
+    let P : NamingModel → Type 0 = λ q. (order : Order) × IsPairingIn task order q × (q.names ≡ map (variable_name c.names.result.now) c.as_slice.result.now) in
+    let p = subst (λ o. IfSome o P) c.in-Some.is c.in_ok-paired.ensures.paired in
+    let named : c.in-Some.pairing.names ≡ map (variable_name w.naming.now.names) c.in-Ok.places.items =
+    subst (λ ps. c.in-Some.pairing.names ≡ map (variable_name w.naming.now.names) ps) c.as_slice.ensures.value
+    (subst (λ ns. c.in-Some.pairing.names ≡ map (variable_name ns) c.as_slice.result.now) c.names.ensures p.2) in
+    judged_pair w c.args.subject.now c.args.cones.now task c.requires.ready c.requires.cones c.task_of-task.ensures c.inputs.ensures.sound c.inputs-2.ensures.sound c.in-Ok.places.items c.in-Some.pairing c.in-Ok.ensures.places
+    (p.0, p.1, named) c.args.budget (g.G.Monitor.bound c.args.monitor.now) c.in-Ok-try_cones.found c.in-Ok-over_all_variables.verdict c.in-Ok-try_cones.ensures.decided c.in-Ok-try_cones.ensures.within (λ e. c.in-Ok-try_cones.ensures.left (ap Ok e))
+    (subst (λ ps. IsWidened w c.args.subject.now ps c.in-Ok-try_cones.found c.in-Ok-over_all_variables.verdict) c.as_slice-2.ensures.value c.in-Ok-over_all_variables.ensures)

@@ -1,0 +1,23 @@
+use Rattle.std.proofs.Common.{Some, subst}
+use Rattle.net_bench.specs.Circuit.{circuit}
+use Rattle.net_order.specs.Order.{condition}
+use Rattle.order_search.specs.Trials.{Decides, IsRound}
+use Rattle.cone_check.proofs.pairs.try_cones.Goals as goal
+
+pub only_one-requires : goal.only_one-requires
+only_one-requires g c =
+    let task = c.args.task.now in
+    let q = c.args.pairing.now in
+    let t = c.in-Decided.decided in
+    let d : Decides task (Some c.args.pairing) c.args.budget t =
+    subst (IsRound task (Some c.args.pairing) c.args.budget (g.G.Monitor.bound c.args.monitor.now) c.try_first.new.trials.items) c.in-Decided.is c.in_ok-decided.ensures.round in
+    c.requires.one (record { variables = q.names; verdicts = t.verdicts.items })
+    d.0.verdicts_of
+
+pub returns-in-Decided-clause-within : goal.returns-in-Decided-clause-within
+returns-in-Decided-clause-within g c =
+    let task = c.args.task.now in
+    let t = c.in-Decided.decided in
+    let d : Decides task (Some c.args.pairing) c.args.budget t =
+    subst (IsRound task (Some c.args.pairing) c.args.budget (g.G.Monitor.bound c.args.monitor.now) c.try_first.new.trials.items) c.in-Decided.is c.in_ok-decided.ensures.round in
+    record { candidate = t.trial.candidate; pairing = t.trial.pairing; paired = d.0.paired; fit = d.0.within }

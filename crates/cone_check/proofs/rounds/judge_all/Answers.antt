@@ -1,0 +1,48 @@
+use Rattle.std.proofs.Common.{◌<◌, ◌≤◌, ◌*◌, ◌^◌, ℕ, IfOk, refl, subst, suc, arith, lit<}
+use Rattle.order_search.proofs.Budgets.{next_budget}
+use Rattle.cone_check.proofs.Filling.{length_known}
+use Rattle.compare_built.specs.Attempts.{IsBudget}
+use Rattle.std.specs.List.{AllZip}
+use Rattle.rayon.proofs.ListFacts.{IfOk-then}
+use Rattle.cone_check.specs.ConeRounds.{IsKnown, IsUndecidedIn, IsDecidedIn}
+use Rattle.cone_check.proofs.JobRounds.{none_yet, round_last, round_more}
+use Rattle.cone_check.proofs.rounds.judge_all.Goals as goal
+
+pub loop-budget-init : goal.loop-budget-init
+loop-budget-init g c = record {
+  power = (0, refl, none_yet c.args.context.now c.cone_limit-limit.result (g.G.Monitor.bound c.args.monitor.now) c.args.subjects.now c.in-Ok.known.items c.in-Ok.ensures.one_for_each c.in-Ok.ensures.none);
+  some = lit< tt;
+}
+
+pub judge_round-requires-clause-one_for_each : goal.judge_round-requires-clause-one_for_each
+judge_round-requires-clause-one_for_each g c κs within =
+    let p = c.loop-budget.invariant.power in
+    length_known (IsDecidedIn c.args.context.now c.cone_limit-limit.result) (λ s. (j : ℕ) → j < p.0 → IsUndecidedIn c.args.context.now (16384 * 16 ^ j) (g.G.Monitor.bound c.args.monitor.now) s) c.args.subjects.now c.loop-budget.known.items p.2
+
+pub judge_round-requires-2-clause-one_for_each : goal.judge_round-requires-2-clause-one_for_each
+judge_round-requires-2-clause-one_for_each g c κs within =
+    let p = c.loop-budget.invariant.power in
+    length_known (IsDecidedIn c.args.context.now c.cone_limit-limit.result) (λ s. (j : ℕ) → j < p.0 → IsUndecidedIn c.args.context.now (16384 * 16 ^ j) (g.G.Monitor.bound c.args.monitor.now) s) c.args.subjects.now c.loop-budget.known.items p.2
+
+pub loop-budget-preserved : goal.loop-budget-preserved
+loop-budget-preserved g c =
+    let p = c.loop-budget.invariant.power in
+    let some = c.loop-budget.invariant.some in
+    record {
+      power = (
+        suc p.0,
+        next_budget p.0 c.loop-budget.budget p.1,
+        round_more c.args.context.now c.cone_limit-limit.result (g.G.Monitor.bound c.args.monitor.now) c.args.subjects.now p.0 c.loop-budget.budget c.loop-budget.known.items c.in_ok-known.known.items p.1 (let low = c.loop-budget-test.true in omega (arith, low)) p.2 c.in_ok-known.ensures.round,
+      );
+      some = omega (arith, some);
+    }
+
+pub returns-clause-known : goal.returns-clause-known
+returns-clause-known g c =
+    let w = c.args.context.now in
+    let bound = g.G.Monitor.bound c.args.monitor.now in
+    let p = c.loop-budget.invariant.power in
+    let limit = c.cone_limit-limit.result in
+    let most : limit ≤ 16384 * 16 ^ p.0 = (let e = p.1 in let past = c.loop-budget-test.false in omega arith) in
+    subst (λ n. IfOk c.judge_round-2.result (λ v. AllZip (IsKnown (IsDecidedIn w n) (λ s. (budget : ℕ) → IsBudget n budget → IsUndecidedIn w budget bound s)) c.args.subjects.now v.items)) c.cone_limit-limit.ensures
+    (IfOk-then c.judge_round-2.result _ _ c.judge_round-2.ensures.round (λ v r. round_last w limit bound c.args.subjects.now p.0 c.loop-budget.known.items v.items most p.2 r))

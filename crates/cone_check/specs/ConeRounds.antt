@@ -1,0 +1,212 @@
+-- How pairs are judged by their cones, step by step.
+use Rattle.std.specs.Prelude.{◌≡◌, ◌⊎◌, ◌<◌, ℕ, false, List, [], ◌∷◌, map, length, slice_index_or, Option, Some, None, Result, Ok, Err}
+use Rattle.std.specs.Prelude.{IfSome, option_map}
+use Rattle.std.specs.Borrow.{Bor}
+use Rattle.std.specs.List.{AllZip}
+use Rattle.std.specs.declared.alloc.Global.{Global}
+use Rattle.std.specs.declared.vec.Vec.{Vec}
+use Rattle.net_bench.specs.Circuit.{Circuit, circuit}
+use Rattle.net_cone.specs.declared.cone.Cone.{Cone}
+use Rattle.net_cone.specs.Cones.{AreNames, gate_signals}
+use Rattle.net_order.specs.declared.order.Match.TheVariants.{Name}
+use Rattle.net_order.specs.declared.order.Order.TheVariants.{Declared}
+use Rattle.net_order.specs.Order.{NamingModel, condition, name_of}
+use Rattle.report_text.specs.declared.verdict.Verdict.{Verdict}
+use Rattle.report_text.specs.declared.verdict.Verdict.TheVariants.{Undecided}
+use Rattle.report_text.specs.Lines.{Found}
+use Rattle.cone_check.specs.declared.pair_cones.Cones.{Cones}
+use Rattle.cone_check.specs.declared.pair_cones.ConeContext.{ConeContext}
+use Rattle.compare_built.specs.declared.fault.CheckFault.{CheckFault}
+use Rattle.compare_built.specs.declared.fault.CheckFault.TheVariants.{Only}
+use Rattle.cone_check.specs.declared.variable_names.NetlistRole.{NetlistRole}
+use Rattle.cone_check.specs.declared.variable_names.NetlistRole.TheVariants.{First, Second, Given}
+use Rattle.cone_check.specs.declared.rounds.PairJob.{PairJob}
+use Rattle.compare_built.specs.declared.subject.Subject.{Subject}
+use Rattle.compare_built.specs.declared.task.Task.{Task}
+use Rattle.compare_built.specs.Details.{unsized}
+use Rattle.compare_built.specs.Check.{IsComparisonFault}
+use Rattle.compare_built.specs.Comparing.{IsInside}
+use Rattle.compare_built.specs.Cones.{AreCones, AreNamed, AreConeVerdicts, FitByCones, IsConditionCone, IsUndecided, IsUndecidedWithin, IsConeVerdict, cone_limit}
+use Rattle.compare_built.specs.PairSelection.{ArePicked}
+use Rattle.compare_built.specs.Scatter.{IsOfNet, widened_verdict}
+use Rattle.order_search.specs.Trials.{EndsAtOnce, IsNamingIn}
+
+-- ---- names
+
+-- the levels of a netlist's variables in a naming, by signal
+abbrev pub levels_in : NetlistRole → NamingModel → List ℕ
+levels_in First p = p.first
+levels_in Second p = p.second
+levels_in Given p = p.given
+
+-- the texts of names
+abbrev pub texts : List (Vec ℕ Global) → List (List ℕ)
+texts names = map (λ (v : Vec ℕ Global). v.items) names
+
+-- ---- cones
+
+-- the circuit of a cone, where there is one
+abbrev pub circuit_of : Option (Bor Cone) → Option Circuit
+circuit_of None = None
+circuit_of (Some cone) = Some (circuit cone.now.net)
+
+abbrev pub circuit_in : Option Cone → Option Circuit
+circuit_in None = None
+circuit_in (Some cone) = Some (circuit cone.net)
+
+-- the netlists and their naming in declared order, the names of their variables by it, the signals of their gates, and the condition's cone
+pub record IsConeContext {H : Type 0} (context : ConeContext H) : Type 0 where
+  pub naming : IsNamingIn context.task.now Declared context.naming.now
+  pub first : AreNamed (circuit context.task.now.first.now) context.naming.now.first context.naming.now (texts context.first.now)
+  pub first_apart : AreNames context.task.now.first.now (texts context.first.now)
+  pub second : AreNamed (circuit context.task.now.second.now) context.naming.now.second context.naming.now (texts context.second.now)
+  pub second_apart : AreNames context.task.now.second.now (texts context.second.now)
+  pub first_gates : context.first_gates.now ≡ gate_signals context.task.now.first.now
+  pub second_gates : context.second_gates.now ≡ gate_signals context.task.now.second.now
+  pub conditional : IsConditionCone (condition context.task.now.given) context.naming.now (circuit_of context.given)
+  pub conditional_net : IfSome (condition context.task.now.given) IsOfNet
+  pub by_name : context.settings.now.matching ≡ Name
+  pub no_sizes : context.settings.now.sizes ≡ false
+  pub assignment : context.settings.now.assignment ≡ context.task.now.settings.now.assignment
+
+-- what is judged are signals of the netlists
+abbrev pub IsInContext : {H : Type 0} → ConeContext H → Subject → Type 0
+IsInContext context s = IsInside (circuit context.task.now.first.now) (circuit context.task.now.second.now) s
+
+-- the cones of a pair, and of the condition
+abbrev pub AreConesOf : {H : Type 0} → ConeContext H → Subject → Cones → Type 0
+AreConesOf context s cones = AreCones (circuit context.task.now.first.now) (circuit context.task.now.second.now)
+    (condition context.task.now.given) context.naming.now s
+    (circuit cones.first.net) (circuit cones.second.net) (circuit_of context.given)
+
+-- the comparison of a pair's cones
+pub record IsConeTask {H : Type 0} (context : ConeContext H) (cones : Cones) (task : Task H) : Type 0 where
+  pub first : task.first.now ≡ cones.first.net
+  pub second : task.second.now ≡ cones.second.net
+  pub given : condition task.given ≡ circuit_of context.given
+  pub settings : task.settings.now ≡ context.settings.now
+
+-- ---- verdicts
+
+-- the cones of the pair need so many nodes at most
+abbrev pub FitIn : {H : Type 0} → ConeContext H → (budget : ℕ) → Subject → Type 0
+FitIn context budget s = FitByCones budget (circuit context.task.now.first.now) (circuit context.task.now.second.now)
+    (condition context.task.now.given) context.naming.now s
+
+-- the pair is decided within so many nodes, and this is its verdict
+abbrev pub IsDecidedIn : {H : Type 0} → ConeContext H → (budget : ℕ) → Subject → Verdict → Type 0
+IsDecidedIn context budget s v = IsConeVerdict (unsized context.task.now.settings.now.assignment) (FitIn context budget) (λ t. ⊥)
+    (circuit context.task.now.first.now) (circuit context.task.now.second.now) (condition context.task.now.given) context.naming.now s v
+
+-- the pair is left within so many nodes
+abbrev pub IsUndecidedIn : {H : Type 0} → ConeContext H → (budget : ℕ) → (bound : Option ℕ) → Subject → Type 0
+IsUndecidedIn context budget bound s = IsUndecidedWithin budget bound (circuit context.task.now.first.now) (circuit context.task.now.second.now)
+    (condition context.task.now.given) context.naming.now s
+
+-- the pair has this verdict, or none where it is left
+abbrev pub IsKnown : (reported : Subject → Verdict → Type 0) (left : Subject → Type 0) → Subject → Option Verdict → Type 0
+IsKnown reported left s None = left s
+IsKnown reported left s (Some v) = reported s v
+
+-- a verdict over the variables at these levels, where there is one, told over all variables
+abbrev pub IsWidened : {H : Type 0} → ConeContext H → Subject → (places : List ℕ) → (found reported : Option Verdict) → Type 0
+IsWidened context s places found reported =
+    reported ≡ option_map (widened_verdict s.role (name_of (circuit context.task.now.first.now) s.named)
+    (length context.naming.now.names) places) found
+
+-- what the attempts within so many nodes came to for a pair
+abbrev pub IsJudgedIn : {H : Type 0} → ConeContext H → (budget : ℕ) → (bound : Option ℕ) → Subject → Option Verdict → Type 0
+IsJudgedIn context budget bound s o = IsKnown (IsDecidedIn context budget) (IsUndecidedIn context budget bound) s o
+
+-- a fault of one pair: nothing was given up, and no name was looked for
+abbrev pub EndsPairs : CheckFault → Type 0
+EndsPairs fault = IsComparisonFault fault × EndsAtOnce fault
+
+-- ---- rounds
+
+-- the pairs that have no verdict yet
+abbrev pub left_of : List Subject → List (Option Verdict) → List Subject
+left_of [] known = []
+left_of (s ∷ ss) [] = []
+left_of (s ∷ ss) (None ∷ known) = s ∷ left_of ss known
+left_of (s ∷ ss) (Some v ∷ known) = left_of ss known
+
+-- a verdict that is known, or the first of those that were found
+abbrev pub first_filled : Option Verdict → List (Option Verdict) → Option Verdict
+first_filled (Some v) found = Some v
+first_filled None [] = None
+first_filled None (o ∷ found) = o
+
+-- those that are left for the others
+abbrev pub rest_found : Option Verdict → List (Option Verdict) → List (Option Verdict)
+rest_found (Some v) found = found
+rest_found None [] = []
+rest_found None (o ∷ found) = found
+
+-- the verdicts that are known, and in the places of the others what was found for them, in order
+abbrev pub filled : List (Option Verdict) → List (Option Verdict) → List (Option Verdict)
+filled [] found = []
+filled (o ∷ known) found = first_filled o found ∷ filled known (rest_found o found)
+
+-- what a pair's turn in a round came to
+abbrev pub IsJobResult : {H : Type 0} → ConeContext H → (budget : ℕ) → (bound : Option ℕ) → Subject → Result (Option Verdict) CheckFault → Type 0
+IsJobResult context budget bound s (Ok o) = IsJudgedIn context budget bound s o
+IsJobResult context budget bound s (Err fault) = EndsPairs fault
+
+-- each of these pairs had its turn
+pub record AreJobsDone {H : Type 0} (context : ConeContext H) (budget : ℕ) (bound : Option ℕ) (subjects : List Subject)
+    (jobs : List PairJob) : Type 0 where
+  pub each : map (λ (t : PairJob). t.subject) jobs ≡ subjects
+  pub ended : (i : ℕ) (t : PairJob) → i < length jobs → IsJobResult context budget bound (slice_index_or jobs i t).subject
+      (slice_index_or jobs i t).ended
+
+-- what a round leaves of what was known
+pub record IsRoundOf {H : Type 0} (context : ConeContext H) (budget : ℕ) (bound : Option ℕ) (subjects : List Subject)
+    (known new : List (Option Verdict)) : Type 0 where
+  pub found : List (Option Verdict)
+  pub judged : AllZip (IsJudgedIn context budget bound) (left_of subjects known) found
+  pub all : new ≡ filled known found
+
+-- ---- all pairs
+
+-- a pair that no budget up to the cones' limit decides
+abbrev pub StaysUndecided : {H : Type 0} → ConeContext H → (bound : Option ℕ) → Subject → Type 0
+StaysUndecided context bound s =
+    IsUndecided context.task.now.settings.now.limit bound (circuit context.task.now.first.now) (circuit context.task.now.second.now)
+    (condition context.task.now.given) context.naming.now s
+
+-- the same, and its verdict
+abbrev pub IsFinalVerdict : {H : Type 0} → ConeContext H → (bound : Option ℕ) → Subject → Verdict → Type 0
+IsFinalVerdict context bound s v =
+    IsConeVerdict (unsized context.task.now.settings.now.assignment) (FitIn context (cone_limit context.task.now.settings.now.limit))
+    (StaysUndecided context bound) (circuit context.task.now.first.now) (circuit context.task.now.second.now)
+    (condition context.task.now.given) context.naming.now s v
+
+-- the verdict of a pair: Undecided, where there is none
+abbrev pub or_undecided : Circuit → Subject → Option Verdict → Verdict
+or_undecided a s None = Undecided s.role (name_of a s.named)
+or_undecided a s (Some v) = v
+
+-- those of all pairs
+abbrev pub all_or_undecided : Circuit → List Subject → List (Option Verdict) → List Verdict
+all_or_undecided a [] known = []
+all_or_undecided a (s ∷ ss) [] = []
+all_or_undecided a (s ∷ ss) (o ∷ known) = or_undecided a s o ∷ all_or_undecided a ss known
+
+-- What a comparison of a task by cones finds, over the variables of its naming.
+pub record IsFoundByCones {H : Type 0} (task : Task H) (bound : Option ℕ) (p : NamingModel) (found : Found) : Type 0 where
+  pub pairs : List Subject
+  pub unmatched_lines : List Verdict
+  pub picked : ArePicked (circuit task.first.now) (circuit task.second.now) p task.settings.now.picked pairs unmatched_lines
+  pub verdicts : AreConeVerdicts (unsized task.settings.now.assignment)
+      (FitByCones (cone_limit task.settings.now.limit) (circuit task.first.now) (circuit task.second.now) (condition task.given) p)
+      (IsUndecided task.settings.now.limit bound (circuit task.first.now) (circuit task.second.now) (condition task.given) p)
+      (circuit task.first.now) (circuit task.second.now) (condition task.given) p pairs unmatched_lines found
+
+-- a fault of a comparison by cones: a name that is picked is unknown, or what ends the judging of pairs
+abbrev pub EndsCones : CheckFault → Type 0
+EndsCones fault = (fault ≡ Only) ⊎ EndsPairs fault
+
+-- the same, where the whole may have been tried before
+abbrev pub EndsAuto : CheckFault → Type 0
+EndsAuto fault = (fault ≡ Only) ⊎ EndsAtOnce fault

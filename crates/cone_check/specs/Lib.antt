@@ -1,0 +1,2 @@
+pub mod ConeRounds
+pub mod Batches

@@ -1,0 +1,22 @@
+//! Pairs that are compared one by one, each by its cones, in rounds of budgets that grow.
+//!
+//! **Promises.** `cone_comparison::verdicts_by_cones` answers a verdict for each pair that is selected: that of the
+//! whole comparison, or Undecided only if the cones have more variables than a pairing has or each attempt at them was
+//! given up. Several pairs are compared at once, one a thread; the verdicts do not depend on it. `select_pairs` answers
+//! the pairs of a filter, and refuses a name only if the first netlist has no such output or register (`unknown`).
+//!
+//! **Only tests show** what a monitor is notified of about rounds (`report_tests`).
+//!
+//! **Begin** with `specs/ConeRounds`; then `pair_cones` (the cones of a pair as a comparison of its own), `pairs` (one
+//! pair within one budget), `rounds` (all pairs that are left) and `cone_comparison`.
+#![tactic(auto)]
+
+mod batches;
+pub mod cone_comparison;
+pub mod pair_cones;
+mod pair_selection;
+mod pairs;
+mod remaining;
+pub mod rounds;
+mod shares;
+mod variable_names;

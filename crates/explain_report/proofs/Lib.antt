@@ -1,0 +1,4 @@
+pub mod Trying
+pub mod Explaining
+pub mod Differences
+pub mod FirstDifferences

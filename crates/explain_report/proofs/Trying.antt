@@ -1,0 +1,139 @@
+-- Choices of an order, and what the devices of a task gave.
+use Rattle.std.proofs.Common.{◌≡◌, ℕ, List, Option, Some, None, Result, Ok, Err, IfErr, refl, ap, ap₂, sym, subst, ◌∙◌, Bool}
+use Rattle.std.specs.Prelude.{IfSome, IsSomeAnd, is_some, option_map}
+use Rattle.std.specs.Option.{option_copied}
+use Rattle.std.specs.Borrow.{Bor}
+use Rattle.net_order.specs.declared.order.Match.{Match}
+use Rattle.net_order.specs.declared.order.Order.{Order}
+use Rattle.net_order.specs.declared.order.Order.TheVariants as orders
+use Rattle.compare_built.specs.declared.strategy.Candidate.TheVariants.{Interleave, Declared}
+use Rattle.compare_built.specs.declared.strategy.Strategy.{Strategy}
+use Rattle.compare_built.specs.declared.strategy.Strategy.TheVariants.{One, Best, Auto, Cones}
+use Rattle.compare_built.specs.declared.fault.CheckFault.{CheckFault}
+use Rattle.compare_built.specs.declared.fault.CheckFault.TheVariants.{First, Second, Given, GivenOutputs, Order as OrderRefused, Only, Explain, Wave, GivenUp, Write, OutOfMemory}
+use Rattle.compare_built.specs.declared.strategy.Attempt.{Attempt}
+use Rattle.compare_built.specs.Attempts.{IsAllowed, IsChosen, MayGoByCones}
+use Rattle.net_bench.specs.Circuit.{Circuit, Net, circuit}
+use Rattle.net_order.specs.Order.{NamingModel, condition}
+use Rattle.compare_built.specs.Devices.{DeviceTexts, device_text}
+use Rattle.report_text.specs.declared.order_kind.OrderKind.{OrderKind}
+use Rattle.report_text.specs.declared.outcome.Share.{Share}
+use Rattle.report_text.specs.declared.assignment.Assignment.{Assignment}
+use Rattle.report_text.specs.Causes.{Caused}
+use Rattle.report_text.specs.Json.{form_text}
+use Rattle.report_text.specs.Lines.{Found}
+use Rattle.net_bench.specs.declared.fault.BenchFault.{BenchFault}
+use Rattle.compare_built.specs.declared.settings.Settings.{Settings}
+use Rattle.explain_report.specs.Deciding.{MayTakeCones, IsFoundBy}
+use Rattle.explain_report.specs.Deciding.IsFoundBy.{by_cones, in_order}
+use Rattle.compare_built.specs.Check.{AreAccepted, AreGiven, ArePaired, Gives, IsCondition, IsUnread, IsConditionFault, IsCheckFault}
+use Rattle.compare_built.specs.Conditions.{HasOneOutput}
+use Rattle.order_search.proofs.Reporting.{any_for, few_for}
+
+-- each choice allows some order
+pub some_order : (choice : Strategy) → (order : Order) × IsAllowed choice order
+some_order (One o) = (o, refl)
+some_order Best = (orders.Interleave, (Interleave, refl))
+some_order Auto = (orders.Interleave, (Interleave, refl))
+some_order Cones = (orders.Declared, refl)
+
+-- a fault for which no device had to fail
+unread : (input : Option (List ℕ)) (failed : Type 0) (fault : BenchFault) → IsUnread input ⊥ fault → IsUnread input failed fault
+unread input failed fault u = record { cause = u.cause; read = λ e. absurd (u.read e) }
+
+uncondition : (given : Option (Option (List ℕ))) (failed : Type 0) (fault : BenchFault) → IsSomeAnd given (λ input. IsUnread input ⊥ fault) → IsSomeAnd given (λ input. IsUnread input failed fault)
+uncondition None failed fault u = absurd u
+uncondition (Some input) failed fault u = unread input failed fault u
+
+pub none_failed : (input : DeviceTexts) (first second third : Type 0) (choice : Strategy) (how : Match) (order : Order) (fault : CheckFault) → IsCheckFault input ⊥ ⊥ ⊥ choice how order fault →
+    IsCheckFault input first second third choice how order fault
+none_failed input first second third choice how order (First fault) c = unread input.first first fault c
+none_failed input first second third choice how order (Second fault) c = (c.0, c.1, unread input.second second fault c.2)
+none_failed input first second third choice how order (Given fault) c = (c.0, c.1, c.2, c.3, uncondition input.given third fault c.4)
+none_failed input first second third choice how order GivenOutputs c = c
+none_failed input first second third choice how order (OrderRefused fault) c = c
+none_failed input first second third choice how order Only c = c
+none_failed input first second third choice how order Explain c = c
+none_failed input first second third choice how order (Wave fault) c = c
+none_failed input first second third choice how order GivenUp c = c
+none_failed input first second third choice how order Write c = c
+none_failed input first second third choice how order OutOfMemory c = c
+
+module _ (input : DeviceTexts) (first second third : Type 0) (how : Match) (choice : Strategy) where
+  pub none_failed_in : {T : Type 0} (r : Result T CheckFault) → IfErr r (λ fault. (order : Order) × IsAllowed choice order × IsCheckFault input ⊥ ⊥ ⊥ choice how order fault)
+      → IfErr r (λ fault. (order : Order) × IsAllowed choice order × IsCheckFault input first second third choice how order fault)
+  none_failed_in (Ok v) h = tt
+  none_failed_in (Err fault) h = (h.0, h.1, none_failed input first second third choice how h.0 fault h.2)
+
+-- why there is no condition, where both texts were accepted
+pub condition_fault : (input : DeviceTexts) (a b : Circuit) (first second third : Type 0) (choice : Strategy) (how : Match) (order : Order) (fault : CheckFault) → Gives input.first a → Gives input.second b →
+    IsConditionFault input.given third fault → IsCheckFault input first second third choice how order fault
+condition_fault input a b first second third choice how order (First fault) ga gb f = absurd f
+condition_fault input a b first second third choice how order (Second fault) ga gb f = absurd f
+condition_fault input a b first second third choice how order (Given fault) ga gb f = (a, b, ga, gb, f)
+condition_fault input a b first second third choice how order GivenOutputs ga gb f = (a, b, ga, gb, f)
+condition_fault input a b first second third choice how order (OrderRefused fault) ga gb f = absurd f
+condition_fault input a b first second third choice how order Only ga gb f = absurd f
+condition_fault input a b first second third choice how order Explain ga gb f = absurd f
+condition_fault input a b first second third choice how order (Wave fault) ga gb f = absurd f
+condition_fault input a b first second third choice how order GivenUp ga gb f = absurd f
+condition_fault input a b first second third choice how order Write ga gb f = absurd f
+condition_fault input a b first second third choice how order OutOfMemory ga gb f = absurd f
+
+-- a condition that is borrowed
+pub as_condition : (o : Option Net) (r : Option (Bor Net)) → option_copied r ≡ o → option_map circuit o ≡ condition r
+as_condition o None e = ap (option_map circuit) (sym e)
+as_condition o (Some net) e = ap (option_map circuit) (sym e)
+
+-- the texts of a task, whose condition is borrowed
+pub given_as : (input : DeviceTexts) (a b : Circuit) (o : Option Net) (r : Option (Bor Net)) → option_copied r ≡ o → AreGiven input a b (option_map circuit o) → AreGiven input a b (condition r)
+given_as input a b o r e h = subst (AreGiven input a b) (as_condition o r e) h
+
+-- a condition that was read has one output
+pub one_output_of : (input : Option (Option (List ℕ))) (c : Option Circuit) → IsCondition input c → IfSome c HasOneOutput
+one_output_of input None h = tt
+one_output_of None (Some c) h = absurd h
+one_output_of (Some text) (Some c) h = h.1
+
+-- there is a text where there is a device
+pub has_input : {R : Type 0} (text_of : R → Option (List ℕ)) (r : Option R) → is_some (device_text text_of r) ≡ is_some r
+has_input text_of None = refl
+has_input text_of (Some device) = refl
+
+-- the bytes of a report, by whether there is a condition, and by its causes
+pub form_as : (json : Bool) (which : Option Assignment) (how : Match) (kind : OrderKind) (share : Option Share) (found : Found) (items : List ℕ) (h given : Bool) (list causes : Option (List Caused))
+    → items ≡ form_text json which how kind h share list found → h ≡ given → list ≡ causes → items ≡ form_text json which how kind given share causes found
+form_as json which how kind share found items h given list causes e input same = e ∙ ap₂ (λ (z : Bool) (cs : Option (List Caused)). form_text json which how kind z share cs found) input same
+
+-- the order of a report is allowed
+pub chosen_allowed : (input : DeviceTexts) (how : Match) (choice : Strategy) (limit : ℕ) (tried : Option Attempt) (order : Order) → IsChosen input how choice limit tried order → IsAllowed choice order
+chosen_allowed input how (One o) limit None order c = c.0
+chosen_allowed input how (One o) limit (Some t) order c = absurd c
+chosen_allowed input how Best limit None order c = absurd c
+chosen_allowed input how Best limit (Some t) order c = (t.order, c.0)
+chosen_allowed input how Auto limit None order c = absurd c
+chosen_allowed input how Auto limit (Some t) order c = (Declared, c.0)
+chosen_allowed input how Cones limit tried order c = absurd c
+
+-- what has a pairing is accepted, for any choice
+pub accepted_in : (choice : Strategy) (input : DeviceTexts) (how : Match) (order : Order) (a b : Circuit) (c : Option Circuit) (p : NamingModel) → ArePaired input how order a b c p → AreAccepted input choice how order
+accepted_in choice input how order a b c p paired =
+    (a, b, c, p, record { netlists = paired.netlists; naming = paired.pairing.naming }, few_for choice how a b c paired.pairing.few)
+
+-- what is found is accepted, in an order that is allowed
+pub found_accepted : (input : DeviceTexts) (s : Settings) (bound : Option ℕ) (found : Found) (tried : Option Attempt) → IsFoundBy input s bound found tried →
+    (order : Order) × IsAllowed s.order order × AreAccepted input s.order s.matching order
+found_accepted input s bound found tried (in_order order j chosen) = (order, chosen_allowed input s.matching s.order s.limit tried order chosen, accepted_in s.order input s.matching order j.a j.b j.c j.p j.paired)
+found_accepted input s bound found None (by_cones cause j) = (orders.Declared, declared_allowed s.order cause, (j.a, j.b, j.c, j.p, j.named, any_for s.order s.matching j.a j.b j.c (may_go s.order cause)))
+  where
+    declared_allowed : (choice : Strategy) → MayTakeCones input s bound choice → IsAllowed choice orders.Declared
+    declared_allowed (One o) cause = absurd cause
+    declared_allowed Best cause = absurd cause
+    declared_allowed Auto cause = (Declared, refl)
+    declared_allowed Cones cause = refl
+
+    may_go : (choice : Strategy) → MayTakeCones input s bound choice → MayGoByCones choice
+    may_go (One o) cause = absurd cause
+    may_go Best cause = absurd cause
+    may_go Auto cause = tt
+    may_go Cones cause = tt

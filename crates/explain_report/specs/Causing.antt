@@ -1,0 +1,109 @@
+-- What pairs that differ have in common: the first inner signal that differs.
+use Rattle.std.specs.Prelude.{◌≡◌, ℕ, ◌==◌, Bool, true, false, List, [], ◌∷◌, ◌++◌, map, filter, find, if◌then◌else◌, Option, Some, None}
+use Rattle.std.specs.Prelude.{IsSomeAnd, option_map, option_to_list, slice_get, slice_index_or}
+use Rattle.std.specs.List.{list_any}
+use Rattle.std.specs.declared.alloc.Global.{Global}
+use Rattle.std.specs.declared.vec.Vec.{Vec}
+use Rattle.net_bench.specs.Circuit.{Circuit, IsNet, Net, circuit}
+use Rattle.net_explain.specs.declared.differing.InnerSignal.{InnerSignal}
+use Rattle.net_explain.specs.Explaining.{ExplanationModel, IsExplanation}
+use Rattle.net_order.specs.Order.{NamingModel}
+use Rattle.report_text.specs.declared.cause.PairName.{PairName}
+use Rattle.report_text.specs.declared.verdict.Verdict.{Verdict}
+use Rattle.report_text.specs.declared.verdict.Verdict.TheVariants.{Equal, Differs, Unmatched, Undecided}
+use Rattle.report_text.specs.Causes.{Caused}
+use Rattle.report_text.specs.Lines.{Found}
+use Rattle.explain_report.specs.declared.first_differences.FirstDifference.{FirstDifference}
+use Rattle.compare_built.specs.declared.strategy.Attempt.{Attempt}
+use Rattle.compare_built.specs.declared.settings.Settings.{Settings}
+use Rattle.compare_built.specs.declared.subject.Subject.{Subject}
+use Rattle.compare_built.specs.Check.{HaveNaming}
+use Rattle.compare_built.specs.Devices.{DeviceTexts}
+use Rattle.explain_report.specs.Explaining.{is_subject_of, reported_order}
+use Rattle.compare_built.specs.Report.{subjects}
+
+-- ---- the first inner signal that differs
+
+-- a pair with this first inner signal
+abbrev pub first_difference : PairName → InnerSignal → FirstDifference
+first_difference t inner = record { pair = t; inner = inner }
+
+-- a pair with the first of its inner signals that differ at the assignment, where it is one of those that are compared and one does
+abbrev pub IsPairFirstDifference : Net → Net → NamingModel → PairName → List Bool → Option Subject → Option FirstDifference → Type 0
+IsPairFirstDifference a b p t at None differences = differences ≡ None
+IsPairFirstDifference a b p t at (Some s) differences = (e : ExplanationModel) × IsExplanation a b p (s.first, s.second) at e
+    × (differences ≡ option_map (first_difference t) (slice_get e.inner 0))
+
+-- the same of the pair that a verdict is on, where it differs
+abbrev pub IsFirstDifference : Net → Net → NamingModel → List Subject → Verdict → Option FirstDifference → Type 0
+IsFirstDifference a b p pairs (Equal role name size) differences = differences ≡ None
+IsFirstDifference a b p pairs (Differs role name at first second extras) differences =
+    let t : PairName = record { role = role; name = name } in IsPairFirstDifference a b p t at (find (is_subject_of (circuit a) t) pairs) differences
+IsFirstDifference a b p pairs (Unmatched side role name) differences = differences ≡ None
+IsFirstDifference a b p pairs (Undecided role name) differences = differences ≡ None
+
+-- these are all of them, in the order of the verdicts
+abbrev pub AreFirstDifferences : Net → Net → NamingModel → List Subject → List Verdict → List FirstDifference → Type 0
+AreFirstDifferences a b p pairs [] differences = differences ≡ []
+AreFirstDifferences a b p pairs (v ∷ vs) differences = (one : Option FirstDifference) × (rest : List FirstDifference) × IsFirstDifference a b p pairs v one × AreFirstDifferences a b p pairs vs rest
+    × (differences ≡ option_to_list one ++ rest)
+
+-- ---- causes
+
+-- the pair has this first inner signal
+abbrev pub has_first_signal : ℕ → FirstDifference → Bool
+has_first_signal signal l = l.inner.first == signal
+
+-- the cause that an inner signal is: of the pairs that have it as their first
+abbrev pub cause_of : List (List ℕ) → List FirstDifference → InnerSignal → Caused
+cause_of names differences i =
+    record {
+      signal = slice_index_or names i.first [];
+      first_line = i.first_line;
+      second_line = i.second_line;
+      pairs = map (λ one. one.pair) (filter (has_first_signal i.first) differences);
+    }
+
+-- an inner signal, where none of the pairs before has it
+abbrev pub first_time : (before : List FirstDifference) → InnerSignal → List InnerSignal
+first_time before i = if list_any (has_first_signal i.first) before then [] else i ∷ []
+
+-- the first inner signals of pairs behind others, each once, where it comes first
+abbrev pub first_signals : (before : List FirstDifference) → List FirstDifference → List InnerSignal
+first_signals before [] = []
+first_signals before (l ∷ ls) = first_time before l.inner ++ first_signals (before ++ l ∷ []) ls
+
+-- the causes of pairs, in the order of the first pair of each
+abbrev pub causes_of : List (List ℕ) → List FirstDifference → List Caused
+causes_of names differences = map (cause_of names differences) (first_signals [] differences)
+
+-- ---- in a report
+
+-- These are the causes of what was found: of the pairs of the netlists that the devices gave, at the assignments of the verdicts.
+pub record HaveCauses (input : DeviceTexts) (s : Settings) (tried : Option Attempt) (found : Found) (list : List Caused) : Type 0 where
+  pub a : Net
+  pub b : Net
+  pub c : Option Circuit
+  pub p : NamingModel
+  -- their ranks, which order inner signals, are those of their gates
+  pub first_sound : IsNet a
+  pub second_sound : IsNet b
+  pub named : HaveNaming input s.matching (reported_order s.order tried) (circuit a) (circuit b) c p
+  -- the bits of an assignment are those of the variables of this naming
+  pub variables : found.variables ≡ p.names
+  pub differences : List FirstDifference
+  pub are_first_differences : AreFirstDifferences a b p (subjects (circuit a) (circuit b) p) found.verdicts differences
+  pub causes : list ≡ causes_of a.names differences
+
+-- the causes that a report tells, where they are asked for
+abbrev pub AreCauses : (asked : Bool) → DeviceTexts → Settings → Option Attempt → Found → Option (List Caused) → Type 0
+AreCauses false input s tried found causes = causes ≡ None
+AreCauses true input s tried found causes = IsSomeAnd causes (HaveCauses input s tried found)
+
+-- causes as a comparison answers them
+abbrev pub Causes : Type 0
+Causes = Vec Caused Global
+
+-- these, where there are some
+abbrev pub causes_in : Option Causes → Option (List Caused)
+causes_in causes = option_map (λ (v : Causes). v.items) causes

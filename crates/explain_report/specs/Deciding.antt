@@ -1,0 +1,71 @@
+-- How a comparison is decided: the whole in one order, or each pair by its cones.
+use Rattle.std.specs.Prelude.{◌≡◌, ◌⊎◌, ◌++◌, ℕ, List, Option, None, is_some, ⊤}
+use Rattle.net_bench.specs.Circuit.{Circuit}
+use Rattle.net_order.specs.declared.order.Order.{Order}
+use Rattle.net_order.specs.declared.order.Order.TheVariants as orders
+use Rattle.net_order.specs.Order.{NamingModel}
+use Rattle.report_text.specs.declared.outcome.Outcome.{Outcome}
+use Rattle.report_text.specs.declared.verdict.Verdict.{Verdict}
+use Rattle.report_text.specs.Causes.{Caused}
+use Rattle.report_text.specs.Json.{form_text}
+use Rattle.report_text.specs.Lines.{Found, counted}
+use Rattle.compare_built.specs.declared.strategy.Attempt.{Attempt}
+use Rattle.compare_built.specs.declared.strategy.Candidate.{Candidate}
+use Rattle.compare_built.specs.declared.strategy.Strategy.{Strategy}
+use Rattle.compare_built.specs.declared.strategy.Strategy.TheVariants.{One, Best, Auto, Cones}
+use Rattle.compare_built.specs.declared.pair_filter.PairFilter.{PairFilter}
+use Rattle.compare_built.specs.declared.settings.Settings.{Settings}
+use Rattle.compare_built.specs.declared.subject.Subject.{Subject}
+use Rattle.compare_built.specs.Details.{details_in, unsized}
+use Rattle.compare_built.specs.Attempts.{IsBudget, IsChosen, IsGivenUpWithin, order_of, reported_kind, whole_limit}
+use Rattle.explain_report.specs.Causing.{AreCauses}
+use Rattle.compare_built.specs.Check.{Gives, HaveTooManyVariables, HaveNaming, IsJudged}
+use Rattle.compare_built.specs.Cones.{AreConeVerdicts, FitByCones, IsUndecided, cone_limit}
+use Rattle.compare_built.specs.Devices.{DeviceTexts}
+use Rattle.explain_report.specs.Explaining.{IsAppended}
+use Rattle.compare_built.specs.PairSelection.{ArePicked, HasUnknown, share_of}
+
+-- What a comparison by cones finds of what the devices gave, over the variables as they are declared.
+pub record IsJudgedByCones (input : DeviceTexts) (s : Settings) (bound : Option ℕ) (found : Found) : Type 0 where
+  pub a : Circuit
+  pub b : Circuit
+  pub c : Option Circuit
+  pub p : NamingModel
+  pub named : HaveNaming input s.matching orders.Declared a b c p
+  pub pairs : List Subject
+  pub unmatched_lines : List Verdict
+  pub picked : ArePicked a b p s.picked pairs unmatched_lines
+  pub verdicts : AreConeVerdicts (unsized s.assignment) (FitByCones (cone_limit s.limit) a b c p)
+      (IsUndecided s.limit bound a b c p) a b c p pairs unmatched_lines found
+
+-- Cones may be taken: they are asked for, or each attempt of the whole was given up, or it has more variables than a pairing has.
+abbrev pub MayTakeCones : DeviceTexts → Settings → (bound : Option ℕ) → Strategy → Type 0
+MayTakeCones input s bound (One o) = ⊥
+MayTakeCones input s bound Best = ⊥
+MayTakeCones input s bound Auto =
+    ((budget : ℕ) → IsBudget (whole_limit s.limit) budget → (c : Candidate) → IsGivenUpWithin input s.matching budget bound (order_of c))
+    ⊎ HaveTooManyVariables input s.matching
+MayTakeCones input s bound Cones = ⊤
+
+-- What a comparison finds by its settings, and the attempt that it is told with.
+pub data IsFoundBy (input : DeviceTexts) (s : Settings) (bound : Option ℕ) (found : Found) : Option Attempt → Type 0 where
+  in_order : {tried : Option Attempt} (order : Order) → IsJudged input s.matching order (details_in s) found
+      → IsChosen input s.matching s.order s.limit tried order → IsFoundBy input s bound found tried
+  by_cones : MayTakeCones input s bound s.order → IsJudgedByCones input s bound found → IsFoundBy input s bound found None
+
+-- The bytes are the report of what the devices gave, by these settings, with these counts and the causes that they ask for, and behind it
+-- the explanations that they ask for; this attempt is told with it.
+pub record IsReportBy (input : DeviceTexts) (s : Settings) (bound : Option ℕ) (tried : Option Attempt) (o : Outcome) (bytes : List ℕ) : Type 0 where
+  pub found : Found
+  pub by : IsFoundBy input s bound found tried
+  pub counts : o ≡ counted found.verdicts
+  pub causes : Option (List Caused)
+  pub caused : AreCauses s.causes input s tried found causes
+  pub explanations : List ℕ
+  pub explained : IsAppended s.explain.items input s tried found explanations
+  pub text : bytes ≡ form_text s.json s.assignment s.matching (reported_kind s.order tried) (is_some input.given)
+      (share_of s.picked) causes found ++ explanations
+
+-- One of the names that are picked is no output and no register of the first netlist that the devices gave.
+abbrev pub IsUnknown : DeviceTexts → PairFilter → Type 0
+IsUnknown input picked = (a : Circuit) × Gives input.first a × HasUnknown a picked

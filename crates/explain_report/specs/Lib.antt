@@ -1,0 +1,4 @@
+pub mod Explaining
+pub mod Causing
+pub mod Deciding
+pub mod Dumping

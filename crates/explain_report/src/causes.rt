@@ -1,0 +1,213 @@
+//! The causes of the pairs that differ: their first inner signals, each with the pairs that have it.
+ghost use Rattle.std.specs.Prelude.{◌≡◌, ◌≢◌, ◌<◌, ◌≤◌, ◌++◌, ◌∷◌, [], List, length, map, filter, take, option_map, All, Err, IfOk, IfErr};
+ghost use Rattle.std.specs.Prelude.{OnOk};
+ghost use Rattle.std.specs.List.{list_any};
+ghost use Rattle.net_bench.specs.Circuit.{circuit};
+ghost use Rattle.net_order.specs.declared.order.Order.{Order as OrderValue};
+ghost use Rattle.explain_report.specs.declared.first_differences.FirstDifference.{FirstDifference as FirstDifferenceValue};
+ghost use Rattle.compare_built.specs.Attempts.{IsAllowed, MayGoByCones};
+ghost use Rattle.explain_report.specs.Causing.{AreCauses, AreFirstDifferences, cause_of, causes_in, causes_of, first_time, has_first_signal};
+ghost use Rattle.compare_built.specs.Check.{IsCheckFault};
+ghost use Rattle.compare_built.specs.Comparing.{IsInside};
+ghost use Rattle.explain_report.specs.Explaining.{reported_order};
+ghost use Rattle.order_search.specs.Tasks.{OfTask};
+ghost use Rattle.order_search.specs.Trials.{EndsAtOnce, ordered_names};
+
+use crate::explanations::reported_naming;
+use crate::first_differences::{FirstDifference, all_first_differences};
+use compare_built::compared_pairs::subjects_of;
+use compare_built::fault::CheckFault;
+use compare_built::strategy::Attempt;
+use compare_built::subject::Subject;
+use compare_built::task::Task;
+use net_bench::netlist::{Netlist, Signal};
+use net_explain::InnerSignal;
+use net_order::naming::Naming;
+use net_order::order::OrderFault;
+use report_text::{Cause, Name, PairName, Verdict, Verdicts};
+use std::alloc::{AllocError, Global};
+
+/// Whether a pair has this first inner signal.
+fn has_first_signal(signal: Signal, difference: &FirstDifference) -> bool
+    ensures { result ≡ has_first_signal signal difference.now }
+{
+    difference.inner.first.number() == signal.number()
+}
+
+/// Whether one of these pairs has it.
+fn any_has_first_signal(signal: Signal, differences: &[FirstDifference]) -> bool
+    ensures { result ≡ list_any (has_first_signal signal) differences.now }
+{
+    for one in differences {
+        if has_first_signal(signal, one) {
+            return true;
+        }
+    }
+    false
+}
+
+/// A copy of a pair's name.
+fn copied(alloc: Global, pair: &PairName) -> Result<PairName, AllocError>
+    ensures { IfOk result (λ name. name ≡ pair.now) }
+{
+    let name = Name::copied(alloc, pair.name.as_slice())?;
+    Ok(PairName {
+        role: pair.role,
+        name,
+    })
+}
+
+/// Adds the name of a pair, where it has this first inner signal.
+fn add_if_caused_by(
+    alloc: Global,
+    signal: Signal,
+    difference: &FirstDifference,
+    pairs: &mut Vec<PairName>,
+) -> Result<(), AllocError>
+    ensures { OnOk result (pairs.new.items ≡ pairs.old.items ++ map (λ one. one.pair) (filter (has_first_signal signal) (difference.now ∷ []))) }
+{
+    if !has_first_signal(signal, difference) {
+        return Ok(());
+    }
+    let name = copied(alloc, &difference.pair)?;
+    pairs.push(name)?;
+    Ok(())
+}
+
+/// The names of those of the pairs that have this first inner signal.
+fn pairs_caused_by(
+    alloc: Global,
+    signal: Signal,
+    differences: &[FirstDifference],
+) -> Result<Vec<PairName>, AllocError>
+    ensures { IfOk result (λ pairs. pairs.items ≡ map (λ one. one.pair) (filter (has_first_signal signal) differences.now)) }
+{
+    let mut pairs = Vec::new(alloc);
+    for place in 0..differences.len() {
+        add_if_caused_by(alloc, signal, &differences[place], &mut pairs)?;
+    }
+    Ok(pairs)
+}
+
+/// The cause that an inner signal of a netlist is, of those of the pairs that have it as their first.
+fn cause_of(
+    alloc: Global,
+    net: &Netlist,
+    differences: &[FirstDifference],
+    inner: InnerSignal,
+) -> Result<Cause, AllocError>
+    requires { inner.first < length net.now.names }
+    ensures { IfOk result (λ cause. cause ≡ cause_of net.now.names differences.now inner) }
+{
+    let signal = Name::copied(alloc, net.name(inner.first))?;
+    let pairs = pairs_caused_by(alloc, inner.first, differences)?;
+    Ok(Cause::of(signal, (inner.first_line, inner.second_line), pairs))
+}
+
+/// Adds the cause that an inner signal is, where none of the pairs before has it.
+fn add_cause(
+    alloc: Global,
+    net: &Netlist,
+    differences: &[FirstDifference],
+    before: &[FirstDifference],
+    inner: InnerSignal,
+    causes: &mut Vec<Cause>,
+) -> Result<(), AllocError>
+    requires { inner.first < length net.now.names }
+    ensures { OnOk result (causes.new.items ≡ causes.old.items ++ map (cause_of net.now.names differences.now) (first_time before.now inner)) }
+{
+    if any_has_first_signal(inner.first, before) {
+        return Ok(());
+    }
+    let cause = cause_of(alloc, net, differences, inner)?;
+    causes.push(cause)?;
+    Ok(())
+}
+
+/// The pairs before a place.
+fn before(differences: &[FirstDifference], place: usize) -> &[FirstDifference]
+    requires { place ≤ length differences.now }
+    ensures { result.now ≡ take place differences.now }
+{
+    differences.split_at(place).0
+}
+
+/// The causes of the pairs, in the order of the first pair of each.
+fn causes_of(
+    alloc: Global,
+    net: &Netlist,
+    differences: &[FirstDifference],
+) -> Result<Vec<Cause>, AllocError>
+    requires { All (λ one. one.inner.first < length net.now.names) differences.now }
+    ensures { IfOk result (λ causes. causes.items ≡ causes_of net.now.names differences.now) }
+{
+    let mut causes = Vec::new(alloc);
+    for place in 0..differences.len() {
+        let inner = differences[place].inner;
+        add_cause(
+            alloc,
+            net,
+            differences,
+            before(differences, place),
+            inner,
+            &mut causes,
+        )?;
+    }
+    Ok(causes)
+}
+
+/// The causes of the pairs of these verdicts that differ.
+fn all_causes<H>(
+    task: &Task<'_, H>,
+    naming: &Naming,
+    pairs: &[Subject],
+    verdicts: &[Verdict],
+) -> Result<Vec<Cause>, AllocError>
+    requires { All (IsInside (circuit task.now.first.now) (circuit task.now.second.now)) pairs.now }
+    ensures { IfOk result (λ causes. (differences : List FirstDifferenceValue) × AreFirstDifferences task.now.first.now task.now.second.now naming.now pairs.now
+        verdicts.now differences × (causes.items ≡ causes_of task.now.first.now.names differences)) }
+{
+    let differences = all_first_differences(task, naming, pairs, verdicts)?;
+    causes_of(task.alloc, task.first, differences.as_slice())
+}
+
+/// These causes as a list, where there are some.
+pub fn listed(causes: &Option<Vec<Cause>>) -> Option<&[Cause]>
+    ensures { option_map (λ list. list.now) result ≡ causes_in causes.now }
+{
+    match causes {
+        Some(causes) => Some(causes.as_slice()),
+        None => None,
+    }
+}
+
+/// The causes that the report of these verdicts tells, where they are asked for.
+pub fn causes<H>(
+    task: &Task<'_, H>,
+    tried: Option<Attempt>,
+    verdicts: &Verdicts,
+) -> Result<Option<Vec<Cause>>, CheckFault>
+    requires names { verdicts.now.variables ≡ ordered_names task.now (reported_order task.now.settings.now.order tried) }
+    ensures causes { OfTask task.now (λ input s. IfOk result (λ causes. AreCauses s.causes input s tried verdicts.now (causes_in causes))) }
+    ensures fault { OfTask task.now (λ input s. IfErr result (λ fault. (order : OrderValue) × IsAllowed s.order order
+        × IsCheckFault input ⊥ ⊥ ⊥ s.order s.matching order fault)) }
+    ensures ends { IfErr result EndsAtOnce }
+    ensures any_number_of_inputs { MayGoByCones task.now.settings.now.order → result ≢ Err (CheckFault.Order OrderFault.TooManyInputs) }
+{
+    if !task.settings.causes {
+        return Ok(None);
+    }
+    let _ = task.first.inputs();
+    let _ = task.second.inputs();
+    let naming = match reported_naming(task, tried) {
+        Ok(naming) => naming,
+        Err(fault) => return Err(fault),
+    };
+    let Ok(pairs) = subjects_of(task.alloc, task.first, task.second, &naming) else {
+        return Err(CheckFault::OutOfMemory);
+    };
+    match all_causes(task, &naming, pairs.as_slice(), verdicts.as_slice()) {
+        Ok(causes) => Ok(Some(causes)),
+        Err(_) => Err(CheckFault::OutOfMemory),
+    }
+}

@@ -1,0 +1,151 @@
+//! The pairs that differ, each with the first of its inner signals that do.
+ghost use Rattle.std.specs.Prelude.{◌≡◌, ◌<◌, ◌++◌, find, length, option_map, option_to_list, slice_get, All, Some, IfOk, IfSome, OnOk};
+ghost use Rattle.net_bench.specs.Circuit.{circuit};
+ghost use Rattle.net_explain.specs.Explaining.{ExplanationModel, IsExplanation};
+ghost use Rattle.explain_report.specs.Causing.{AreFirstDifferences, IsFirstDifference, IsPairFirstDifference, first_difference};
+ghost use Rattle.compare_built.specs.Comparing.{IsInside};
+ghost use Rattle.explain_report.specs.Explaining.{is_subject_of};
+
+use crate::explanations::subject_of;
+use compare_built::subject::Subject;
+use compare_built::task::Task;
+use net_explain::{InnerSignal, explain};
+use net_order::naming::Naming;
+use report_text::{Name, PairKind, PairName, Verdict};
+use std::alloc::{AllocError, Global};
+
+/// A pair that differs, with the first of its inner signals that do.
+#[derive(Drop)]
+pub struct FirstDifference {
+    pub pair: PairName,
+    pub inner: InnerSignal,
+}
+
+/// The first of some inner signals, where there is one.
+fn first_of(inner: &[InnerSignal]) -> Option<InnerSignal>
+    ensures { result ≡ slice_get inner.now 0 }
+{
+    inner.first().copied()
+}
+
+/// The first of the inner signals of a pair that differ at an assignment, where one does.
+fn first_inner<H>(
+    task: &Task<'_, H>,
+    naming: &Naming,
+    subject: Subject,
+    at: &[bool],
+) -> Result<Option<InnerSignal>, AllocError>
+    requires { IsInside (circuit task.now.first.now) (circuit task.now.second.now) subject }
+    ensures first { IfOk result (λ first. (e : ExplanationModel) × IsExplanation task.now.first.now task.now.second.now naming.now
+        (subject.first, subject.second) at.now e × (first ≡ slice_get e.inner 0)) }
+    ensures known { IfOk result (λ first. IfSome first (λ inner. inner.first < length task.now.first.now.names)) }
+{
+    let pair = (subject.first, subject.second);
+    let explanation = explain(task.alloc, task.first, task.second, naming, pair, at)?;
+    Ok(first_of(explanation.inner()))
+}
+
+/// A pair with its first inner signal, where it has one.
+fn first_difference(pair: PairName, first: Option<InnerSignal>) -> Option<FirstDifference>
+    ensures { result ≡ option_map (first_difference pair) first }
+{
+    match first {
+        Some(inner) => Some(FirstDifference { pair, inner }),
+        None => None,
+    }
+}
+
+/// A pair with the first of its inner signals that differ at an assignment, where one does.
+fn subject_first_difference<H>(
+    task: &Task<'_, H>,
+    naming: &Naming,
+    subject: Subject,
+    pair: PairName,
+    at: &[bool],
+) -> Result<Option<FirstDifference>, AllocError>
+    requires { IsInside (circuit task.now.first.now) (circuit task.now.second.now) subject }
+    ensures differences { IfOk result (IsPairFirstDifference task.now.first.now task.now.second.now naming.now pair at.now (Some subject)) }
+    ensures known { IfOk result (λ difference. IfSome difference (λ one. one.inner.first < length task.now.first.now.names)) }
+{
+    let first = first_inner(task, naming, subject, at)?;
+    Ok(first_difference(pair, first))
+}
+
+/// The same of the pair that is meant, where there is one.
+fn pair_first_difference<H>(
+    task: &Task<'_, H>,
+    naming: &Naming,
+    pairs: &[Subject],
+    pair: PairName,
+    at: &[bool],
+) -> Result<Option<FirstDifference>, AllocError>
+    requires { All (IsInside (circuit task.now.first.now) (circuit task.now.second.now)) pairs.now }
+    ensures differences { IfOk result (IsPairFirstDifference task.now.first.now task.now.second.now naming.now pair at.now
+        (find (is_subject_of (circuit task.now.first.now) pair) pairs.now)) }
+    ensures known { IfOk result (λ difference. IfSome difference (λ one. one.inner.first < length task.now.first.now.names)) }
+{
+    match subject_of(task.first, &pair, pairs) {
+        Some(subject) => subject_first_difference(task, naming, subject, pair, at),
+        None => Ok(None),
+    }
+}
+
+/// The pair of this role and this name.
+fn pair_of(alloc: Global, role: PairKind, name: &Name) -> Result<PairName, AllocError>
+    ensures { IfOk result (λ pair. pair ≡ record { role = role; name = name.now }) }
+{
+    let name = Name::copied(alloc, name.as_slice())?;
+    Ok(PairName { role, name })
+}
+
+/// The pair of a verdict with the first of its inner signals that differ, where it differs and one does.
+fn first_difference_of<H>(
+    task: &Task<'_, H>,
+    naming: &Naming,
+    pairs: &[Subject],
+    verdict: &Verdict,
+) -> Result<Option<FirstDifference>, AllocError>
+    requires { All (IsInside (circuit task.now.first.now) (circuit task.now.second.now)) pairs.now }
+    ensures differences { IfOk result (IsFirstDifference task.now.first.now task.now.second.now naming.now pairs.now verdict.now) }
+    ensures known { IfOk result (λ difference. IfSome difference (λ one. one.inner.first < length task.now.first.now.names)) }
+{
+    match verdict {
+        Verdict::Differs { role, name, at, .. } => {
+            let pair = pair_of(task.alloc, *role, name)?;
+            pair_first_difference(task, naming, pairs, pair, at.as_slice())
+        }
+        Verdict::Equal { .. } | Verdict::Unmatched { .. } | Verdict::Undecided { .. } => Ok(None),
+    }
+}
+
+/// Adds a pair, if there is one.
+fn add_first_difference(
+    all: &mut Vec<FirstDifference>,
+    one: Option<FirstDifference>,
+) -> Result<(), AllocError>
+    ensures { OnOk result (all.new.items ≡ all.old.items ++ option_to_list one) }
+{
+    if let Some(one) = one {
+        all.push(one)?;
+    }
+    Ok(())
+}
+
+/// All pairs of these verdicts that differ and have inner signals that do, each with the first of these.
+pub fn all_first_differences<H>(
+    task: &Task<'_, H>,
+    naming: &Naming,
+    pairs: &[Subject],
+    verdicts: &[Verdict],
+) -> Result<Vec<FirstDifference>, AllocError>
+    requires { All (IsInside (circuit task.now.first.now) (circuit task.now.second.now)) pairs.now }
+    ensures differences { IfOk result (λ v. AreFirstDifferences task.now.first.now task.now.second.now naming.now pairs.now verdicts.now v.items) }
+    ensures known { IfOk result (λ v. All (λ one. one.inner.first < length task.now.first.now.names) v.items) }
+{
+    let mut all = Vec::new(task.alloc);
+    for place in 0..verdicts.len() {
+        let one = first_difference_of(task, naming, pairs, &verdicts[place])?;
+        add_first_difference(&mut all, one)?;
+    }
+    Ok(all)
+}

@@ -1,0 +1,4 @@
+pub mod Reporting
+pub mod Rounds
+pub mod Budgets
+pub mod Namings

@@ -1,0 +1,54 @@
+-- Faults behind the pairing.
+use Rattle.std.proofs.Common.{◌≢◌, ◌≤◌, Option, Result, Ok, Err, IfErr, length, subst}
+use Rattle.net_bench.specs.Circuit.{Circuit}
+use Rattle.net_order.specs.declared.order.Match.{Match}
+use Rattle.net_order.specs.declared.order.Order.{Order}
+use Rattle.net_order.specs.declared.order.OrderFault.TheVariants.{TooManyInputs}
+use Rattle.net_order.specs.Order.{max_variables, variables_in}
+use Rattle.compare_built.specs.Devices.{DeviceTexts}
+use Rattle.compare_built.specs.declared.strategy.Strategy.{Strategy}
+use Rattle.compare_built.specs.declared.strategy.Strategy.TheVariants.{One, Best, Auto, Cones}
+use Rattle.compare_built.specs.declared.fault.CheckFault.{CheckFault}
+use Rattle.compare_built.specs.declared.fault.CheckFault.TheVariants as faults
+use Rattle.compare_built.specs.Attempts.{MayGoByCones}
+use Rattle.compare_built.specs.Check.{AreAccepted, AreVariablesFewFor, IsCheckFault, IsComparisonFault}
+
+-- a fault behind the pairing has its cause
+pub late_fault : (input : DeviceTexts) (first_failed second_failed third_failed : Type 0) (choice : Strategy) (how : Match) (order : Order) (e : CheckFault) → AreAccepted input choice how order → IsComparisonFault e → IsCheckFault input first_failed second_failed third_failed choice how order e
+late_fault input ff sf tf choice how order (faults.First fault) accepted late = absurd late
+late_fault input ff sf tf choice how order (faults.Second fault) accepted late = absurd late
+late_fault input ff sf tf choice how order (faults.Given fault) accepted late = absurd late
+late_fault input ff sf tf choice how order faults.GivenOutputs accepted late = absurd late
+late_fault input ff sf tf choice how order (faults.Order fault) accepted late = absurd late
+late_fault input ff sf tf choice how order faults.Only accepted late = absurd late
+late_fault input ff sf tf choice how order faults.Explain accepted late = absurd late
+late_fault input ff sf tf choice how order (faults.Wave fault) accepted late = accepted
+late_fault input ff sf tf choice how order faults.GivenUp accepted late = absurd late
+late_fault input ff sf tf choice how order faults.Write accepted late = absurd late
+late_fault input ff sf tf choice how order faults.OutOfMemory accepted late = accepted
+
+-- the same of an answer
+pub late_answer : {A : Type 0} (input : DeviceTexts) (first_failed second_failed third_failed : Type 0) (choice : Strategy) (how : Match) (order : Order) (r : Result A CheckFault) → AreAccepted input choice how order → IfErr r IsComparisonFault →
+    IfErr r (IsCheckFault input first_failed second_failed third_failed choice how order)
+late_answer input ff sf tf choice how order (Ok a) accepted late = tt
+late_answer input ff sf tf choice how order (Err e) accepted late = late_fault input ff sf tf choice how order e accepted late
+
+-- and is not that the variables are too many
+pub late_whole : (e : CheckFault) → IsComparisonFault e → e ≢ faults.Order TooManyInputs
+late_whole e late is = subst IsComparisonFault is late
+
+-- ---- how many variables there are
+
+-- few variables are few for any choice
+pub few_for : (choice : Strategy) (how : Match) (a b : Circuit) (c : Option Circuit) → length (variables_in how a b c) ≤ max_variables → AreVariablesFewFor choice how a b c
+few_for (One o) how a b c few = few
+few_for Best how a b c few = few
+few_for Auto how a b c few = tt
+few_for Cones how a b c few = tt
+
+-- where pairs may be judged by their cones, any number is
+pub any_for : (choice : Strategy) (how : Match) (a b : Circuit) (c : Option Circuit) → MayGoByCones choice → AreVariablesFewFor choice how a b c
+any_for (One o) how a b c may = absurd may
+any_for Best how a b c may = absurd may
+any_for Auto how a b c may = tt
+any_for Cones how a b c may = tt

@@ -1,0 +1,271 @@
+-- Candidates that are tried in turn, and those that are given up.
+use Rattle.std.proofs.Common.{◌≡◌, ◌≢◌, ◌⊎◌, ◌&&◌, inl, inr, ◌∙◌, sym, subst, arith, refl, lit<, get_or, length, take, ◌+◌, ℕ, zero, suc, ◌*◌, ◌^◌, ◌<◌, ◌≤◌, Bool, true, false, List, [], ◌∷◌, ◌++◌, All, Contains, Option, IfSome}
+use Rattle.std.proofs.lemmas.List.Elements.{All-contains, All-more, All-push, Contains-append_left, Contains-push}
+use Rattle.std.proofs.lemmas.List.Sorted.{All-permutation, Contains-permutation}
+use Rattle.std.proofs.lemmas.List.{take_all}
+use Rattle.std.specs.List.Sorted.{IsPermutation}
+use Rattle.net_bench.specs.Circuit.{Circuit, circuit}
+use Rattle.net_order.specs.declared.order.Match.{Match}
+use Rattle.net_order.specs.declared.order.Order.{Order}
+use Rattle.net_order.specs.declared.order.OrderFault.{OrderFault}
+use Rattle.net_order.specs.Order.{NamingModel, IsPairing, HasLevels, condition, own, names_by}
+use Rattle.expand_work.specs.declared.fault.WaveFault.TheVariants.{Full, TooManyRequests, NoWorker}
+use Rattle.compare_built.specs.Details.{details_in}
+use Rattle.compare_built.specs.declared.strategy.Attempt.{Attempt}
+use Rattle.compare_built.specs.declared.strategy.Candidate.{Candidate}
+use Rattle.compare_built.specs.declared.strategy.Candidate.TheVariants.{Interleave, Force, Index, Depth, Declared}
+use Rattle.compare_built.specs.declared.strategy.Strategy.{Strategy}
+use Rattle.compare_built.specs.declared.fault.CheckFault.{CheckFault}
+use Rattle.compare_built.specs.declared.fault.CheckFault.TheVariants.{Order as OrderRefused, Wave, GivenUp, OutOfMemory}
+use Rattle.compare_built.specs.declared.task.Task.{Task}
+use Rattle.order_search.specs.declared.trials.Trial.{Trial}
+use Rattle.compare_built.specs.Attempts.{AllBefore, AreGivenUp, IsGivenUpWithin, first_budget, order_of}
+use Rattle.report_text.specs.Lines.{Found}
+use Rattle.compare_built.specs.Check.{AreAccepted, AreVariablesFewFor, AreGiven, IsCheckFault, IsJudged, IsComparisonFault}
+use Rattle.compare_built.specs.Report.{AreVerdicts}
+use Rattle.compare_built.specs.Devices.{DeviceTexts}
+use Rattle.compare_built.specs.Limits.{AreBeyond, AreWithin, Exceeds, FitsWithin}
+use Rattle.order_search.proofs.Budgets.{each_smaller}
+use Rattle.order_search.proofs.Reporting.{few_for}
+use Rattle.order_search.specs.Trials.{AreGivenUpTrials, AreCandidatesGivenUp, AreEarlierGivenUp, AreTrials, AsksMore, EndsAtOnce, IsFull, IsNamingIn, IsPairingIn, IsCandidateGivenUp, IsTrial, IsTried, NeedsMore, WasGivenUp}
+
+-- ---- orders
+
+-- a pairing that has the names of one in another order is the pairing in that order
+pub same_pairing : (how : Match) (a b : Circuit) (given : Option Circuit) (o k : Order) (p q : NamingModel) → IsPairing how a b given o p → IsPairing how a b given k q → p.names ≡ q.names → IsPairing how a b given k p
+same_pairing how a b given o k p q one other same =
+    let is = one.naming in
+    let of = other.naming in
+    let e : names_by how a b given o ≡ names_by how a b given k = sym is.names ∙ same ∙ of.names in
+    record {
+      naming = record {
+        counted = of.counted;
+        fit = of.fit;
+        names = same ∙ of.names;
+        first = subst (λ n. HasLevels n (own a) p.first) e is.first;
+        second = subst (λ n. HasLevels n (record { how = how; name_source = a; net = b }) p.second) e is.second;
+        conditional = subst (λ n. IfSome given (λ c. HasLevels n (own c) p.given)) e is.conditional;
+        outputs = is.outputs;
+        registers = is.registers;
+      };
+      few = other.few;
+    }
+
+-- ---- candidates in turn
+
+-- what holds of each candidate before one, by their places, holds of all before it
+pub all_before : (P Q : Candidate → Type 0) → ((c : Candidate) → P c → Q c) → (c : Candidate) → AllBefore c P → AllBefore c Q
+all_before P Q f Interleave h = tt
+all_before P Q f Force h = f Interleave h
+all_before P Q f Index h = (f Interleave h.0, f Force h.1)
+all_before P Q f Depth h = (f Interleave h.0, f Force h.1, f Index h.2)
+all_before P Q f Declared h = (f Interleave h.0, f Force h.1, f Index h.2, f Depth h.3)
+
+pub each_candidate : (P : Candidate → Type 0) → P Interleave → P Force → P Index → P Depth → P Declared → (c : Candidate) → P c
+each_candidate P i f x d e Interleave = i
+each_candidate P i f x d e Force = f
+each_candidate P i f x d e Index = x
+each_candidate P i f x d e Depth = d
+each_candidate P i f x d e Declared = e
+
+-- the same in the order in which they are tried
+abbrev pub candidates : List Candidate
+candidates = Interleave ∷ Force ∷ Index ∷ Depth ∷ Declared ∷ []
+
+pub each_at : (P : Candidate → Type 0) (d : Candidate) → ((j : ℕ) → j < 5 → P (get_or candidates j d)) → (c : Candidate) → P c
+each_at P d h = each_candidate P (h 0 (lit< tt)) (h 1 (lit< tt)) (h 2 (lit< tt)) (h 3 (lit< tt)) (h 4 (lit< tt))
+
+pub before_at : (P : Candidate → Type 0) (k : ℕ) (d : Candidate) → k < 5 → ((j : ℕ) → j < k → P (get_or candidates j d)) → AllBefore (get_or candidates k d) P
+before_at P zero d lt h = tt
+before_at P (suc zero) d lt h = h 0 (lit< tt)
+before_at P (suc (suc zero)) d lt h = (h 0 (lit< tt), h 1 (lit< tt))
+before_at P (suc (suc (suc zero))) d lt h = (h 0 (lit< tt), h 1 (lit< tt), h 2 (lit< tt))
+before_at P (suc (suc (suc (suc zero)))) d lt h = (h 0 (lit< tt), h 1 (lit< tt), h 2 (lit< tt), h 3 (lit< tt))
+before_at P (suc (suc (suc (suc (suc k))))) d lt h = absurd (omega (arith, lt))
+
+-- ---- given up
+
+module _ {H : Type 0} (task : Task H) (input : DeviceTexts) (given : AreGiven input (circuit task.first.now) (circuit task.second.now) (condition task.given)) where
+  pub accepted : (choice : Strategy) (o : Order) (p : NamingModel) → IsNamingIn task o p → AreVariablesFewFor choice task.settings.now.matching (circuit task.first.now) (circuit task.second.now) (condition task.given) →
+      AreAccepted input choice task.settings.now.matching o
+  accepted choice o p is few = (circuit task.first.now, circuit task.second.now, condition task.given, p, record { netlists = given; naming = is }, few)
+
+  pub accepted_paired : (choice : Strategy) (o : Order) (p : NamingModel) → IsPairingIn task o p → AreAccepted input choice task.settings.now.matching o
+  accepted_paired choice o p is = accepted choice o p is.naming (few_for choice task.settings.now.matching (circuit task.first.now) (circuit task.second.now) (condition task.given) is.few)
+
+  pub judged : (o : Order) (p : NamingModel) (found verdicts : Found) → IsPairingIn task o p → found ≡ verdicts →
+      AreVerdicts (details_in task.settings.now) (circuit task.first.now) (circuit task.second.now) (condition task.given) p verdicts → IsJudged input task.settings.now.matching o (details_in task.settings.now) found
+  judged o p found verdicts is e v = record {
+    a = circuit task.first.now;
+    b = circuit task.second.now;
+    c = condition task.given;
+    p = p;
+    paired = record { netlists = given; pairing = is };
+    verdicts = subst (AreVerdicts (details_in task.settings.now) (circuit task.first.now) (circuit task.second.now) (condition task.given) p) (sym e) v;
+  }
+
+  pub within : (o : Order) (p : NamingModel) (budget : ℕ) → IsPairingIn task o p → FitsWithin budget (circuit task.first.now) (circuit task.second.now) (condition task.given) p → AreWithin input task.settings.now.matching o budget
+  within o p budget is fits = (circuit task.first.now, circuit task.second.now, condition task.given, p, record { netlists = given; pairing = is }, fits)
+
+  pub beyond : (o : Order) (p : NamingModel) (budget : ℕ) → IsPairingIn task o p → Exceeds budget (circuit task.first.now) (circuit task.second.now) (condition task.given) p → AreBeyond input task.settings.now.matching o budget
+  beyond o p budget is more = (circuit task.first.now, circuit task.second.now, condition task.given, p, record { netlists = given; pairing = is }, more)
+
+  pub given_up_fault : (o : Order) (p : NamingModel) (fault : CheckFault) → IsPairingIn task o p → (fault ≡ Wave Full) ⊎ (fault ≡ GivenUp) → IsCheckFault input ⊥ ⊥ ⊥ task.settings.now.order task.settings.now.matching o fault
+  given_up_fault o p fault is (inl e) = subst (IsCheckFault input ⊥ ⊥ ⊥ task.settings.now.order task.settings.now.matching o) (sym e) (accepted_paired task.settings.now.order o p is)
+  given_up_fault o p fault is (inr e) = subst (IsCheckFault input ⊥ ⊥ ⊥ task.settings.now.order task.settings.now.matching o) (sym e) (accepted_paired task.settings.now.order o p is)
+
+  pub given_up_in_input : (budget : ℕ) (bound : Option ℕ) (c : Candidate) → IsCandidateGivenUp task budget bound c → IsGivenUpWithin input task.settings.now.matching budget bound (order_of c)
+  given_up_in_input budget bound c p = by p.cause
+    where
+      by : NeedsMore task budget p.pairing ⊎ AsksMore task budget bound p.pairing → IsGivenUpWithin input task.settings.now.matching budget bound (order_of c)
+      by (inl more) = inl (circuit task.first.now, circuit task.second.now, condition task.given, p.pairing, record { netlists = given; pairing = p.paired }, more)
+      by (inr wide) = inr (circuit task.first.now, circuit task.second.now, condition task.given, p.pairing, record { netlists = given; pairing = p.paired }, wide)
+
+  pub beyond_in_input : (budget : ℕ) (c : Candidate) → IsFull task budget c → AreBeyond input task.settings.now.matching (order_of c) budget
+  beyond_in_input budget c p = (circuit task.first.now, circuit task.second.now, condition task.given, p.pairing, record { netlists = given; pairing = p.paired }, p.exceeds)
+
+  pub earlier_in_input : (limit : ℕ) (bound : Option ℕ) (t : Attempt) → AreEarlierGivenUp task limit bound t → AreGivenUp input task.settings.now.matching limit bound t
+  earlier_in_input limit bound t p = record {
+    smaller = λ budget is lt c. given_up_in_input budget bound c (p.smaller budget is lt c);
+    first = λ e. all_before (IsCandidateGivenUp task t.budget bound) (λ c. IsGivenUpWithin input task.settings.now.matching t.budget bound (order_of c)) (given_up_in_input t.budget bound) t.order (p.first e);
+  }
+
+-- ---- rounds
+
+module _ {H : Type 0} (task : Task H) where
+  -- a candidate whose trial was given up
+  pub passed_by : (budget : ℕ) (bound : Option ℕ) (full : Bool) (trials : List Trial) (c : Candidate) → AreGivenUpTrials task budget bound full trials → IsTried task trials c → IsCandidateGivenUp task budget bound c
+  passed_by budget bound full trials c g t = record {
+    pairing = t.trial.pairing;
+    paired = t.paired;
+    cause = All-contains (λ (t : Trial). NeedsMore task budget t.pairing ⊎ AsksMore task budget bound t.pairing) trials t.trial g.causes t.among;
+  }
+
+  pub full_by : (budget : ℕ) (bound : Option ℕ) (full : Bool) (trials : List Trial) (c : Candidate) → AreGivenUpTrials task budget bound full trials → full ≡ true → IsTried task trials c → IsFull task budget c
+  full_by budget bound full trials c g e t = record {
+    pairing = t.trial.pairing;
+    paired = t.paired;
+    exceeds = All-contains (λ (t : Trial). NeedsMore task budget t.pairing) trials t.trial (g.nodes e) t.among;
+  }
+
+  -- the candidates of a round whose trials were all given up
+  pub all_passed : (budget : ℕ) (bound : Option ℕ) (full : Bool) (trials : List Trial) → AreGivenUpTrials task budget bound full trials → ((c : Candidate) → IsTried task trials c) → AreCandidatesGivenUp task budget bound full trials
+  all_passed budget bound full trials g each = record {
+    trials_of = record { own = g.own; each = each };
+    each = λ c. passed_by budget bound full trials c g (each c);
+    nodes = λ e c. full_by budget bound full trials c g e (each c);
+  }
+
+  -- a trial that is like one before
+  pub tried_before : (trials : List Trial) (c : Candidate) (p : NamingModel) → All (IsTrial task) trials → IsPairingIn task (order_of c) p → (t : Trial) × Contains trials t × (t.pairing.names ≡ p.names) → IsTried task trials c
+  tried_before trials c p own is (t, among, same) = record {
+    trial = t;
+    among = among;
+    paired = same_pairing task.settings.now.matching (circuit task.first.now) (circuit task.second.now) (condition task.given) (order_of t.candidate) (order_of c) t.pairing p
+        (All-contains (IsTrial task) trials t own among) is same;
+  }
+
+  -- one more trial, which was given up
+  and_left : (all full : Bool) → all && full ≡ true → all ≡ true
+  and_left true full e = refl
+  and_left false full e = e
+
+  and_right : (all full : Bool) → all && full ≡ true → full ≡ true
+  and_right true full e = e
+  and_right false full e = cc
+
+  pub one_more : (budget : ℕ) (bound : Option ℕ) (all full : Bool) (trials : List Trial) (t : Trial) → IsTrial task t → WasGivenUp task budget bound full t.pairing →
+      AreGivenUpTrials task budget bound all trials → AreGivenUpTrials task budget bound (all && full) (trials ++ t ∷ [])
+  one_more budget bound all full trials t is w g = record {
+    own = All-push (IsTrial task) trials t g.own is;
+    causes = All-push (λ (t : Trial). NeedsMore task budget t.pairing ⊎ AsksMore task budget bound t.pairing) trials t g.causes w.cause;
+    nodes = λ e. All-push (λ (t : Trial). NeedsMore task budget t.pairing) trials t (g.nodes (and_left all full e)) (w.nodes (and_right all full e));
+  }
+
+  -- an attempt that was given up for its nodes, or for its requests
+  pub given_up_for : (budget : ℕ) (bound : Option ℕ) (full : Bool) (p : NamingModel) → (full ≡ true → NeedsMore task budget p) → (full ≡ false → AsksMore task budget bound p) → WasGivenUp task budget bound full p
+  given_up_for budget bound true p more wide = record { cause = inl (more refl); nodes = more }
+  given_up_for budget bound false p more wide = record { cause = inr (wide refl); nodes = more }
+
+  -- the next place of a round
+  pub causes_more : (budget : ℕ) (bound : Option ℕ) (full : Bool) (trials : List Trial) (i : ℕ) (t : Trial) → i < length trials → t ≡ get_or trials i t → WasGivenUp task budget bound full t.pairing →
+      All (λ (t : Trial). NeedsMore task budget t.pairing ⊎ AsksMore task budget bound t.pairing) (take i trials) → All (λ (t : Trial). NeedsMore task budget t.pairing ⊎ AsksMore task budget bound t.pairing) (take (i + 1) trials)
+  causes_more budget bound full trials i t lt is w before =
+      let P : Trial → Type 0 = λ (t : Trial). NeedsMore task budget t.pairing ⊎ AsksMore task budget bound t.pairing in
+      All-more P trials i t lt before (subst P is w.cause)
+
+  pub nodes_more : (budget : ℕ) (bound : Option ℕ) (all full : Bool) (trials : List Trial) (i : ℕ) (t : Trial) → i < length trials → t ≡ get_or trials i t → WasGivenUp task budget bound full t.pairing →
+      (all ≡ true → All (λ (t : Trial). NeedsMore task budget t.pairing) (take i trials)) → all && full ≡ true → All (λ (t : Trial). NeedsMore task budget t.pairing) (take (i + 1) trials)
+  nodes_more budget bound all full trials i t lt is w before e =
+      let P : Trial → Type 0 = λ (t : Trial). NeedsMore task budget t.pairing in
+      All-more P trials i t lt (before (and_left all full e)) (subst P is (w.nodes (and_right all full e)))
+
+  -- the last place
+  pub whole_round : (budget : ℕ) (bound : Option ℕ) (full : Bool) (trials : List Trial) (n : ℕ) → length trials ≤ n → AreTrials task trials →
+      All (λ (t : Trial). NeedsMore task budget t.pairing ⊎ AsksMore task budget bound t.pairing) (take n trials) → (full ≡ true → All (λ (t : Trial). NeedsMore task budget t.pairing) (take n trials)) →
+      AreCandidatesGivenUp task budget bound full trials
+  whole_round budget bound full trials n le h causes nodes =
+      all_passed budget bound full trials
+      (record {
+        own = h.own;
+        causes = subst (All (λ (t : Trial). NeedsMore task budget t.pairing ⊎ AsksMore task budget bound t.pairing)) (take_all n trials le) causes;
+        nodes = λ e. subst (All (λ (t : Trial). NeedsMore task budget t.pairing)) (take_all n trials le) (nodes e);
+      })
+      h.each
+
+  -- an attempt within a later budget
+  pub passed_at : (limit : ℕ) (bound : Option ℕ) (k budget : ℕ) (t : Attempt) → budget ≤ 16384 * 16 ^ k → budget ≤ limit → 16384 < budget →
+      ((j : ℕ) → j < k → (c : Candidate) → IsCandidateGivenUp task (16384 * 16 ^ j) bound c) → t.budget ≡ budget → AreEarlierGivenUp task limit bound t
+  passed_at limit bound k budget t most within more tried e = record {
+    smaller = each_smaller (λ n. (c : Candidate) → IsCandidateGivenUp task n bound c) limit k t.budget tried (omega (arith, e, most)) (omega (arith, e, within));
+    first = λ same. absurd (omega (arith, same, e, more));
+  }
+
+  -- and one within the first
+  pub passed_first : (limit : ℕ) (bound : Option ℕ) (t : Attempt) → t.budget ≡ first_budget limit → AllBefore t.order (IsCandidateGivenUp task t.budget bound) → AreEarlierGivenUp task limit bound t
+  passed_first limit bound t e before = record {
+    smaller = each_smaller (λ n. (c : Candidate) → IsCandidateGivenUp task n bound c) limit 0 t.budget (λ j lt. absurd (omega (arith, lt))) (omega (arith, e)) (omega (arith, e));
+    first = λ same. before;
+  }
+
+  pub and_true : (budget : ℕ) (bound : Option ℕ) (all : Bool) (trials : List Trial) → AreGivenUpTrials task budget bound all trials → AreGivenUpTrials task budget bound (all && true) trials
+  and_true budget bound true trials g = g
+  and_true budget bound false trials g = g
+
+  pub tried_last : (trials : List Trial) (t : Trial) → IsTrial task t → IsTried task (trials ++ t ∷ []) t.candidate
+  tried_last trials t is = record { trial = t; among = Contains-push trials t; paired = is }
+
+  pub tried_still : (trials : List Trial) (t : Trial) (k : Candidate) → IsTried task trials k → IsTried task (trials ++ t ∷ []) k
+  tried_still trials t k h = record { trial = h.trial; among = Contains-append_left trials (t ∷ []) h.trial h.among; paired = h.paired }
+
+  -- trials in another order
+  pub moved : (old new : List Trial) → IsPermutation old new → AreTrials task old → AreTrials task new
+  moved old new p h = record {
+    own = All-permutation (IsTrial task) old new p h.own;
+    each = λ c. record { trial = (h.each c).trial; among = Contains-permutation old new (h.each c).trial p (h.each c).among; paired = (h.each c).paired };
+  }
+
+-- ---- faults
+
+-- a fault behind the pairing for which an attempt is not given up, and which is not want of a worker
+pub late_ends : (fault : CheckFault) → IsComparisonFault fault → fault ≢ Wave Full → fault ≢ Wave TooManyRequests → fault ≢ Wave NoWorker → EndsAtOnce fault
+late_ends fault late full wide needs_no_thread = record {
+  search = record { written = λ e. subst IsComparisonFault e late; requests = wide; needs_no_thread = needs_no_thread; only = λ e. subst IsComparisonFault e late };
+  nodes = full;
+  given_up = λ e. subst IsComparisonFault e late;
+}
+
+-- one of the pairing, and want of memory
+pub order_ends : (fault : CheckFault) (f : OrderFault) → fault ≡ OrderRefused f → EndsAtOnce fault
+order_ends fault f is = record {
+  search = record { written = λ e. cc; requests = λ e. cc; needs_no_thread = λ e. cc; only = λ e. cc };
+  nodes = λ e. cc;
+  given_up = λ e. cc;
+}
+
+pub memory_ends : EndsAtOnce OutOfMemory
+memory_ends = record {
+  search = record { written = λ e. cc; requests = λ e. cc; needs_no_thread = λ e. cc; only = λ e. cc };
+  nodes = λ e. cc;
+  given_up = λ e. cc;
+}

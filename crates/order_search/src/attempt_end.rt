@@ -1,0 +1,57 @@
+//! How attempts end: with which faults one is given up, what the monitor is told, and the fault where all are given up.
+ghost use Rattle.std.specs.Prelude.{◌≡◌, ◌≢◌, ◌⊎◌, true, false, IfOk, IfErr};
+ghost use Rattle.order_search.specs.Trials.{EndsSearch};
+
+use compare_built::fault::CheckFault;
+use compare_built::strategy::{Candidate, Strategy};
+use compare_built::task::Task;
+use expand_work::{AttemptEnd, Monitor, WaveFault};
+
+/// Whether an attempt with this fault is given up for its nodes, or for a wave's requests. Any other fault ends the search.
+pub fn give_up_reason(fault: CheckFault) -> Result<bool, CheckFault>
+    ensures full { IfOk result (λ full. full ≡ true → fault ≡ CheckFault.Wave WaveFault.Full) }
+    ensures wide { IfOk result (λ full. full ≡ false → fault ≡ CheckFault.Wave WaveFault.TooManyRequests) }
+    ensures same { IfErr result (λ f. f ≡ fault) }
+    ensures other { IfErr result (λ f. (f ≢ CheckFault.Wave WaveFault.Full) × (f ≢ CheckFault.Wave WaveFault.TooManyRequests)) }
+{
+    match fault {
+        CheckFault::Wave(WaveFault::Full) => Ok(true),
+        CheckFault::Wave(WaveFault::TooManyRequests) => Ok(false),
+        _ => Err(fault),
+    }
+}
+
+/// How an attempt that was given up has ended, for its nodes or not.
+pub fn end_of(order: Candidate, full: bool) -> AttemptEnd {
+    let order = order.name();
+    if full {
+        AttemptEnd::MoreNodes { order }
+    } else {
+        AttemptEnd::TooManyRequests { order }
+    }
+}
+
+/// Tells the monitor how an attempt of the whole has ended. Of the attempts of pairs by their cones each round is told.
+pub fn notify_attempt<H, G: Monitor>(
+    task: &Task<'_, H>,
+    budget: u64,
+    end: AttemptEnd,
+    monitor: &G,
+) {
+    if !matches!(task.settings.order, Strategy::Cones) {
+        monitor.at_attempt(budget, end);
+    }
+}
+
+/// The fault of a search whose attempts within the limit were all given up, each for its nodes or not.
+pub fn fault_of(full: bool) -> CheckFault
+    ensures which { (result ≡ CheckFault.Wave WaveFault.Full) ⊎ (result ≡ CheckFault.GivenUp) }
+    ensures full { result ≡ CheckFault.Wave WaveFault.Full → full ≡ true }
+    ensures ends { EndsSearch result }
+{
+    if full {
+        CheckFault::Wave(WaveFault::Full)
+    } else {
+        CheckFault::GivenUp
+    }
+}
