@@ -6,10 +6,6 @@ use Rattle.std.proofs.lemmas.List.Elements.{All-append, All-cons, All-nil, All-w
 use Rattle.std.proofs.Math.Seq.{get_or-append_seam}
 use Rattle.compare_built.specs.Scatter.{ArePlaces}
 
--- no places
-pub no_places : (n : ℕ) → ArePlaces n []
-no_places n = record { below = All-nil (λ l. l < n); rising = λ i j lt low. absurd (omega (arith, low)) }
-
 -- among more
 pub places_kept : (n : ℕ) (places : List ℕ) → ArePlaces n places → ArePlaces (n + 1) places
 places_kept n places h = record { below = All-weaker (λ l. l < n) (λ l. l < n + 1) (λ l lt. omega (arith, lt)) places h.below; rising = h.rising }

@@ -149,62 +149,9 @@ module _ (others names : List (List ℕ)) (apart : IsDistinct bytes_eq names) (m
         ];
   }
 
-  -- a name's place among them is where it stands
-  own_place : (v : ℕ) → v < length names → level_of names (get_or names v []) ≡ v
-  own_place v lt =
-      let n = get_or names v [] in
-      let there = name_there names v lt in
-      let low : level_of names n < length names = number_low names n there in
-      elim (cases_lt (level_of names n) v) [
-        | inl less ↦ absurd (differ (level_of names n) v less lt (number_at names n [] there))
-        | inr ge ↦ elim (cases_lt v (level_of names n)) [
-          | inl more ↦ absurd (differ v (level_of names n) more low (sym (number_at names n [] there)))
-          | inr le ↦ omega (arith, ge, le)
-        ]
-      ]
-
-  place_back : (v : ℕ) → v < length names → get_or (places_among names others) (get_or (places_among others names) v 0) 0 ≡ v
-  place_back v lt =
-      let n = get_or names v [] in
-      let there : is_name_in others n ≡ true = among n (name_there names v lt) in
-      ap (λ k. get_or (places_among names others) k 0) (place_at others names v lt) ∙
-      place_at names others (level_of others n) (number_low others n there) ∙ ap (level_of names) (number_at others n [] there) ∙ own_place v lt
-
-  -- each assignment is one that is arranged
-  arranged_back : (x : List Bool) → length x ≡ length others →
-      assignment_by_level (places_among others names) (assignment_by_level (places_among names others) x) ≡ x
-  arranged_back x len =
-      let order = places_among others names in
-      let back = places_among names others in
-      let long : length order ≡ length names = length-map names (level_of others) in
-      let wide : length back ≡ length others = length-map others (level_of names) in
-      let full : length (assignment_by_level order (assignment_by_level back x)) ≡ length order = length-assignment_by_level order (assignment_by_level back x) in
-      ext_get_or false (assignment_by_level order (assignment_by_level back x)) x (full ∙ long ∙ many ∙ sym len)
-      (λ i lt.
-      let low : i < length names = omega (arith, lt, full, long) in
-      let below : get_or order i 0 < length others = places_order.declared i (omega (arith, low, many)) in
-      get_or-assignment_by_level order (assignment_by_level back x) i (omega (arith, lt, full)) ∙ get_or-assignment_by_level back x (get_or order i 0) (omega (arith, below, wide)) ∙
-      ap (λ k. get_or x k false) (place_back i low))
-
-  -- so functions agree wherever a condition holds in the one order exactly where they do in the other
-  pub agree_where_arranged : (holds f g : List Bool → Bool) →
-      let order = places_among others names in
-      AgreeWhere (length others) (by_declared order holds) (by_declared order f) (by_declared order g) ↔ AgreeWhere (length others) holds f g
-  agree_where_arranged holds f g = (
-    λ same x len h.
-        let y = assignment_by_level (places_among names others) x in
-        let e = arranged_back x len in
-        let size : length y ≡ length others = length-assignment_by_level (places_among names others) x ∙ length-map others (level_of names) in
-        subst (λ z. f z ≡ g z) e (same y size (subst (λ z. IsTrue (holds z)) (sym e) h)),
-    λ same x len h. same (assignment_by_level (places_among others names) x) (length-assignment_by_level (places_among others names) x ∙ places_order.each_level) h,
-  )
-
 -- ---- two pairings
 
 module _ (how : Match) (a b : Circuit) (given : Option Circuit) (q p : NamingModel) (h : ArePairings how a b given q p) where
-  pub is_paired : IsPaired a b given q
-  is_paired = (how, h.first_order, h.first)
-
   pub apart : IsDistinct bytes_eq p.names
   apart = subst (IsDistinct bytes_eq) (sym h.second.naming.names) (ordered_different (both how a b) (given_side given) h.second_order h.second.naming.fit)
 

@@ -1,10 +1,16 @@
 -- What is compared: signals of the two netlists.
-use Rattle.std.proofs.Common.{◌≡◌, ◌∙◌, ap, sym, refl, subst, ℕ, zero, suc, ◌+◌, ◌<◌, ◌≤◌, true, false, cond, List, [], ◌∷◌, ◌++◌, map, length, get_or, drop, append_assoc, arith, Option, Some, None, All}
-use Rattle.std.specs.Prelude.{◌==◌, ◌||◌, find, slice_index}
-use Rattle.std.proofs.lemmas.List.{drop_more}
+use Rattle.std.proofs.Common.{◌≡◌, ◌≢◌, ◌∙◌, ap, sym, refl, subst, ℕ, zero, suc, ◌+◌, ◌<◌, ◌≤◌, true, false, cond, List, [], ◌∷◌, ◌++◌, map, length, get_or, drop, append_assoc, arith, eq-eqb, length-append, Option, Some, None, All}
+use Rattle.std.specs.Prelude.{◌==◌, ◌||◌, find, slice_get, slice_index}
+use Rattle.std.proofs.lemmas.Grind.{get_or_default_zero}
+use Rattle.std.proofs.lemmas.List.{drop_more, get_or-append-add, get_or-map, get_or_append_left, length-map}
+use Rattle.std.proofs.lemmas.List.Folds.{find_at}
+use Rattle.std.proofs.lemmas.List.Sums.{position_or_len_is}
+use Rattle.std.proofs.lemmas.Option.{slice_get_within, get_or_from_slice_get}
 use Rattle.std.proofs.lemmas.List.Elements.{All-append, All-map}
 use Rattle.net_bench.specs.declared.netlist.GateLine.{GateLine}
-use Rattle.net_bench.specs.Circuit.{Circuit, Net, IsNet, circuit}
+use Rattle.net_bench.specs.declared.netlist.Role.{Role}
+use Rattle.net_bench.specs.declared.netlist.Role.TheVariants.{Undefined, Input, Gate, Register}
+use Rattle.net_bench.specs.Circuit.{Circuit, HasRole, Net, IsNet, circuit, variables_of}
 use Rattle.net_order.specs.declared.order.Match.{Match}
 use Rattle.net_order.specs.declared.order.Order.{Order}
 use Rattle.net_order.specs.Order.{NamingModel, IsNaming, gate_operands, is_member, registers_of}
@@ -13,6 +19,9 @@ use Rattle.compare_built.specs.Report.{next_of, next_subject, output_subject, su
 use Rattle.compare_built.specs.Comparing.{AreSignals, IsInside}
 
 -- ---- the next state of a register
+
+differs : (a b : ℕ) → a ≢ b → (a == b) ≡ false
+differs a b h = grind arith
 
 -- the first register of this signal
 record FirstOf (s : ℕ) (gates : List GateLine) : Type 0 where
@@ -50,27 +59,53 @@ next_low n sound s e =
     let one : length first.gate.operands ≡ 1 = its.1 in
     subst (λ (o : Option GateLine). slice_index (gate_operands o) 0 < length n.names) (sym first.found) (its.0 0 0 (omega arith))
 
--- a register that is no other stands first among those behind it
-pub next_here : (registers : List GateLine) (all : List GateLine) (i s : ℕ) (g : GateLine) → i < length registers → get_or registers i g ≡ g → (g.out == s) ≡ true →
-    find (λ h. h.out == s) (drop i registers) ≡ find (λ h. h.out == s) all → find (λ h. h.out == s) all ≡ Some g
-next_here registers all i s g lt here same e =
-    sym e ∙ ap (find (λ h. h.out == s)) (drop_more registers i g lt ∙ ap (λ x. x ∷ drop (i + 1) registers) here) ∙
-    ap (λ b. cond b (Some g) (find (λ h. h.out == s) (drop (i + 1) registers))) same
+-- no register has this signal
+none_of : (s : ℕ) (gates : List GateLine) → All (λ g. g.out ≢ s) gates → find (λ g. g.out == s) gates ≡ None
+none_of s [] h = refl
+none_of s (g ∷ gates) h = ap (λ b. cond b (Some g) (find (λ x. x.out == s) gates)) (differs g.out s (h 0 g (omega arith))) ∙ none_of s gates (λ k d low. h (suc k) d (omega arith))
 
-pub next_later : (registers : List GateLine) (all : List GateLine) (i s : ℕ) (g : GateLine) → i < length registers → get_or registers i g ≡ g → (g.out == s) ≡ false →
-    find (λ h. h.out == s) (drop i registers) ≡ find (λ h. h.out == s) all → find (λ h. h.out == s) (drop (i + 1) registers) ≡ find (λ h. h.out == s) all
-next_later registers all i s g lt here other e =
-    sym (ap (find (λ h. h.out == s)) (drop_more registers i g lt ∙ ap (λ x. x ∷ drop (i + 1) registers) here) ∙
-    ap (λ b. cond b (Some g) (find (λ h. h.out == s) (drop (i + 1) registers))) other) ∙ e
+module _ (n : Net) (sound : IsNet n) where
+  -- a register's signal is the variable at its place behind the inputs
+  register_at : (k : ℕ) (d : GateLine) → k < length n.registers → slice_index (variables_of (circuit n)) (length n.inputs + k) ≡ (get_or n.registers k d).out
+  register_at k d low = get_or-append-add n.inputs (map (λ (g : GateLine). g.out) n.registers) k 0 ∙ get_or-map (λ (g : GateLine). g.out) n.registers k d 0 low
 
-none_left : (xs : List GateLine) (i : ℕ) → length xs ≤ i → drop i xs ≡ []
-none_left [] zero h = refl
-none_left [] (suc i) h = refl
-none_left (x ∷ xs) zero h = absurd (omega (arith, h))
-none_left (x ∷ xs) (suc i) h = none_left xs i (omega (arith, h))
+  variables_length : length (variables_of (circuit n)) ≡ length n.inputs + length n.registers
+  variables_length = length-append n.inputs (map (λ (g : GateLine). g.out) n.registers) ∙ ap (λ k. length n.inputs + k) (length-map n.registers (λ (g : GateLine). g.out))
 
-pub next_nowhere : (registers : List GateLine) (all : List GateLine) (i s : ℕ) → length registers ≤ i → find (λ h. h.out == s) (drop i registers) ≡ find (λ h. h.out == s) all → find (λ h. h.out == s) all ≡ None
-next_nowhere registers all i s past e = sym e ∙ ap (find (λ h. h.out == s)) (none_left registers i past)
+  -- the register at a place is the only one of its signal
+  pub next_of_register : (s p : ℕ) (g : GateLine) → slice_get n.registers p ≡ Some g → g.out ≡ s → next_of (circuit n) s ≡ slice_index g.operands 0
+  next_of_register s p g at out =
+      let low : p < length n.registers = slice_get_within n.registers p g at in
+      let here : get_or n.registers p g ≡ g = get_or_from_slice_get n.registers p g g at in
+      let its : (get_or n.registers p g).out ≡ s = ap (λ (h : GateLine). h.out) here ∙ out in
+      let before : (k : ℕ) → k < p → (get_or n.registers k g).out ≢ s = λ k less same.
+      sound.variables_once (length n.inputs + k) (length n.inputs + p) (omega (arith, less)) (omega (arith, low, variables_length))
+      (register_at k g (omega (arith, less, low)) ∙ same ∙ sym its ∙ sym (register_at p g low)) in
+      let place = position_or_len_is (λ (h : GateLine). h.out == s) n.registers p g (omega (arith, low)) (λ k less. differs _ s (before k less)) (λ _. eq-eqb _ s its) in
+      ap (λ o. slice_index (gate_operands o) 0) (find_at (λ (h : GateLine). h.out == s) n.registers ∙ ap (slice_get n.registers) place ∙ at)
+
+  -- what is no register takes nothing
+  next_of_other : (s : ℕ) → All (λ g. g.out ≢ s) n.registers → next_of (circuit n) s ≡ 0
+  next_of_other s none = ap (λ o. slice_index (gate_operands o) 0) (none_of s n.registers none)
+
+  -- a number that is no signal
+  pub next_of_nothing : (s : ℕ) → length n.names ≤ s → next_of (circuit n) s ≡ 0
+  next_of_nothing s past = next_of_other s (λ k d low same.
+      let its : slice_index (variables_of (circuit n)) (length n.inputs + k) ≡ s = register_at k d low ∙ same in
+      let inside : slice_index (variables_of (circuit n)) (length n.inputs + k) < length n.names = sound.variables (length n.inputs + k) 0 (omega (arith, low, variables_length)) in
+      omega (arith, its, inside, past))
+
+  -- an input, and the signal of a gate
+  pub next_by_role : (s : ℕ) (r : Role) → HasRole n s r → ((p : ℕ) → r ≡ Register p → ⊥) → next_of (circuit n) s ≡ 0
+  next_by_role s Undefined role none = absurd role
+  next_by_role s Input (i, less, at) none = next_of_other s (λ k d low same.
+      sound.variables_once i (length n.inputs + k) (omega (arith, less)) (omega (arith, low, variables_length))
+      (get_or_append_left n.inputs (map (λ (g : GateLine). g.out) n.registers) 0 i less ∙ sym (get_or_default_zero n.inputs i s less) ∙ at ∙ sym same ∙ sym (register_at k d low)))
+  next_by_role s (Gate p) (g, at, out) none = next_of_other s (λ k d low same.
+      let its : slice_index (variables_of (circuit n)) (length n.inputs + k) ≡ s = register_at k d low ∙ same in
+      let apart = sound.apart (length n.inputs + k) 0 (omega (arith, low, variables_length)) p g (slice_get_within n.gates p g at) in
+      apart (ap (λ (h : GateLine). h.out) (get_or_from_slice_get n.gates p g g at) ∙ out ∙ sym its))
+  next_by_role s (Register p) role none = absurd (none p refl)
 
 -- ---- lists that grow
 

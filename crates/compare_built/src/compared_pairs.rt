@@ -19,7 +19,7 @@ use crate::task::Task;
 use dd_store::{Ref, Store};
 use expand_work::{Crew, Monitor, WaveFault};
 use gate_plan::{CircuitDiagrams, conjoin};
-use net_bench::netlist::{Netlist, Signal};
+use net_bench::netlist::{Netlist, Role, Signal};
 use net_order::naming::Naming;
 use net_order::pairing::Pairing;
 use report_text::PairKind;
@@ -34,17 +34,17 @@ pub struct ComparedPairs {
     pub references: Vec<Ref>,
 }
 
-/// The signal that a register takes next. There are no more registers than variables.
+/// The signal that a register takes next, in constant time. For what is no register of the netlist it is the first signal.
 fn next_state(net: &Netlist, register: Signal) -> Signal
     ensures { result ≡ next_of (circuit net.now) register }
 {
-    let registers = net.registers();
-    for i in 0..registers.len() {
-        if registers[i].out == register {
-            return registers[i].operands.as_slice()[0];
-        }
+    if net.count() <= register.number() as usize {
+        return Signal::of(0);
     }
-    Signal::of(0)
+    match net.role(register) {
+        Role::Register(place) => net.registers()[place as usize].operands.as_slice()[0],
+        _ => Signal::of(0),
+    }
 }
 
 /// Puts the pairs of outputs at the end.
@@ -179,12 +179,8 @@ pub fn compared_pairs_of<H: Threads + Wait + Sync, G: Monitor>(
     let _ = store.levels();
     let _ = task.first.inputs();
     let _ = task.second.inputs();
-    let Ok(subjects) = subjects_of(task.alloc, task.first, task.second, pairing.naming()) else {
-        return Err(CheckFault::OutOfMemory);
-    };
-    let Ok(references) = references_of(task.alloc, built, subjects.as_slice()) else {
-        return Err(CheckFault::OutOfMemory);
-    };
+    let subjects = subjects_of(task.alloc, task.first, task.second, pairing.naming())?;
+    let references = references_of(task.alloc, built, subjects.as_slice())?;
     let Some(given) = task.given else {
         return Ok(ComparedPairs {
             subjects,
@@ -192,11 +188,9 @@ pub fn compared_pairs_of<H: Threads + Wait + Sync, G: Monitor>(
         });
     };
     let holds = built.given(given.outputs()[0]);
-    match conjoin(crew, store, references.as_slice(), holds) {
-        Ok(references) => Ok(ComparedPairs {
-            subjects,
-            references,
-        }),
-        Err(fault) => Err(CheckFault::Wave(fault)),
-    }
+    let restricted = conjoin(crew, store, references.as_slice(), holds)?;
+    Ok(ComparedPairs {
+        subjects,
+        references: restricted,
+    })
 }

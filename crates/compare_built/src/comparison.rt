@@ -50,9 +50,7 @@ fn built_within<H: Threads + Wait + Sync, G: Monitor>(
     let _ = task.first.inputs();
     let _ = task.second.inputs();
     let levels = pairing.names().len() as u16;
-    let Ok(mut store) = Store::new(task.alloc, levels, limit) else {
-        return Err(CheckFault::OutOfMemory);
-    };
+    let mut store = Store::new(task.alloc, levels, limit)?;
     let crew = Crew {
         rt: task.rt,
         alloc: task.alloc,
@@ -65,14 +63,9 @@ fn built_within<H: Threads + Wait + Sync, G: Monitor>(
         given: task.given,
         pairing,
     };
-    let built = match build(&crew, &mut store, &circuits) {
-        Ok(built) => built,
-        Err(fault) => return Err(CheckFault::Wave(fault)),
-    };
-    match compared_pairs_of(task, &mut store, &built, pairing, &crew) {
-        Ok(shown) => Ok((store, shown)),
-        Err(fault) => Err(fault),
-    }
+    let built = build(&crew, &mut store, &circuits)?;
+    let shown = compared_pairs_of(task, &mut store, &built, pairing, &crew)?;
+    Ok((store, shown))
 }
 
 /// The verdicts of what is shown of two netlists, as they are told over the variables of a pairing.
@@ -103,10 +96,7 @@ fn verdicts_in<H>(
         references: shown.references.as_slice(),
         verdict_order,
     };
-    match verdicts_of(task.alloc, &comparison) {
-        Ok(verdicts) => Ok(verdicts),
-        Err(_) => Err(CheckFault::OutOfMemory),
-    }
+    Ok(verdicts_of(task.alloc, &comparison)?)
 }
 
 /// What a comparison of two netlists that are paired finds, within so many nodes.
@@ -167,9 +157,7 @@ pub fn compare_as_declared<H: Threads + Wait + Sync, G: Monitor>(
     ensures needs_no_thread { most_of (G.bound monitor.now) < 2 ^ 64 - 1 → result ≢ Err (CheckFault.Wave WaveFault.NoWorker) }
 {
     let (store, shown) = built_within(task, pairing, limit, monitor)?;
-    let Ok(order) = arrangement(task.alloc, pairing, declared) else {
-        return Err(CheckFault::OutOfMemory);
-    };
+    let order = arrangement(task.alloc, pairing, declared)?;
     let verdict_order = VerdictOrder::Arranged {
         order: order.as_slice(),
         support: wants_support(task.settings.assignment),

@@ -1,10 +1,9 @@
 //! Where the order of the variables comes from.
-ghost use Rattle.std.specs.Prelude.{◌≡◌, Some};
+ghost use Rattle.std.specs.Prelude.{◌≡◌};
 ghost use Rattle.compare_built.specs.Attempts.{candidate_text, order_of, reported_kind};
 
 use net_order::order::Order;
 use report_text::OrderKind;
-use std::fmt;
 
 /// One of the orders that are tried in turn, in this order.
 #[derive(Clone, Copy, Drop, Debug, PartialEq, Eq)]
@@ -41,14 +40,6 @@ impl Candidate {
             Candidate::Depth => "depth",
             Candidate::Declared => "declared",
         }
-    }
-}
-
-impl fmt::Display for Candidate {
-    ghost output = { λ c. Some (candidate_text c) };
-
-    fn fmt<W: fmt::Write>(&self, f: &mut fmt::Formatter<W>) -> fmt::Result {
-        f.write_str(self.name())
     }
 }
 

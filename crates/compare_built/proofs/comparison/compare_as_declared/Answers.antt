@@ -13,10 +13,10 @@ pub verdicts_in-requires-clause-compared : goal.verdicts_in-requires-clause-comp
 verdicts_in-requires-clause-compared g c =
     compared_arranged c.args.task.now.settings.now.matching (circuit c.args.task.now.first.now) (circuit c.args.task.now.second.now) (condition c.args.task.now.given)
     c.args.pairing.now c.args.declared.now c.requires.paired c.in_ok-store.store c.in_ok-store.shown.subjects.items c.in_ok-store.shown.references.items c.in_ok-store.ensures.compared
-    c.as_slice.result.now (c.as_slice.ensures.value ∙ c.in-Ok.ensures)
+    c.as_slice.result.now (c.as_slice.ensures.value ∙ c.in_ok-order.ensures)
 
 pub verdicts_in-requires-clause-order : goal.verdicts_in-requires-clause-order
 verdicts_in-requires-clause-order g c =
     order_arranged c.args.task.now.settings.now.matching (circuit c.args.task.now.first.now) (circuit c.args.task.now.second.now) (condition c.args.task.now.given)
     c.args.pairing.now c.args.declared.now c.requires.paired c.in_ok-store.store c.in_ok-store.shown.subjects.items c.in_ok-store.shown.references.items c.in_ok-store.ensures.compared
-    c.as_slice.result.now (c.as_slice.ensures.value ∙ c.in-Ok.ensures)
+    c.as_slice.result.now (c.as_slice.ensures.value ∙ c.in_ok-order.ensures)
