@@ -1,0 +1,2 @@
+pub mod WindowParts
+pub mod Windows

@@ -1,0 +1,9 @@
+pub mod Lists
+pub mod Folding
+pub mod Rows
+pub mod Bits
+pub mod Operands
+pub mod BlockBits
+pub mod Pushing
+pub mod Adding
+pub mod Setting

@@ -1,0 +1,118 @@
+//! Values that hold a bit for each of several assignments.
+ghost use Rattle.std.specs.Prelude.{◌≡◌, ◌<◌, ℕ, Bool, true, false, not, cond, ◌&&◌, ◌||◌};
+ghost use Rattle.net_simulate.specs.Columns.{bit_in, bit_in_block};
+
+use crate::blocks::{Block, all_bits, and_blocks, no_bits, or_blocks, xor_blocks};
+
+/// What holds a bit for each of several assignments, which are numbered from 0.
+pub trait Packed: Copy + Drop {
+    ghost count: { ℕ };
+
+    ghost bit: { ℕ → Self → Bool };
+
+    /// 0 at each assignment.
+    fn zeros() -> Self
+        ensures { (i : ℕ) → i < count → bit i result ≡ false };
+
+    /// 1 at each assignment.
+    fn ones() -> Self
+        ensures { (i : ℕ) → i < count → bit i result ≡ true };
+
+    /// 1 where both are 1.
+    fn and_with(&mut self, other: &Self)
+        ensures { (i : ℕ) → i < count → bit i self.new ≡ (bit i self.old && bit i other.now) };
+
+    /// 1 where one of both is 1.
+    fn or_with(&mut self, other: &Self)
+        ensures { (i : ℕ) → i < count → bit i self.new ≡ (bit i self.old || bit i other.now) };
+
+    /// The complement where the other is 1.
+    fn xor_with(&mut self, other: &Self)
+        ensures { (i : ℕ) → i < count → bit i self.new ≡ cond (bit i other.now) (not (bit i self.old)) (bit i self.old) };
+}
+
+/// One assignment.
+impl Packed for bool {
+    ghost count = { 1 };
+
+    ghost bit = { λ i b. b };
+
+    fn zeros() -> bool {
+        false
+    }
+
+    fn ones() -> bool {
+        true
+    }
+
+    fn and_with(&mut self, other: &bool) {
+        *self = *self && *other;
+    }
+
+    fn or_with(&mut self, other: &bool) {
+        *self = *self || *other;
+    }
+
+    fn xor_with(&mut self, other: &bool) {
+        *self = if *other { !*self } else { *self };
+    }
+}
+
+/// 64 assignments.
+impl Packed for u64 {
+    ghost count = { 64 };
+
+    ghost bit = { bit_in };
+
+    #[tactic(auto, using(crate::proofs::Bits::in_none))]
+    fn zeros() -> u64 {
+        0
+    }
+
+    #[tactic(auto, using(crate::proofs::Bits::in_all))]
+    fn ones() -> u64 {
+        u64::MAX
+    }
+
+    #[tactic(auto, using(crate::proofs::Bits::in_and))]
+    fn and_with(&mut self, other: &u64) {
+        *self &= *other;
+    }
+
+    #[tactic(auto, using(crate::proofs::Bits::in_or))]
+    fn or_with(&mut self, other: &u64) {
+        *self |= *other;
+    }
+
+    #[tactic(auto, using(crate::proofs::Bits::in_xor))]
+    fn xor_with(&mut self, other: &u64) {
+        *self ^= *other;
+    }
+}
+
+/// 512 assignments.
+impl Packed for Block {
+    ghost count = { 512 };
+
+    ghost bit = { bit_in_block };
+
+    fn zeros() -> Block {
+        no_bits()
+    }
+
+    fn ones() -> Block {
+        all_bits()
+    }
+
+    fn and_with(&mut self, other: &Block) {
+        and_blocks(self, other);
+    }
+
+    fn or_with(&mut self, other: &Block) {
+        or_blocks(self, other);
+    }
+
+    fn xor_with(&mut self, other: &Block) {
+        xor_blocks(self, other);
+    }
+}
