@@ -24,14 +24,14 @@ returns g c =
     let a = c.in_ok-a.ensures in
     let b = c.in_ok-b.ensures in
     let c3 = c.in_ok-c.ensures in
-    let has_a = c3.made.keeps.has _ (b.made.keeps.has _ a.here) in
+    let has_a = c3.made.keeps.has _ (b.made.keeps.has _ a.in_store) in
     -- in the store of the first wave a, b and c denote the bits of their levels
-    let at_a = λ (x : List Bool). kept_den _ _ b.sound c3.made.keeps _ (b.made.keeps.has _ a.here) x ∙ kept_den _ _ a.sound b.made.keeps _ a.here x ∙ a.meaning x in
-    let at_b = λ (x : List Bool). kept_den _ _ b.sound c3.made.keeps _ b.here x ∙ b.meaning x in
+    let at_a = λ (x : List Bool). kept_den _ _ b.sound c3.made.keeps _ (b.made.keeps.has _ a.in_store) x ∙ kept_den _ _ a.sound b.made.keeps _ a.in_store x ∙ a.meaning x in
+    let at_b = λ (x : List Bool). kept_den _ _ b.sound c3.made.keeps _ b.in_store x ∙ b.meaning x in
     let ab = c.in_ok-ab.ensures in
     let ways = c.in_ok-ways.ensures in
     let a_stays = (ab.kept _ has_a).1 in
-    let c_stays = (ab.kept _ c3.here).1 in
+    let c_stays = (ab.kept _ c3.in_store).1 in
     let first : IsThree c.both-2.new.store c.in_ok-ways.ways.0 = λ x bits.
     let before = bits ∙ ways.levels in
     both_known (ways.first.1 x bits) (both_known (ab.first.1 x before) (at_a x) (at_b x)) (c_stays x ∙ c3.meaning x) ∙ grouped (bit x 0) (bit x 1) (bit x 2) in
