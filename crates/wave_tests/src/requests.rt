@@ -239,7 +239,9 @@ fn spare_table_keeps_its_memory(rt: HostRuntime) -> Result<(), Fail> {
     spare.put(table)?;
     spare.trim(100);
     let table = spare.take();
-    assert!(rt; spare.is_empty() && table.len() == 0 && capacity >= 100 && table.capacity() == capacity);
+    assert!(rt;
+        spare.is_empty() && table.len() == 0 && capacity >= 100 && table.capacity() == capacity
+    );
     spare.put(table)?;
     spare.trim(1);
     assert!(rt; spare.is_empty());
