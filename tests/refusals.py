@@ -152,8 +152,9 @@ def wide_row(place, workers):
 
 def searched_row(place, workers):
     """Multipliers by the bare command, some of whose attempts call so many workers in, though their waves are bounded."""
-    multiplied = written(place, f"multiplied{workers}", multiplier(circuits.array, MULTIPLIED))
-    return Row(f"auto, multipliers by {workers}", ["--workers", workers, multiplied, multiplied], draws=1, counts=1)
+    array = written(place, f"array{workers}", multiplier(circuits.array, MULTIPLIED))
+    wallace = written(place, f"wallace{workers}", multiplier(circuits.wallace, MULTIPLIED))
+    return Row(f"auto, multipliers by {workers}", ["--workers", workers, array, wallace], draws=1, counts=1)
 
 
 @dataclass

@@ -6,7 +6,11 @@ use dd_store::Watch;
 use expand_work::Monitor;
 use std::sync::atomic::{AtomicU32, Ordering};
 
-/// A monitor that bounds the requests of a wave as well, and keeps the number of the rank that was told last.
+/// A wave of an attempt calls workers in only if so many requests are expected of it. A smaller one is done by the caller's thread
+/// alone: an attempt has hundreds of them, and starting the threads for each takes longer than they save.
+const SHARED_FROM: usize = 1 << 17;
+
+/// A monitor that bounds the requests of a wave as well, and keeps the number of the rank that was notified last.
 #[derive(Drop)]
 pub struct BoundedMonitor<'a, G> {
     pub monitor: &'a G,
@@ -28,7 +32,11 @@ impl<'a, G: Monitor> Monitor for BoundedMonitor<'a, G> {
     }
 
     fn caller_level_limit(&self, workers: u32, expected: usize) -> usize {
-        self.monitor.caller_level_limit(workers, expected)
+        if expected < SHARED_FROM {
+            usize::MAX
+        } else {
+            self.monitor.caller_level_limit(workers, expected)
+        }
     }
 
     fn most_requests(&self) -> usize {
