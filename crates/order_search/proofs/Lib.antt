@@ -2,3 +2,4 @@ pub mod Reporting
 pub mod Rounds
 pub mod Budgets
 pub mod Namings
+pub mod Searching

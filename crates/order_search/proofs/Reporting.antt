@@ -1,5 +1,5 @@
 -- Faults behind the pairing.
-use Rattle.std.proofs.Common.{◌≢◌, ◌≤◌, Option, Result, Ok, Err, IfErr, length, subst}
+use Rattle.std.proofs.Common.{◌≢◌, ◌≤◌, Option, length, subst}
 use Rattle.net_bench.specs.Circuit.{Circuit}
 use Rattle.net_order.specs.declared.order.Match.{Match}
 use Rattle.net_order.specs.declared.order.Order.{Order}
@@ -26,12 +26,6 @@ late_fault input ff sf tf choice how order (faults.Wave fault) accepted late = a
 late_fault input ff sf tf choice how order faults.GivenUp accepted late = absurd late
 late_fault input ff sf tf choice how order faults.Write accepted late = absurd late
 late_fault input ff sf tf choice how order faults.OutOfMemory accepted late = accepted
-
--- the same of an answer
-pub late_answer : {A : Type 0} (input : DeviceTexts) (first_failed second_failed third_failed : Type 0) (choice : Strategy) (how : Match) (order : Order) (r : Result A CheckFault) → AreAccepted input choice how order → IfErr r IsComparisonFault →
-    IfErr r (IsCheckFault input first_failed second_failed third_failed choice how order)
-late_answer input ff sf tf choice how order (Ok a) accepted late = tt
-late_answer input ff sf tf choice how order (Err e) accepted late = late_fault input ff sf tf choice how order e accepted late
 
 -- and is not that the variables are too many
 pub late_whole : (e : CheckFault) → IsComparisonFault e → e ≢ faults.Order TooManyInputs

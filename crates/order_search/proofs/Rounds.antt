@@ -1,5 +1,9 @@
 -- Candidates that are tried in turn, and those that are given up.
-use Rattle.std.proofs.Common.{◌≡◌, ◌≢◌, ◌⊎◌, ◌&&◌, inl, inr, ◌∙◌, sym, subst, arith, refl, lit<, get_or, length, take, ◌+◌, ℕ, zero, suc, ◌*◌, ◌^◌, ◌<◌, ◌≤◌, Bool, true, false, List, [], ◌∷◌, ◌++◌, All, Contains, Option, IfSome}
+use Rattle.std.proofs.Common.{◌≡◌, ◌≢◌, ◌⊎◌, ◌&&◌, inl, inr, ◌∙◌, sym, subst, arith, refl, lit<, get_or, length, take, ◌+◌, ◌-◌, ℕ, zero, suc, ◌*◌, ◌^◌, ◌<◌, ◌≤◌, Bool, true, false, List, [], ◌∷◌, ◌++◌, All, Contains, Option, IfSome}
+use Rattle.std.proofs.Common.{Result, Ok, Err, IfErr}
+use Rattle.std.specs.Prelude.{IfOk, IsSomeAnd, OnOk}
+use Rattle.std.specs.Borrow.{Bor}
+use Rattle.std.proofs.lemmas.Bool.{cases_lt}
 use Rattle.std.proofs.lemmas.List.Elements.{All-contains, All-more, All-push, Contains-append_left, Contains-push}
 use Rattle.std.proofs.lemmas.List.Sorted.{All-permutation, Contains-permutation}
 use Rattle.std.proofs.lemmas.List.{take_all}
@@ -9,7 +13,8 @@ use Rattle.net_order.specs.declared.order.Match.{Match}
 use Rattle.net_order.specs.declared.order.Order.{Order}
 use Rattle.net_order.specs.declared.order.OrderFault.{OrderFault}
 use Rattle.net_order.specs.Order.{NamingModel, IsPairing, HasLevels, condition, own, names_by}
-use Rattle.expand_work.specs.declared.fault.WaveFault.TheVariants.{Full, TooManyRequests, NoWorker}
+use Rattle.expand_work.specs.Bounds.{most_of}
+use Rattle.expand_work.specs.declared.fault.WaveFault.TheVariants.{OutOfMemory as NoWaveMemory, Full, TooManyRequests, NoWorker}
 use Rattle.compare_built.specs.Details.{details_in}
 use Rattle.compare_built.specs.declared.strategy.Attempt.{Attempt}
 use Rattle.compare_built.specs.declared.strategy.Candidate.{Candidate}
@@ -20,14 +25,17 @@ use Rattle.compare_built.specs.declared.fault.CheckFault.TheVariants.{Order as O
 use Rattle.compare_built.specs.declared.task.Task.{Task}
 use Rattle.order_search.specs.declared.trials.Trial.{Trial}
 use Rattle.compare_built.specs.Attempts.{AllBefore, AreGivenUp, IsGivenUpWithin, first_budget, order_of}
+use Rattle.report_text.specs.declared.verdict.Verdict.{Verdict}
 use Rattle.report_text.specs.Lines.{Found}
 use Rattle.compare_built.specs.Check.{AreAccepted, AreVariablesFewFor, AreGiven, IsCheckFault, IsJudged, IsComparisonFault}
 use Rattle.compare_built.specs.Report.{AreVerdicts}
 use Rattle.compare_built.specs.Devices.{DeviceTexts}
 use Rattle.compare_built.specs.Limits.{AreBeyond, AreWithin, Exceeds, FitsWithin}
 use Rattle.order_search.proofs.Budgets.{each_smaller}
-use Rattle.order_search.proofs.Reporting.{few_for}
-use Rattle.order_search.specs.Trials.{AreGivenUpTrials, AreCandidatesGivenUp, AreEarlierGivenUp, AreTrials, AsksMore, EndsAtOnce, IsFull, IsNamingIn, IsPairingIn, IsCandidateGivenUp, IsTrial, IsTried, NeedsMore, WasGivenUp}
+use Rattle.compare_built.specs.Widths.{IsTooWide}
+use Rattle.order_search.proofs.Reporting.{few_for, late_fault}
+use Rattle.order_search.specs.Trials.{AreGivenUpTrials, AreCandidatesGivenUp, AreEarlierGivenUp, AreTrials, AsksMore, EndsAtOnce, IsCandidateFault, IsDecided, IsFull, IsNamingIn, IsPairingIn, IsCandidateGivenUp, IsTrial, IsTrialFault, IsTried, NeedsMore, WasGivenUp}
+use Rattle.order_search.specs.Trials.{reported_pairing}
 
 -- ---- orders
 
@@ -182,11 +190,6 @@ module _ {H : Type 0} (task : Task H) where
     nodes = λ e. All-push (λ (t : Trial). NeedsMore task budget t.pairing) trials t (g.nodes (and_left all full e)) (w.nodes (and_right all full e));
   }
 
-  -- an attempt that was given up for its nodes, or for its requests
-  pub given_up_for : (budget : ℕ) (bound : Option ℕ) (full : Bool) (p : NamingModel) → (full ≡ true → NeedsMore task budget p) → (full ≡ false → AsksMore task budget bound p) → WasGivenUp task budget bound full p
-  given_up_for budget bound true p more wide = record { cause = inl (more refl); nodes = more }
-  given_up_for budget bound false p more wide = record { cause = inr (wide refl); nodes = more }
-
   -- the next place of a round
   pub causes_more : (budget : ℕ) (bound : Option ℕ) (full : Bool) (trials : List Trial) (i : ℕ) (t : Trial) → i < length trials → t ≡ get_or trials i t → WasGivenUp task budget bound full t.pairing →
       All (λ (t : Trial). NeedsMore task budget t.pairing ⊎ AsksMore task budget bound t.pairing) (take i trials) → All (λ (t : Trial). NeedsMore task budget t.pairing ⊎ AsksMore task budget bound t.pairing) (take (i + 1) trials)
@@ -247,25 +250,48 @@ module _ {H : Type 0} (task : Task H) where
 
 -- ---- faults
 
--- a fault behind the pairing for which an attempt is not given up, and which is not want of a worker
-pub late_ends : (fault : CheckFault) → IsComparisonFault fault → fault ≢ Wave Full → fault ≢ Wave TooManyRequests → fault ≢ Wave NoWorker → EndsAtOnce fault
-late_ends fault late full wide needs_no_thread = record {
-  search = record { written = λ e. subst IsComparisonFault e late; requests = wide; needs_no_thread = needs_no_thread; only = λ e. subst IsComparisonFault e late };
-  nodes = full;
-  given_up = λ e. subst IsComparisonFault e late;
-}
-
--- one of the pairing, and want of memory
+-- a fault of the pairing, and want of memory
 pub order_ends : (fault : CheckFault) (f : OrderFault) → fault ≡ OrderRefused f → EndsAtOnce fault
-order_ends fault f is = record {
-  search = record { written = λ e. cc; requests = λ e. cc; needs_no_thread = λ e. cc; only = λ e. cc };
-  nodes = λ e. cc;
-  given_up = λ e. cc;
-}
+order_ends fault f is = subst EndsAtOnce (sym is) tt
 
 pub memory_ends : EndsAtOnce OutOfMemory
-memory_ends = record {
-  search = record { written = λ e. cc; requests = λ e. cc; needs_no_thread = λ e. cc; only = λ e. cc };
-  nodes = λ e. cc;
-  given_up = λ e. cc;
-}
+memory_ends = tt
+
+-- ---- the comparison in the order of a trial
+
+module _ {H : Type 0} (task : Task H) where
+  module _ (budget : ℕ) (bound : Option ℕ) (p : NamingModel) where
+    -- its faults are faults of a comparison
+    pub of_comparison : (fault : CheckFault) → IsTrialFault task budget bound p fault → IsComparisonFault fault
+    of_comparison (Wave fault) h = tt
+    of_comparison OutOfMemory h = tt
+    of_comparison fault h = absurd h
+
+    -- why it has no verdicts
+    pub trial_fault : {V : Type 0} (r : Result V CheckFault) → IfErr r IsComparisonFault → (r ≡ Err (Wave Full) → NeedsMore task budget p) →
+        (r ≡ Err (Wave TooManyRequests) → IsSomeAnd bound (λ n. IsTooWide n (circuit task.first.now) (circuit task.second.now) (condition task.given) p)) →
+        (most_of bound < 2 ^ 64 - 1 → r ≢ Err (Wave NoWorker)) → IfErr r (IsTrialFault task budget bound p)
+    trial_fault (Ok v) late full wide thread = tt
+    trial_fault (Err (Wave Full)) late full wide thread = full refl
+    trial_fault (Err (Wave TooManyRequests)) late full wide thread = wide refl
+    trial_fault (Err (Wave NoWorker)) late full wide thread = elim (cases_lt (most_of bound) (2 ^ 64 - 1)) [ inl lt ↦ absurd (thread lt refl) | inr le ↦ le ]
+    trial_fault (Err (Wave NoWaveMemory)) late full wide thread = tt
+    trial_fault (Err OutOfMemory) late full wide thread = tt
+    trial_fault (Err fault) late full wide thread = absurd late
+
+  -- such a fault has its cause in the trial's order
+  pub trial_cause : (budget : ℕ) (bound : Option ℕ) (t : Trial) (fault : CheckFault) → IsTrial task t → IsTrialFault task budget bound t.pairing fault → IsCandidateFault task fault
+  trial_cause budget bound t fault is h = λ input given.
+      let order = order_of t.candidate in
+      let how = task.settings.now.matching in
+      let choice = task.settings.now.order in
+      (t.candidate, late_fault input ⊥ ⊥ ⊥ choice how order fault (accepted_paired task input given choice order t.pairing is) (of_comparison budget bound t.pairing fault h))
+
+  -- and verdicts decide
+  pub trial_decides : {V : Type 0} (items : V → List Verdict) (declared : Option (Bor NamingModel)) (budget : ℕ) (t : Trial) (r : Result V CheckFault) → IsTrial task t →
+      OnOk r (FitsWithin budget (circuit task.first.now) (circuit task.second.now) (condition task.given) t.pairing) →
+      IfOk r (λ v. AreVerdicts (details_in task.settings.now) (circuit task.first.now) (circuit task.second.now) (condition task.given) (reported_pairing declared t.pairing)
+      (record { variables = (reported_pairing declared t.pairing).names; verdicts = items v })) →
+      IfOk r (λ v. IsDecided task declared budget t (items v))
+  trial_decides items declared budget t (Ok v) is fits verdicts = record { paired = is; within = fits; verdicts_of = verdicts }
+  trial_decides items declared budget t (Err fault) is fits verdicts = tt

@@ -1,9 +1,9 @@
 -- What a search among the candidates has found out: which attempts were given up, and the one that decides.
-use Rattle.std.specs.Prelude.{◌≡◌, ◌≢◌, ◌⊎◌, ℕ, min, ◌*◌, ◌<◌, ◌≤◌, Bool, true, false, ◌&&◌, List, Option, Some, None, All, Contains}
-use Rattle.std.specs.Prelude.{length, ⊤}
+use Rattle.std.specs.Prelude.{◌≡◌, ◌⊎◌, ℕ, min, ◌*◌, ◌-◌, ◌^◌, ◌<◌, ◌≤◌, Bool, true, false, ◌&&◌, List, Option, Some, None, All, Contains}
+use Rattle.std.specs.Prelude.{IsSomeAnd, length, ⊤}
 use Rattle.std.specs.Borrow.{Bor}
 use Rattle.expand_work.specs.Bounds.{most_of}
-use Rattle.expand_work.specs.declared.fault.WaveFault.TheVariants.{Full, TooManyRequests, NoWorker}
+use Rattle.expand_work.specs.declared.fault.WaveFault.TheVariants.{OutOfMemory as NoWaveMemory, Full, TooManyRequests, NoWorker}
 use Rattle.net_bench.specs.Circuit.{circuit}
 use Rattle.net_order.specs.declared.order.Order.{Order}
 use Rattle.net_order.specs.Order.{NamingModel, IsNaming, IsPairing, condition, max_variables, names_by, variables_in}
@@ -16,14 +16,16 @@ use Rattle.order_search.specs.declared.attempts.Round.TheVariants as rounds
 use Rattle.compare_built.specs.declared.strategy.Attempt.{Attempt}
 use Rattle.compare_built.specs.declared.strategy.Candidate.{Candidate}
 use Rattle.compare_built.specs.declared.fault.CheckFault.{CheckFault}
-use Rattle.compare_built.specs.declared.fault.CheckFault.TheVariants.{Wave, GivenUp, Only, Write}
+use Rattle.compare_built.specs.declared.fault.CheckFault.TheVariants.{Order as OrderRefused, Wave, GivenUp, OutOfMemory}
 use Rattle.compare_built.specs.declared.task.Task.{Task}
 use Rattle.order_search.specs.declared.trials.Trial.{Trial}
 use Rattle.compare_built.specs.Attempts.{AllBefore, IsBudget, first_budget, order_of}
+use Rattle.compare_built.specs.Check.{IsCheckFault}
 use Rattle.compare_built.specs.Limits.{FitsWithin, Exceeds}
 use Rattle.compare_built.specs.Details.{details_in}
 use Rattle.compare_built.specs.Report.{AreVerdicts}
 use Rattle.compare_built.specs.Widths.{IsTooWide}
+use Rattle.order_search.specs.Tasks.{OfTask}
 
 -- ---- namings and pairings of a task's netlists
 
@@ -104,6 +106,18 @@ abbrev pub AsksMore : {H : Type 0} → Task H → (budget : ℕ) → (bound : Op
 AsksMore task budget bound p = IsTooWide (min (budget * 8) (most_of bound)) (circuit task.first.now) (circuit task.second.now)
     (condition task.given) p
 
+-- Why a comparison in the order of a pairing has no verdicts within so many nodes, where a wave has at most as many requests as this bound
+-- says: more nodes are needed, a wave has more requests, no thread could be started, which nothing less than the greatest bound
+-- needs, or memory was refused.
+abbrev pub IsTrialFault : {H : Type 0} → Task H → (budget : ℕ) → (bound : Option ℕ) → NamingModel → CheckFault → Type 0
+IsTrialFault task budget bound p (Wave Full) = NeedsMore task budget p
+IsTrialFault task budget bound p (Wave TooManyRequests) =
+    IsSomeAnd bound (λ n. IsTooWide n (circuit task.first.now) (circuit task.second.now) (condition task.given) p)
+IsTrialFault task budget bound p (Wave NoWorker) = 2 ^ 64 - 1 ≤ most_of bound
+IsTrialFault task budget bound p (Wave NoWaveMemory) = ⊤
+IsTrialFault task budget bound p OutOfMemory = ⊤
+IsTrialFault task budget bound p fault = ⊥
+
 -- An attempt was given up, and this says that it was for its nodes.
 pub record WasGivenUp {H : Type 0} (task : Task H) (budget : ℕ) (bound : Option ℕ) (full : Bool) (p : NamingModel) : Type 0 where
   pub cause : NeedsMore task budget p ⊎ AsksMore task budget bound p
@@ -175,19 +189,39 @@ pub record AreEarlierGivenUp {H : Type 0} (task : Task H) (limit : ℕ) (bound :
 abbrev pub AreAllGivenUp : {H : Type 0} → Task H → (limit : ℕ) → (bound : Option ℕ) → Type 0
 AreAllGivenUp task limit bound = (budget : ℕ) → IsBudget limit budget → (c : Candidate) → IsCandidateGivenUp task budget bound c
 
+-- What a search up to a limit finds: the attempt that decides, within one of its budgets, and all attempts before it were given up.
+pub record IsFoundWithin {H : Type 0} (task : Task H) (declared : Option (Bor NamingModel)) (limit : ℕ) (bound : Option ℕ)
+    (d : DecidedValue) : Type 0 where
+  pub decided : IsDecided task declared d.budget d.trial d.verdicts.items
+  pub budget : IsBudget limit d.budget
+  pub earlier_given_up : AreEarlierGivenUp task limit bound (record { order = d.trial.candidate; budget = d.budget })
+
+-- ---- faults
+
+-- the fault has its cause in the order of a candidate
+abbrev pub IsCandidateFault : {H : Type 0} → Task H → CheckFault → Type 0
+IsCandidateFault task fault = OfTask task (λ input s. (c : Candidate) × IsCheckFault input ⊥ ⊥ ⊥ s.order s.matching (order_of c) fault)
+
 -- the fault of a search whose attempts were all given up
 abbrev pub IsGivingUp : CheckFault → Type 0
 IsGivingUp fault = (fault ≡ Wave Full) ⊎ (fault ≡ GivenUp)
 
--- A fault that a search ends with: nothing was to be written, and what a bounded wave cannot end with is none of it.
-pub record EndsSearch (fault : CheckFault) : Type 0 where
-  pub written : fault ≢ Write
-  pub requests : fault ≢ Wave TooManyRequests
-  pub needs_no_thread : fault ≢ Wave NoWorker
-  pub only : fault ≢ Only
+-- A fault for which no attempt is given up, so that it ends a search at once: an order is refused, or memory is, to a wave or elsewhere.
+abbrev pub EndsAtOnce : CheckFault → Type 0
+EndsAtOnce (OrderRefused fault) = ⊤
+EndsAtOnce (Wave NoWaveMemory) = ⊤
+EndsAtOnce OutOfMemory = ⊤
+EndsAtOnce fault = ⊥
 
--- A fault that ends it at once: the attempt was not given up.
-pub record EndsAtOnce (fault : CheckFault) : Type 0 where
-  pub search : EndsSearch fault
-  pub nodes : fault ≢ Wave Full
-  pub given_up : fault ≢ GivenUp
+-- A fault that a search ends with: that of giving up, or one that ends it at once.
+abbrev pub EndsSearch : CheckFault → Type 0
+EndsSearch (Wave Full) = ⊤
+EndsSearch GivenUp = ⊤
+EndsSearch fault = EndsAtOnce fault
+
+-- Why a search up to a limit finds nothing. If it is for nodes, each candidate needs more; if it gives up, every attempt was given up.
+pub record IsSearchFault {H : Type 0} (task : Task H) (limit : ℕ) (bound : Option ℕ) (fault : CheckFault) : Type 0 where
+  pub full : fault ≡ Wave Full → (c : Candidate) → IsFull task limit c
+  pub given_up : IsGivingUp fault → AreAllGivenUp task limit bound
+  pub cause : IsCandidateFault task fault
+  pub ends : EndsSearch fault

@@ -1,6 +1,6 @@
-//! How attempts end: with which faults one is given up, what the monitor is told, and the fault where all are given up.
-ghost use Rattle.std.specs.Prelude.{◌≡◌, ◌≢◌, ◌⊎◌, true, false, IfOk, IfErr};
-ghost use Rattle.order_search.specs.Trials.{EndsSearch};
+//! How attempts end: with which faults one is given up, what the monitor is notified of, and the fault if all are given up.
+ghost use Rattle.std.specs.Prelude.{◌≡◌, ◌≢◌, true, false, IfOk, IfErr};
+ghost use Rattle.order_search.specs.Trials.{IsGivingUp};
 
 use compare_built::fault::CheckFault;
 use compare_built::strategy::{Candidate, Strategy};
@@ -8,7 +8,7 @@ use compare_built::task::Task;
 use expand_work::{AttemptEnd, Monitor, WaveFault};
 
 /// Whether an attempt with this fault is given up for its nodes, or for a wave's requests. Any other fault ends the search.
-pub fn give_up_reason(fault: CheckFault) -> Result<bool, CheckFault>
+pub(crate) fn give_up_reason(fault: CheckFault) -> Result<bool, CheckFault>
     ensures full { IfOk result (λ full. full ≡ true → fault ≡ CheckFault.Wave WaveFault.Full) }
     ensures wide { IfOk result (λ full. full ≡ false → fault ≡ CheckFault.Wave WaveFault.TooManyRequests) }
     ensures same { IfErr result (λ f. f ≡ fault) }
@@ -22,7 +22,7 @@ pub fn give_up_reason(fault: CheckFault) -> Result<bool, CheckFault>
 }
 
 /// How an attempt that was given up has ended, for its nodes or not.
-pub fn end_of(order: Candidate, full: bool) -> AttemptEnd {
+pub(crate) fn end_of(order: Candidate, full: bool) -> AttemptEnd {
     let order = order.name();
     if full {
         AttemptEnd::MoreNodes { order }
@@ -31,8 +31,8 @@ pub fn end_of(order: Candidate, full: bool) -> AttemptEnd {
     }
 }
 
-/// Tells the monitor how an attempt of the whole has ended. Of the attempts of pairs by their cones each round is told.
-pub fn notify_attempt<H, G: Monitor>(
+/// Notifies the monitor how an attempt of the whole has ended. For pairs by their cones it is notified of each round instead.
+pub(crate) fn notify_attempt<H, G: Monitor>(
     task: &Task<'_, H>,
     budget: u64,
     end: AttemptEnd,
@@ -44,10 +44,9 @@ pub fn notify_attempt<H, G: Monitor>(
 }
 
 /// The fault of a search whose attempts within the limit were all given up, each for its nodes or not.
-pub fn fault_of(full: bool) -> CheckFault
-    ensures which { (result ≡ CheckFault.Wave WaveFault.Full) ⊎ (result ≡ CheckFault.GivenUp) }
+pub(crate) fn fault_of(full: bool) -> CheckFault
+    ensures which { IsGivingUp result }
     ensures full { result ≡ CheckFault.Wave WaveFault.Full → full ≡ true }
-    ensures ends { EndsSearch result }
 {
     if full {
         CheckFault::Wave(WaveFault::Full)

@@ -1,19 +1,7 @@
 //! The attempts of a comparison: an order, and the nodes within which it is to stay.
-ghost use Rattle.std.specs.Prelude.{◌≡◌, ◌≢◌, ◌≤◌, ◌<◌, ◌-◌, ◌^◌, ◌*◌, ℕ, [], All, Option, Some, IfOk, IfErr, IsSomeAnd, OnOk, Err};
-ghost use Rattle.expand_work.specs.Bounds.{most_of};
-ghost use Rattle.net_bench.specs.Circuit.{circuit};
-ghost use Rattle.net_order.specs.declared.order.Order.{Order as OrderValue};
-ghost use Rattle.net_order.specs.Order.{condition};
-ghost use Rattle.compare_built.specs.Details.{details_in};
-ghost use Rattle.compare_built.specs.declared.strategy.Candidate.{Candidate as CandidateValue};
-ghost use Rattle.compare_built.specs.Attempts.{order_of};
-ghost use Rattle.compare_built.specs.Check.{IsCheckFault, IsComparisonFault};
-ghost use Rattle.compare_built.specs.Limits.{FitsWithin, Exceeds};
-ghost use Rattle.compare_built.specs.Report.{AreVerdicts};
-ghost use Rattle.order_search.specs.Tasks.{OfTask};
-ghost use Rattle.order_search.specs.Trials.{AreTrials, EndsAtOnce, IsEnded, IsFirstRound, IsPairingIn, IsRound, IsReportedIn, IsTrial, IsFirstAttempt};
-ghost use Rattle.order_search.specs.Trials.{reported_pairing};
-ghost use Rattle.compare_built.specs.Widths.{IsTooWide};
+ghost use Rattle.std.specs.Prelude.{◌≡◌, ◌<◌, ◌^◌, [], All, IfOk, IfErr};
+ghost use Rattle.order_search.specs.Trials.{AreTrials, EndsAtOnce, IsCandidateFault, IsDecided, IsEnded, IsFirstAttempt, IsFirstRound};
+ghost use Rattle.order_search.specs.Trials.{IsReportedIn, IsRound, IsTrial, IsTrialFault};
 
 use crate::attempt_end::{end_of, give_up_reason, notify_attempt};
 use crate::bounded_monitor::BoundedMonitor;
@@ -22,7 +10,7 @@ use compare_built::comparison::{compare, compare_as_declared};
 use compare_built::fault::CheckFault;
 use compare_built::strategy::Candidate;
 use compare_built::task::Task;
-use expand_work::{AttemptEnd, Monitor, WaveFault};
+use expand_work::{AttemptEnd, Monitor};
 use net_order::pairing::Pairing;
 use report_text::Verdict;
 use std::sync::Wait;
@@ -65,37 +53,28 @@ pub enum Round {
     GivenUp { full: bool },
 }
 
-/// The verdicts of a comparison by this pairing, told over its variables, or over those of a pairing that is given.
+/// The verdicts of a comparison in the order of a trial within so many nodes, reported over its variables, or over those of a pairing
+/// that is given.
 fn verdicts_by<H: Threads + Wait + Sync, G: Monitor>(
     task: &Task<'_, H>,
     declared: Option<&Pairing>,
-    pairing: &Pairing,
-    limit: u64,
+    trial: &Trial,
+    budget: u64,
     monitor: &G,
 ) -> Result<Vec<Verdict>, CheckFault>
-    requires small { limit < 2 ^ 32 }
+    requires small { budget < 2 ^ 32 }
     requires verdict_order { IsReportedIn task.now declared }
-    requires paired { (order : OrderValue) × IsPairingIn task.now order pairing.now }
-    ensures ok { IfOk result (λ v. AreVerdicts (details_in task.now.settings.now) (circuit task.now.first.now) (circuit task.now.second.now)
-        (condition task.now.given) (reported_pairing declared.entry pairing.now)
-        (record { variables = (reported_pairing declared.entry pairing.now).names; verdicts = v.items })) }
-    ensures err { IfErr result IsComparisonFault }
-    ensures within { OnOk result (FitsWithin limit (circuit task.now.first.now) (circuit task.now.second.now)
-        (condition task.now.given) pairing.now) }
-    ensures full { result ≡ Err (CheckFault.Wave WaveFault.Full)
-        → Exceeds limit (circuit task.now.first.now) (circuit task.now.second.now) (condition task.now.given) pairing.now }
-    ensures past { result ≡ Err (CheckFault.Wave WaveFault.TooManyRequests)
-        → IsSomeAnd (G.bound monitor.now) (λ n. IsTooWide n (circuit task.now.first.now) (circuit task.now.second.now)
-        (condition task.now.given) pairing.now) }
-    ensures needs_no_thread { most_of (G.bound monitor.now) < 2 ^ 64 - 1 → result ≢ Err (CheckFault.Wave WaveFault.NoWorker) }
+    requires trial { IsTrial task.now trial.now }
+    ensures decided { IfOk result (λ v. IsDecided task.now declared.entry budget trial.now v.items) }
+    ensures fault { IfErr result (IsTrialFault task.now budget (G.bound monitor.now) trial.now.pairing) }
 {
     match declared {
-        Some(declared) => compare_as_declared(task, pairing, declared, limit, monitor),
-        None => compare(task, pairing, limit, monitor),
+        Some(declared) => compare_as_declared(task, &trial.pairing, declared, budget, monitor),
+        None => compare(task, &trial.pairing, budget, monitor),
     }
 }
 
-/// Compares in the order of a trial within so many nodes, and tells the monitor how that has ended.
+/// Compares in the order of a trial within so many nodes, and notifies the monitor how that has ended.
 fn attempt<H: Threads + Wait + Sync, G: Monitor>(
     task: &Task<'_, H>,
     declared: Option<&Pairing>,
@@ -107,8 +86,7 @@ fn attempt<H: Threads + Wait + Sync, G: Monitor>(
     requires verdict_order { IsReportedIn task.now declared }
     requires trial { IsTrial task.now trial.now }
     ensures ended { IfOk result (IsEnded task.now declared.entry budget (G.bound monitor.now) trial.now) }
-    ensures fault { OfTask task.now (λ input s. IfErr result (λ fault. (c : CandidateValue)
-        × IsCheckFault input ⊥ ⊥ ⊥ s.order s.matching (order_of c) fault)) }
+    ensures fault { IfErr result (IsCandidateFault task.now) }
     ensures ends { IfErr result EndsAtOnce }
 {
     let bounded = BoundedMonitor {
@@ -116,19 +94,17 @@ fn attempt<H: Threads + Wait + Sync, G: Monitor>(
         most: (budget * REQUESTS) as usize,
         reached: &trial.reached,
     };
-    match verdicts_by(task, declared, &trial.pairing, budget, &bounded) {
+    match verdicts_by(task, declared, trial, budget, &bounded) {
         Ok(verdicts) => {
             let order = trial.candidate.name();
             notify_attempt(task, budget, AttemptEnd::Decided { order }, monitor);
             Ok(Ended::Decided(verdicts))
         }
-        Err(fault) => match give_up_reason(fault) {
-            Ok(full) => {
-                notify_attempt(task, budget, end_of(trial.candidate, full), monitor);
-                Ok(Ended::GivenUp { full })
-            }
-            Err(fault) => Err(fault),
-        },
+        Err(fault) => {
+            let full = give_up_reason(fault)?;
+            notify_attempt(task, budget, end_of(trial.candidate, full), monitor);
+            Ok(Ended::GivenUp { full })
+        }
     }
 }
 
@@ -145,8 +121,7 @@ fn try_candidate<H: Threads + Wait + Sync, G: Monitor>(
     requires verdict_order { IsReportedIn task.now declared }
     requires own { All (IsTrial task.now) trials.old.items }
     ensures first_attempt { IfOk result (IsFirstAttempt task.now declared.entry budget (G.bound monitor.now) candidate trials.old.items trials.new.items) }
-    ensures fault { OfTask task.now (λ input s. IfErr result (λ fault. (c : CandidateValue)
-        × IsCheckFault input ⊥ ⊥ ⊥ s.order s.matching (order_of c) fault)) }
+    ensures fault { IfErr result (IsCandidateFault task.now) }
     ensures ends { IfErr result EndsAtOnce }
 {
     let pairing = paired(task, &candidate.order())?;
@@ -158,19 +133,16 @@ fn try_candidate<H: Threads + Wait + Sync, G: Monitor>(
         pairing,
         reached: AtomicU32::new(0),
     };
-    let full = match attempt(task, declared, &trial, budget, monitor)? {
-        Ended::Decided(verdicts) => {
-            return Ok(Round::Decided(Decided {
-                trial,
-                verdicts,
-                budget,
-            }));
+    match attempt(task, declared, &trial, budget, monitor)? {
+        Ended::Decided(verdicts) => Ok(Round::Decided(Decided {
+            trial,
+            verdicts,
+            budget,
+        })),
+        Ended::GivenUp { full } => {
+            keep(trials, trial)?;
+            Ok(Round::GivenUp { full })
         }
-        Ended::GivenUp { full } => full,
-    };
-    match keep(trials, trial) {
-        Ok(()) => Ok(Round::GivenUp { full }),
-        Err(_) => Err(CheckFault::OutOfMemory),
     }
 }
 
@@ -187,8 +159,7 @@ pub fn try_first<H: Threads + Wait + Sync, G: Monitor>(
     requires none { trials.old.items ≡ [] }
     ensures round { IfOk result (IsRound task.now declared.entry budget (G.bound monitor.now) trials.new.items) }
     ensures first { IfOk result (IsFirstRound task.now budget (G.bound monitor.now)) }
-    ensures fault { OfTask task.now (λ input s. IfErr result (λ fault. (c : CandidateValue)
-        × IsCheckFault input ⊥ ⊥ ⊥ s.order s.matching (order_of c) fault)) }
+    ensures fault { IfErr result (IsCandidateFault task.now) }
     ensures ends { IfErr result EndsAtOnce }
 {
     let mut all_full = true;
@@ -202,7 +173,7 @@ pub fn try_first<H: Threads + Wait + Sync, G: Monitor>(
 }
 
 /// Tries the orders again within a larger budget, those first that came furthest.
-pub fn try_again<H: Threads + Wait + Sync, G: Monitor>(
+pub(crate) fn try_again<H: Threads + Wait + Sync, G: Monitor>(
     task: &Task<'_, H>,
     declared: Option<&Pairing>,
     trials: &mut Vec<Trial>,
@@ -213,8 +184,7 @@ pub fn try_again<H: Threads + Wait + Sync, G: Monitor>(
     requires verdict_order { IsReportedIn task.now declared }
     requires trials { AreTrials task.now trials.old.items }
     ensures round { IfOk result (IsRound task.now declared.entry budget (G.bound monitor.now) trials.new.items) }
-    ensures fault { OfTask task.now (λ input s. IfErr result (λ fault. (c : CandidateValue)
-        × IsCheckFault input ⊥ ⊥ ⊥ s.order s.matching (order_of c) fault)) }
+    ensures fault { IfErr result (IsCandidateFault task.now) }
     ensures ends { IfErr result EndsAtOnce }
 {
     put_furthest_first(trials);

@@ -10,12 +10,12 @@ use std::sync::atomic::{AtomicU32, Ordering};
 /// alone: an attempt has hundreds of them, and starting the threads for each takes longer than they save.
 const SHARED_FROM: usize = 1 << 17;
 
-/// A monitor that bounds the requests of a wave as well, and keeps the number of the rank that was notified last.
+/// A monitor that bounds the requests of a wave as well, and keeps the number of the last rank that it was notified of.
 #[derive(Drop)]
-pub struct BoundedMonitor<'a, G> {
-    pub monitor: &'a G,
-    pub most: usize,
-    pub reached: &'a AtomicU32,
+pub(crate) struct BoundedMonitor<'a, G> {
+    pub(crate) monitor: &'a G,
+    pub(crate) most: usize,
+    pub(crate) reached: &'a AtomicU32,
 }
 
 impl<'a, G: Monitor> Watch for BoundedMonitor<'a, G> {

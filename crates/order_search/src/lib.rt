@@ -1,9 +1,9 @@
 //! The search for an order in which two netlists can be compared: attempts within budgets of nodes that grow.
 //!
-//! **Promises.** `budget_search::find_attempt` answers the verdicts of the first attempt that succeeds (`decided`), and
-//! each attempt before it was given up, for its nodes or for a wave's requests (`earlier_given_up`). It fails with Full
-//! only if each candidate needs more nodes than the limit (`full`), and gives up only if each attempt was given up
-//! (`given_up`). Which attempt succeeds depends on the texts, the matching and the limit, never on the workers.
+//! **Promises.** `budget_search::find_attempt` answers the verdicts of the first attempt that succeeds, and each attempt
+//! before it was given up, for its nodes or for a wave's requests (`found`). It fails with Full only if each candidate
+//! needs more nodes than the limit, and gives up only if each attempt was given up (`fault`). Which attempt succeeds
+//! depends on the texts, the matching and the limit, never on the workers.
 //!
 //! **Only tests show** what a monitor is notified of about attempts (`report_tests`).
 //!

@@ -39,17 +39,14 @@ pub fn paired<H>(task: &Task<'_, H>, order: &Order) -> Result<Pairing, CheckFaul
     ensures refused { IfErr result (λ fault. (f : OrderFaultValue) × (fault ≡ CheckFault.Order f)) }
     ensures many { result ≡ Err (CheckFault.Order OrderFault.TooManyInputs) → HasTooManyVariables task.now }
 {
-    match pair(
+    Ok(pair(
         task.alloc,
         task.first,
         task.second,
         task.given,
         task.settings.matching,
         order,
-    ) {
-        Ok(pairing) => Ok(pairing),
-        Err(fault) => Err(CheckFault::Order(fault)),
-    }
+    )?)
 }
 
 /// The naming of a task's netlists in this order, in which they have a pairing.
@@ -59,10 +56,7 @@ pub fn named_in<H>(task: &Task<'_, H>, order: &Order) -> Result<Naming, CheckFau
     ensures fault { OfTask task.now (λ input s. IfErr result (IsCheckFault input ⊥ ⊥ ⊥ s.order s.matching order.now)) }
     ensures refused { IfErr result (λ fault. (f : OrderFaultValue) × (fault ≡ CheckFault.Order f)) }
 {
-    match paired(task, order) {
-        Ok(pairing) => Ok(pairing.into_naming()),
-        Err(fault) => Err(fault),
-    }
+    Ok(paired(task, order)?.into_naming())
 }
 
 /// The naming of a task's netlists as their variables are declared, of whatever number.
@@ -72,16 +66,13 @@ pub fn named<H>(task: &Task<'_, H>) -> Result<Naming, CheckFault>
     ensures refused { IfErr result (λ fault. (f : OrderFaultValue) × (fault ≡ CheckFault.Order f)) }
     ensures any_number_of_inputs { result ≢ Err (CheckFault.Order OrderFault.TooManyInputs) }
 {
-    match naming_of(
+    Ok(naming_of(
         task.alloc,
         task.first,
         task.second,
         task.given,
         task.settings.matching,
-    ) {
-        Ok(naming) => Ok(naming),
-        Err(fault) => Err(CheckFault::Order(fault)),
-    }
+    )?)
 }
 
 /// Whether two lists of names are the same.
@@ -100,7 +91,7 @@ fn are_same(names: &Names, others: &Names) -> bool
 }
 
 /// Whether one of the trials has these names, in this order.
-pub fn is_tried(trials: &[Trial], names: &Names) -> bool
+pub(crate) fn is_tried(trials: &[Trial], names: &Names) -> bool
     ensures tried { result ≡ true → (trial : TrialValue) × Contains trials.now trial × (trial.pairing.names ≡ names.now) }
     ensures new { result ≡ false → All (λ trial. trial.pairing.names ≢ names.now) trials.now }
 {
@@ -112,19 +103,17 @@ pub fn is_tried(trials: &[Trial], names: &Names) -> bool
     false
 }
 
-/// Puts a trial behind the others.
-pub fn keep(trials: &mut Vec<Trial>, trial: Trial) -> Result<(), AllocError>
+/// Puts a trial after the others.
+pub(crate) fn keep(trials: &mut Vec<Trial>, trial: Trial) -> Result<(), AllocError>
     ensures { OnOk result (trials.new.items ≡ trials.old.items ++ trial ∷ []) }
 {
-    match trials.push(trial) {
-        Ok(()) => Ok(()),
-        Err(_) => Err(AllocError),
-    }
+    trials.push(trial)?;
+    Ok(())
 }
 
 /// Puts the trials in falling order of how far they came, those that came as far in the order that they had. Five are sorted without
-/// more memory; where it were wanted and refused, they would stay in place.
-pub fn put_furthest_first(trials: &mut Vec<Trial>)
+/// more memory; if it were needed and refused, they would stay in place.
+pub(crate) fn put_furthest_first(trials: &mut Vec<Trial>)
     ensures { IsPermutation trials.old.items trials.new.items }
 {
     let _ = trials.sort_by_key(|trial| Reverse(trial.reached.load(Ordering::SeqCst)));

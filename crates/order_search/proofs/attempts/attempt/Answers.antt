@@ -1,20 +1,14 @@
-use Rattle.std.proofs.Common.{ap, subst, sym, Err}
-use Rattle.compare_built.specs.Attempts.{order_of}
-use Rattle.compare_built.specs.Check.{IsCheckFault}
-use Rattle.order_search.proofs.Reporting.{late_fault}
-use Rattle.order_search.proofs.Rounds.{accepted_paired, given_up_for}
+use Rattle.std.proofs.Common.{◌*◌, Option, Some, subst, sym, ℕ}
+use Rattle.std.specs.Prelude.{min}
+use Rattle.std.proofs.lemmas.Result.{err_from_is_err_and}
+use Rattle.expand_work.specs.Bounds.{most_of}
+use Rattle.order_search.specs.Trials.{IsCandidateFault}
+use Rattle.order_search.proofs.Rounds.{trial_cause}
 use Rattle.order_search.proofs.attempts.attempt.Goals as goal
 
-pub returns-in-Ok-give_up_reason-clause-ended : goal.returns-in-Ok-give_up_reason-clause-ended
-returns-in-Ok-give_up_reason-clause-ended g c =
-    given_up_for c.args.task.now c.args.budget (g.G.Monitor.bound c.args.monitor.now) c.in-Ok-give_up_reason.full c.args.trial.now.pairing
-    (λ e. c.in-Err.ensures.full (ap Err (c.in-Ok-give_up_reason.ensures.full e))) (λ e. c.in-Err.ensures.past (ap Err (c.in-Ok-give_up_reason.ensures.wide e)))
-
-pub returns-in-Err-give_up_reason-clause-fault : goal.returns-in-Err-give_up_reason-clause-fault
-returns-in-Err-give_up_reason-clause-fault g c = λ input ga.
+pub returns-in_err-full-in-Err-clause-fault : goal.returns-in_err-full-in-Err-clause-fault
+returns-in_err-full-in-Err-clause-fault g c =
     let task = c.args.task.now in
-    let order = order_of c.args.trial.now.candidate in (
-      c.args.trial.now.candidate,
-      subst (IsCheckFault input ⊥ ⊥ ⊥ task.settings.now.order task.settings.now.matching order) (sym c.in-Err-give_up_reason.ensures.same)
-          (late_fault input ⊥ ⊥ ⊥ task.settings.now.order task.settings.now.matching order c.in-Err.fault (accepted_paired task input ga task.settings.now.order order c.args.trial.now.pairing c.requires.trial) c.in-Err.ensures.err),
-    )
+    let e = err_from_is_err_and c.from_residual.result c.from_residual.ensures.1 in
+    let bound : Option ℕ = Some (min (c.args.budget * 8) (most_of (g.G.Monitor.bound c.args.monitor.now))) in
+    rw (e.1, e.2) (subst (IsCandidateFault task) (sym c.in_err-full-in-Err.ensures.same) (trial_cause task c.args.budget bound c.args.trial.now c.in-Err.fault c.requires.trial c.in-Err.ensures.fault))

@@ -4,18 +4,22 @@ use Rattle.order_search.specs.declared.trials.Trial.{Trial}
 use Rattle.compare_built.specs.Attempts.{order_of}
 use Rattle.compare_built.specs.Check.{IsCheckFault}
 use Rattle.order_search.specs.Trials.{AreGivenUpTrials, IsEnded, IsPairingIn, IsTried}
-use Rattle.order_search.proofs.Rounds.{accepted_paired, and_true, memory_ends, one_more, order_ends, tried_before, tried_last, tried_still}
+use Rattle.order_search.proofs.Rounds.{accepted_paired, and_true, one_more, order_ends, tried_before, tried_last, tried_still}
 use Rattle.order_search.proofs.attempts.try_candidate.Goals as goal
 
+-- ---- no pairing
+
 pub returns-in_err-pairing-clause-fault : goal.returns-in_err-pairing-clause-fault
-returns-in_err-pairing-clause-fault g c = λ input ga.
+returns-in_err-pairing-clause-fault g c =
     let e = err_from_is_err_and c.from_residual.result c.from_residual.ensures.1 in
-    rw (e.1, e.2) (c.args.candidate, subst (λ o. IsCheckFault input ⊥ ⊥ ⊥ c.args.task.now.settings.now.order c.args.task.now.settings.now.matching o c.in_err-pairing.field-0.0) c.order.ensures (c.in_err-pairing.ensures.fault input ga))
+    rw (e.1, e.2) (λ input ga. (c.args.candidate, subst (λ o. IsCheckFault input ⊥ ⊥ ⊥ c.args.task.now.settings.now.order c.args.task.now.settings.now.matching o c.in_err-pairing.field-0.0) c.order.ensures (c.in_err-pairing.ensures.fault input ga)))
 
 pub returns-in_err-pairing-clause-ends : goal.returns-in_err-pairing-clause-ends
 returns-in_err-pairing-clause-ends g c =
     let e = err_from_is_err_and c.from_residual.result c.from_residual.ensures.1 in
     rw (e.1, e.2) (order_ends c.in_err-pairing.field-0.0 c.in_err-pairing.ensures.refused.0 c.in_err-pairing.ensures.refused.1)
+
+-- ---- the order of a trial before
 
 pub returns-then-is_tried-clause-first_attempt : goal.returns-then-is_tried-clause-first_attempt
 returns-then-is_tried-clause-first_attempt g c =
@@ -26,28 +30,31 @@ returns-then-is_tried-clause-first_attempt g c =
     let same : (t : Trial) × Contains old t × (t.pairing.names ≡ c.in_ok-pairing.pairing.names) = (let h = c.is_tried.ensures.tried c.if-is_tried.true in search rules) in
     (λ all gs. and_true task c.args.budget bound all old gs, tried_before task old c.args.candidate c.in_ok-pairing.pairing c.requires.own is same, λ k h. h)
 
+-- ---- an attempt
+
 pub returns-in-Decided-clause-first_attempt : goal.returns-in-Decided-clause-first_attempt
 returns-in-Decided-clause-first_attempt g c =
     let bound = g.G.Monitor.bound c.args.monitor.now in
     ((subst (IsEnded c.args.task.now c.args.declared c.args.budget bound _) c.in-Decided.is c.in_ok-verdicts.ensures.ended, refl), refl)
 
-pub returns-in-Ok-clause-first_attempt : goal.returns-in-Ok-clause-first_attempt
-returns-in-Ok-clause-first_attempt g c =
+pub returns-in_ok-keep-in-GivenUp-clause-first_attempt : goal.returns-in_ok-keep-in-GivenUp-clause-first_attempt
+returns-in_ok-keep-in-GivenUp-clause-first_attempt g c =
     let task = c.args.task.now in
     let old = c.args.trials.now.items in
     let bound = g.G.Monitor.bound c.args.monitor.now in
     let is : IsPairingIn task (order_of c.args.candidate) c.in_ok-pairing.pairing = subst (λ o. IsPairingIn task o c.in_ok-pairing.pairing) c.order.ensures c.in_ok-pairing.ensures.paired in
-    let kept = c.in-Ok.ensures in (
+    let kept = c.in_ok-keep-in-GivenUp.ensures in (
       λ all gs. subst (AreGivenUpTrials task c.args.budget bound _) (sym {A = List Trial} kept)
           (one_more task c.args.budget bound all c.in-GivenUp.full old _ is (subst (IsEnded task c.args.declared c.args.budget bound _) c.in-GivenUp.is c.in_ok-verdicts.ensures.ended) gs),
       subst (λ ts. IsTried task ts c.args.candidate) (sym {A = List Trial} kept) (tried_last task old _ is),
       λ k h. subst (λ ts. IsTried task ts k) (sym {A = List Trial} kept) (tried_still task old _ k h),
     )
 
-pub returns-in-Err-clause-ends : goal.returns-in-Err-clause-ends
-returns-in-Err-clause-ends g c = memory_ends
+-- ---- no memory
 
-pub returns-in-Err-clause-fault : goal.returns-in-Err-clause-fault
-returns-in-Err-clause-fault g c = λ input ga.
-    let is : IsPairingIn c.args.task.now (order_of c.args.candidate) c.in_ok-pairing.pairing = subst (λ o. IsPairingIn c.args.task.now o c.in_ok-pairing.pairing) c.order.ensures c.in_ok-pairing.ensures.paired in
-    (c.args.candidate, accepted_paired c.args.task.now input ga c.args.task.now.settings.now.order (order_of c.args.candidate) c.in_ok-pairing.pairing is)
+pub returns-in_err-keep-in-GivenUp-clause-fault : goal.returns-in_err-keep-in-GivenUp-clause-fault
+returns-in_err-keep-in-GivenUp-clause-fault g c =
+    let task = c.args.task.now in
+    let is : IsPairingIn task (order_of c.args.candidate) c.in_ok-pairing.pairing = subst (λ o. IsPairingIn task o c.in_ok-pairing.pairing) c.order.ensures c.in_ok-pairing.ensures.paired in
+    let e = err_from_is_err_and c.from_residual-in_err-keep-in-GivenUp.result c.from_residual-in_err-keep-in-GivenUp.ensures.1 in
+    rw (e.1, e.2) (λ input ga. (c.args.candidate, accepted_paired task input ga task.settings.now.order (order_of c.args.candidate) c.in_ok-pairing.pairing is))

@@ -1,0 +1,113 @@
+-- What a search comes to: the attempt that decides, or a fault.
+use Rattle.std.proofs.Common.{◌≡◌, ◌≢◌, ◌∙◌, refl, inl, inr, sym, subst, ℕ, ◌*◌, ◌^◌, ◌<◌, ◌≤◌, Bool, true, List, Option, Result, Ok, Err, IfErr}
+use Rattle.std.specs.Prelude.{IfOk}
+use Rattle.std.specs.Borrow.{Bor}
+use Rattle.expand_work.specs.declared.fault.WaveFault.TheVariants.{Full, TooManyRequests, NoWorker}
+use Rattle.net_order.specs.Order.{NamingModel}
+use Rattle.compare_built.specs.declared.fault.CheckFault.{CheckFault}
+use Rattle.compare_built.specs.declared.fault.CheckFault.TheVariants.{Wave, GivenUp, Only, Write}
+use Rattle.compare_built.specs.declared.strategy.Candidate.{Candidate}
+use Rattle.compare_built.specs.declared.strategy.Candidate.TheVariants.{Interleave}
+use Rattle.compare_built.specs.declared.task.Task.{Task}
+use Rattle.compare_built.specs.Attempts.{AllBefore, IsBudget, first_budget, order_of}
+use Rattle.compare_built.specs.Check.{IsCheckFault}
+use Rattle.order_search.specs.declared.attempts.Decided.{Decided as DecidedValue}
+use Rattle.order_search.specs.declared.trials.Trial.{Trial}
+use Rattle.order_search.specs.Tasks.{OfTask}
+use Rattle.order_search.specs.Trials.{AreAllGivenUp, AreCandidatesGivenUp, AreEarlierGivenUp, Decides, EndsAtOnce, EndsSearch, IsCandidateFault, IsCandidateGivenUp}
+use Rattle.order_search.specs.Trials.{IsDecided, IsFoundWithin, IsFull, IsGivingUp, IsSearchFault}
+use Rattle.order_search.proofs.Budgets.{first_is_one}
+use Rattle.order_search.proofs.Rounds.{given_up_fault, passed_at, passed_first}
+
+-- ---- sets of faults
+
+-- a search may end with what ends it at once, and by giving up
+pub search_ends : (fault : CheckFault) → EndsAtOnce fault → EndsSearch fault
+search_ends (Wave Full) h = tt
+search_ends GivenUp h = tt
+search_ends fault h = h
+
+pub giving_up_ends : (fault : CheckFault) → IsGivingUp fault → EndsSearch fault
+giving_up_ends fault (inl nodes) = subst EndsSearch (sym nodes) tt
+giving_up_ends fault (inr given_up) = subst EndsSearch (sym given_up) tt
+
+-- with nothing else
+pub at_once : (fault : CheckFault) → EndsSearch fault → (IsGivingUp fault → ⊥) → EndsAtOnce fault
+at_once (Wave Full) ends apart = absurd (apart (inl refl))
+at_once GivenUp ends apart = absurd (apart (inr refl))
+at_once fault ends apart = ends
+
+pub never_gives_up : (fault : CheckFault) → EndsAtOnce fault → IsGivingUp fault → ⊥
+never_gives_up fault ends (inl nodes) = subst EndsAtOnce nodes ends
+never_gives_up fault ends (inr given_up) = subst EndsAtOnce given_up ends
+
+-- ---- what a search comes to
+
+module _ {H : Type 0} (task : Task H) (declared : Option (Bor NamingModel)) (limit : ℕ) (bound : Option ℕ) where
+  -- an attempt within the first budget decides
+  pub found_first : (budget : ℕ) (d : DecidedValue) → budget ≡ first_budget limit → Decides task declared budget d → AllBefore d.trial.candidate (IsCandidateGivenUp task budget bound) →
+      IsFoundWithin task declared limit bound d
+  found_first budget d first decides before =
+      let own : d.budget ≡ first_budget limit = decides.1 ∙ first in
+      record {
+        decided = subst (λ n. IsDecided task declared n d.trial d.verdicts.items) (sym decides.1) decides.0;
+        budget = first_is_one limit d.budget own;
+        earlier_given_up = passed_first task limit bound (record { order = d.trial.candidate; budget = d.budget }) own
+            (subst (λ n. AllBefore d.trial.candidate (IsCandidateGivenUp task n bound)) (sym decides.1) before);
+      }
+
+  -- and one within a later budget
+  pub found_later : (k budget : ℕ) (d : DecidedValue) → budget ≤ 16384 * 16 ^ k → budget ≤ limit → 16384 < budget → IsBudget limit budget →
+      ((j : ℕ) → j < k → (c : Candidate) → IsCandidateGivenUp task (16384 * 16 ^ j) bound c) → Decides task declared budget d → IsFoundWithin task declared limit bound d
+  found_later k budget d most within more is tried decides = record {
+    decided = subst (λ n. IsDecided task declared n d.trial d.verdicts.items) (sym decides.1) decides.0;
+    budget = subst (IsBudget limit) (sym decides.1) is;
+    earlier_given_up = passed_at task limit bound k budget (record { order = d.trial.candidate; budget = d.budget }) most within more tried decides.1;
+  }
+
+  -- every attempt was given up, the last within the limit
+  pub all_given_up : (full : Bool) (trials : List Trial) (fault : CheckFault) → AreCandidatesGivenUp task limit bound full trials → AreAllGivenUp task limit bound → IsGivingUp fault → (fault ≡ Wave Full → full ≡ true) →
+      IsSearchFault task limit bound fault
+  all_given_up full trials fault last all which nodes = record {
+    full = λ e. last.nodes (nodes e);
+    given_up = λ _. all;
+    cause = λ input given. (Interleave, given_up_fault task input given (order_of Interleave) (last.each Interleave).pairing fault (last.each Interleave).paired which);
+    ends = giving_up_ends fault which;
+  }
+
+  -- an attempt has ended the search at once
+  pub ended_at_once : (fault : CheckFault) → IsCandidateFault task fault → EndsAtOnce fault → IsSearchFault task limit bound fault
+  ended_at_once fault cause ends = record {
+    full = λ e. absurd (subst EndsAtOnce e ends);
+    given_up = λ h. absurd (never_gives_up fault ends h);
+    cause = cause;
+    ends = search_ends fault ends;
+  }
+
+-- ---- the bundles, clause by clause
+
+-- the faults that a search does not end with
+pub search_never : (fault : CheckFault) → EndsSearch fault → (fault ≢ Write) × (fault ≢ Wave TooManyRequests) × (fault ≢ Wave NoWorker) × (fault ≢ Only)
+search_never fault ends = (λ e. subst EndsSearch e ends, λ e. subst EndsSearch e ends, λ e. subst EndsSearch e ends, λ e. subst EndsSearch e ends)
+
+-- and those that do not end it at once
+pub at_once_never : (fault : CheckFault) → EndsAtOnce fault → EndsSearch fault × (fault ≢ Wave Full) × (fault ≢ GivenUp)
+at_once_never fault ends = (search_ends fault ends, λ e. subst EndsAtOnce e ends, λ e. subst EndsAtOnce e ends)
+
+module _ {H : Type 0} (task : Task H) (declared : Option (Bor NamingModel)) (limit : ℕ) (bound : Option ℕ) where
+  -- what is found
+  pub found_says : (r : Result DecidedValue CheckFault) → IfOk r (IsFoundWithin task declared limit bound) →
+      IfOk r (λ d. IsDecided task declared d.budget d.trial d.verdicts.items)
+      × IfOk r (λ d. IsBudget limit d.budget)
+      × IfOk r (λ d. AreEarlierGivenUp task limit bound (record { order = d.trial.candidate; budget = d.budget }))
+  found_says (Ok d) h = (h.decided, h.budget, h.earlier_given_up)
+  found_says (Err fault) h = (tt, tt, tt)
+
+  -- why nothing is
+  pub fault_says : (r : Result DecidedValue CheckFault) → IfErr r (IsSearchFault task limit bound) →
+      (r ≡ Err (Wave Full) → (c : Candidate) → IsFull task limit c)
+      × IfErr r (λ fault. IsGivingUp fault → AreAllGivenUp task limit bound)
+      × OfTask task (λ input s. IfErr r (λ fault. (c : Candidate) × IsCheckFault input ⊥ ⊥ ⊥ s.order s.matching (order_of c) fault))
+      × IfErr r EndsSearch
+  fault_says (Ok d) h = (λ e. absurd (let never : ⊥ = cc in never), tt, λ input given. tt, tt)
+  fault_says (Err fault) h = (λ e. h.full (let same : fault ≡ Wave Full = cc in same), h.given_up, h.cause, h.ends)
