@@ -1,5 +1,5 @@
 -- What a search comes to: the attempt that decides, or a fault.
-use Rattle.std.proofs.Common.{◌≡◌, ◌≢◌, ◌∙◌, refl, inl, inr, sym, subst, ℕ, ◌*◌, ◌^◌, ◌<◌, ◌≤◌, Bool, true, List, Option, Result, Ok, Err, IfErr}
+use Rattle.std.proofs.Common.{◌≡◌, ◌≢◌, ◌∙◌, refl, inl, inr, sym, subst, ℕ, ◌*◌, ◌^◌, ◌<◌, ◌≤◌, Bool, true, ◌&&◌, List, [], length, arith, Option, Result, Ok, Err, IfErr}
 use Rattle.std.specs.Prelude.{IfOk}
 use Rattle.std.specs.Borrow.{Bor}
 use Rattle.expand_work.specs.declared.fault.WaveFault.TheVariants.{Full, TooManyRequests, NoWorker}
@@ -7,17 +7,20 @@ use Rattle.net_order.specs.Order.{NamingModel}
 use Rattle.compare_built.specs.declared.fault.CheckFault.{CheckFault}
 use Rattle.compare_built.specs.declared.fault.CheckFault.TheVariants.{Wave, GivenUp, Only, Write}
 use Rattle.compare_built.specs.declared.strategy.Candidate.{Candidate}
-use Rattle.compare_built.specs.declared.strategy.Candidate.TheVariants.{Interleave}
+use Rattle.compare_built.specs.declared.strategy.Candidate.TheVariants.{Interleave, Declared}
 use Rattle.compare_built.specs.declared.task.Task.{Task}
 use Rattle.compare_built.specs.Attempts.{AllBefore, IsBudget, first_budget, order_of}
 use Rattle.compare_built.specs.Check.{IsCheckFault}
 use Rattle.order_search.specs.declared.attempts.Decided.{Decided as DecidedValue}
+use Rattle.order_search.specs.declared.attempts.Round.{Round}
+use Rattle.order_search.specs.declared.attempts.Round.TheVariants as rounds
 use Rattle.order_search.specs.declared.trials.Trial.{Trial}
 use Rattle.order_search.specs.Tasks.{OfTask}
 use Rattle.order_search.specs.Trials.{AreAllGivenUp, AreCandidatesGivenUp, AreEarlierGivenUp, Decides, EndsAtOnce, EndsSearch, IsCandidateFault, IsCandidateGivenUp}
+use Rattle.order_search.specs.Trials.{AreGivenUpTrials, IsFirstAttempt, IsLastRound, IsTried}
 use Rattle.order_search.specs.Trials.{IsDecided, IsFoundWithin, IsFull, IsGivingUp, IsSearchFault}
 use Rattle.order_search.proofs.Budgets.{first_is_one}
-use Rattle.order_search.proofs.Rounds.{given_up_fault, passed_at, passed_first}
+use Rattle.order_search.proofs.Rounds.{given_up_fault, passed_at, passed_by, passed_first}
 
 -- ---- sets of faults
 
@@ -83,6 +86,29 @@ module _ {H : Type 0} (task : Task H) (declared : Option (Bor NamingModel)) (lim
     cause = cause;
     ends = search_ends fault ends;
   }
+
+-- ---- the last attempts
+
+module _ {H : Type 0} (task : Task H) (declared : Option (Bor NamingModel)) (budget : ℕ) (bound : Option ℕ) where
+  -- no trial was given up yet
+  pub none_given_up : (trials : List Trial) → trials ≡ [] → AreGivenUpTrials task budget bound true trials
+  none_given_up trials e = record {
+    own = λ k d lt. absurd (none k lt);
+    causes = λ k d lt. absurd (none k lt);
+    nodes = λ _ k d lt. absurd (none k lt);
+  }
+    where
+      none : (k : ℕ) → k < length trials → ⊥
+      none k lt = let no : k < 0 = subst (λ ts. k < length ts) e lt in omega (arith, no)
+
+  -- after the attempt in another order, that in declared order decides or is given up as well
+  pub last_of : (furthest : Candidate) (all : Bool) (old new : List Trial) (r : Result Round CheckFault) → AreGivenUpTrials task budget bound all old → IsTried task old furthest →
+      IfOk r (IsFirstAttempt task declared budget bound Declared old new) → IfOk r (IsLastRound task declared furthest budget bound)
+  last_of furthest all old new (Ok (rounds.Decided d)) given tried turn = turn.0
+  last_of furthest all old new (Ok (rounds.GivenUp full)) given tried turn =
+      let g = turn.0 all given in
+      (passed_by task budget bound (all && full) new furthest g (turn.2 furthest tried), passed_by task budget bound (all && full) new Declared g turn.1)
+  last_of furthest all old new (Err fault) given tried turn = tt
 
 -- ---- the bundles, clause by clause
 

@@ -15,6 +15,7 @@ use Rattle.order_search.specs.declared.attempts.Round.{Round}
 use Rattle.order_search.specs.declared.attempts.Round.TheVariants as rounds
 use Rattle.compare_built.specs.declared.strategy.Attempt.{Attempt}
 use Rattle.compare_built.specs.declared.strategy.Candidate.{Candidate}
+use Rattle.compare_built.specs.declared.strategy.Candidate.TheVariants as candidates
 use Rattle.compare_built.specs.declared.fault.CheckFault.{CheckFault}
 use Rattle.compare_built.specs.declared.fault.CheckFault.TheVariants.{Order as OrderRefused, Wave, GivenUp, OutOfMemory}
 use Rattle.compare_built.specs.declared.task.Task.{Task}
@@ -195,6 +196,12 @@ pub record IsFoundWithin {H : Type 0} (task : Task H) (declared : Option (Bor Na
   pub decided : IsDecided task declared d.budget d.trial d.verdicts.items
   pub budget : IsBudget limit d.budget
   pub earlier_given_up : AreEarlierGivenUp task limit bound (record { order = d.trial.candidate; budget = d.budget })
+
+-- What the last attempts come to: one decides, or the order that came furthest and declared order were both given up.
+abbrev pub IsLastRound : {H : Type 0} → Task H → Option (Bor NamingModel) → (furthest : Candidate) → (budget : ℕ) → (bound : Option ℕ) → Round → Type 0
+IsLastRound task declared furthest budget bound (rounds.Decided d) = Decides task declared budget d
+IsLastRound task declared furthest budget bound (rounds.GivenUp full) =
+    IsCandidateGivenUp task budget bound furthest × IsCandidateGivenUp task budget bound candidates.Declared
 
 -- ---- faults
 

@@ -109,7 +109,7 @@ fn attempt<H: Threads + Wait + Sync, G: Monitor>(
 }
 
 /// The first attempt in the order of a candidate. One that is the order of a trial before is that trial's.
-fn try_candidate<H: Threads + Wait + Sync, G: Monitor>(
+pub(crate) fn try_candidate<H: Threads + Wait + Sync, G: Monitor>(
     task: &Task<'_, H>,
     declared: Option<&Pairing>,
     candidate: Candidate,

@@ -1,5 +1,5 @@
 //! The search for the attempt that decides: within budgets of nodes that grow up to the limit.
-ghost use Rattle.std.specs.Prelude.{◌<◌, ◌^◌, IfOk, IfErr};
+ghost use Rattle.std.specs.Prelude.{◌≡◌, ◌<◌, ◌^◌, [], IfOk, IfErr};
 ghost use Rattle.compare_built.specs.declared.strategy.Candidate.{Candidate as CandidateValue};
 ghost use Rattle.order_search.specs.Trials.{AreTrials, IsCandidateGivenUp, IsFoundWithin, IsReportedIn, IsSearchFault};
 
@@ -23,13 +23,13 @@ pub const GROWTH: u64 = 16;
 fn find_later<H: Threads + Wait + Sync, G: Monitor>(
     task: &Task<'_, H>,
     declared: Option<&Pairing>,
-    mut trials: Vec<Trial>,
+    trials: &mut Vec<Trial>,
     limit: u64,
     monitor: &G,
 ) -> Result<Decided, CheckFault>
     requires small { limit < 2 ^ 32 }
     requires verdict_order { IsReportedIn task.now declared }
-    requires trials { AreTrials task.now trials.items }
+    requires trials { AreTrials task.now trials.old.items }
     requires more { FIRST_BUDGET < limit }
     requires first { (c : CandidateValue) → IsCandidateGivenUp task.now FIRST_BUDGET (G.bound monitor.now) c }
     ensures found { IfOk result (IsFoundWithin task.now declared.entry limit (G.bound monitor.now)) }
@@ -37,20 +37,42 @@ fn find_later<H: Threads + Wait + Sync, G: Monitor>(
 {
     let mut budget = FIRST_BUDGET * GROWTH;
     while budget < limit {
-        match try_again(task, declared, &mut trials, budget, monitor)? {
+        match try_again(task, declared, trials, budget, monitor)? {
             Round::Decided(decided) => return Ok(decided),
             Round::GivenUp { .. } => {}
         }
         budget *= GROWTH;
     }
-    match try_again(task, declared, &mut trials, limit, monitor)? {
+    match try_again(task, declared, trials, limit, monitor)? {
         Round::Decided(decided) => Ok(decided),
         Round::GivenUp { full } => Err(fault_of(full)),
     }
 }
 
-/// Tries the candidates within budgets that grow up to the limit. The verdicts are reported over the variables of the order that decides,
-/// or over those of a pairing that is given.
+/// Tries the candidates within budgets that grow up to the limit, and leaves a trial of each order that was given up in an empty list. The
+/// verdicts are reported over the variables of the order that decides, or over those of a pairing that is given.
+pub fn search<H: Threads + Wait + Sync, G: Monitor>(
+    task: &Task<'_, H>,
+    declared: Option<&Pairing>,
+    trials: &mut Vec<Trial>,
+    limit: u64,
+    monitor: &G,
+) -> Result<Decided, CheckFault>
+    requires small { limit < 2 ^ 32 }
+    requires verdict_order { IsReportedIn task.now declared }
+    requires none { trials.old.items ≡ [] }
+    ensures found { IfOk result (IsFoundWithin task.now declared.entry limit (G.bound monitor.now)) }
+    ensures fault { IfErr result (IsSearchFault task.now limit (G.bound monitor.now)) }
+{
+    let budget = FIRST_BUDGET.min(limit);
+    match try_first(task, declared, trials, budget, monitor)? {
+        Round::Decided(decided) => Ok(decided),
+        Round::GivenUp { full } if limit <= FIRST_BUDGET => Err(fault_of(full)),
+        Round::GivenUp { .. } => find_later(task, declared, trials, limit, monitor),
+    }
+}
+
+/// Searches as `search` does, and keeps no trials.
 pub fn find_attempt<H: Threads + Wait + Sync, G: Monitor>(
     task: &Task<'_, H>,
     declared: Option<&Pairing>,
@@ -63,10 +85,5 @@ pub fn find_attempt<H: Threads + Wait + Sync, G: Monitor>(
     ensures fault { IfErr result (IsSearchFault task.now limit (G.bound monitor.now)) }
 {
     let mut trials = Vec::new(task.alloc);
-    let budget = FIRST_BUDGET.min(limit);
-    match try_first(task, declared, &mut trials, budget, monitor)? {
-        Round::Decided(decided) => Ok(decided),
-        Round::GivenUp { full } if limit <= FIRST_BUDGET => Err(fault_of(full)),
-        Round::GivenUp { .. } => find_later(task, declared, trials, limit, monitor),
-    }
+    search(task, declared, &mut trials, limit, monitor)
 }

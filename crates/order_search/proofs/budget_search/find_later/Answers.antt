@@ -63,8 +63,8 @@ returns-in-Decided-2-clause-found g c =
     subst (IsRound c.args.task.now c.args.declared limit bound c.try_again-2.new.trials.items) c.in-Decided-2.is c.in_ok-decided-2.ensures.round in
     found_later c.args.task.now c.args.declared limit bound p.0 limit c.in-Decided-2.decided (let e = p.1 in omega arith) (omega arith) c.requires.more (inr refl) p.2 d
 
-pub returns-clause-fault : goal.returns-clause-fault
-returns-clause-fault g c =
+pub returns-in-GivenUp-2-clause-fault : goal.returns-in-GivenUp-2-clause-fault
+returns-in-GivenUp-2-clause-fault g c =
     let limit = c.args.limit in
     let bound = g.G.Monitor.bound c.args.monitor.now in
     let p = c.loop-budget.invariant.power in

@@ -5,7 +5,7 @@ use Rattle.compare_built.specs.Attempts.{AllBefore}
 use Rattle.order_search.specs.Trials.{AreCandidatesGivenUp, Decides, IsCandidateGivenUp, IsFirstRound, IsRound}
 use Rattle.order_search.proofs.Budgets.{each_budget}
 use Rattle.order_search.proofs.Searching.{all_given_up, ended_at_once, found_first}
-use Rattle.order_search.proofs.budget_search.find_attempt.Goals as goal
+use Rattle.order_search.proofs.budget_search.search.Goals as goal
 
 pub returns-in_err-decided-clause-fault : goal.returns-in_err-decided-clause-fault
 returns-in_err-decided-clause-fault g c =

@@ -1,0 +1,58 @@
+//! The last attempts: after a search has given up and its pairs were tried by their cones, the whole within the limit.
+ghost use Rattle.std.specs.Prelude.{◌<◌, ◌^◌, IfOk, IfErr};
+ghost use Rattle.order_search.specs.Trials.{EndsAtOnce, IsCandidateFault, IsLastRound, IsReportedIn};
+
+use crate::attempts::{Round, try_candidate};
+use crate::trials::Trial;
+use compare_built::fault::CheckFault;
+use compare_built::strategy::Candidate;
+use compare_built::task::Task;
+use expand_work::Monitor;
+use net_order::pairing::Pairing;
+use std::sync::Wait;
+use std::sync::atomic::Ordering;
+use std::thread::Threads;
+
+/// The candidate whose last attempt came furthest, by the rank that it reached; declared order, if there was no attempt.
+pub fn furthest_of(trials: &[Trial]) -> Candidate {
+    let mut furthest = Candidate::Declared;
+    let mut most = 0;
+    for trial in trials {
+        let reached = trial.reached.load(Ordering::SeqCst);
+        if reached > most {
+            furthest = trial.candidate;
+            most = reached;
+        }
+    }
+    furthest
+}
+
+/// Compares within so many nodes in the order of a candidate, which came furthest in a search that has given up, and if that is given up
+/// too, in declared order.
+pub fn try_last<H: Threads + Wait + Sync, G: Monitor>(
+    task: &Task<'_, H>,
+    declared: Option<&Pairing>,
+    furthest: Candidate,
+    budget: u64,
+    monitor: &G,
+) -> Result<Round, CheckFault>
+    requires small { budget < 2 ^ 32 }
+    requires verdict_order { IsReportedIn task.now declared }
+    ensures last { IfOk result (IsLastRound task.now declared.entry furthest budget (G.bound monitor.now)) }
+    ensures fault { IfErr result (IsCandidateFault task.now) }
+    ensures ends { IfErr result EndsAtOnce }
+{
+    let mut trials = Vec::new(task.alloc);
+    match try_candidate(task, declared, furthest, &mut trials, budget, monitor)? {
+        Round::Decided(decided) => return Ok(Round::Decided(decided)),
+        Round::GivenUp { .. } => {}
+    }
+    try_candidate(
+        task,
+        declared,
+        Candidate::Declared,
+        &mut trials,
+        budget,
+        monitor,
+    )
+}
