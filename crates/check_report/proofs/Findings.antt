@@ -1,40 +1,37 @@
--- What a comparison finds by its settings, and the faults that it does not end with.
-use Rattle.std.proofs.Common.{◌≡◌, ◌≢◌, ◌∙◌, sym, subst, inl, inr, ℕ, ◌<◌, length, Option, None, Result, Ok, Err, IfErr}
-use Rattle.std.specs.Prelude.{IfOk}
-use Rattle.expand_work.specs.declared.fault.WaveFault.TheVariants.{Full, NoWorker, TooManyRequests}
-use Rattle.net_bench.specs.Circuit.{circuit}
-use Rattle.net_order.specs.declared.order.Order.{Order}
+-- What a comparison finds by its settings, and why it finds nothing.
+use Rattle.std.proofs.Common.{◌≡◌, ◌≢◌, ◌∙◌, sym, subst, refl, inl, inr, ℕ, ◌<◌, length, Option, None, Result, Ok, Err, IfErr}
+use Rattle.std.specs.Prelude.{option_map}
+use Rattle.net_bench.specs.Circuit.{Net, circuit}
 use Rattle.net_order.specs.declared.order.Order.TheVariants as orders
+use Rattle.net_order.specs.declared.order.OrderFault.{OrderFault}
 use Rattle.net_order.specs.declared.order.OrderFault.TheVariants.{TooManyInputs}
 use Rattle.net_order.specs.Order.{NamingModel, condition, max_variables}
 use Rattle.net_order.proofs.InputLevels.{names_count}
 use Rattle.report_text.specs.Lines.{Found}
-use Rattle.compare_built.specs.Details.{details_in}
 use Rattle.compare_built.specs.declared.strategy.Attempt.{Attempt}
+use Rattle.compare_built.specs.declared.strategy.Candidate.TheVariants.{Declared}
 use Rattle.compare_built.specs.declared.strategy.Strategy.{Strategy}
-use Rattle.compare_built.specs.declared.strategy.Strategy.TheVariants.{Auto}
+use Rattle.compare_built.specs.declared.strategy.Strategy.TheVariants.{One, Best, Auto, Cones}
 use Rattle.compare_built.specs.declared.fault.CheckFault.{CheckFault}
-use Rattle.compare_built.specs.declared.fault.CheckFault.TheVariants.{GivenUp, Only, Order as OrderRefused, Wave, Write}
+use Rattle.compare_built.specs.declared.fault.CheckFault.TheVariants.{Only, Order as OrderRefused, Write}
 use Rattle.compare_built.specs.declared.settings.Settings.{Settings}
 use Rattle.compare_built.specs.declared.task.Task.{Task}
-use Rattle.net_order.specs.declared.order.Match.{Match}
-use Rattle.compare_built.specs.Attempts.{IsAllowed, IsChosen, MayGoByCones, whole_limit}
-use Rattle.compare_built.specs.Check.{AreAccepted, AreGiven, IsCheckFault, IsJudged}
-use Rattle.cone_check.specs.ConeRounds.{EndsAuto, EndsCones, IsFoundByCones}
-use Rattle.explain_report.specs.Deciding.{MayTakeCones, IsFoundBy}
-use Rattle.explain_report.specs.Deciding.IsFoundBy.{by_cones, in_order}
+use Rattle.compare_built.specs.Attempts.{IsAllowed, MayGoByCones, whole_limit}
+use Rattle.compare_built.specs.Check.{AreAccepted, AreGiven, Gives, IsCheckFault, IsCondition}
 use Rattle.compare_built.specs.Devices.{DeviceTexts}
-use Rattle.order_search.specs.Trials.{AreAllGivenUp, EndsAtOnce, EndsSearch, IsGivingUp, IsNamingIn}
+use Rattle.cone_check.specs.ConeRounds.{EndsAuto, EndsCones, IsFoundByCones}
+use Rattle.explain_report.specs.Deciding.{IsFoundBy, IsUnknown, MayTakeCones}
+use Rattle.explain_report.specs.Deciding.IsFoundBy.{by_cones}
+use Rattle.explain_report.specs.Explaining.{reported_order}
+use Rattle.explain_report.proofs.Trying.{none_failed}
+use Rattle.order_search.specs.Trials.{AreAllGivenUp, IsNamingIn}
 use Rattle.order_search.proofs.Reporting.{any_for, late_fault, late_whole}
-use Rattle.order_search.proofs.Rounds.{accepted, given_up_in_input}
+use Rattle.order_search.proofs.Rounds.{accepted, given_up_in_input, order_ends}
+use Rattle.check_report.specs.Decisions.{IsNoDecision}
+use Rattle.check_report.specs.Netlists.{IsTaskOf}
+use Rattle.check_report.proofs.Refusing.{by_auto}
 
 -- ---- what is found
-
--- in an order
-pub found_in_order : {E : Type 0} (input : DeviceTexts) (s : Settings) (bound : Option ℕ) (choice : Strategy) → s.order ≡ choice → (r : Result (Found × Option Attempt) E) →
-    IfOk r (λ r. (o : Order) × IsJudged input s.matching o (details_in s) r.0 × IsChosen input s.matching choice s.limit r.1 o) → IfOk r (λ r. IsFoundBy input s bound r.0 r.1)
-found_in_order input s bound choice same (Ok (found, tried)) w = in_order w.0 w.1 (subst (λ c. IsChosen input s.matching c s.limit tried w.0) (sym same) w.2)
-found_in_order input s bound choice same (Err e) w = tt
 
 module _ {H : Type 0} (task : Task H) (input : DeviceTexts) (given : AreGiven input (circuit task.first.now) (circuit task.second.now) (condition task.given)) where
   -- by cones
@@ -72,6 +69,21 @@ module _ {H : Type 0} (task : Task H) (input : DeviceTexts) (given : AreGiven in
   cones_fault p fault is may (inl only) = subst (IsCheckFault input ⊥ ⊥ ⊥ task.settings.now.order task.settings.now.matching orders.Declared) (sym only) (of_cones p is may)
   cones_fault p fault is may (inr ends) = late_fault input ⊥ ⊥ ⊥ task.settings.now.order task.settings.now.matching orders.Declared fault (of_cones p is may) ends.0
 
+-- ---- declared order
+
+-- where pairs may be judged by their cones, declared order is allowed, and it is that of the report
+pub declared_allowed : (choice : Strategy) → MayGoByCones choice → IsAllowed choice orders.Declared
+declared_allowed (One o) may = absurd may
+declared_allowed Best may = absurd may
+declared_allowed Auto may = (Declared, refl)
+declared_allowed Cones may = refl
+
+pub declared_reported : (choice : Strategy) (tried : Option Attempt) → MayGoByCones choice → orders.Declared ≡ reported_order choice tried
+declared_reported (One o) tried may = absurd may
+declared_reported Best tried may = absurd may
+declared_reported Auto tried may = refl
+declared_reported Cones tried may = refl
+
 -- ---- faults
 
 pub cones_end : (fault : CheckFault) → EndsCones fault → EndsAuto fault
@@ -83,39 +95,40 @@ pub cones_whole : (fault : CheckFault) → EndsCones fault → fault ≢ OrderRe
 cones_whole fault (inl only) e = let never : Only ≡ OrderRefused TooManyInputs = sym only ∙ e in cc
 cones_whole fault (inr ends) e = late_whole fault ends.0 e
 
--- a comparison by cones does not end with what an attempt at once does not
-pub never : {A : Type 0} (X : CheckFault) → X ≢ Only → ((f : CheckFault) → EndsAtOnce f → f ≢ X) → (r : Result A CheckFault) → IfErr r EndsAuto → r ≢ Err X
-never X other ended (Ok v) ends e = cc
-never X other ended (Err f) (inl only) e = let same : f ≡ X = cc in other (sym same ∙ only)
-never X other ended (Err f) (inr ends) e = let same : f ≡ X = cc in ended f ends same
+pub auto_unwritten : (fault : CheckFault) → EndsAuto fault → fault ≢ Write
+auto_unwritten fault (inl only) e = let never : Only ≡ Write = sym only ∙ e in cc
+auto_unwritten fault (inr ends) e = ends.search.written e
 
-pub never_full : {A : Type 0} (r : Result A CheckFault) → IfErr r EndsAuto → r ≢ Err (Wave Full)
-never_full r ends = never (Wave Full) (λ e. cc) (λ f h. h.nodes) r ends
+-- what ends a comparison by cones, or what comes before it, decides nothing
+module _ (input : DeviceTexts) (s : Settings) (bound : Option ℕ) where
+  pub none_by_cones : (fault : CheckFault) → MayGoByCones s.order → IsCheckFault input ⊥ ⊥ ⊥ s.order s.matching orders.Declared fault → EndsAuto fault →
+      (fault ≡ Only → IsUnknown input s.picked) → fault ≢ OrderRefused TooManyInputs → IsNoDecision input ⊥ ⊥ ⊥ s bound fault
+  none_by_cones fault may cause ends unknown few = record {
+    cause = (orders.Declared, declared_allowed s.order may, cause);
+    answer = by_auto input s bound fault ends unknown few;
+    unwritten = auto_unwritten fault ends;
+  }
 
-pub never_given_up : {A : Type 0} (r : Result A CheckFault) → IfErr r EndsAuto → r ≢ Err GivenUp
-never_given_up r ends = never GivenUp (λ e. cc) (λ f h. h.given_up) r ends
+  -- and so does a naming that is refused
+  pub unnamed : (fault : CheckFault) (f : OrderFault) → fault ≡ OrderRefused f → MayGoByCones s.order → IsCheckFault input ⊥ ⊥ ⊥ s.order s.matching orders.Declared fault →
+      fault ≢ OrderRefused TooManyInputs → IsNoDecision input ⊥ ⊥ ⊥ s bound fault
+  unnamed fault f is may cause few = none_by_cones fault may cause (inr (order_ends fault f is)) (λ e. let never : OrderRefused f ≡ Only = sym is ∙ e in cc) few
 
-pub never_written : {A : Type 0} (r : Result A CheckFault) → IfErr r EndsAuto → r ≢ Err Write
-never_written r ends = never Write (λ e. cc) (λ f h. h.search.written) r ends
+  -- what no device had to fail for
+  pub none_failed_decision : {T : Type 0} (first second third : Type 0) (r : Result T CheckFault) → IfErr r (IsNoDecision input ⊥ ⊥ ⊥ s bound) → IfErr r (IsNoDecision input first second third s bound)
+  none_failed_decision first second third (Ok v) h = tt
+  none_failed_decision first second third (Err fault) h = record {
+    cause = (h.cause.0, h.cause.1, none_failed input first second third s.order s.matching h.cause.0 fault h.cause.2);
+    answer = h.answer;
+    unwritten = h.unwritten;
+  }
 
-pub never_past : {A : Type 0} (r : Result A CheckFault) → IfErr r EndsAuto → r ≢ Err (Wave TooManyRequests)
-never_past r ends = never (Wave TooManyRequests) (λ e. cc) (λ f h. h.search.requests) r ends
+-- ---- the texts of a task
 
-pub never_served : {A : Type 0} (r : Result A CheckFault) → IfErr r EndsAuto → r ≢ Err (Wave NoWorker)
-never_served r ends = never (Wave NoWorker) (λ e. cc) (λ f h. h.search.needs_no_thread) r ends
-
--- the end of a search that was not given up
-pub not_giving_up : (fault : CheckFault) → EndsSearch fault → (IsGivingUp fault → ⊥) → EndsAuto fault
-not_giving_up fault ends apart = inr (record { search = ends; nodes = λ e. apart (inl e); given_up = λ e. apart (inr e) })
-
--- a fault in an order that is allowed
-pub allowed_fault : {A : Type 0} (input : DeviceTexts) (how : Match) (own choice : Strategy) (order : Order) → IsAllowed choice order → (r : Result A CheckFault) → IfErr r (IsCheckFault input ⊥ ⊥ ⊥ own how order) →
-    IfErr r (λ fault. (o : Order) × IsAllowed choice o × IsCheckFault input ⊥ ⊥ ⊥ own how o fault)
-allowed_fault input how own choice order allowed (Ok v) h = tt
-allowed_fault input how own choice order allowed (Err fault) h = (order, allowed, h)
-
--- what a choice allows is allowed by the choice that it is
-pub same_allowed : {A : Type 0} (input : DeviceTexts) (how : Match) (own choice : Strategy) → own ≡ choice → (r : Result A CheckFault) → IfErr r (λ fault. (o : Order) × IsAllowed choice o × IsCheckFault input ⊥ ⊥ ⊥ own how o fault) →
-    IfErr r (λ fault. (o : Order) × IsAllowed own o × IsCheckFault input ⊥ ⊥ ⊥ own how o fault)
-same_allowed input how own choice same (Ok v) h = tt
-same_allowed input how own choice same (Err fault) h = (h.0, subst (λ c. IsAllowed c h.0) (sym same) h.1, h.2)
+pub given_of : {H : Type 0} (input : DeviceTexts) (first second : Net) (given : Option Net) (s : Settings) (task : Task H) → IsTaskOf first second given s task →
+    AreGiven input (circuit first) (circuit second) (option_map circuit given) → AreGiven input (circuit task.first.now) (circuit task.second.now) (condition task.given)
+given_of input first second given s task is read = record {
+  first = subst (λ (n : Net). Gives input.first (circuit n)) (sym is.first_net) read.first;
+  second = subst (λ (n : Net). Gives input.second (circuit n)) (sym is.second_net) read.second;
+  condition = subst (IsCondition input.given) (sym is.given_net) read.condition;
+}

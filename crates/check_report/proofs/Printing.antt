@@ -1,5 +1,5 @@
 -- An order that is printed, from a comparison that was made in it.
-use Rattle.std.proofs.Common.{◌≡◌, ◌∙◌, ap, sym, subst, ℕ, Bool, List, Option, Some, None, Result, Ok, Err, IfOk, IfSome}
+use Rattle.std.proofs.Common.{◌≡◌, ◌≢◌, ◌∙◌, ap, sym, subst, ℕ, List, Option, Some, None, Result, Ok, Err, IfOk, IfErr, IfSome}
 use Rattle.net_order.specs.declared.order.Match.{Match}
 use Rattle.net_order.specs.declared.order.Order.{Order}
 use Rattle.net_order.specs.OrderText.{order_text}
@@ -9,10 +9,19 @@ use Rattle.compare_built.specs.declared.strategy.Strategy.{Strategy}
 use Rattle.compare_built.specs.declared.strategy.Strategy.TheVariants.{One, Best, Auto, Cones}
 use Rattle.compare_built.specs.declared.strategy.Attempt.{Attempt}
 use Rattle.compare_built.specs.declared.strategy.Candidate.TheVariants.{Declared}
-use Rattle.compare_built.specs.Attempts.{IsAllowed, IsFound}
+use Rattle.compare_built.specs.declared.fault.CheckFault.{CheckFault}
+use Rattle.compare_built.specs.declared.fault.CheckFault.TheVariants.{Write}
+use Rattle.compare_built.specs.declared.settings.Settings.{Settings}
+use Rattle.compare_built.specs.Attempts.{IsAllowed, IsChosen, IsFound}
 use Rattle.compare_built.specs.Check.{IsJudged}
+use Rattle.compare_built.specs.Details.{details_in}
 use Rattle.report_text.specs.Lines.{Found}
+use Rattle.explain_report.specs.Deciding.{IsFoundBy, MayTakeCones}
+use Rattle.explain_report.specs.Deciding.IsFoundBy.{by_cones, in_order}
+use Rattle.order_search.specs.Trials.{EndsAtOnce}
 use Rattle.check_report.specs.Listing.{IsOrderPrinted}
+use Rattle.check_report.specs.Refusals.{MayList}
+use Rattle.check_report.proofs.Refusing.{list_at_once}
 
 pub printed : (input : DeviceTexts) (how : Match) (order : Order) (asked : Details) (found : Found) (bytes : List ℕ) → IsJudged input how order asked found → bytes ≡ order_text found.variables → IsOrderPrinted input how order bytes
 printed input how order asked found bytes j e = record { a = j.a; b = j.b; c = j.c; p = j.p; paired = j.paired; text = e ∙ ap order_text j.verdicts.variables }
@@ -29,3 +38,23 @@ found_allowed input how Cones limit tried order f = f.1
 pub never_tried : {A B E : Type 0} (P : B → Type 0) (r : Result (A × Option B) E) → IfOk r (λ r. r.1 ≡ None) → IfOk r (λ r. IfSome r.1 P)
 never_tried P (Ok (a, tried)) e = subst (λ t. IfSome t P) (sym e) tt
 never_tried P (Err fault) e = tt
+
+-- what was found in the best order is the order of its attempt
+pub best_printed : (input : DeviceTexts) (s : Settings) (bound : Option ℕ) (found : Found) (tried : Option Attempt) (bytes : List ℕ) → s.order ≡ Best → IsFoundBy input s bound found tried → bytes ≡ order_text found.variables →
+    (order : Order) × IsOrderPrinted input s.matching order bytes × IsFound input s.matching s.order s.limit tried order
+best_printed input s bound found tried bytes best (in_order order judged chosen) text = (
+  order,
+  printed input s.matching order (details_in s) found bytes judged text,
+  subst (λ choice. IsFound input s.matching choice s.limit tried order) (sym best) (subst (λ choice. IsChosen input s.matching choice s.limit tried order) best chosen),
+)
+best_printed input s bound found None bytes best (by_cones cause judged) text = absurd (subst (MayTakeCones input s bound) best cause)
+
+-- ---- faults of a text that was made, or was not
+
+pub list_of : {T : Type 0} (input : DeviceTexts) (s : Settings) (bound : Option ℕ) (r : Result T CheckFault) → IfErr r EndsAtOnce → IfErr r (MayList input s bound)
+list_of input s bound (Ok v) ends = tt
+list_of input s bound (Err fault) ends = list_at_once input s bound fault ends
+
+pub nothing_to_write : {T : Type 0} (r : Result T CheckFault) → IfErr r EndsAtOnce → r ≢ Err Write
+nothing_to_write (Ok v) ends e = cc
+nothing_to_write (Err fault) ends e = let same : fault ≡ Write = cc in ends.search.written same

@@ -1,1 +1,4 @@
 pub mod Listing
+pub mod Refusals
+pub mod Decisions
+pub mod Netlists

@@ -1,30 +1,25 @@
 //! From readers to a report.
-ghost use Rattle.std.specs.Prelude.{None, ◌≡◌, ◌≢◌, ◌<◌, ◌-◌, ◌^◌, ℕ, List, Option, IfOk, IfErr, IfSome, IsSomeAnd, OnOk, OnErr, IsTrue};
-ghost use Rattle.std.specs.Prelude.{Err};
+ghost use Rattle.std.specs.Prelude.{◌≡◌, ◌≢◌, ℕ, List, Option, IfOk, IfErr, IfSome, OnOk, OnErr, IsTrue, Err};
 ghost use Rattle.std.specs.Io.KnownBytes.{Appends};
-ghost use Rattle.expand_work.specs.Bounds.{most_of};
-ghost use Rattle.net_order.specs.declared.order.Order.{Order as OrderValue};
 ghost use Rattle.report_text.specs.declared.outcome.Outcome.{Outcome};
 ghost use Rattle.report_text.specs.Writing.{AppendsFront};
 ghost use Rattle.compare_built.specs.declared.strategy.Attempt.{Attempt as AttemptValue};
-ghost use Rattle.compare_built.specs.Attempts.{AreGivenUp, AreTried, IsAllowed, IsGivenUpWithin, MayGoByCones, NamesOrder, last_budget};
-ghost use Rattle.compare_built.specs.Check.{IsCheckFault};
-ghost use Rattle.explain_report.specs.Deciding.{IsFoundBy, IsReportBy, IsUnknown};
+ghost use Rattle.compare_built.specs.Attempts.{AreGivenUp, last_budget};
 ghost use Rattle.compare_built.specs.Devices.{HasFailedIn, device_text, device_texts};
+ghost use Rattle.explain_report.specs.Deciding.{IsReportBy};
 ghost use Rattle.explain_report.specs.Dumping.{Bytes, IsReportWithVcd, bytes_in};
 ghost use Rattle.explain_report.specs.Explaining.{IsReportFault};
-ghost use Rattle.compare_built.specs.Limits.{AreBeyond};
-ghost use Rattle.compare_built.specs.Widths.{AreTooWide};
+ghost use Rattle.check_report.specs.Decisions.{IsDecision, IsNoDecision};
+ghost use Rattle.check_report.specs.Refusals.{MayAnswer};
 
 use crate::decision::decide;
 use crate::full_report::{ReportTexts, task_report};
-use crate::reading::{Netlists, read_netlists};
+use crate::reading::read_netlists;
 use compare_built::fault::CheckFault;
 use compare_built::strategy::Attempt;
-use compare_built::task::{Context, Task};
-use expand_work::{Monitor, WaveFault};
+use compare_built::task::Context;
+use expand_work::Monitor;
 use net_bench::device::{Sink, Source};
-use net_order::order::OrderFault;
 use report_text::{Outcome, Verdicts, write_whole};
 use std::sync::Wait;
 use std::thread::Threads;
@@ -41,66 +36,21 @@ pub fn judge<H: Threads + Wait + Sync, R1: Source, R2: Source, R3: Source, G: Mo
     // The verdicts are those of what was read, in an order that the settings allow, or of each pair by its cones. In them two outputs, or
     // the next states of two registers, are called equal exactly where their functions agree wherever the condition holds. The nodes that
     // are needed in this order are within the limit, and within the budget of the attempt. A pair is undecided only where its
-    // cones have more variables than a pairing has, or each attempt of them was given up.
-    ensures verdicts { let input = device_texts (R1.remaining first.old) (R2.remaining second.old) (device_text R3.remaining given.old) in
+    // cones have more variables than a pairing has, or each attempt of them was given up. Each attempt within a smaller budget than that of
+    // the one that is reported was given up, and within the first budget each before it.
+    ensures decision { let input = device_texts (R1.remaining first.old) (R2.remaining second.old) (device_text R3.remaining given.old) in
         let s = context.now.settings.now in
-        IfOk result (λ r. IsFoundBy input s (G.bound context.now.monitor.now) r.0 r.1) }
-    // Each attempt within a smaller budget than that of the one that is told was given up, and within the first budget each before it.
-    ensures earlier_given_up { let input = device_texts (R1.remaining first.old) (R2.remaining second.old) (device_text R3.remaining given.old) in
+        IfOk result (λ r. IsDecision input s (G.bound context.now.monitor.now) r.0 r.1) }
+    // A fault has its cause, what comes before it was accepted, and it comes only if it may.
+    ensures no_decision { let input = device_texts (R1.remaining first.old) (R2.remaining second.old) (device_text R3.remaining given.old) in
         let s = context.now.settings.now in
-        IfOk result (λ r. IfSome r.1 (AreGivenUp input s.matching (last_budget s.order s.limit) (G.bound context.now.monitor.now))) }
-    // Full comes only where they are not within the limit, in each order that the settings allow.
-    ensures full { let input = device_texts (R1.remaining first.old) (R2.remaining second.old) (device_text R3.remaining given.old) in
-        let s = context.now.settings.now in
-        result ≡ Err (CheckFault.Wave WaveFault.Full) → (order : OrderValue) → IsAllowed s.order order
-        → AreBeyond input s.matching order s.limit }
-    // GivenUp comes only where orders are tried, and no cones, and each attempt within the limit was given up.
-    ensures given_up { let input = device_texts (R1.remaining first.old) (R2.remaining second.old) (device_text R3.remaining given.old) in
-        let s = context.now.settings.now in
-        result ≡ Err CheckFault.GivenUp → AreTried s.order × ((order : OrderValue) → IsAllowed s.order order
-        → IsGivenUpWithin input s.matching s.limit (G.bound context.now.monitor.now) order) }
-    // Where pairs may be judged by their cones, no nodes and no requests are wanted.
-    ensures by_cones { MayGoByCones context.now.settings.now.order
-        → (result ≢ Err (CheckFault.Wave WaveFault.Full)) × (result ≢ Err CheckFault.GivenUp) }
-    // There the whole may have any number of variables.
-    ensures any_number_of_inputs { MayGoByCones context.now.settings.now.order → result ≢ Err (CheckFault.Order OrderFault.TooManyInputs) }
-    // A name that is picked is refused only where the first netlist has no such output or register.
-    ensures only { result ≡ Err CheckFault.Only → IsUnknown
-        (device_texts (R1.remaining first.old) (R2.remaining second.old) (device_text R3.remaining given.old)) context.now.settings.now.picked }
-    // TooManyRequests comes only where one wave reaches more than the monitor allows, in an order that the settings allow.
-    ensures past { let input = device_texts (R1.remaining first.old) (R2.remaining second.old) (device_text R3.remaining given.old) in
-        let s = context.now.settings.now in
-        result ≡ Err (CheckFault.Wave WaveFault.TooManyRequests)
-        → (order : OrderValue) × IsAllowed s.order order × IsSomeAnd (G.bound context.now.monitor.now) (AreTooWide input s.matching order) }
-    // A thread that cannot be started refuses nothing if the monitor sets a bound, nor if an order is sought or cones may be taken, whatever
-    // the monitor.
-    ensures needs_no_thread { most_of (G.bound context.now.monitor.now) < 2 ^ 64 - 1 → result ≢ Err (CheckFault.Wave WaveFault.NoWorker) }
-    ensures thread_for_named_order { result ≡ Err (CheckFault.Wave WaveFault.NoWorker) → NamesOrder context.now.settings.now.order }
-    // A fault has its cause, and what comes before it was accepted.
-    ensures fault { let input = device_texts (R1.remaining first.old) (R2.remaining second.old) (device_text R3.remaining given.old) in
-        let s = context.now.settings.now in
-        IfErr result (λ fault. (order : OrderValue) × IsAllowed s.order order
-        × IsCheckFault input (IsTrue (R1.has_failed first.new)) (IsTrue (R2.has_failed second.new))
-        (HasFailedIn R3.has_failed given.new) s.order s.matching order fault) }
-    ensures unwritten { result ≢ Err CheckFault.Write }
+        IfErr result (IsNoDecision input (IsTrue (R1.has_failed first.new)) (IsTrue (R2.has_failed second.new))
+        (HasFailedIn R3.has_failed given.new) s (G.bound context.now.monitor.now)) }
     ensures origins { (R1.origin first.new ≡ R1.origin first.old) × (R2.origin second.new ≡ R2.origin second.old)
         × (device_text R3.origin given.new ≡ device_text R3.origin given.old) }
 {
-    let nets = read_netlists(context.alloc, first, second, given)?;
-    let Netlists {
-        first: one,
-        second: two,
-        given: three,
-    } = nets;
-    let condition = three.as_ref();
-    let task = Task {
-        rt: context.rt,
-        alloc: context.alloc,
-        first: &one,
-        second: &two,
-        given: condition,
-        settings: context.settings,
-    };
+    let netlists = read_netlists(context.alloc, first, second, given)?;
+    let task = netlists.task(context.rt, context.alloc, context.settings);
     decide(&task, context.monitor)
 }
 
@@ -117,28 +67,9 @@ fn reported<H: Threads + Wait + Sync, R1: Source, R2: Source, R3: Source, G: Mon
     ensures earlier_given_up { let input = device_texts (R1.remaining first.old) (R2.remaining second.old) (device_text R3.remaining given.old) in
         let s = context.now.settings.now in
         IfOk result (λ r. IfSome r.2 (AreGivenUp input s.matching (last_budget s.order s.limit) (G.bound context.now.monitor.now))) }
-    ensures full { let input = device_texts (R1.remaining first.old) (R2.remaining second.old) (device_text R3.remaining given.old) in
+    ensures answer { let input = device_texts (R1.remaining first.old) (R2.remaining second.old) (device_text R3.remaining given.old) in
         let s = context.now.settings.now in
-        result ≡ Err (CheckFault.Wave WaveFault.Full) → (order : OrderValue) → IsAllowed s.order order
-        → AreBeyond input s.matching order s.limit }
-    ensures given_up { let input = device_texts (R1.remaining first.old) (R2.remaining second.old) (device_text R3.remaining given.old) in
-        let s = context.now.settings.now in
-        result ≡ Err CheckFault.GivenUp → AreTried s.order × ((order : OrderValue) → IsAllowed s.order order
-        → IsGivenUpWithin input s.matching s.limit (G.bound context.now.monitor.now) order) }
-    // Where pairs may be judged by their cones, no nodes and no requests are wanted.
-    ensures by_cones { MayGoByCones context.now.settings.now.order
-        → (result ≢ Err (CheckFault.Wave WaveFault.Full)) × (result ≢ Err CheckFault.GivenUp) }
-    // There the whole may have any number of variables.
-    ensures any_number_of_inputs { MayGoByCones context.now.settings.now.order → result ≢ Err (CheckFault.Order OrderFault.TooManyInputs) }
-    // A name that is picked is refused only where the first netlist has no such output or register.
-    ensures only { result ≡ Err CheckFault.Only → IsUnknown
-        (device_texts (R1.remaining first.old) (R2.remaining second.old) (device_text R3.remaining given.old)) context.now.settings.now.picked }
-    ensures past { let input = device_texts (R1.remaining first.old) (R2.remaining second.old) (device_text R3.remaining given.old) in
-        let s = context.now.settings.now in
-        result ≡ Err (CheckFault.Wave WaveFault.TooManyRequests)
-        → (order : OrderValue) × IsAllowed s.order order × IsSomeAnd (G.bound context.now.monitor.now) (AreTooWide input s.matching order) }
-    ensures needs_no_thread { most_of (G.bound context.now.monitor.now) < 2 ^ 64 - 1 → result ≢ Err (CheckFault.Wave WaveFault.NoWorker) }
-    ensures thread_for_named_order { result ≡ Err (CheckFault.Wave WaveFault.NoWorker) → NamesOrder context.now.settings.now.order }
+        IfErr result (MayAnswer input s (G.bound context.now.monitor.now)) }
     ensures fault { let input = device_texts (R1.remaining first.old) (R2.remaining second.old) (device_text R3.remaining given.old) in
         let s = context.now.settings.now in
         IfErr result (IsReportFault input (IsTrue (R1.has_failed first.new)) (IsTrue (R2.has_failed second.new))
@@ -147,21 +78,8 @@ fn reported<H: Threads + Wait + Sync, R1: Source, R2: Source, R3: Source, G: Mon
     ensures origins { (R1.origin first.new ≡ R1.origin first.old) × (R2.origin second.new ≡ R2.origin second.old)
         × (device_text R3.origin given.new ≡ device_text R3.origin given.old) }
 {
-    let nets = read_netlists(context.alloc, first, second, given)?;
-    let Netlists {
-        first: one,
-        second: two,
-        given: three,
-    } = nets;
-    let conditional = three.as_ref();
-    let task = Task {
-        rt: context.rt,
-        alloc: context.alloc,
-        first: &one,
-        second: &two,
-        given: conditional,
-        settings: context.settings,
-    };
+    let netlists = read_netlists(context.alloc, first, second, given)?;
+    let task = netlists.task(context.rt, context.alloc, context.settings);
     task_report(&task, context.monitor)
 }
 
@@ -189,37 +107,14 @@ pub fn check<H: Threads + Wait + Sync, R1: Source, R2: Source, R3: Source, G: Mo
         let s = context.now.settings.now in
         IfOk result (λ r. (bytes : List ℕ) × IsReportWithVcd input s (G.bound context.now.monitor.now) r.1 r.0 bytes (bytes_in r.2)
         × Appends (W.contents out.old) (W.contents out.new) bytes) }
-    // Each attempt within a smaller budget than that of the one that is told was given up, and within the first budget each before it.
+    // Each attempt within a smaller budget than that of the one that is reported was given up, and within the first budget each before it.
     ensures earlier_given_up { let input = device_texts (R1.remaining first.old) (R2.remaining second.old) (device_text R3.remaining given.old) in
         let s = context.now.settings.now in
         IfOk result (λ r. IfSome r.1 (AreGivenUp input s.matching (last_budget s.order s.limit) (G.bound context.now.monitor.now))) }
-    // Full comes only where they are not within the limit, in each order that the settings allow.
-    ensures full { let input = device_texts (R1.remaining first.old) (R2.remaining second.old) (device_text R3.remaining given.old) in
+    // A fault comes only if it may: the limit is refused only if it is too low in each order, a name only if it is unknown, and so on.
+    ensures answer { let input = device_texts (R1.remaining first.old) (R2.remaining second.old) (device_text R3.remaining given.old) in
         let s = context.now.settings.now in
-        result ≡ Err (CheckFault.Wave WaveFault.Full) → (order : OrderValue) → IsAllowed s.order order
-        → AreBeyond input s.matching order s.limit }
-    // GivenUp comes only where orders are tried, and no cones, and each attempt within the limit was given up.
-    ensures given_up { let input = device_texts (R1.remaining first.old) (R2.remaining second.old) (device_text R3.remaining given.old) in
-        let s = context.now.settings.now in
-        result ≡ Err CheckFault.GivenUp → AreTried s.order × ((order : OrderValue) → IsAllowed s.order order
-        → IsGivenUpWithin input s.matching s.limit (G.bound context.now.monitor.now) order) }
-    // Where pairs may be judged by their cones, no nodes and no requests are wanted.
-    ensures by_cones { MayGoByCones context.now.settings.now.order
-        → (result ≢ Err (CheckFault.Wave WaveFault.Full)) × (result ≢ Err CheckFault.GivenUp) }
-    // There the whole may have any number of variables.
-    ensures any_number_of_inputs { MayGoByCones context.now.settings.now.order → result ≢ Err (CheckFault.Order OrderFault.TooManyInputs) }
-    // A name that is picked is refused only where the first netlist has no such output or register.
-    ensures only { result ≡ Err CheckFault.Only → IsUnknown
-        (device_texts (R1.remaining first.old) (R2.remaining second.old) (device_text R3.remaining given.old)) context.now.settings.now.picked }
-    // TooManyRequests comes only where one wave reaches more than the monitor allows, in an order that the settings allow.
-    ensures past { let input = device_texts (R1.remaining first.old) (R2.remaining second.old) (device_text R3.remaining given.old) in
-        let s = context.now.settings.now in
-        result ≡ Err (CheckFault.Wave WaveFault.TooManyRequests)
-        → (order : OrderValue) × IsAllowed s.order order × IsSomeAnd (G.bound context.now.monitor.now) (AreTooWide input s.matching order) }
-    // A thread that cannot be started refuses nothing if the monitor sets a bound, nor if an order is sought or cones may be taken, whatever
-    // the monitor.
-    ensures needs_no_thread { most_of (G.bound context.now.monitor.now) < 2 ^ 64 - 1 → result ≢ Err (CheckFault.Wave WaveFault.NoWorker) }
-    ensures thread_for_named_order { result ≡ Err (CheckFault.Wave WaveFault.NoWorker) → NamesOrder context.now.settings.now.order }
+        IfErr result (MayAnswer input s (G.bound context.now.monitor.now)) }
     // A fault has its cause, and what comes before it was accepted. What is to be explained is refused only where the first netlist has no
     // such output or register.
     ensures fault { let input = device_texts (R1.remaining first.old) (R2.remaining second.old) (device_text R3.remaining given.old) in

@@ -1,28 +1,25 @@
 //! The report of two netlists that were read, with what explains pairs behind it, and the VCD of the first pair that differs.
-ghost use Rattle.std.specs.Prelude.{◌≡◌, ◌≢◌, ◌++◌, ◌<◌, ◌-◌, ◌^◌, ℕ, List, Option, IfOk, IfErr, IfSome, IsSomeAnd, Err, is_some};
-ghost use Rattle.expand_work.specs.Bounds.{most_of};
+ghost use Rattle.std.specs.Prelude.{◌≡◌, ◌≢◌, ◌++◌, ℕ, List, Option, IfOk, IfErr, IfSome, Err, is_some};
 ghost use Rattle.net_bench.specs.Circuit.{circuit};
 ghost use Rattle.net_order.specs.declared.order.Order.{Order as OrderValue};
-ghost use Rattle.compare_built.specs.Attempts.{AreGivenUp, AreTried, IsAllowed, IsGivenUpWithin, MayGoByCones, NamesOrder, last_budget};
-ghost use Rattle.compare_built.specs.Attempts.{reported_kind};
-ghost use Rattle.explain_report.specs.Causing.{AreCauses};
-ghost use Rattle.compare_built.specs.Check.{AreAccepted, IsCheckFault};
-ghost use Rattle.explain_report.specs.Deciding.{IsUnknown};
-ghost use Rattle.explain_report.specs.Dumping.{IsReportWithVcd, bytes_in};
-ghost use Rattle.explain_report.specs.Explaining.{AreTargetsIn, IsAppended, IsReportFault, reported_order};
-ghost use Rattle.compare_built.specs.Limits.{AreBeyond};
+ghost use Rattle.report_text.specs.Causes.{Caused};
+ghost use Rattle.report_text.specs.Json.{form_text};
+ghost use Rattle.compare_built.specs.Attempts.{AreGivenUp, IsAllowed, MayGoByCones, last_budget, reported_kind};
+ghost use Rattle.compare_built.specs.Check.{AreAccepted};
 ghost use Rattle.compare_built.specs.PairSelection.{share_of};
 ghost use Rattle.order_search.specs.Tasks.{OfTask};
 ghost use Rattle.order_search.specs.Trials.{EndsAtOnce, ordered_names};
-ghost use Rattle.compare_built.specs.Widths.{AreTooWide};
-ghost use Rattle.report_text.specs.Causes.{Caused};
-ghost use Rattle.report_text.specs.Json.{form_text};
+ghost use Rattle.explain_report.specs.Causing.{AreCauses};
+ghost use Rattle.explain_report.specs.Dumping.{IsReportWithVcd, bytes_in};
+ghost use Rattle.explain_report.specs.Explaining.{AreTargetsIn, IsAppended, IsReportFault, reported_order};
+ghost use Rattle.check_report.specs.Decisions.{HasCause};
+ghost use Rattle.check_report.specs.Refusals.{MayAnswer};
 
 use crate::decision::decide;
 use compare_built::fault::CheckFault;
 use compare_built::strategy::Attempt;
 use compare_built::task::Task;
-use expand_work::{Monitor, WaveFault};
+use expand_work::Monitor;
 use explain_report::causes::{causes, listed};
 use explain_report::explanations::{explanations_after, has_pairs};
 use explain_report::report::form_text;
@@ -55,28 +52,17 @@ fn full_text<H>(
         × (explanations : List ℕ) × IsAppended s.explain.items input s tried verdicts.now explanations
         × (text.items ≡ form_text s.json s.assignment s.matching (reported_kind s.order tried) (is_some input.given)
         (share_of s.picked) causes verdicts.now ++ explanations))) }
-    ensures fault { OfTask task.now (λ input s. IfErr result (λ fault. (order : OrderValue) × IsAllowed s.order order
-        × IsCheckFault input ⊥ ⊥ ⊥ s.order s.matching order fault)) }
+    ensures fault { OfTask task.now (λ input s. IfErr result (HasCause input ⊥ ⊥ ⊥ s)) }
     ensures ends { IfErr result EndsAtOnce }
     ensures any_number_of_inputs { MayGoByCones task.now.settings.now.order → result ≢ Err (CheckFault.Order OrderFault.TooManyInputs) }
 {
     let given = task.given.is_some();
-    let causes = match causes(task, tried, verdicts) {
-        Ok(causes) => causes,
-        Err(fault) => return Err(fault),
-    };
+    let causes = causes(task, tried, verdicts)?;
     let list = listed(&causes);
-    let Ok(mut text) = form_text(task.alloc, task.settings, tried, given, list, verdicts) else {
-        return Err(CheckFault::OutOfMemory);
-    };
-    let explanations = match explanations_after(task, tried, verdicts) {
-        Ok(explanations) => explanations,
-        Err(fault) => return Err(fault),
-    };
-    match text.extend_from_slice(explanations.as_slice()) {
-        Ok(()) => Ok(text),
-        Err(_) => Err(CheckFault::OutOfMemory),
-    }
+    let mut text = form_text(task.alloc, task.settings, tried, given, list, verdicts)?;
+    let explanations = explanations_after(task, tried, verdicts)?;
+    text.extend_from_slice(explanations.as_slice())?;
+    Ok(text)
 }
 
 /// The report of a task with its VCD and its counts, and the attempt that it comes from. What is to be explained is looked for before
@@ -87,39 +73,17 @@ pub(crate) fn task_report<H: Threads + Wait + Sync, G: Monitor>(
 ) -> Result<(ReportTexts, Outcome, Option<Attempt>), CheckFault>
     ensures report { OfTask task.now (λ input s. IfOk result
         (λ r. IsReportWithVcd input s (G.bound monitor.now) r.2 r.1 r.0.report.items (bytes_in r.0.vcd))) }
-    ensures full { OfTask task.now (λ input s.
-        result ≡ Err (CheckFault.Wave WaveFault.Full) → (order : OrderValue) → IsAllowed s.order order
-        → AreBeyond input s.matching order s.limit) }
-    ensures given_up { OfTask task.now (λ input s.
-        result ≡ Err CheckFault.GivenUp → AreTried s.order × ((order : OrderValue) → IsAllowed s.order order
-        → IsGivenUpWithin input s.matching s.limit (G.bound monitor.now) order)) }
-    ensures by_cones { MayGoByCones task.now.settings.now.order
-        → (result ≢ Err (CheckFault.Wave WaveFault.Full)) × (result ≢ Err CheckFault.GivenUp) }
-    ensures any_number_of_inputs { MayGoByCones task.now.settings.now.order → result ≢ Err (CheckFault.Order OrderFault.TooManyInputs) }
-    ensures only { OfTask task.now (λ input s. result ≡ Err CheckFault.Only → IsUnknown input s.picked) }
-    ensures fault { OfTask task.now (λ input s. IfErr result (IsReportFault input ⊥ ⊥ ⊥ s)) }
-    ensures unwritten { result ≢ Err CheckFault.Write }
-    ensures past { OfTask task.now (λ input s.
-        result ≡ Err (CheckFault.Wave WaveFault.TooManyRequests)
-        → (o : OrderValue) × IsAllowed s.order o × IsSomeAnd (G.bound monitor.now) (AreTooWide input s.matching o)) }
     ensures earlier_given_up { OfTask task.now (λ input s.
         IfOk result (λ r. IfSome r.2 (AreGivenUp input s.matching (last_budget s.order s.limit) (G.bound monitor.now)))) }
-    ensures needs_no_thread { most_of (G.bound monitor.now) < 2 ^ 64 - 1 → result ≢ Err (CheckFault.Wave WaveFault.NoWorker) }
-    ensures thread_for_named_order { result ≡ Err (CheckFault.Wave WaveFault.NoWorker) → NamesOrder task.now.settings.now.order }
+    ensures answer { OfTask task.now (λ input s. IfErr result (MayAnswer input s (G.bound monitor.now))) }
+    ensures fault { OfTask task.now (λ input s. IfErr result (IsReportFault input ⊥ ⊥ ⊥ s)) }
+    ensures unwritten { OfTask task.now (λ input s. result ≢ Err CheckFault.Write) }
 {
     if !has_pairs(task.first, task.settings.explain.as_slice()) {
         return Err(CheckFault::Explain);
     }
-    let (verdicts, tried) = match decide(task, monitor) {
-        Ok((verdicts, tried)) => (verdicts, tried),
-        Err(fault) => return Err(fault),
-    };
-    let report = match full_text(task, tried, &verdicts) {
-        Ok(report) => report,
-        Err(fault) => return Err(fault),
-    };
-    match dump(task, tried, &verdicts) {
-        Ok(vcd) => Ok((ReportTexts { report, vcd }, verdicts.outcome(), tried)),
-        Err(fault) => Err(fault),
-    }
+    let (verdicts, tried) = decide(task, monitor)?;
+    let report = full_text(task, tried, &verdicts)?;
+    let vcd = dump(task, tried, &verdicts)?;
+    Ok((ReportTexts { report, vcd }, verdicts.outcome(), tried))
 }

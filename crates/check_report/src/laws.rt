@@ -11,6 +11,10 @@ ghost use Rattle.compare_built.specs.Conditions.{HasOneOutput, HoldsWhere, restr
 ghost use Rattle.compare_built.specs.declared.subject.Subject.{Subject};
 ghost use Rattle.compare_built.specs.PairSelection.{AreShares};
 ghost use Rattle.compare_built.specs.Limits.{FitsWithin, Exceeds};
+ghost use Rattle.compare_built.specs.Devices.{DeviceTexts};
+ghost use Rattle.compare_built.specs.declared.fault.CheckFault.{CheckFault};
+ghost use Rattle.compare_built.specs.declared.settings.Settings.{Settings};
+ghost use Rattle.check_report.specs.Refusals.{ListSaysOfEach, MayAnswer, MayList, SaysOfEach};
 ghost use Rattle.report_text.specs.Lines.{Found};
 ghost use Rattle.compare_built.specs.Report.{IsReport};
 
@@ -56,4 +60,12 @@ pub fn shares()
         → (length shares ≡ length pairs) × All (λ k. (1 ≤ k) × (k ≤ n)) shares }
     ensures same { (a b : Circuit) (pairs : List Subject) (n : ℕ) (shares others : List ℕ) → AreShares a b pairs n shares
         → AreShares a b pairs n others → shares ≡ others }
+{}
+
+/// A table of faults says of each fault what one statement for each of them says.
+pub fn refusals()
+    ensures comparison { (input : DeviceTexts) (s : Settings) (bound : Option ℕ) (fault : CheckFault)
+        → MayAnswer input s bound fault ↔ SaysOfEach input s bound fault }
+    ensures listing { (input : DeviceTexts) (s : Settings) (bound : Option ℕ) (fault : CheckFault)
+        → MayList input s bound fault ↔ ListSaysOfEach input s bound fault }
 {}

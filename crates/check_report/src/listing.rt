@@ -1,21 +1,19 @@
 //! From two readers to the order of their variables.
 ghost use Rattle.std.specs.Prelude.{◌≡◌, ◌≢◌, ℕ, List, Option, IfOk, IfErr, IfSome, OnOk, OnErr, IsTrue, Err};
 ghost use Rattle.std.specs.Io.KnownBytes.{Appends};
-ghost use Rattle.expand_work.specs.declared.fault.WaveFault.TheVariants.{Full, NoWorker, TooManyRequests};
-ghost use Rattle.net_order.specs.declared.order.Order.{Order as OrderValue};
 ghost use Rattle.report_text.specs.Writing.{AppendsFront};
 ghost use Rattle.compare_built.specs.declared.strategy.Attempt.{Attempt as AttemptValue};
-ghost use Rattle.compare_built.specs.Attempts.{AreGivenUp, AreTried, IsAllowed, IsFound, IsGivenUpWithin, MayGoByCones, last_budget};
-ghost use Rattle.compare_built.specs.Check.{IsCheckFault};
+ghost use Rattle.compare_built.specs.Attempts.{AreGivenUp, last_budget};
 ghost use Rattle.compare_built.specs.Devices.{HasFailedIn, device_text, device_texts};
-ghost use Rattle.compare_built.specs.Limits.{AreBeyond};
-ghost use Rattle.check_report.specs.Listing.{IsOrderPrinted};
+ghost use Rattle.check_report.specs.Decisions.{HasCause};
+ghost use Rattle.check_report.specs.Listing.{IsListing};
+ghost use Rattle.check_report.specs.Refusals.{MayList};
 
 use crate::ordering::text_for;
-use crate::reading::{Netlists, read_netlists};
+use crate::reading::read_netlists;
 use compare_built::fault::CheckFault;
 use compare_built::strategy::Attempt;
-use compare_built::task::{Context, Task};
+use compare_built::task::Context;
 use expand_work::Monitor;
 use net_bench::device::{Sink, Source};
 use report_text::write_whole;
@@ -31,50 +29,23 @@ fn listed<H: Threads + Wait + Sync, R1: Source, R2: Source, R3: Source, G: Monit
 ) -> Result<(Vec<u8>, Option<Attempt>), CheckFault>
     ensures text { let input = device_texts (R1.remaining first.old) (R2.remaining second.old) (device_text R3.remaining given.old) in
         let s = context.now.settings.now in
-        IfOk result (λ r. (order : OrderValue) × IsOrderPrinted input s.matching order r.0.items
-        × IsFound input s.matching s.order s.limit r.1 order) }
+        IfOk result (λ r. IsListing input s r.1 r.0.items) }
     ensures earlier_given_up { let input = device_texts (R1.remaining first.old) (R2.remaining second.old) (device_text R3.remaining given.old) in
         let s = context.now.settings.now in
         IfOk result (λ r. IfSome r.1 (AreGivenUp input s.matching (last_budget s.order s.limit) (G.bound context.now.monitor.now))) }
-    ensures full { let input = device_texts (R1.remaining first.old) (R2.remaining second.old) (device_text R3.remaining given.old) in
+    ensures answer { let input = device_texts (R1.remaining first.old) (R2.remaining second.old) (device_text R3.remaining given.old) in
         let s = context.now.settings.now in
-        result ≡ Err (CheckFault.Wave Full) → (order : OrderValue) → IsAllowed s.order order → AreBeyond input s.matching order s.limit }
-    ensures given_up { let input = device_texts (R1.remaining first.old) (R2.remaining second.old) (device_text R3.remaining given.old) in
-        let s = context.now.settings.now in
-        result ≡ Err CheckFault.GivenUp → AreTried s.order × ((order : OrderValue) → IsAllowed s.order order
-        → IsGivenUpWithin input s.matching s.limit (G.bound context.now.monitor.now) order) }
-    ensures by_cones { MayGoByCones context.now.settings.now.order
-        → (result ≢ Err (CheckFault.Wave Full)) × (result ≢ Err CheckFault.GivenUp) }
-    ensures never_too_many_requests { result ≢ Err (CheckFault.Wave TooManyRequests) }
-    ensures needs_no_thread { result ≢ Err (CheckFault.Wave NoWorker) }
-    ensures no_unknown_name { result ≢ Err CheckFault.Only }
+        IfErr result (MayList input s (G.bound context.now.monitor.now)) }
     ensures fault { let input = device_texts (R1.remaining first.old) (R2.remaining second.old) (device_text R3.remaining given.old) in
         let s = context.now.settings.now in
-        IfErr result (λ fault. (order : OrderValue) × IsAllowed s.order order
-        × IsCheckFault input (IsTrue (R1.has_failed first.new)) (IsTrue (R2.has_failed second.new))
-        (HasFailedIn R3.has_failed given.new) s.order s.matching order fault) }
+        IfErr result (HasCause input (IsTrue (R1.has_failed first.new)) (IsTrue (R2.has_failed second.new))
+        (HasFailedIn R3.has_failed given.new) s) }
     ensures unwritten { result ≢ Err CheckFault.Write }
     ensures origins { (R1.origin first.new ≡ R1.origin first.old) × (R2.origin second.new ≡ R2.origin second.old)
         × (device_text R3.origin given.new ≡ device_text R3.origin given.old) }
 {
-    let nets = match read_netlists(context.alloc, first, second, given) {
-        Ok(nets) => nets,
-        Err(fault) => return Err(fault),
-    };
-    let Netlists {
-        first: one,
-        second: two,
-        given: three,
-    } = nets;
-    let condition = three.as_ref();
-    let task = Task {
-        rt: context.rt,
-        alloc: context.alloc,
-        first: &one,
-        second: &two,
-        given: condition,
-        settings: context.settings,
-    };
+    let netlists = read_netlists(context.alloc, first, second, given)?;
+    let task = netlists.task(context.rt, context.alloc, context.settings);
     text_for(&task, context.monitor)
 }
 
@@ -97,38 +68,26 @@ pub fn print_order<
     // What was written is an order of what was read that the settings allow, and nothing else.
     ensures order { let input = device_texts (R1.remaining first.old) (R2.remaining second.old) (device_text R3.remaining given.old) in
         let s = context.now.settings.now in
-        IfOk result (λ tried. (order : OrderValue) × (bytes : List ℕ) × IsOrderPrinted input s.matching order bytes
-        × IsFound input s.matching s.order s.limit tried order × Appends (W.contents out.old) (W.contents out.new) bytes) }
-    // Each attempt within a smaller budget than that of the one that is told was given up, and within the first budget each before it.
+        IfOk result (λ tried. (bytes : List ℕ) × IsListing input s tried bytes × Appends (W.contents out.old) (W.contents out.new) bytes) }
+    // Each attempt within a smaller budget than that of the one that is reported was given up, and within the first budget each before it.
     ensures earlier_given_up { let input = device_texts (R1.remaining first.old) (R2.remaining second.old) (device_text R3.remaining given.old) in
         let s = context.now.settings.now in
         IfOk result (λ tried. IfSome tried (AreGivenUp input s.matching (last_budget s.order s.limit) (G.bound context.now.monitor.now))) }
-    // Full comes only where the nodes that the netlists need are not within the limit, in each order that the settings allow.
-    ensures full { let input = device_texts (R1.remaining first.old) (R2.remaining second.old) (device_text R3.remaining given.old) in
+    // A fault comes only if it may: Full only if the nodes that the netlists need are not within the limit, in each order that the settings
+    // allow, and GivenUp only if orders are tried and each attempt within the limit was given up. Only attempts build diagrams, and no
+    // pairs are picked.
+    ensures answer { let input = device_texts (R1.remaining first.old) (R2.remaining second.old) (device_text R3.remaining given.old) in
         let s = context.now.settings.now in
-        result ≡ Err (CheckFault.Wave Full) → (order : OrderValue) → IsAllowed s.order order → AreBeyond input s.matching order s.limit }
-    // GivenUp comes only where orders are tried and each attempt within the limit was given up, by declared order in place of Full.
-    ensures given_up { let input = device_texts (R1.remaining first.old) (R2.remaining second.old) (device_text R3.remaining given.old) in
-        let s = context.now.settings.now in
-        result ≡ Err CheckFault.GivenUp → AreTried s.order × ((order : OrderValue) → IsAllowed s.order order
-        → IsGivenUpWithin input s.matching s.limit (G.bound context.now.monitor.now) order) }
-    ensures by_cones { MayGoByCones context.now.settings.now.order
-        → (result ≢ Err (CheckFault.Wave Full)) × (result ≢ Err CheckFault.GivenUp) }
-    // Waves are those of attempts alone, and no pairs are picked.
-    ensures never_too_many_requests { result ≢ Err (CheckFault.Wave TooManyRequests) }
-    ensures needs_no_thread { result ≢ Err (CheckFault.Wave NoWorker) }
-    ensures no_unknown_name { result ≢ Err CheckFault.Only }
+        IfErr result (MayList input s (G.bound context.now.monitor.now)) }
     // A fault has its cause, and what comes before it was accepted.
     ensures fault { let input = device_texts (R1.remaining first.old) (R2.remaining second.old) (device_text R3.remaining given.old) in
         let s = context.now.settings.now in
-        IfErr result (λ fault. (order : OrderValue) × IsAllowed s.order order
-        × IsCheckFault input (IsTrue (R1.has_failed first.new)) (IsTrue (R2.has_failed second.new))
-        (HasFailedIn R3.has_failed given.new) s.order s.matching order fault) }
+        IfErr result (HasCause input (IsTrue (R1.has_failed first.new)) (IsTrue (R2.has_failed second.new))
+        (HasFailedIn R3.has_failed given.new) s) }
     // Where the writing failed, a front part of the order was written, and the device has failed or taken nothing of the rest.
     ensures unwritten { let input = device_texts (R1.remaining first.old) (R2.remaining second.old) (device_text R3.remaining given.old) in
         let s = context.now.settings.now in
-        result ≡ Err CheckFault.Write → (tried : Option AttemptValue) × (order : OrderValue) × (bytes : List ℕ)
-        × IsOrderPrinted input s.matching order bytes × IsFound input s.matching s.order s.limit tried order
+        result ≡ Err CheckFault.Write → (tried : Option AttemptValue) × (bytes : List ℕ) × IsListing input s tried bytes
         × AppendsFront (W.contents out.old) (W.contents out.new) (W.has_failed out.new) (W.has_stopped out.new) bytes }
     // At any other fault nothing was written.
     ensures untouched { OnErr result (result ≢ Err CheckFault.Write → out.new ≡ out.old) }
@@ -137,10 +96,7 @@ pub fn print_order<
     ensures origins { (R1.origin first.new ≡ R1.origin first.old) × (R2.origin second.new ≡ R2.origin second.old)
         × (device_text R3.origin given.new ≡ device_text R3.origin given.old) }
 {
-    let (text, tried) = match listed(context, first, second, given) {
-        Ok((text, tried)) => (text, tried),
-        Err(fault) => return Err(fault),
-    };
+    let (text, tried) = listed(context, first, second, given)?;
     match write_whole(out, text.as_slice()) {
         Ok(()) => Ok(tried),
         Err(_) => Err(CheckFault::Write),

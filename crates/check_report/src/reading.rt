@@ -1,24 +1,51 @@
 //! The reading of two netlists and of a condition.
-ghost use Rattle.std.specs.Prelude.{◌≡◌, IfOk, IfErr, IfSome, IsTrue, option_map};
+ghost use Rattle.std.specs.Prelude.{IfOk, IfErr, IfSome, IsTrue, option_map, ◌≡◌};
 ghost use Rattle.net_bench.specs.Circuit.{circuit};
 ghost use Rattle.net_order.specs.declared.order.Match.{Match};
 ghost use Rattle.net_order.specs.declared.order.Order.{Order};
 ghost use Rattle.compare_built.specs.declared.strategy.Strategy.{Strategy};
 ghost use Rattle.compare_built.specs.Check.{AreGiven, IsCheckFault, IsCondition, IsConditionFault, IsFaultOfReading};
+ghost use Rattle.compare_built.specs.Conditions.{HasOneOutput, one_output-prop};
 ghost use Rattle.compare_built.specs.Devices.{HasFailedIn, device_text, device_texts};
+ghost use Rattle.check_report.specs.Netlists.{IsTaskOf};
 
 use compare_built::fault::CheckFault;
+use compare_built::settings::Settings;
+use compare_built::task::Task;
 use net_bench::device::Source;
 use net_bench::netlist::Netlist;
 use net_bench::reader::read_bench;
 use std::alloc::Global;
 
-/// Two netlists, and a condition where there is one.
+/// Two netlists, and a condition where there is one, which has exactly one output.
 #[derive(Drop)]
-pub struct Netlists {
-    pub first: Netlist,
-    pub second: Netlist,
-    pub given: Option<Netlist>,
+pub(crate) struct Netlists {
+    first: Netlist,
+    second: Netlist,
+    given: Option<Netlist>,
+    ghost one_output: { IfSome (option_map circuit given) HasOneOutput } by { one_output-prop (option_map circuit given) },
+}
+
+impl Netlists {
+    /// Their comparison by these settings.
+    pub(crate) fn task<'a, H>(
+        &'a self,
+        rt: &'a H,
+        alloc: Global,
+        settings: &'a Settings,
+    ) -> Task<'a, H>
+        ensures { IsTaskOf self.now.first self.now.second self.now.given settings.now result }
+    {
+        let given = self.given.as_ref();
+        Task {
+            rt,
+            alloc,
+            first: &self.first,
+            second: &self.second,
+            given,
+            settings,
+        }
+    }
 }
 
 /// Reads the condition, where there is one. It has exactly one output.
@@ -44,7 +71,7 @@ fn read_condition<R: Source>(
 }
 
 /// Reads the first netlist, the second, and then the condition where there is one.
-pub fn read_netlists<R1: Source, R2: Source, R3: Source>(
+pub(crate) fn read_netlists<R1: Source, R2: Source, R3: Source>(
     alloc: Global,
     first: &mut R1,
     second: &mut R2,
@@ -60,21 +87,18 @@ pub fn read_netlists<R1: Source, R2: Source, R3: Source>(
     ensures origins { (R1.origin first.new ≡ R1.origin first.old) × (R2.origin second.new ≡ R2.origin second.old)
         × (device_text R3.origin given.new ≡ device_text R3.origin given.old) }
 {
-    let one = match read_bench(alloc, first) {
+    let first = match read_bench(alloc, first) {
         Ok(net) => net,
         Err(fault) => return Err(CheckFault::First(fault)),
     };
-    let two = match read_bench(alloc, second) {
+    let second = match read_bench(alloc, second) {
         Ok(net) => net,
         Err(fault) => return Err(CheckFault::Second(fault)),
     };
-    let condition = match read_condition(alloc, given) {
-        Ok(condition) => condition,
-        Err(fault) => return Err(fault),
-    };
+    let given = read_condition(alloc, given)?;
     Ok(Netlists {
-        first: one,
-        second: two,
-        given: condition,
+        first,
+        second,
+        given,
     })
 }

@@ -1,24 +1,72 @@
-use Rattle.std.proofs.Common.{◌≡◌, ap, sym, subst, refl, Err}
-use Rattle.expand_work.specs.declared.fault.WaveFault.TheVariants.{Full}
-use Rattle.compare_built.specs.declared.fault.CheckFault.TheVariants.{Wave, GivenUp}
-use Rattle.compare_built.specs.Attempts.{IsGivenUpWithin, order_of}
+use Rattle.std.proofs.Common.{◌∙◌, ap, sym, subst, refl, inr, Err, Some}
+use Rattle.std.proofs.lemmas.Result.{err_from_is_err_and}
+use Rattle.net_order.specs.Order.{NamingModel}
+use Rattle.report_text.specs.Lines.{Found}
+use Rattle.compare_built.specs.declared.strategy.Attempt.{Attempt}
+use Rattle.compare_built.specs.Attempts.{AreGivenUp, AreTried, IsAllowed, IsChosen, IsGivenUpWithin, MayGoByCones, last_budget, order_of}
 use Rattle.compare_built.specs.Limits.{AreBeyond}
+use Rattle.explain_report.specs.Deciding.IsFoundBy.{in_order}
+use Rattle.explain_report.specs.Explaining.{reported_order}
+use Rattle.order_search.specs.Trials.{ordered_names}
+use Rattle.order_search.proofs.Rounds.{beyond_in_input, earlier_in_input, given_up_in_input, judged, within}
+use Rattle.check_report.proofs.Refusing.{from_each}
 use Rattle.check_report.proofs.decision.compare_in_best_order.Goals as goal
 
-pub returns-in-Ok-clause-chosen : goal.returns-in-Ok-clause-chosen
-returns-in-Ok-clause-chosen g c = λ input ga. (order_of c.in-Ok.found.order, c.in-Ok.ensures.judged input ga, c.in-Ok.ensures.chosen input ga)
+pub returns-clause-decision : goal.returns-clause-decision
+returns-clause-decision g c = λ input ga.
+    let task = c.args.task.now in
+    let s = task.settings.now in
+    let bound = g.G.Monitor.bound c.args.monitor.now in
+    let d = c.in_ok-decided.decided in
+    let has = c.in_ok-decided.ensures in
+    let o = order_of d.trial.candidate in
+    let attempt : Attempt = record { order = d.trial.candidate; budget = d.budget } in
+    record {
+      found_by = in_order o
+          (judged task input ga o d.trial.pairing _ _ has.decided.paired (c.of.ensures ∙ ap (λ (p : NamingModel). record { variables = p.names; verdicts = d.verdicts.items }) c.into_naming.ensures) has.decided.verdicts_of)
+          (subst (λ choice. IsChosen input s.matching choice s.limit (Some attempt) o) (sym c.requires.best) (refl, has.budget, within task input ga o d.trial.pairing d.budget has.decided.paired has.decided.within));
+      earlier_given_up = subst (λ choice. AreGivenUp input s.matching (last_budget choice s.limit) bound attempt) (sym c.requires.best) (earlier_in_input task input ga s.limit bound attempt has.earlier_given_up);
+    }
 
-pub returns-in-Err-clause-full : goal.returns-in-Err-clause-full
-returns-in-Err-clause-full g c = λ input ga e o allowed.
-    let same : c.in-Err.fault ≡ Wave Full = cc in
-    subst (λ k. AreBeyond input c.args.task.now.settings.now.matching k c.args.task.now.settings.now.limit) (sym allowed.1) (c.in-Err.ensures.full input ga (ap Err same) allowed.0)
+pub returns-clause-names : goal.returns-clause-names
+returns-clause-names g c =
+    let d = c.in_ok-decided.decided in
+    let attempt : Attempt = record { order = d.trial.candidate; budget = d.budget } in
+    ap (λ (f : Found). f.variables) c.of.ensures ∙ ap (λ (p : NamingModel). p.names) c.into_naming.ensures ∙ c.in_ok-decided.ensures.decided.paired.naming.names ∙
+    ap (λ choice. ordered_names c.args.task.now (reported_order choice (Some attempt))) (sym c.requires.best)
 
-pub returns-in-Err-clause-given_up : goal.returns-in-Err-clause-given_up
-returns-in-Err-clause-given_up g c = λ input ga e o allowed.
-    let same : c.in-Err.fault ≡ GivenUp = cc in
-    subst (IsGivenUpWithin input c.args.task.now.settings.now.matching c.args.task.now.settings.now.limit (g.G.Monitor.bound c.args.monitor.now)) (sym allowed.1) (c.in-Err.ensures.given_up input ga (ap Err same) allowed.0)
+pub returns-in_err-decided-clause-no_decision : goal.returns-in_err-decided-clause-no_decision
+returns-in_err-decided-clause-no_decision g c = λ input ga.
+    let task = c.args.task.now in
+    let s = task.settings.now in
+    let bound = g.G.Monitor.bound c.args.monitor.now in
+    let fault = c.in_err-decided.field-0.0 in
+    let has = c.in_err-decided.ensures in
+    let w = has.fault input ga in
+    let e = err_from_is_err_and c.from_residual.result c.from_residual.ensures.1 in
+    rw (e.1, e.2) (record {
+      cause = (order_of w.0, subst (λ choice. IsAllowed choice (order_of w.0)) (sym c.requires.best) (w.0, refl), w.1);
+      answer = from_each input s bound fault (record {
+        full = λ full o allowed.
+            let k = subst (λ choice. IsAllowed choice o) c.requires.best allowed in
+            subst (λ o. AreBeyond input s.matching o s.limit) (sym k.1) (beyond_in_input task input ga s.limit k.0 (has.full (ap Err full) k.0));
+        given_up = λ left. (
+          subst AreTried (sym c.requires.best) tt,
+          λ o allowed.
+              let k = subst (λ choice. IsAllowed choice o) c.requires.best allowed in
+              subst (IsGivenUpWithin input s.matching s.limit bound) (sym k.1) (given_up_in_input task input ga s.limit bound k.0 (has.given_up (inr left) s.limit (inr refl) k.0)),
+        );
+        by_cones = λ may. absurd (subst MayGoByCones c.requires.best may);
+        any_number_of_inputs = λ may. absurd (subst MayGoByCones c.requires.best may);
+        only = λ none. absurd (has.ends.only none);
+        past = λ none. absurd (has.ends.requests none);
+        needs_no_thread = λ _. has.ends.needs_no_thread;
+        thread_for_named_order = λ none. absurd (has.ends.needs_no_thread none);
+      });
+      unwritten = has.ends.written;
+    })
 
-pub returns-in-Err-clause-fault : goal.returns-in-Err-clause-fault
-returns-in-Err-clause-fault g c = λ input ga.
-    let w = c.in-Err.ensures.fault input ga in
-    (order_of w.0, (w.0, refl), w.1)
+pub returns-in_err-decided-clause-ends : goal.returns-in_err-decided-clause-ends
+returns-in_err-decided-clause-ends g c =
+    let e = err_from_is_err_and c.from_residual.result c.from_residual.ensures.1 in
+    rw (e.1, e.2) c.in_err-decided.ensures.ends

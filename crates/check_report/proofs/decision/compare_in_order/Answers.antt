@@ -1,55 +1,79 @@
-use Rattle.std.proofs.Common.{◌≡◌, ◌∙◌, ap, sym, subst, refl, Err}
+use Rattle.std.proofs.Common.{◌≡◌, ◌∙◌, ap, sym, subst, refl, Err, None}
 use Rattle.std.proofs.lemmas.Result.{err_from_is_err_and}
 use Rattle.net_bench.specs.Circuit.{circuit}
 use Rattle.net_order.specs.Order.{NamingModel, condition}
-use Rattle.expand_work.specs.declared.fault.WaveFault.TheVariants.{Full, TooManyRequests}
 use Rattle.report_text.specs.Lines.{Found}
-use Rattle.compare_built.specs.declared.fault.CheckFault.TheVariants.{Wave}
+use Rattle.compare_built.specs.Attempts.{IsAllowed, IsChosen, MayGoByCones, NamesOrder}
+use Rattle.compare_built.specs.Check.{IsComparisonFault}
 use Rattle.compare_built.specs.Limits.{AreBeyond}
-use Rattle.order_search.proofs.Reporting.{late_fault}
-use Rattle.order_search.proofs.Rounds.{accepted_paired, beyond, judged, within}
 use Rattle.compare_built.proofs.Widening.{wide_given}
+use Rattle.explain_report.specs.Deciding.IsFoundBy.{in_order}
+use Rattle.explain_report.specs.Explaining.{reported_order}
+use Rattle.order_search.specs.Trials.{ordered_names}
+use Rattle.order_search.proofs.Reporting.{late_fault}
+use Rattle.order_search.proofs.Rounds.{accepted_paired, beyond, judged, order_ends, within}
+use Rattle.check_report.proofs.Refusing.{at_once, from_each}
 use Rattle.check_report.proofs.decision.compare_in_order.Goals as goal
 
-pub returns-in-Ok-clause-chosen : goal.returns-in-Ok-clause-chosen
-returns-in-Ok-clause-chosen g c = λ input ga.
+pub returns-clause-decision : goal.returns-clause-decision
+returns-clause-decision g c = λ input ga.
     let task = c.args.task.now in
-    let is = c.in_ok-pairing.ensures.paired in (
-      c.args.order.now,
-      judged task input ga c.args.order.now c.in_ok-pairing.pairing _ _ is (c.of.ensures ∙ ap (λ (p : NamingModel). record { variables = p.names; verdicts = c.in-Ok.verdicts.items }) c.into_naming.ensures) c.in-Ok.ensures.ok,
-      (refl, within task input ga c.args.order.now c.in_ok-pairing.pairing task.settings.now.limit is c.in-Ok.ensures.within),
-    )
+    let s = task.settings.now in
+    let o = c.args.order.now in
+    let is = c.in_ok-pairing.ensures.paired in
+    record {
+      found_by = in_order o
+          (judged task input ga o c.in_ok-pairing.pairing _ _ is (c.of.ensures ∙ ap (λ (p : NamingModel). record { variables = p.names; verdicts = c.in_ok-verdicts.verdicts.items }) c.into_naming.ensures) c.in_ok-verdicts.ensures.ok)
+          (subst (λ choice. IsChosen input s.matching choice s.limit None o) (sym c.requires.named) (refl, within task input ga o c.in_ok-pairing.pairing s.limit is c.in_ok-verdicts.ensures.within));
+      earlier_given_up = tt;
+    }
 
-pub returns-in-Err-clause-full : goal.returns-in-Err-clause-full
-returns-in-Err-clause-full g c = λ input ga e o allowed.
-    let task = c.args.task.now in
-    let same : c.in-Err.fault ≡ Wave Full = cc in
-    subst (λ k. AreBeyond input task.settings.now.matching k task.settings.now.limit) (sym allowed)
-    (beyond task input ga c.args.order.now c.in_ok-pairing.pairing task.settings.now.limit c.in_ok-pairing.ensures.paired (c.in-Err.ensures.full (ap Err same)))
+pub returns-clause-names : goal.returns-clause-names
+returns-clause-names g c =
+    ap (λ (f : Found). f.variables) c.of.ensures ∙ ap (λ (p : NamingModel). p.names) c.into_naming.ensures ∙ c.in_ok-pairing.ensures.paired.naming.names ∙
+    ap (λ choice. ordered_names c.args.task.now (reported_order choice None)) (sym c.requires.named)
 
-pub returns-in-Err-clause-fault : goal.returns-in-Err-clause-fault
-returns-in-Err-clause-fault g c = λ input ga.
-    let task = c.args.task.now in (
-      c.args.order.now,
-      refl,
-      late_fault input ⊥ ⊥ ⊥ task.settings.now.order task.settings.now.matching c.args.order.now c.in-Err.fault
-          (accepted_paired task input ga task.settings.now.order c.args.order.now c.in_ok-pairing.pairing c.in_ok-pairing.ensures.paired) c.in-Err.ensures.err,
-    )
-
-pub returns-in-Err-clause-past : goal.returns-in-Err-clause-past
-returns-in-Err-clause-past g c = λ input ga e.
-    let task = c.args.task.now in
-    let same : c.in-Err.fault ≡ Wave TooManyRequests = cc in (
-      c.args.order.now,
-      refl,
-      wide_given input task.settings.now.matching c.args.order.now (circuit task.first.now) (circuit task.second.now) (condition task.given) c.in_ok-pairing.pairing
-          (record { netlists = ga; pairing = c.in_ok-pairing.ensures.paired }) (g.G.Monitor.bound c.args.monitor.now) (c.in-Err.ensures.past (ap Err same)),
-    )
-
-pub returns-in_err-pairing-clause-fault : goal.returns-in_err-pairing-clause-fault
-returns-in_err-pairing-clause-fault g c = λ input ga.
+pub returns-in_err-pairing-clause-no_decision : goal.returns-in_err-pairing-clause-no_decision
+returns-in_err-pairing-clause-no_decision g c = λ input ga.
+    let o = c.args.order.now in
+    let fault = c.in_err-pairing.field-0.0 in
+    let ends = order_ends fault c.in_err-pairing.ensures.refused.0 c.in_err-pairing.ensures.refused.1 in
     let e = err_from_is_err_and c.from_residual.result c.from_residual.ensures.1 in
-    rw (e.1, e.2) (c.args.order.now, refl, c.in_err-pairing.ensures.fault input ga)
+    rw (e.1, e.2) (record {
+      cause = (o, subst (λ choice. IsAllowed choice o) (sym c.requires.named) refl, c.in_err-pairing.ensures.fault input ga);
+      answer = at_once input c.args.task.now.settings.now (g.G.Monitor.bound c.args.monitor.now) fault ends (λ may. absurd (subst MayGoByCones c.requires.named may));
+      unwritten = ends.search.written;
+    })
 
-pub returns-in-Ok-clause-names : goal.returns-in-Ok-clause-names
-returns-in-Ok-clause-names g c = ap (λ (f : Found). f.variables) c.of.ensures ∙ ap (λ (p : NamingModel). p.names) c.into_naming.ensures ∙ c.in_ok-pairing.ensures.paired.naming.names
+pub returns-in_err-verdicts-clause-no_decision : goal.returns-in_err-verdicts-clause-no_decision
+returns-in_err-verdicts-clause-no_decision g c = λ input ga.
+    let task = c.args.task.now in
+    let s = task.settings.now in
+    let o = c.args.order.now in
+    let bound = g.G.Monitor.bound c.args.monitor.now in
+    let p = c.in_ok-pairing.pairing in
+    let is = c.in_ok-pairing.ensures.paired in
+    let fault = c.in_err-verdicts.field-0.0 in
+    let has = c.in_err-verdicts.ensures in
+    let allowed : IsAllowed s.order o = subst (λ choice. IsAllowed choice o) (sym c.requires.named) refl in
+    let e = err_from_is_err_and c.from_residual-in_err-verdicts.result c.from_residual-in_err-verdicts.ensures.1 in
+    rw (e.1, e.2) (record {
+      cause = (o, allowed, late_fault input ⊥ ⊥ ⊥ s.order s.matching o fault (accepted_paired task input ga s.order o p is) has.err);
+      answer = from_each input s bound fault (record {
+        full = λ full k other.
+            let same : k ≡ o = subst (λ choice. IsAllowed choice k) c.requires.named other in
+            subst (λ k. AreBeyond input s.matching k s.limit) (sym same) (beyond task input ga o p s.limit is (has.full (ap Err full)));
+        given_up = λ none. absurd (subst IsComparisonFault none has.err);
+        by_cones = λ may. absurd (subst MayGoByCones c.requires.named may);
+        any_number_of_inputs = λ may. absurd (subst MayGoByCones c.requires.named may);
+        only = λ none. absurd (subst IsComparisonFault none has.err);
+        past = λ past. (
+          o,
+          allowed,
+          wide_given input s.matching o (circuit task.first.now) (circuit task.second.now) (condition task.given) p (record { netlists = ga; pairing = is }) bound (has.past (ap Err past)),
+        );
+        needs_no_thread = λ less none. has.needs_no_thread less (ap Err none);
+        thread_for_named_order = λ _. subst NamesOrder (sym c.requires.named) tt;
+      });
+      unwritten = λ none. subst IsComparisonFault none has.err;
+    })

@@ -1,28 +1,27 @@
-use Rattle.std.proofs.Common.{◌≡◌, ◌∙◌, ap, Err}
+use Rattle.std.proofs.Common.{◌∙◌, ap, Err, None}
+use Rattle.std.proofs.lemmas.Result.{err_from_is_err_and}
 use Rattle.net_bench.specs.Circuit.{circuit}
-use Rattle.net_order.specs.declared.order.OrderFault.TheVariants.{TooManyInputs}
-use Rattle.compare_built.specs.declared.fault.CheckFault.TheVariants.{Only, Order as OrderRefused}
-use Rattle.check_report.proofs.Findings.{cones_end, cones_fault, cones_whole, found_by_cones}
+use Rattle.order_search.specs.Trials.{ordered_names}
+use Rattle.check_report.proofs.Findings.{cones_end, cones_fault, cones_whole, declared_reported, found_by_cones, none_by_cones}
 use Rattle.check_report.proofs.decision.cone_verdicts_in.Goals as goal
 
-pub returns-in-Ok-clause-found : goal.returns-in-Ok-clause-found
-returns-in-Ok-clause-found g c = λ input ga cause. found_by_cones c.args.task.now input ga (g.G.Monitor.bound c.args.monitor.now) c.args.declared c.in-Ok.verdicts c.requires.naming cause c.in-Ok.ensures.verdicts
+pub returns-clause-decision : goal.returns-clause-decision
+returns-clause-decision g c = λ input ga cause. record {
+  found_by = found_by_cones c.args.task.now input ga (g.G.Monitor.bound c.args.monitor.now) c.args.declared c.in_ok-verdicts.verdicts c.requires.naming cause c.in_ok-verdicts.ensures.verdicts;
+  earlier_given_up = tt;
+}
 
-pub returns-in-Err-clause-fault : goal.returns-in-Err-clause-fault
-returns-in-Err-clause-fault g c = λ input ga. cones_fault c.args.task.now input ga c.args.declared c.in-Err.fault c.requires.naming c.requires.may c.in-Err.ensures.ends
+pub returns-clause-names : goal.returns-clause-names
+returns-clause-names g c =
+    let task = c.args.task.now in
+    c.in_ok-verdicts.ensures.verdicts.verdicts.variables ∙ c.requires.naming.names ∙ ap (ordered_names task) (declared_reported task.settings.now.order None c.requires.may)
 
-pub returns-in-Err-clause-only : goal.returns-in-Err-clause-only
-returns-in-Err-clause-only g c = λ input ga e.
-    let same : c.in-Err.fault ≡ Only = cc in
-    (circuit c.args.task.now.first.now, ga.first, c.in-Err.ensures.unknown (ap Err same))
-
-pub returns-in-Err-clause-ends : goal.returns-in-Err-clause-ends
-returns-in-Err-clause-ends g c = cones_end c.in-Err.fault c.in-Err.ensures.ends
-
-pub returns-in-Ok-clause-names : goal.returns-in-Ok-clause-names
-returns-in-Ok-clause-names g c = c.in-Ok.ensures.verdicts.verdicts.variables ∙ c.requires.naming.names
-
-pub returns-in-Err-clause-any_number_of_inputs : goal.returns-in-Err-clause-any_number_of_inputs
-returns-in-Err-clause-any_number_of_inputs g c = λ e.
-    let same : c.in-Err.fault ≡ OrderRefused TooManyInputs = cc in
-    cones_whole c.in-Err.fault c.in-Err.ensures.ends same
+pub returns-in_err-verdicts-clause-no_decision : goal.returns-in_err-verdicts-clause-no_decision
+returns-in_err-verdicts-clause-no_decision g c = λ input ga.
+    let task = c.args.task.now in
+    let fault = c.in_err-verdicts.field-0.0 in
+    let has = c.in_err-verdicts.ensures in
+    let e = err_from_is_err_and c.from_residual.result c.from_residual.ensures.1 in
+    rw (e.1, e.2)
+    (none_by_cones input task.settings.now (g.G.Monitor.bound c.args.monitor.now) fault c.requires.may (cones_fault task input ga c.args.declared fault c.requires.naming c.requires.may has.ends) (cones_end fault has.ends)
+    (λ only. (circuit task.first.now, ga.first, has.unknown (ap Err only))) (cones_whole fault has.ends))
