@@ -20,11 +20,11 @@ use Rattle.compare_built.specs.Attempts.{IsAllowed, MayGoByCones, whole_limit}
 use Rattle.compare_built.specs.Check.{AreAccepted, AreGiven, Gives, IsCheckFault, IsCondition}
 use Rattle.compare_built.specs.Devices.{DeviceTexts}
 use Rattle.cone_check.specs.ConeRounds.{EndsAuto, EndsCones, IsFoundByCones}
-use Rattle.explain_report.specs.Deciding.{IsFoundBy, IsUnknown, MayTakeCones}
+use Rattle.explain_report.specs.Deciding.{HasLastAttempt, IsFoundBy, IsUnknown, MayTakeCones}
 use Rattle.explain_report.specs.Deciding.IsFoundBy.{by_cones}
 use Rattle.explain_report.specs.Explaining.{reported_order}
 use Rattle.explain_report.proofs.Trying.{none_failed}
-use Rattle.order_search.specs.Trials.{AreAllGivenUp, IsNamingIn}
+use Rattle.order_search.specs.Trials.{EndsAtOnce, AreAllGivenUp, IsNamingIn}
 use Rattle.order_search.proofs.Reporting.{any_for, late_fault, late_whole}
 use Rattle.order_search.proofs.Rounds.{accepted, given_up_in_input, order_ends}
 use Rattle.check_report.specs.Decisions.{IsNoDecision}
@@ -36,8 +36,8 @@ use Rattle.check_report.proofs.Refusing.{by_auto}
 module _ {H : Type 0} (task : Task H) (input : DeviceTexts) (given : AreGiven input (circuit task.first.now) (circuit task.second.now) (condition task.given)) where
   -- by cones
   pub found_by_cones : (bound : Option ℕ) (p : NamingModel) (found : Found) → IsNamingIn task orders.Declared p → MayTakeCones input task.settings.now bound task.settings.now.order →
-      IsFoundByCones task bound p found → IsFoundBy input task.settings.now bound found None
-  found_by_cones bound p found is cause t = by_cones cause (record {
+      IsFoundByCones task bound p found → HasLastAttempt input task.settings.now bound task.settings.now.order found → IsFoundBy input task.settings.now bound found None
+  found_by_cones bound p found is cause t last = by_cones cause (record {
     a = circuit task.first.now;
     b = circuit task.second.now;
     c = condition task.given;
@@ -47,7 +47,7 @@ module _ {H : Type 0} (task : Task H) (input : DeviceTexts) (given : AreGiven in
     unmatched_lines = t.unmatched_lines;
     picked = t.picked;
     verdicts = t.verdicts;
-  })
+  }) last
 
   -- the cause for cones where the whole was tried
   pub auto_cause : (bound : Option ℕ) → task.settings.now.order ≡ Auto → AreAllGivenUp task (whole_limit task.settings.now.limit) bound → MayTakeCones input task.settings.now bound task.settings.now.order
@@ -97,7 +97,7 @@ cones_whole fault (inr ends) e = late_whole fault ends.0 e
 
 pub auto_unwritten : (fault : CheckFault) → EndsAuto fault → fault ≢ Write
 auto_unwritten fault (inl only) e = let never : Only ≡ Write = sym only ∙ e in cc
-auto_unwritten fault (inr ends) e = ends.search.written e
+auto_unwritten fault (inr ends) e = subst EndsAtOnce e ends
 
 -- what ends a comparison by cones, or what comes before it, decides nothing
 module _ (input : DeviceTexts) (s : Settings) (bound : Option ℕ) where

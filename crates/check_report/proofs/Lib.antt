@@ -5,3 +5,4 @@ pub mod Refusing
 pub mod Printing
 pub mod Findings
 pub mod Shares
+pub mod LastAttempts

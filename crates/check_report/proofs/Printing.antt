@@ -47,7 +47,7 @@ best_printed input s bound found tried bytes best (in_order order judged chosen)
   printed input s.matching order (details_in s) found bytes judged text,
   subst (λ choice. IsFound input s.matching choice s.limit tried order) (sym best) (subst (λ choice. IsChosen input s.matching choice s.limit tried order) best chosen),
 )
-best_printed input s bound found None bytes best (by_cones cause judged) text = absurd (subst (MayTakeCones input s bound) best cause)
+best_printed input s bound found None bytes best (by_cones cause judged last) text = absurd (subst (MayTakeCones input s bound) best cause)
 
 -- ---- faults of a text that was made, or was not
 
@@ -57,4 +57,4 @@ list_of input s bound (Err fault) ends = list_at_once input s bound fault ends
 
 pub nothing_to_write : {T : Type 0} (r : Result T CheckFault) → IfErr r EndsAtOnce → r ≢ Err Write
 nothing_to_write (Ok v) ends e = cc
-nothing_to_write (Err fault) ends e = let same : fault ≡ Write = cc in ends.search.written same
+nothing_to_write (Err fault) ends e = let same : fault ≡ Write = cc in subst EndsAtOnce same ends

@@ -75,14 +75,14 @@ module _ (input : DeviceTexts) (s : Settings) (bound : Option ℕ) where
   -- what ends a comparison at once may be answered
   pub at_once : (fault : CheckFault) → EndsAtOnce fault → (MayGoByCones s.order → fault ≢ OrderRefused TooManyInputs) → MayAnswer input s bound fault
   at_once fault ends few = from_each fault (record {
-    full = λ e. absurd (ends.nodes e);
-    given_up = λ e. absurd (ends.given_up e);
-    by_cones = λ may. (ends.nodes, ends.given_up);
+    full = λ e. absurd (subst EndsAtOnce e ends);
+    given_up = λ e. absurd (subst EndsAtOnce e ends);
+    by_cones = λ may. (λ e. subst EndsAtOnce e ends, λ e. subst EndsAtOnce e ends);
     any_number_of_inputs = few;
-    only = λ e. absurd (ends.search.only e);
-    past = λ e. absurd (ends.search.requests e);
-    needs_no_thread = λ _. ends.search.needs_no_thread;
-    thread_for_named_order = λ e. absurd (ends.search.needs_no_thread e);
+    only = λ e. absurd (subst EndsAtOnce e ends);
+    past = λ e. absurd (subst EndsAtOnce e ends);
+    needs_no_thread = λ _ e. subst EndsAtOnce e ends;
+    thread_for_named_order = λ e. absurd (subst EndsAtOnce e ends);
   })
 
   -- and what ends one by cones
@@ -139,19 +139,19 @@ module _ (input : DeviceTexts) (s : Settings) (bound : Option ℕ) where
         full = each.full;
         given_up = each.given_up;
         by_cones = each.by_cones;
-        never_too_many_requests = ends.requests;
-        needs_no_thread = ends.needs_no_thread;
-        no_unknown_name = ends.only;
+        never_too_many_requests = λ e. subst EndsSearch e ends;
+        needs_no_thread = λ e. subst EndsSearch e ends;
+        no_unknown_name = λ e. subst EndsSearch e ends;
       })
 
   pub list_at_once : (fault : CheckFault) → EndsAtOnce fault → MayList input s bound fault
   list_at_once fault ends = from_list fault (record {
-    full = λ e. absurd (ends.nodes e);
-    given_up = λ e. absurd (ends.given_up e);
-    by_cones = λ may. (ends.nodes, ends.given_up);
-    never_too_many_requests = ends.search.requests;
-    needs_no_thread = ends.search.needs_no_thread;
-    no_unknown_name = ends.search.only;
+    full = λ e. absurd (subst EndsAtOnce e ends);
+    given_up = λ e. absurd (subst EndsAtOnce e ends);
+    by_cones = λ may. (λ e. subst EndsAtOnce e ends, λ e. subst EndsAtOnce e ends);
+    never_too_many_requests = λ e. subst EndsAtOnce e ends;
+    needs_no_thread = λ e. subst EndsAtOnce e ends;
+    no_unknown_name = λ e. subst EndsAtOnce e ends;
   })
 
   pub list_early : (fault : CheckFault) → IsFaultOfReading fault → MayList input s bound fault

@@ -2,16 +2,16 @@
 ghost use Rattle.std.specs.Prelude.{◌≡◌, ◌↔◌, IfOk, IfErr, IsTrue};
 ghost use Rattle.net_order.specs.declared.order.Order.TheVariants as orders;
 ghost use Rattle.compare_built.specs.declared.strategy.Strategy.{Strategy as StrategyValue};
-ghost use Rattle.compare_built.specs.Attempts.{MayGoByCones};
-ghost use Rattle.explain_report.specs.Deciding.{MayTakeCones};
+ghost use Rattle.compare_built.specs.Attempts.{MayGoByCones, whole_limit};
+ghost use Rattle.explain_report.specs.Deciding.{HasLastAttempt, MayTakeCones};
 ghost use Rattle.explain_report.specs.Explaining.{reported_order};
 ghost use Rattle.order_search.specs.Tasks.{OfTask};
-ghost use Rattle.order_search.specs.Trials.{EndsSearch, IsGivingUp, IsNamingIn, ordered_names};
+ghost use Rattle.order_search.specs.Trials.{AreAllGivenUp, EndsSearch, IsGivingUp, IsNamingIn, ordered_names};
 ghost use Rattle.check_report.specs.Decisions.{IsDecision, IsNoDecision};
 
 use compare_built::comparison::compare;
 use compare_built::fault::CheckFault;
-use compare_built::strategy::{Attempt, Strategy};
+use compare_built::strategy::{Attempt, Candidate, Strategy};
 use compare_built::task::Task;
 use cone_check::cone_comparison::verdicts_by_cones;
 use cone_check::pair_cones::as_comparison_fault;
@@ -19,8 +19,9 @@ use expand_work::{Monitor, WaveFault};
 use net_order::naming::Naming;
 use net_order::order::Order;
 use net_order::pairing::Pairing;
-use order_search::attempts::Decided;
-use order_search::budget_search::find_attempt;
+use order_search::attempts::{Decided, Round};
+use order_search::budget_search::{find_attempt, search};
+use order_search::last_attempts::{furthest_of, try_last};
 use order_search::trials::{Trial, named, paired};
 use report_text::Verdicts;
 use std::sync::Wait;
@@ -80,12 +81,56 @@ fn cone_verdicts_in<H: Threads + Wait + Sync, G: Monitor>(
     requires naming { IsNamingIn task.now orders.Declared declared }
     requires may { MayGoByCones task.now.settings.now.order }
     ensures decision { OfTask task.now (λ input s. MayTakeCones input s (G.bound monitor.now) s.order
-        → IfOk result (λ r. IsDecision input s (G.bound monitor.now) r.0 r.1)) }
+        → IfOk result (λ r. HasLastAttempt input s (G.bound monitor.now) s.order r.0 → IsDecision input s (G.bound monitor.now) r.0 r.1)) }
     ensures no_decision { OfTask task.now (λ input s. IfErr result (IsNoDecision input ⊥ ⊥ ⊥ s (G.bound monitor.now))) }
     ensures names { IfOk result (λ r. r.0.variables ≡ ordered_names task.now (reported_order task.now.settings.now.order r.1)) }
 {
     let verdicts = verdicts_by_cones(task, declared, monitor)?;
     Ok((verdicts, None))
+}
+
+/// Compares each pair by its cones, after each attempt of the whole within small budgets was given up. If a pair is left undecided, the
+/// last attempts of the whole follow, within the limit.
+fn compare_by_cones_and_last<H: Threads + Wait + Sync, G: Monitor>(
+    task: &Task<'_, H>,
+    declared: Naming,
+    furthest: Candidate,
+    monitor: &G,
+) -> Result<(Verdicts, Option<Attempt>), CheckFault>
+    requires auto { task.now.settings.now.order ≡ StrategyValue.Auto }
+    requires naming { IsNamingIn task.now orders.Declared declared }
+    requires given_up { AreAllGivenUp task.now (whole_limit task.now.settings.now.limit) (G.bound monitor.now) }
+    ensures decision { OfTask task.now (λ input s. IfOk result (λ r. IsDecision input s (G.bound monitor.now) r.0 r.1)) }
+    ensures no_decision { OfTask task.now (λ input s. IfErr result (IsNoDecision input ⊥ ⊥ ⊥ s (G.bound monitor.now))) }
+    ensures names { IfOk result (λ r. r.0.variables ≡ ordered_names task.now (reported_order task.now.settings.now.order r.1)) }
+{
+    let verdicts = verdicts_by_cones(task, declared, monitor)?;
+    if verdicts.outcome().undecided == 0 {
+        return Ok((verdicts, None));
+    }
+    let limit = task.settings.limit;
+    if limit <= WHOLE_LIMIT {
+        return Ok((verdicts, None));
+    }
+    let declared = match Pairing::of(named(task)?) {
+        Ok(pairing) => pairing,
+        Err(_) => return Ok((verdicts, None)),
+    };
+    match try_last(task, Some(&declared), furthest, limit, monitor) {
+        Ok(Round::Decided(decided)) => {
+            let attempt = Attempt {
+                order: decided.trial.candidate,
+                budget: decided.budget,
+            };
+            let Decided { verdicts, .. } = decided;
+            Ok((
+                Verdicts::of(declared.into_naming(), verdicts),
+                Some(attempt),
+            ))
+        }
+        Ok(Round::GivenUp { .. }) => Ok((verdicts, None)),
+        Err(fault) => Err(as_comparison_fault(fault)),
+    }
 }
 
 /// Whether each attempt of a search that ends with this fault was given up.
@@ -98,8 +143,9 @@ fn is_giving_up(fault: CheckFault) -> bool
     )
 }
 
-/// Compares two netlists within small budgets as `compare_in_best_order` does, and where each attempt was given up, each pair by its cones.
-/// Where there are more variables than a pairing has, nothing of the whole is tried. The verdicts are told in declared order.
+/// Compares two netlists within small budgets as `compare_in_best_order` does; if each attempt was given up, each pair by its cones, and if
+/// these leave a pair undecided, the whole within the limit. If there are more variables than a pairing has, nothing of the whole is
+/// tried. The verdicts are reported in declared order.
 fn compare_auto<H: Threads + Wait + Sync, G: Monitor>(
     task: &Task<'_, H>,
     monitor: &G,
@@ -115,7 +161,8 @@ fn compare_auto<H: Threads + Wait + Sync, G: Monitor>(
         Err(naming) => return cone_verdicts_in(task, naming, monitor),
     };
     let limit = WHOLE_LIMIT.min(task.settings.limit);
-    let fault = match find_attempt(task, Some(&declared), limit, monitor) {
+    let mut trials = Vec::new(task.alloc);
+    let fault = match search(task, Some(&declared), &mut trials, limit, monitor) {
         Ok(decided) => {
             let attempt = Attempt {
                 order: decided.trial.candidate,
@@ -130,7 +177,8 @@ fn compare_auto<H: Threads + Wait + Sync, G: Monitor>(
         Err(fault) => fault,
     };
     if is_giving_up(fault) {
-        return cone_verdicts_in(task, declared.into_naming(), monitor);
+        let furthest = furthest_of(trials.as_slice());
+        return compare_by_cones_and_last(task, declared.into_naming(), furthest, monitor);
     }
     Err(as_comparison_fault(fault))
 }

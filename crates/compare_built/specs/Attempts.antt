@@ -68,7 +68,7 @@ first_budget limit = min 16384 limit
 abbrev pub IsBudget : (limit budget : ℕ) → Type 0
 IsBudget limit budget = ((k : ℕ) × (budget ≡ 16384 * 16 ^ k) × (budget < limit)) ⊎ (budget ≡ limit)
 
--- Where each pair can be judged by its cones, the whole is tried within 2^22 nodes at most.
+-- Before the pairs are judged by their cones, the whole is tried within 2^22 nodes at most; after them, within the limit.
 abbrev pub whole_limit : (limit : ℕ) → ℕ
 whole_limit limit = min 4194304 limit
 
@@ -85,7 +85,7 @@ IsChosen input how (One o) limit (Some t) order = ⊥
 IsChosen input how Best limit None order = ⊥
 IsChosen input how Best limit (Some t) order = (order ≡ order_of t.order) × IsBudget limit t.budget × AreWithin input how order t.budget
 IsChosen input how Auto limit None order = ⊥
-IsChosen input how Auto limit (Some t) order = (order ≡ orders.Declared) × IsBudget (whole_limit limit) t.budget
+IsChosen input how Auto limit (Some t) order = (order ≡ orders.Declared) × (IsBudget (whole_limit limit) t.budget ⊎ (t.budget ≡ limit))
     × AreWithin input how (order_of t.order) t.budget
 IsChosen input how Cones limit tried order = ⊥
 

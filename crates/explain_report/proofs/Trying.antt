@@ -124,7 +124,7 @@ accepted_in choice input how order a b c p paired =
 pub found_accepted : (input : DeviceTexts) (s : Settings) (bound : Option ℕ) (found : Found) (tried : Option Attempt) → IsFoundBy input s bound found tried →
     (order : Order) × IsAllowed s.order order × AreAccepted input s.order s.matching order
 found_accepted input s bound found tried (in_order order j chosen) = (order, chosen_allowed input s.matching s.order s.limit tried order chosen, accepted_in s.order input s.matching order j.a j.b j.c j.p j.paired)
-found_accepted input s bound found None (by_cones cause j) = (orders.Declared, declared_allowed s.order cause, (j.a, j.b, j.c, j.p, j.named, any_for s.order s.matching j.a j.b j.c (may_go s.order cause)))
+found_accepted input s bound found None (by_cones cause j last) = (orders.Declared, declared_allowed s.order cause, (j.a, j.b, j.c, j.p, j.named, any_for s.order s.matching j.a j.b j.c (may_go s.order cause)))
   where
     declared_allowed : (choice : Strategy) → MayTakeCones input s bound choice → IsAllowed choice orders.Declared
     declared_allowed (One o) cause = absurd cause

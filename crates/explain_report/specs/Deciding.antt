@@ -1,5 +1,5 @@
 -- How a comparison is decided: the whole in one order, or each pair by its cones.
-use Rattle.std.specs.Prelude.{◌≡◌, ◌⊎◌, ◌++◌, ℕ, List, Option, None, is_some, ⊤}
+use Rattle.std.specs.Prelude.{◌≡◌, ◌⊎◌, ◌++◌, ◌<◌, ℕ, List, Option, None, is_some, ⊤}
 use Rattle.net_bench.specs.Circuit.{Circuit}
 use Rattle.net_order.specs.declared.order.Order.{Order}
 use Rattle.net_order.specs.declared.order.Order.TheVariants as orders
@@ -47,11 +47,20 @@ MayTakeCones input s bound Auto =
     ⊎ HaveTooManyVariables input s.matching
 MayTakeCones input s bound Cones = ⊤
 
+-- By auto a pair is left undecided only if the last attempt of the whole was given up in declared order as well, within the whole limit, or
+-- if the whole has more variables than a pairing has.
+abbrev pub HasLastAttempt : DeviceTexts → Settings → (bound : Option ℕ) → Strategy → Found → Type 0
+HasLastAttempt input s bound (One o) found = ⊤
+HasLastAttempt input s bound Best found = ⊤
+HasLastAttempt input s bound Auto found = 0 < (counted found.verdicts).undecided →
+    IsGivenUpWithin input s.matching s.limit bound orders.Declared ⊎ HaveTooManyVariables input s.matching
+HasLastAttempt input s bound Cones found = ⊤
+
 -- What a comparison finds by its settings, and the attempt that it is told with.
 pub data IsFoundBy (input : DeviceTexts) (s : Settings) (bound : Option ℕ) (found : Found) : Option Attempt → Type 0 where
   in_order : {tried : Option Attempt} (order : Order) → IsJudged input s.matching order (details_in s) found
       → IsChosen input s.matching s.order s.limit tried order → IsFoundBy input s bound found tried
-  by_cones : MayTakeCones input s bound s.order → IsJudgedByCones input s bound found → IsFoundBy input s bound found None
+  by_cones : MayTakeCones input s bound s.order → IsJudgedByCones input s bound found → HasLastAttempt input s bound s.order found → IsFoundBy input s bound found None
 
 -- The bytes are the report of what the devices gave, by these settings, with these counts and the causes that they ask for, and behind it
 -- the explanations that they ask for; this attempt is told with it.

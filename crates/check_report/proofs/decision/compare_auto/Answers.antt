@@ -1,4 +1,4 @@
-use Rattle.std.proofs.Common.{◌∙◌, ap, sym, subst, refl, inr, Err, Some}
+use Rattle.std.proofs.Common.{◌∙◌, ap, sym, subst, refl, inl, inr, Err, Some}
 use Rattle.std.proofs.lemmas.Result.{err_from_is_err_and}
 use Rattle.net_bench.specs.Circuit.{circuit}
 use Rattle.net_order.specs.declared.order.Order.TheVariants as orders
@@ -8,11 +8,12 @@ use Rattle.compare_built.specs.declared.strategy.Attempt.{Attempt}
 use Rattle.compare_built.specs.Attempts.{AreGivenUp, IsBudget, IsChosen, MayGoByCones, last_budget, order_of}
 use Rattle.explain_report.specs.Deciding.IsFoundBy.{in_order}
 use Rattle.explain_report.specs.Explaining.{reported_order}
-use Rattle.order_search.specs.Trials.{AreAllGivenUp, IsNamingIn, IsPairingIn, ordered_names}
+use Rattle.order_search.specs.Trials.{EndsAtOnce, AreAllGivenUp, IsNamingIn, IsPairingIn, ordered_names}
 use Rattle.order_search.proofs.Namings.{as_pairing}
 use Rattle.order_search.proofs.Reporting.{late_fault, late_whole}
 use Rattle.order_search.proofs.Rounds.{accepted_paired, earlier_in_input, judged, within}
-use Rattle.check_report.proofs.Findings.{auto_cause, many_cause, none_by_cones, unnamed}
+use Rattle.check_report.proofs.LastAttempts.{decided_with, many_before}
+use Rattle.check_report.proofs.Findings.{many_cause, none_by_cones, unnamed}
 use Rattle.check_report.proofs.decision.compare_auto.Goals as goal
 
 -- ---- no naming
@@ -35,13 +36,17 @@ cone_verdicts_in-requires-clause-may g c κs lives = subst MayGoByCones (sym c.r
 
 pub returns-in-Err-clause-decision : goal.returns-in-Err-clause-decision
 returns-in-Err-clause-decision g c = λ input ga.
-    c.cone_verdicts_in.ensures.decision input ga
-    (many_cause c.args.task.now input ga (g.G.Monitor.bound c.args.monitor.now) c.in_ok-declared.declared c.requires.auto c.in_ok-declared.ensures.named c.in-Err.ensures.many)
+    let s = c.args.task.now.settings.now in
+    let bound = g.G.Monitor.bound c.args.monitor.now in
+    decided_with input s bound c.cone_verdicts_in.result
+    (λ found. many_before c.args.task.now input ga bound found c.in_ok-declared.declared c.requires.auto c.in_ok-declared.ensures.named c.in-Err.ensures.many)
+    (c.cone_verdicts_in.ensures.decision input ga
+    (many_cause c.args.task.now input ga (g.G.Monitor.bound c.args.monitor.now) c.in_ok-declared.declared c.requires.auto c.in_ok-declared.ensures.named c.in-Err.ensures.many))
 
 -- ---- the whole
 
-pub find_attempt-requires-clause-verdict_order : goal.find_attempt-requires-clause-verdict_order
-find_attempt-requires-clause-verdict_order g c κs lives =
+pub search-requires-clause-verdict_order : goal.search-requires-clause-verdict_order
+search-requires-clause-verdict_order g c κs lives =
     let task = c.args.task.now in
     let named = c.in_ok-declared.ensures.named in
     let is : IsPairingIn task orders.Declared c.in-Ok.pairing =
@@ -49,8 +54,8 @@ find_attempt-requires-clause-verdict_order g c κs lives =
     (as_pairing task.settings.now.matching (circuit task.first.now) (circuit task.second.now) (condition task.given) orders.Declared c.in_ok-declared.declared named c.in-Ok.ensures.few) in
     (orders.Declared, is, task.settings.now.no_sizes c.requires.auto)
 
-pub returns-in-Ok-find_attempt-clause-decision : goal.returns-in-Ok-find_attempt-clause-decision
-returns-in-Ok-find_attempt-clause-decision g c = λ input ga.
+pub returns-in-Ok-search-clause-decision : goal.returns-in-Ok-search-clause-decision
+returns-in-Ok-search-clause-decision g c = λ input ga.
     let task = c.args.task.now in
     let s = task.settings.now in
     let bound = g.G.Monitor.bound c.args.monitor.now in
@@ -58,36 +63,33 @@ returns-in-Ok-find_attempt-clause-decision g c = λ input ga.
     let is : IsPairingIn task orders.Declared c.in-Ok.pairing =
     subst (IsPairingIn task orders.Declared) (sym c.in-Ok.ensures.same)
     (as_pairing s.matching (circuit task.first.now) (circuit task.second.now) (condition task.given) orders.Declared c.in_ok-declared.declared named c.in-Ok.ensures.few) in
-    let d = c.in-Ok-find_attempt.ensures.decided in
-    let t = c.in-Ok-find_attempt.decided.trial in
-    let attempt : Attempt = record { order = t.candidate; budget = c.in-Ok-find_attempt.decided.budget } in
-    let reported_as = c.of-in-Ok-find_attempt.ensures ∙ ap (λ (p : NamingModel). record { variables = p.names; verdicts = c.in-Ok-find_attempt.decided.verdicts.items }) c.into_naming.ensures in
+    let d = c.in-Ok-search.ensures.found.decided in
+    let t = c.in-Ok-search.decided.trial in
+    let attempt : Attempt = record { order = t.candidate; budget = c.in-Ok-search.decided.budget } in
+    let reported_as = c.of-in-Ok-search.ensures ∙ ap (λ (p : NamingModel). record { variables = p.names; verdicts = c.in-Ok-search.decided.verdicts.items }) c.into_naming.ensures in
     record {
       found_by = in_order orders.Declared (judged task input ga orders.Declared c.in-Ok.pairing _ _ is reported_as d.verdicts_of)
           (subst (λ choice. IsChosen input s.matching choice s.limit (Some attempt) orders.Declared) (sym c.requires.auto) (
             refl,
-            subst (λ n. IsBudget n attempt.budget) c.min-limit.ensures c.in-Ok-find_attempt.ensures.budget,
+            inl (subst (λ n. IsBudget n attempt.budget) c.min-limit.ensures c.in-Ok-search.ensures.found.budget),
             within task input ga (order_of t.candidate) t.pairing attempt.budget d.paired d.within,
           ));
       earlier_given_up = subst (λ choice. AreGivenUp input s.matching (last_budget choice s.limit) bound attempt) (sym c.requires.auto)
           (subst (λ n. AreGivenUp input s.matching n bound attempt) c.min-limit.ensures
-          (earlier_in_input task input ga c.min-limit.result bound attempt c.in-Ok-find_attempt.ensures.earlier_given_up));
+          (earlier_in_input task input ga c.min-limit.result bound attempt c.in-Ok-search.ensures.found.earlier_given_up));
     }
 
-pub returns-in-Ok-find_attempt-clause-names : goal.returns-in-Ok-find_attempt-clause-names
-returns-in-Ok-find_attempt-clause-names g c =
-    let attempt : Attempt = record { order = c.in-Ok-find_attempt.decided.trial.candidate; budget = c.in-Ok-find_attempt.decided.budget } in
-    ap (λ (f : Found). f.variables) c.of-in-Ok-find_attempt.ensures ∙ ap (λ (p : NamingModel). p.names) (c.into_naming.ensures ∙ c.in-Ok.ensures.same) ∙ c.in_ok-declared.ensures.named.names ∙
+pub returns-in-Ok-search-clause-names : goal.returns-in-Ok-search-clause-names
+returns-in-Ok-search-clause-names g c =
+    let attempt : Attempt = record { order = c.in-Ok-search.decided.trial.candidate; budget = c.in-Ok-search.decided.budget } in
+    ap (λ (f : Found). f.variables) c.of-in-Ok-search.ensures ∙ ap (λ (p : NamingModel). p.names) (c.into_naming.ensures ∙ c.in-Ok.ensures.same) ∙ c.in_ok-declared.ensures.named.names ∙
     ap (λ choice. ordered_names c.args.task.now (reported_order choice (Some attempt))) (sym c.requires.auto)
 
 -- ---- each attempt was given up
 
-pub returns-then-is_giving_up-clause-decision : goal.returns-then-is_giving_up-clause-decision
-returns-then-is_giving_up-clause-decision g c = λ input ga.
-    let task = c.args.task.now in
-    let bound = g.G.Monitor.bound c.args.monitor.now in
-    c.cone_verdicts_in-then-is_giving_up.ensures.decision input ga
-    (auto_cause task input ga bound c.requires.auto (subst (λ n. AreAllGivenUp task n bound) c.min-limit.ensures (c.in-Err-find_attempt.ensures.given_up (c.is_giving_up.ensures.0 c.if-is_giving_up.true))))
+pub compare_by_cones_and_last-requires-clause-given_up : goal.compare_by_cones_and_last-requires-clause-given_up
+compare_by_cones_and_last-requires-clause-given_up g c κs lives =
+    subst (λ n. AreAllGivenUp c.args.task.now n (g.G.Monitor.bound c.args.monitor.now)) c.min-limit.ensures (c.in-Err-search.ensures.fault.given_up (c.is_giving_up.ensures.0 c.if-is_giving_up.true))
 
 -- ---- another fault
 
@@ -102,4 +104,4 @@ returns-clause-no_decision g c = λ input ga.
     let fault = c.as_comparison_fault.result in
     let ends = c.as_comparison_fault.ensures in
     none_by_cones input s (g.G.Monitor.bound c.args.monitor.now) fault (subst MayGoByCones (sym c.requires.auto) tt)
-    (late_fault input ⊥ ⊥ ⊥ s.order s.matching orders.Declared fault (accepted_paired task input ga s.order orders.Declared c.in-Ok.pairing is) ends.0) (inr ends.1) (λ only. absurd (ends.1.search.only only)) (late_whole fault ends.0)
+    (late_fault input ⊥ ⊥ ⊥ s.order s.matching orders.Declared fault (accepted_paired task input ga s.order orders.Declared c.in-Ok.pairing is) ends.0) (inr ends.1) (λ only. absurd (subst EndsAtOnce only ends.1)) (late_whole fault ends.0)

@@ -1,4 +1,4 @@
-use Rattle.std.proofs.Common.{◌∙◌, ap, sym, subst, refl, inr, Err, Some}
+use Rattle.std.proofs.Common.{◌∙◌, ap, sym, subst, refl, inr, Some}
 use Rattle.std.proofs.lemmas.Result.{err_from_is_err_and}
 use Rattle.net_order.specs.Order.{NamingModel}
 use Rattle.report_text.specs.Lines.{Found}
@@ -7,7 +7,7 @@ use Rattle.compare_built.specs.Attempts.{AreGivenUp, AreTried, IsAllowed, IsChos
 use Rattle.compare_built.specs.Limits.{AreBeyond}
 use Rattle.explain_report.specs.Deciding.IsFoundBy.{in_order}
 use Rattle.explain_report.specs.Explaining.{reported_order}
-use Rattle.order_search.specs.Trials.{ordered_names}
+use Rattle.order_search.specs.Trials.{EndsSearch, ordered_names}
 use Rattle.order_search.proofs.Rounds.{beyond_in_input, earlier_in_input, given_up_in_input, judged, within}
 use Rattle.check_report.proofs.Refusing.{from_each}
 use Rattle.check_report.proofs.decision.compare_in_best_order.Goals as goal
@@ -18,7 +18,7 @@ returns-clause-decision g c = λ input ga.
     let s = task.settings.now in
     let bound = g.G.Monitor.bound c.args.monitor.now in
     let d = c.in_ok-decided.decided in
-    let has = c.in_ok-decided.ensures in
+    let has = c.in_ok-decided.ensures.found in
     let o = order_of d.trial.candidate in
     let attempt : Attempt = record { order = d.trial.candidate; budget = d.budget } in
     record {
@@ -32,7 +32,7 @@ pub returns-clause-names : goal.returns-clause-names
 returns-clause-names g c =
     let d = c.in_ok-decided.decided in
     let attempt : Attempt = record { order = d.trial.candidate; budget = d.budget } in
-    ap (λ (f : Found). f.variables) c.of.ensures ∙ ap (λ (p : NamingModel). p.names) c.into_naming.ensures ∙ c.in_ok-decided.ensures.decided.paired.naming.names ∙
+    ap (λ (f : Found). f.variables) c.of.ensures ∙ ap (λ (p : NamingModel). p.names) c.into_naming.ensures ∙ c.in_ok-decided.ensures.found.decided.paired.naming.names ∙
     ap (λ choice. ordered_names c.args.task.now (reported_order choice (Some attempt))) (sym c.requires.best)
 
 pub returns-in_err-decided-clause-no_decision : goal.returns-in_err-decided-clause-no_decision
@@ -41,15 +41,15 @@ returns-in_err-decided-clause-no_decision g c = λ input ga.
     let s = task.settings.now in
     let bound = g.G.Monitor.bound c.args.monitor.now in
     let fault = c.in_err-decided.field-0.0 in
-    let has = c.in_err-decided.ensures in
-    let w = has.fault input ga in
+    let has = c.in_err-decided.ensures.fault in
+    let w = has.cause input ga in
     let e = err_from_is_err_and c.from_residual.result c.from_residual.ensures.1 in
     rw (e.1, e.2) (record {
       cause = (order_of w.0, subst (λ choice. IsAllowed choice (order_of w.0)) (sym c.requires.best) (w.0, refl), w.1);
       answer = from_each input s bound fault (record {
         full = λ full o allowed.
             let k = subst (λ choice. IsAllowed choice o) c.requires.best allowed in
-            subst (λ o. AreBeyond input s.matching o s.limit) (sym k.1) (beyond_in_input task input ga s.limit k.0 (has.full (ap Err full) k.0));
+            subst (λ o. AreBeyond input s.matching o s.limit) (sym k.1) (beyond_in_input task input ga s.limit k.0 (has.full full k.0));
         given_up = λ left. (
           subst AreTried (sym c.requires.best) tt,
           λ o allowed.
@@ -58,15 +58,15 @@ returns-in_err-decided-clause-no_decision g c = λ input ga.
         );
         by_cones = λ may. absurd (subst MayGoByCones c.requires.best may);
         any_number_of_inputs = λ may. absurd (subst MayGoByCones c.requires.best may);
-        only = λ none. absurd (has.ends.only none);
-        past = λ none. absurd (has.ends.requests none);
-        needs_no_thread = λ _. has.ends.needs_no_thread;
-        thread_for_named_order = λ none. absurd (has.ends.needs_no_thread none);
+        only = λ none. absurd (subst EndsSearch none has.ends);
+        past = λ none. absurd (subst EndsSearch none has.ends);
+        needs_no_thread = λ _ none. subst EndsSearch none has.ends;
+        thread_for_named_order = λ none. absurd (subst EndsSearch none has.ends);
       });
-      unwritten = has.ends.written;
+      unwritten = λ none. subst EndsSearch none has.ends;
     })
 
 pub returns-in_err-decided-clause-ends : goal.returns-in_err-decided-clause-ends
 returns-in_err-decided-clause-ends g c =
     let e = err_from_is_err_and c.from_residual.result c.from_residual.ensures.1 in
-    rw (e.1, e.2) c.in_err-decided.ensures.ends
+    rw (e.1, e.2) c.in_err-decided.ensures.fault.ends

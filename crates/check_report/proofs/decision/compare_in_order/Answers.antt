@@ -9,7 +9,7 @@ use Rattle.compare_built.specs.Limits.{AreBeyond}
 use Rattle.compare_built.proofs.Widening.{wide_given}
 use Rattle.explain_report.specs.Deciding.IsFoundBy.{in_order}
 use Rattle.explain_report.specs.Explaining.{reported_order}
-use Rattle.order_search.specs.Trials.{ordered_names}
+use Rattle.order_search.specs.Trials.{EndsAtOnce, ordered_names}
 use Rattle.order_search.proofs.Reporting.{late_fault}
 use Rattle.order_search.proofs.Rounds.{accepted_paired, beyond, judged, order_ends, within}
 use Rattle.check_report.proofs.Refusing.{at_once, from_each}
@@ -42,7 +42,7 @@ returns-in_err-pairing-clause-no_decision g c = λ input ga.
     rw (e.1, e.2) (record {
       cause = (o, subst (λ choice. IsAllowed choice o) (sym c.requires.named) refl, c.in_err-pairing.ensures.fault input ga);
       answer = at_once input c.args.task.now.settings.now (g.G.Monitor.bound c.args.monitor.now) fault ends (λ may. absurd (subst MayGoByCones c.requires.named may));
-      unwritten = ends.search.written;
+      unwritten = λ e. subst EndsAtOnce e ends;
     })
 
 pub returns-in_err-verdicts-clause-no_decision : goal.returns-in_err-verdicts-clause-no_decision

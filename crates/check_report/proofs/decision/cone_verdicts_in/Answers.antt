@@ -6,8 +6,8 @@ use Rattle.check_report.proofs.Findings.{cones_end, cones_fault, cones_whole, de
 use Rattle.check_report.proofs.decision.cone_verdicts_in.Goals as goal
 
 pub returns-clause-decision : goal.returns-clause-decision
-returns-clause-decision g c = λ input ga cause. record {
-  found_by = found_by_cones c.args.task.now input ga (g.G.Monitor.bound c.args.monitor.now) c.args.declared c.in_ok-verdicts.verdicts c.requires.naming cause c.in_ok-verdicts.ensures.verdicts;
+returns-clause-decision g c = λ input ga cause last. record {
+  found_by = found_by_cones c.args.task.now input ga (g.G.Monitor.bound c.args.monitor.now) c.args.declared c.in_ok-verdicts.verdicts c.requires.naming cause c.in_ok-verdicts.ensures.verdicts last;
   earlier_given_up = tt;
 }
 

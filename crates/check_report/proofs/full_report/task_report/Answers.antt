@@ -1,7 +1,8 @@
-use Rattle.std.proofs.Common.{◌≡◌, ap, inr, Err}
+use Rattle.std.proofs.Common.{subst, ◌≡◌, ap, inr, Err}
 use Rattle.std.proofs.lemmas.Result.{err_from_is_err_and}
 use Rattle.compare_built.specs.declared.fault.CheckFault.TheVariants.{Write}
 use Rattle.explain_report.proofs.Trying.{found_accepted}
+use Rattle.order_search.specs.Trials.{EndsAtOnce}
 use Rattle.check_report.proofs.Refusing.{at_once}
 use Rattle.check_report.proofs.full_report.task_report.Goals as goal
 
@@ -61,7 +62,7 @@ returns-in_err-report-clause-fault g c = λ input ga.
 pub returns-in_err-report-clause-unwritten : goal.returns-in_err-report-clause-unwritten
 returns-in_err-report-clause-unwritten g c = λ input ga.
     let e = err_from_is_err_and c.from_residual-in_err-report.result c.from_residual-in_err-report.ensures.1 in
-    rw (e.1, e.2) (λ w. let same : c.in_err-report.field-0.0 ≡ Write = cc in c.in_err-report.ensures.ends.search.written same)
+    rw (e.1, e.2) (λ w. let same : c.in_err-report.field-0.0 ≡ Write = cc in subst EndsAtOnce same c.in_err-report.ensures.ends)
 
 pub returns-in_err-vcd-clause-answer : goal.returns-in_err-vcd-clause-answer
 returns-in_err-vcd-clause-answer g c = λ input ga.
@@ -77,4 +78,4 @@ returns-in_err-vcd-clause-fault g c = λ input ga.
 pub returns-in_err-vcd-clause-unwritten : goal.returns-in_err-vcd-clause-unwritten
 returns-in_err-vcd-clause-unwritten g c = λ input ga.
     let e = err_from_is_err_and c.from_residual-in_err-vcd.result c.from_residual-in_err-vcd.ensures.1 in
-    rw (e.1, e.2) (λ w. let same : c.in_err-vcd.field-0.0 ≡ Write = cc in c.in_err-vcd.ensures.ends.search.written same)
+    rw (e.1, e.2) (λ w. let same : c.in_err-vcd.field-0.0 ≡ Write = cc in subst EndsAtOnce same c.in_err-vcd.ensures.ends)

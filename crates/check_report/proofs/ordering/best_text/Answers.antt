@@ -1,10 +1,11 @@
-use Rattle.std.proofs.Common.{◌≡◌, ◌∙◌, ap}
+use Rattle.std.proofs.Common.{subst, ◌≡◌, ◌∙◌, ap}
 use Rattle.std.proofs.lemmas.Result.{err_from_is_err_and}
 use Rattle.net_order.specs.OrderText.{order_text}
 use Rattle.compare_built.specs.declared.fault.CheckFault.TheVariants.{Write}
 use Rattle.explain_report.proofs.Trying.{found_accepted}
 use Rattle.check_report.proofs.Printing.{best_printed}
 use Rattle.check_report.proofs.Refusing.{of_search}
+use Rattle.order_search.specs.Trials.{EndsSearch}
 use Rattle.check_report.proofs.ordering.best_text.Goals as goal
 
 pub returns-clause-text : goal.returns-clause-text
@@ -29,7 +30,7 @@ returns-in_err-verdicts-clause-fault g c = λ input ga.
 pub returns-in_err-verdicts-clause-unwritten : goal.returns-in_err-verdicts-clause-unwritten
 returns-in_err-verdicts-clause-unwritten g c =
     let e = err_from_is_err_and c.from_residual.result c.from_residual.ensures.1 in
-    rw (e.1, e.2) (λ w. let same : c.in_err-verdicts.field-0.0 ≡ Write = cc in c.in_err-verdicts.ensures.ends.written same)
+    rw (e.1, e.2) (λ w. let same : c.in_err-verdicts.field-0.0 ≡ Write = cc in subst EndsSearch same c.in_err-verdicts.ensures.ends)
 
 pub returns-in_err-text-clause-answer : goal.returns-in_err-text-clause-answer
 returns-in_err-text-clause-answer g c = λ input ga.
