@@ -33,7 +33,7 @@ use std::alloc::{AllocError, Global};
 use std::sync::Wait;
 use std::thread::Threads;
 
-/// How the cones of a pair are compared: by name, by one worker and without sizes.
+/// How the cones of a pair are compared: by name, in the candidates' orders, by one worker and without sizes.
 fn cone_settings(alloc: Global, settings: &Settings) -> Settings
     ensures matching { result.matching ≡ ByName }
     ensures no_sizes { result.sizes ≡ false }
@@ -41,7 +41,7 @@ fn cone_settings(alloc: Global, settings: &Settings) -> Settings
 {
     Settings {
         matching: Match::Name,
-        order: Strategy::Cones,
+        order: Strategy::Best,
         picked: PairFilter::All,
         workers: 1,
         limit: settings.limit,
@@ -127,10 +127,8 @@ fn judged<H: Threads + Wait + Sync, G: Monitor>(
     let _ = task.first.inputs();
     let _ = task.second.inputs();
     let known = judge_all(context, subjects, monitor)?;
-    match verdicts_or_undecided(task.alloc, task.first, subjects, known) {
-        Ok(verdicts) => Ok(verdicts),
-        Err(_) => Err(CheckFault::OutOfMemory),
-    }
+    let verdicts = verdicts_or_undecided(task.alloc, task.first, subjects, known)?;
+    Ok(verdicts)
 }
 
 /// Puts lines behind others.
@@ -162,21 +160,11 @@ fn judge_selected<H: Threads + Wait + Sync, G: Monitor>(
 {
     let _ = task.first.inputs();
     let _ = task.second.inputs();
-    let Ok(first) = names_in(task.alloc, task.first, naming, NetlistRole::First) else {
-        return Err(CheckFault::OutOfMemory);
-    };
-    let Ok(second) = names_in(task.alloc, task.second, naming, NetlistRole::Second) else {
-        return Err(CheckFault::OutOfMemory);
-    };
-    let Ok(first_gates) = gate_signals(task.alloc, task.first) else {
-        return Err(CheckFault::OutOfMemory);
-    };
-    let Ok(second_gates) = gate_signals(task.alloc, task.second) else {
-        return Err(CheckFault::OutOfMemory);
-    };
-    let Ok(given) = given_cone(task, naming) else {
-        return Err(CheckFault::OutOfMemory);
-    };
+    let first = names_in(task.alloc, task.first, naming, NetlistRole::First)?;
+    let second = names_in(task.alloc, task.second, naming, NetlistRole::Second)?;
+    let first_gates = gate_signals(task.alloc, task.first)?;
+    let second_gates = gate_signals(task.alloc, task.second)?;
+    let given = given_cone(task, naming)?;
     let settings = cone_settings(task.alloc, task.settings);
     let context = ConeContext {
         task,
@@ -209,8 +197,6 @@ pub fn verdicts_by_cones<H: Threads + Wait + Sync, G: Monitor>(
         unmatched_lines,
     } = select_pairs(task, &naming)?;
     let verdicts = judge_selected(task, &naming, subjects.as_slice(), monitor)?;
-    match and_unmatched(verdicts, unmatched_lines) {
-        Ok(verdicts) => Ok(Verdicts::of(naming, verdicts)),
-        Err(_) => Err(CheckFault::OutOfMemory),
-    }
+    let verdicts = and_unmatched(verdicts, unmatched_lines)?;
+    Ok(Verdicts::of(naming, verdicts))
 }

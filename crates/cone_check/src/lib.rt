@@ -14,6 +14,7 @@
 mod batches;
 pub mod cone_comparison;
 pub mod pair_cones;
+mod pair_monitor;
 mod pair_selection;
 mod pairs;
 mod remaining;

@@ -50,7 +50,10 @@ pub struct Cones {
 }
 
 /// The cones of a pair.
-pub fn cones_of<H>(context: &ConeContext<'_, H>, subject: &Subject) -> Result<Cones, AllocError>
+pub(crate) fn cones_of<H>(
+    context: &ConeContext<'_, H>,
+    subject: &Subject,
+) -> Result<Cones, AllocError>
     requires ready { IsConeContext context.now }
     requires in_range { IsInContext context.now subject.now }
     ensures { IfOk result (AreConesOf context.now subject.now) }
@@ -102,7 +105,10 @@ fn true_places(alloc: Global, has_level: &[bool]) -> Result<Vec<u32>, AllocError
 }
 
 /// The levels of the variables that the cones of a pair and of the condition have, rising. Time is linear in the levels and in the cones.
-pub fn places_of<H>(context: &ConeContext<'_, H>, cones: &Cones) -> Result<Vec<u32>, AllocError>
+pub(crate) fn places_of<H>(
+    context: &ConeContext<'_, H>,
+    cones: &Cones,
+) -> Result<Vec<u32>, AllocError>
     ensures places { IfOk result (λ v. ArePlaces (length context.now.naming.now.names) v.items) }
     ensures few { IfOk result (λ v. length v.items ≤ MAX_NAMES) }
 {
@@ -161,7 +167,7 @@ fn net_of<'a>(given: Option<&'a Cone>) -> Option<&'a Netlist>
 }
 
 /// The comparison of a pair's cones.
-pub fn task_of<'a, H>(context: &ConeContext<'a, H>, cones: &'a Cones) -> Task<'a, H>
+pub(crate) fn task_of<'a, H>(context: &ConeContext<'a, H>, cones: &'a Cones) -> Task<'a, H>
     requires { IsConeContext context.now }
     ensures { IsConeTask context.now cones.now result }
 {
@@ -189,7 +195,7 @@ pub fn as_comparison_fault(fault: CheckFault) -> CheckFault
 
 /// The pairing of a pair's cones whose variables stand as in the whole's. There is none where the cones have more variables together than
 /// a pairing has.
-pub fn cone_pairing<H>(
+pub(crate) fn cone_pairing<H>(
     task: &Task<'_, H>,
     names: &Names,
     places: &[u32],
@@ -201,9 +207,7 @@ pub fn cone_pairing<H>(
     ensures many { result ≡ Ok None → HasTooManyVariables task.now }
     ensures ends { IfErr result EndsPairs }
 {
-    let Ok(list) = names_at(task.alloc, names, places) else {
-        return Err(CheckFault::OutOfMemory);
-    };
+    let list = names_at(task.alloc, names, places)?;
     match paired(task, &Order::Listed(list)) {
         Ok(pairing) => Ok(Some(pairing)),
         Err(CheckFault::Order(OrderFault::TooManyInputs)) => Ok(None),

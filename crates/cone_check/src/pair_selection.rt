@@ -242,17 +242,6 @@ fn all_pairs<H>(
     })
 }
 
-/// Want of memory as a fault of a comparison.
-fn or_out_of_memory(picks: Result<Selection, AllocError>) -> Result<Selection, CheckFault>
-    ensures ok { IfOk result (λ r. picks ≡ Ok r) }
-    ensures err { IfErr result (λ fault. fault ≡ CheckFault.OutOfMemory) }
-{
-    match picks {
-        Ok(picks) => Ok(picks),
-        Err(_) => Err(CheckFault::OutOfMemory),
-    }
-}
-
 /// What is picked of a task's pairs and of what has no partner. A name that the first netlist does not have is a fault.
 pub fn select_pairs<H>(task: &Task<'_, H>, naming: &Naming) -> Result<Selection, CheckFault>
     requires { AreSignals (circuit task.now.first.now) (circuit task.now.second.now) naming.now }
@@ -261,17 +250,15 @@ pub fn select_pairs<H>(task: &Task<'_, H>, naming: &Naming) -> Result<Selection,
     ensures unknown { result ≡ Err CheckFault.Only → HasUnknown (circuit task.now.first.now) task.now.settings.now.picked }
     ensures err { IfErr result (λ fault. (fault ≡ CheckFault.Only) ⊎ (fault ≡ CheckFault.OutOfMemory)) }
 {
-    let Ok(pairs) = subjects_of(task.alloc, task.first, task.second, naming) else {
-        return Err(CheckFault::OutOfMemory);
-    };
+    let pairs = subjects_of(task.alloc, task.first, task.second, naming)?;
     match &task.settings.picked {
-        PairFilter::All => or_out_of_memory(all_pairs(task, naming, pairs)),
+        PairFilter::All => Ok(all_pairs(task, naming, pairs)?),
         PairFilter::Only(names) => {
             if !are_named(task.first, names.as_slice()) {
                 return Err(CheckFault::Only);
             }
-            or_out_of_memory(named(task, naming, pairs, names))
+            Ok(named(task, naming, pairs, names)?)
         }
-        PairFilter::Share(share) => or_out_of_memory(shared(task, naming, pairs, *share)),
+        PairFilter::Share(share) => Ok(shared(task, naming, pairs, *share)?),
     }
 }

@@ -13,6 +13,7 @@ ghost use Rattle.order_search.specs.Trials.{EndsAtOnce, IsDecidedWithin, IsPairi
 use crate::pair_cones::{
     ConeContext, Cones, as_comparison_fault, cone_pairing, cones_of, places_of, task_of,
 };
+use crate::pair_monitor::PairMonitor;
 use compare_built::fault::CheckFault;
 use compare_built::scatter::widen_verdict;
 use compare_built::subject::Subject;
@@ -54,7 +55,8 @@ fn try_cones<H: Threads + Wait + Sync, G: Monitor>(
     ensures ends { IfErr result EndsAtOnce }
 {
     let mut trials = Vec::new(task.alloc);
-    match try_first(task, Some(pairing), &mut trials, budget, monitor)? {
+    let silent = PairMonitor { monitor };
+    match try_first(task, Some(pairing), &mut trials, budget, &silent)? {
         Round::Decided(decided) => {
             let Decided { verdicts, .. } = decided;
             Ok(Some(only_one(verdicts)))
@@ -106,9 +108,7 @@ fn judge_cones<H: Threads + Wait + Sync, G: Monitor>(
 {
     let _ = context.task.first.inputs();
     let _ = context.task.second.inputs();
-    let Ok(places) = places_of(context, cones) else {
-        return Err(CheckFault::OutOfMemory);
-    };
+    let places = places_of(context, cones)?;
     let task = task_of(context, cones);
     let paired = cone_pairing(&task, context.naming.names(), places.as_slice())?;
     let Some(pairing) = paired else {
@@ -118,10 +118,8 @@ fn judge_cones<H: Threads + Wait + Sync, G: Monitor>(
         Ok(found) => found,
         Err(fault) => return Err(as_comparison_fault(fault)),
     };
-    match over_all_variables(context, subject, places.as_slice(), found) {
-        Ok(verdict) => Ok(verdict),
-        Err(_) => Err(CheckFault::OutOfMemory),
-    }
+    let verdict = over_all_variables(context, subject, places.as_slice(), found)?;
+    Ok(verdict)
 }
 
 /// The verdict of a pair by its cones over all variables, or none where each attempt within so many nodes was given up, or the cones
@@ -137,8 +135,6 @@ pub fn judge_pair<H: Threads + Wait + Sync, G: Monitor>(
     requires in_range { IsInContext context.now subject.now }
     ensures { IsJobResult context.now budget (G.bound monitor.now) subject.now result }
 {
-    match cones_of(context, subject) {
-        Ok(cones) => judge_cones(context, subject, &cones, budget, monitor),
-        Err(_) => Err(CheckFault::OutOfMemory),
-    }
+    let cones = cones_of(context, subject)?;
+    judge_cones(context, subject, &cones, budget, monitor)
 }

@@ -30,7 +30,7 @@ pub struct PairJob {
 
 impl PairJob {
     /// A turn that is not taken yet.
-    pub fn of(subject: Subject) -> PairJob
+    pub(crate) fn of(subject: Subject) -> PairJob
         ensures { result.subject ≡ subject }
     {
         PairJob {
@@ -196,7 +196,7 @@ pub fn cone_limit(limit: u64) -> u64
 }
 
 /// Judges pairs by their cones within budgets that grow up to a quarter of the limit, each time those that are left.
-pub fn judge_all<H: Threads + Wait + Sync, G: Monitor>(
+pub(crate) fn judge_all<H: Threads + Wait + Sync, G: Monitor>(
     context: &ConeContext<'_, H>,
     subjects: &[Subject],
     monitor: &G,

@@ -3,9 +3,8 @@ ghost use Rattle.std.specs.Prelude.{◌≡◌, ◌≢◌, true, false, IfOk, IfE
 ghost use Rattle.order_search.specs.Trials.{IsGivingUp};
 
 use compare_built::fault::CheckFault;
-use compare_built::strategy::{Candidate, Strategy};
-use compare_built::task::Task;
-use expand_work::{AttemptEnd, Monitor, WaveFault};
+use compare_built::strategy::Candidate;
+use expand_work::{AttemptEnd, WaveFault};
 
 /// Whether an attempt with this fault is given up for its nodes, or for a wave's requests. Any other fault ends the search.
 pub(crate) fn give_up_reason(fault: CheckFault) -> Result<bool, CheckFault>
@@ -28,18 +27,6 @@ pub(crate) fn end_of(order: Candidate, full: bool) -> AttemptEnd {
         AttemptEnd::MoreNodes { order }
     } else {
         AttemptEnd::TooManyRequests { order }
-    }
-}
-
-/// Notifies the monitor how an attempt of the whole has ended. For pairs by their cones it is notified of each round instead.
-pub(crate) fn notify_attempt<H, G: Monitor>(
-    task: &Task<'_, H>,
-    budget: u64,
-    end: AttemptEnd,
-    monitor: &G,
-) {
-    if !matches!(task.settings.order, Strategy::Cones) {
-        monitor.at_attempt(budget, end);
     }
 }
 

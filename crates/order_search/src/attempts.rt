@@ -3,7 +3,7 @@ ghost use Rattle.std.specs.Prelude.{◌≡◌, ◌<◌, ◌^◌, [], All, IfOk, 
 ghost use Rattle.order_search.specs.Trials.{AreTrials, EndsAtOnce, IsCandidateFault, IsDecided, IsEnded, IsFirstAttempt, IsFirstRound};
 ghost use Rattle.order_search.specs.Trials.{IsReportedIn, IsRound, IsTrial, IsTrialFault};
 
-use crate::attempt_end::{end_of, give_up_reason, notify_attempt};
+use crate::attempt_end::{end_of, give_up_reason};
 use crate::bounded_monitor::BoundedMonitor;
 use crate::trials::{Trial, is_tried, keep, paired, put_furthest_first};
 use compare_built::comparison::{compare, compare_as_declared};
@@ -97,12 +97,12 @@ fn attempt<H: Threads + Wait + Sync, G: Monitor>(
     match verdicts_by(task, declared, trial, budget, &bounded) {
         Ok(verdicts) => {
             let order = trial.candidate.name();
-            notify_attempt(task, budget, AttemptEnd::Decided { order }, monitor);
+            monitor.at_attempt(budget, AttemptEnd::Decided { order });
             Ok(Ended::Decided(verdicts))
         }
         Err(fault) => {
             let full = give_up_reason(fault)?;
-            notify_attempt(task, budget, end_of(trial.candidate, full), monitor);
+            monitor.at_attempt(budget, end_of(trial.candidate, full));
             Ok(Ended::GivenUp { full })
         }
     }

@@ -13,13 +13,13 @@ pub verdicts_or_undecided-requires-clause-one_for_each : goal.verdicts_or_undeci
 verdicts_or_undecided-requires-clause-one_for_each g c =
     length_known (IsDecidedIn c.args.context.now (cone_limit c.args.context.now.task.now.settings.now.limit)) (StaysUndecided c.args.context.now (g.G.Monitor.bound c.args.monitor.now)) c.args.subjects.now c.in_ok-known.known.items c.in_ok-known.ensures.known
 
-pub returns-in-Ok-clause-verdicts : goal.returns-in-Ok-clause-verdicts
-returns-in-Ok-clause-verdicts g c =
+pub returns-clause-verdicts : goal.returns-clause-verdicts
+returns-clause-verdicts g c =
     let w = c.args.context.now in
     let task = w.task.now in
     let bound = g.G.Monitor.bound c.args.monitor.now in
     let within = FitIn w (cone_limit task.settings.now.limit) in
-    subst (AllZip (IsFinalVerdict w bound) c.args.subjects.now) (sym c.in-Ok.ensures)
+    subst (AllZip (IsFinalVerdict w bound) c.args.subjects.now) (sym c.in_ok-verdicts.ensures)
     (reported_known (circuit task.first.now) (IsDecidedIn w (cone_limit task.settings.now.limit)) (StaysUndecided w bound) (IsFinalVerdict w bound)
     (λ s v t. reported_decided (unsized task.settings.now.assignment) within within (StaysUndecided w bound) (circuit task.first.now) (circuit task.second.now) (condition task.given) w.naming.now s v (λ few. few) t)
     (λ s left. reported_left (unsized task.settings.now.assignment) within (StaysUndecided w bound) task.first.now task.second.now (condition task.given) w.naming.now s c.inputs.ensures.sound c.inputs-2.ensures.sound c.requires.ready.conditional_net left)

@@ -24,8 +24,8 @@ judge_selected-requires-clause-in_range g c κs within =
     let signals = all_signals task.settings.now.matching task.first.now task.second.now (condition task.given) Declared c.args.naming c.inputs.ensures.sound c.inputs-2.ensures.sound c.requires in
     subst (All (IsInside a b)) (sym c.as_slice.ensures.value) (picked_inside (IsInside a b) a b c.args.naming c.in_ok-subjects.ensures.picked signals.compared)
 
-pub returns-in-Ok-clause-verdicts : goal.returns-in-Ok-clause-verdicts
-returns-in-Ok-clause-verdicts g c =
+pub returns-clause-verdicts : goal.returns-clause-verdicts
+returns-clause-verdicts g c =
     let task = c.args.task.now in
     let a = circuit task.first.now in
     let b = circuit task.second.now in
@@ -39,6 +39,6 @@ returns-in-Ok-clause-verdicts g c =
         variables = ap (λ (f : Found). f.variables) c.of.ensures;
         of_pairs = c.in_ok-verdicts.verdicts.items;
         verdicts = subst (λ ss. AllZip (IsConeVerdict (unsized task.settings.now.assignment) (FitByCones (cone_limit task.settings.now.limit) a b given p) (IsUndecided task.settings.now.limit (g.G.Monitor.bound c.args.monitor.now) a b given p) a b given p) ss c.in_ok-verdicts.verdicts.items) c.as_slice.ensures.value c.in_ok-verdicts.ensures.verdicts;
-        all = ap (λ (f : Found). f.verdicts) c.of.ensures ∙ c.in-Ok.ensures;
+        all = ap (λ (f : Found). f.verdicts) c.of.ensures ∙ c.in_ok-verdicts-2.ensures;
       };
     }

@@ -14,21 +14,21 @@ try_cones-requires-clause-one g c κs within =
     let task = c.task_of-task.result in
     let P : NamingModel → Type 0 = λ q. (order : Order) × IsPairingIn task order q × (q.names ≡ map (variable_name c.names.result.now) c.as_slice.result.now) in
     let p = subst (λ o. IfSome o P) c.in-Some.is c.in_ok-paired.ensures.paired in
-    let named : c.in-Some.pairing.names ≡ map (variable_name w.naming.now.names) c.in-Ok.places.items =
+    let named : c.in-Some.pairing.names ≡ map (variable_name w.naming.now.names) c.in_ok-places.places.items =
     subst (λ ps. c.in-Some.pairing.names ≡ map (variable_name w.naming.now.names) ps) c.as_slice.ensures.value
     (subst (λ ns. c.in-Some.pairing.names ≡ map (variable_name ns) c.as_slice.result.now) c.names.ensures p.2) in
-    one_pair w c.args.subject.now c.args.cones.now task c.requires.ready c.requires.cones c.task_of-task.ensures c.inputs.ensures.sound c.inputs-2.ensures.sound c.in-Ok.places.items c.in-Some.pairing c.in-Ok.ensures.places
+    one_pair w c.args.subject.now c.args.cones.now task c.requires.ready c.requires.cones c.task_of-task.ensures c.inputs.ensures.sound c.inputs-2.ensures.sound c.in_ok-places.places.items c.in-Some.pairing c.in_ok-places.ensures.places
     (p.0, p.1, named)
 
-pub returns-in-Ok-over_all_variables : goal.returns-in-Ok-over_all_variables
-returns-in-Ok-over_all_variables g c =
+pub returns : goal.returns
+returns g c =
     let w = c.args.context.now in
     let task = c.task_of-task.result in
     let P : NamingModel → Type 0 = λ q. (order : Order) × IsPairingIn task order q × (q.names ≡ map (variable_name c.names.result.now) c.as_slice.result.now) in
     let p = subst (λ o. IfSome o P) c.in-Some.is c.in_ok-paired.ensures.paired in
-    let named : c.in-Some.pairing.names ≡ map (variable_name w.naming.now.names) c.in-Ok.places.items =
+    let named : c.in-Some.pairing.names ≡ map (variable_name w.naming.now.names) c.in_ok-places.places.items =
     subst (λ ps. c.in-Some.pairing.names ≡ map (variable_name w.naming.now.names) ps) c.as_slice.ensures.value
     (subst (λ ns. c.in-Some.pairing.names ≡ map (variable_name ns) c.as_slice.result.now) c.names.ensures p.2) in
-    judged_pair w c.args.subject.now c.args.cones.now task c.requires.ready c.requires.cones c.task_of-task.ensures c.inputs.ensures.sound c.inputs-2.ensures.sound c.in-Ok.places.items c.in-Some.pairing c.in-Ok.ensures.places
-    (p.0, p.1, named) c.args.budget (g.G.Monitor.bound c.args.monitor.now) c.in-Ok-try_cones.found c.in-Ok-over_all_variables.verdict c.in-Ok-try_cones.ensures.decided c.in-Ok-try_cones.ensures.within (λ e. c.in-Ok-try_cones.ensures.left (ap Ok e))
-    (subst (λ ps. IsWidened w c.args.subject.now ps c.in-Ok-try_cones.found c.in-Ok-over_all_variables.verdict) c.as_slice-2.ensures.value c.in-Ok-over_all_variables.ensures)
+    judged_pair w c.args.subject.now c.args.cones.now task c.requires.ready c.requires.cones c.task_of-task.ensures c.inputs.ensures.sound c.inputs-2.ensures.sound c.in_ok-places.places.items c.in-Some.pairing c.in_ok-places.ensures.places
+    (p.0, p.1, named) c.args.budget (g.G.Monitor.bound c.args.monitor.now) c.in-Ok.found c.in_ok-verdict.verdict c.in-Ok.ensures.decided c.in-Ok.ensures.within (λ e. c.in-Ok.ensures.left (ap Ok e))
+    (subst (λ ps. IsWidened w c.args.subject.now ps c.in-Ok.found c.in_ok-verdict.verdict) c.as_slice-2.ensures.value c.in_ok-verdict.ensures)
