@@ -1,7 +1,6 @@
 -- Pairs that are judged by their cones: what a comparison of cones says of the whole.
-use Rattle.std.proofs.Common.{◌≡◌, ap, sym, refl, subst, arith, ◌⊎◌, inl, inr, ℕ, suc, ◌<◌, ◌≤◌, ◌*◌, Bool, true, false, List, [], ◌∷◌, map, length, get_or, All, Option, Some, None, Result, Ok, min}
+use Rattle.std.proofs.Common.{◌≡◌, sym, refl, subst, arith, ◌⊎◌, inl, inr, ℕ, ◌<◌, ◌≤◌, ◌*◌, Bool, true, false, List, [], ◌∷◌, map, length, All, Option, Some, None, min}
 use Rattle.std.specs.Prelude.{◌==◌, IfSome, cond, filter, zip, option_map, slice_index}
-use Rattle.std.specs.List.{AllZip}
 use Rattle.std.proofs.lemmas.List.Elements.{All-cons, All-filter, All-head, All-nil, All-tail}
 use Rattle.expand_work.specs.Bounds.{most_of}
 use Rattle.gate_plan.proofs.Signals.{function, some_function}
@@ -18,19 +17,14 @@ use Rattle.report_text.specs.declared.assignment.Assignment.{Assignment}
 use Rattle.compare_built.specs.declared.verdict_order.Details.{Details}
 use Rattle.compare_built.specs.Details.{unsized}
 use Rattle.compare_built.specs.declared.strategy.Candidate.{Candidate}
-use Rattle.compare_built.specs.declared.fault.CheckFault.{CheckFault}
-use Rattle.cone_check.specs.declared.rounds.PairJob.{PairJob}
 use Rattle.compare_built.specs.declared.subject.Subject.{Subject}
 use Rattle.compare_built.specs.declared.task.Task.{Task}
 use Rattle.compare_built.specs.Attempts.{order_of}
 use Rattle.compare_built.specs.Conditions.{HoldsWhere, everywhere, output_of}
 use Rattle.compare_built.specs.Cones.{AreCones, FitByCones, IsUndecidedWithin, IsConeVerdict, IsVerdictOrUndecided}
 use Rattle.compare_built.specs.Cones.IsVerdictOrUndecided.{decided, undecided}
-use Rattle.std.specs.Borrow.{Bor}
-use Rattle.std.specs.Option.{option_copied}
-use Rattle.net_cone.specs.declared.cone.Cone.{Cone}
 use Rattle.compare_built.specs.declared.pair_filter.PairFilter.{PairFilter}
-use Rattle.cone_check.specs.ConeRounds.{IsKnown, circuit_in, circuit_of, left_of}
+use Rattle.cone_check.specs.ConeRounds.{IsKnown}
 use Rattle.compare_built.specs.Limits.{Exceeds, FitsWithin}
 use Rattle.compare_built.specs.PairSelection.{ArePicked, is_pair_of, of_share}
 use Rattle.compare_built.specs.PairSelection.ArePicked.{all, named, shared}
@@ -155,27 +149,6 @@ known_by_cones which a b given p s k m w places q is within left None reported e
 known_by_cones which a b given p s k m w places q is within left (Some v) reported e are few none =
     subst (IsKnown (IsConeVerdict (unsized which) within (λ t. ⊥) a b given p) left s) (sym e) (reported_widened a b given p s k m w places q is which within (λ t. ⊥) v few are)
 
--- ---- turns
-
--- the pairs that are left are some of all
-pub all_left : (P : Subject → Type 0) (ss : List Subject) (known : List (Option Verdict)) → All P ss → All P (left_of ss known)
-all_left P [] known h = h
-all_left P (s ∷ ss) [] h = All-nil P
-all_left P (s ∷ ss) (None ∷ known) h = All-cons P s (left_of ss known) (All-head P s ss h) (all_left P ss known (All-tail P s ss h))
-all_left P (s ∷ ss) (Some v ∷ known) h = all_left P ss known (All-tail P s ss h)
-
--- what the turns came to, pair by pair
-pub results_zip : (R : Subject → Result (Option Verdict) CheckFault → Type 0) (jobs : List PairJob) (found : List (Option Verdict)) →
-    ((i : ℕ) (t : PairJob) → i < length jobs → R (get_or jobs i t).subject (get_or jobs i t).ended) → map (λ (t : PairJob). t.ended) jobs ≡ map Ok found →
-    AllZip (λ s o. R s (Ok o)) (map (λ (t : PairJob). t.subject) jobs) found
-results_zip R [] [] h e = tt
-results_zip R [] (o ∷ found) h e = cc
-results_zip R (t ∷ jobs) [] h e = cc
-results_zip R (t ∷ jobs) (o ∷ found) h e =
-    let same : t.ended ≡ Ok o = cc in
-    let rest : map (λ (u : PairJob). u.ended) jobs ≡ map Ok found = cc in
-    (subst (R t.subject) same (h 0 t (omega arith)), results_zip R jobs found (λ i u lt. h (suc i) u (omega (arith, lt))) rest)
-
 -- ---- picks
 
 pair_inside : (P : Subject → Type 0) (k : ℕ) (ss : List Subject) (shares : List ℕ) → All P ss → All P (of_share k (zip ss shares))
@@ -194,8 +167,3 @@ pub picked_inside : (P : Subject → Type 0) (a b : Circuit) (p : NamingModel) {
 picked_inside P a b p all h = h
 picked_inside P a b p (named {names = names} of) h = All-filter (is_pair_of a names.items) P (subjects a b p) h
 picked_inside P a b p (shared {share = share} {shares = shares} of) h = pair_inside P share.number (subjects a b p) shares h
-
--- the condition's cone, as it is lent
-pub as_cone : (o : Option Cone) (r : Option (Bor Cone)) → option_copied r ≡ o → circuit_in o ≡ circuit_of r
-as_cone o None e = ap circuit_in (sym e)
-as_cone o (Some cone) e = ap circuit_in (sym e)

@@ -1,27 +1,35 @@
--- Verdicts that are found for the pairs that are left, in the places of those.
-use Rattle.std.proofs.Common.{◌≡◌, refl, arith, List, [], ◌∷◌, length, Option, Some, None}
+-- What is known of pairs, place by place.
+use Rattle.std.proofs.Common.{◌≡◌, refl, subst, sym, arith, ℕ, suc, ◌<◌, List, [], ◌∷◌, length, get_or, Option, Some, None}
 use Rattle.std.specs.List.{AllZip}
 use Rattle.report_text.specs.declared.verdict.Verdict.{Verdict}
 use Rattle.compare_built.specs.declared.subject.Subject.{Subject}
-use Rattle.cone_check.specs.ConeRounds.{IsKnown, all_or_undecided, filled, left_of, rest_found, or_undecided}
+use Rattle.cone_check.specs.ConeRounds.{IsKnown, all_or_undecided, or_undecided}
 use Rattle.net_bench.specs.Circuit.{Circuit}
 
--- what is known of all pairs after a round, in which each that was left had its turn
-pub filled_known : (reported : Subject → Verdict → Type 0) (before now after : Subject → Type 0) → ((s : Subject) → before s → now s → after s) →
-    (ss : List Subject) (known found : List (Option Verdict)) → AllZip (IsKnown reported before) ss known → AllZip (IsKnown reported now) (left_of ss known) found →
-    AllZip (IsKnown reported after) ss (filled known found)
-filled_known reported before now after both [] [] found h k = tt
-filled_known reported before now after both [] (o ∷ known) found h k = absurd h
-filled_known reported before now after both (s ∷ ss) [] found h k = absurd h
-filled_known reported before now after both (s ∷ ss) (Some v ∷ known) found h k = (h.0, filled_known reported before now after both ss known found h.1 k)
-filled_known reported before now after both (s ∷ ss) (None ∷ known) [] h k = absurd k
-filled_known reported before now after both (s ∷ ss) (None ∷ known) (None ∷ found) h k = (both s h.0 k.0, filled_known reported before now after both ss known found h.1 k.1)
-filled_known reported before now after both (s ∷ ss) (None ∷ known) (Some v ∷ found) h k = (k.0, filled_known reported before now after both ss known found h.1 k.1)
+-- what a round leaves of a pair: its verdict if it had one, and else what is found now
+abbrev pub IsKept : (reported : Subject → Verdict → Type 0) (now : Subject → Type 0) → Subject → (known new : Option Verdict) → Type 0
+IsKept reported now s (Some v) new = new ≡ Some v
+IsKept reported now s None new = IsKnown reported now s new
 
--- there are as many as before
-pub length_filled : (known found : List (Option Verdict)) → length (filled known found) ≡ length known
-length_filled [] found = refl
-length_filled (o ∷ known) found = let e = length_filled known (rest_found o found) in omega (arith, e)
+kept_one : (reported : Subject → Verdict → Type 0) (before now after : Subject → Type 0) → ((s : Subject) → before s → now s → after s) → (s : Subject) (known new : Option Verdict) →
+    IsKnown reported before s known → IsKept reported now s known new → IsKnown reported after s new
+kept_one reported before now after both s (Some v) new h k = subst (IsKnown reported after s) (sym k) h
+kept_one reported before now after both s None None h k = both s h k
+kept_one reported before now after both s None (Some v) h k = k
+
+-- what is known of all pairs after a round
+pub kept_known : (reported : Subject → Verdict → Type 0) (before now after : Subject → Type 0) → ((s : Subject) → before s → now s → after s) →
+    (ss : List Subject) (known new : List (Option Verdict)) → AllZip (IsKnown reported before) ss known → length new ≡ length known →
+    ((i : ℕ) (s : Subject) → i < length ss → IsKept reported now (get_or ss i s) (get_or known i None) (get_or new i None)) → AllZip (IsKnown reported after) ss new
+kept_known reported before now after both [] [] [] h long each = tt
+kept_known reported before now after both [] [] (n ∷ new) h long each = absurd (omega (arith, long))
+kept_known reported before now after both [] (o ∷ known) new h long each = absurd h
+kept_known reported before now after both (s ∷ ss) [] new h long each = absurd h
+kept_known reported before now after both (s ∷ ss) (o ∷ known) [] h long each = absurd (omega (arith, long))
+kept_known reported before now after both (s ∷ ss) (o ∷ known) (n ∷ new) h long each = (
+  kept_one reported before now after both s o n h.0 (each 0 s (omega arith)),
+  kept_known reported before now after both ss known new h.1 (omega (arith, long)) (λ i t lt. each (suc i) t (omega (arith, lt))),
+)
 
 -- the verdicts that are told
 pub reported_known : (a : Circuit) (reported : Subject → Verdict → Type 0) (left : Subject → Type 0) (out : Subject → Verdict → Type 0) → ((s : Subject) (v : Verdict) → reported s v → out s v) →

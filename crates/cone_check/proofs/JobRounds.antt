@@ -1,5 +1,5 @@
--- Turns of pairs, and rounds of budgets.
-use Rattle.std.proofs.Common.{◌≡◌, ◌∙◌, ap, sym, refl, subst, arith, ℕ, zero, suc, ◌+◌, ◌<◌, ◌≤◌, ◌*◌, ◌^◌, List, [], ◌∷◌, ◌++◌, length, get_or, drop, All, Option, Some, None, append_assoc, length-append}
+-- Verdicts of pairs, and rounds of budgets.
+use Rattle.std.proofs.Common.{◌≡◌, ◌∙◌, ap, sym, refl, subst, arith, ℕ, zero, suc, ◌+◌, ◌<◌, ◌≤◌, ◌*◌, ◌^◌, List, [], ◌∷◌, ◌++◌, length, get_or, drop, All, Option, Some, None, append_assoc}
 use Rattle.std.specs.List.{AllZip}
 use Rattle.std.proofs.lemmas.List.{drop_more}
 use Rattle.report_text.specs.declared.verdict.Verdict.{Verdict}
@@ -7,13 +7,12 @@ use Rattle.net_bench.specs.Circuit.{Circuit, circuit}
 use Rattle.net_order.specs.Order.{condition}
 use Rattle.cone_check.specs.declared.pair_cones.ConeContext.{ConeContext}
 use Rattle.compare_built.specs.declared.subject.Subject.{Subject}
-use Rattle.cone_check.specs.declared.rounds.PairJob.{PairJob}
 use Rattle.compare_built.specs.Attempts.{IsBudget}
 use Rattle.compare_built.specs.Details.{unsized}
-use Rattle.cone_check.specs.ConeRounds.{FitIn, IsJudgedIn, IsKnown, IsUndecidedIn, IsRoundOf, IsDecidedIn, all_or_undecided, left_of, or_undecided}
+use Rattle.cone_check.specs.ConeRounds.{FitIn, IsJudgedIn, IsKnown, IsUndecidedIn, IsPlaceOfRound, IsRoundOf, IsDecidedIn, all_or_undecided, or_undecided}
 use Rattle.cone_check.proofs.ByCones.{more_nodes, reported_decided}
 use Rattle.order_search.proofs.Budgets.{each_budget, tried_next}
-use Rattle.cone_check.proofs.Filling.{filled_known}
+use Rattle.cone_check.proofs.Filling.{IsKept, kept_known}
 
 -- ---- lists that are gone through
 
@@ -40,29 +39,19 @@ report_end a ss i rest all whole places none done =
     let past : length ss ≤ i = omega (arith, places, ap length none) in
     sym (nil_right all) ∙ ap (λ xs. all ++ all_or_undecided a xs rest) (sym (none_left ss i past)) ∙ done
 
--- the turn at the end of those that are done
-pub job_at : (done next all : List PairJob) (t u : PairJob) → (done ++ t ∷ []) ++ next ≡ all → get_or all (length done) u ≡ t
-job_at [] next all t u e = ap (λ ts. get_or ts 0 u) (sym e)
-job_at (x ∷ done) next [] t u e = cc
-job_at (x ∷ done) next (y ∷ all) t u e = job_at done next all t u (let same : (done ++ t ∷ []) ++ next ≡ all = cc in same)
-
-pub job_low : (done next all : List PairJob) (t : PairJob) → (done ++ t ∷ []) ++ next ≡ all → length done < length all
-job_low done next all t e = omega (arith, ap length e, length-append (done ++ t ∷ []) next, length-append done (t ∷ []))
-
 -- ---- rounds
 
 module _ {H : Type 0} (whole : ConeContext H) (limit : ℕ) (bound : Option ℕ) (ss : List Subject) where
   -- what is told within fewer nodes is told within the limit
-  wider : (budget : ℕ) → budget ≤ limit → (ts : List Subject) (os : List (Option Verdict)) → AllZip (IsJudgedIn whole budget bound) ts os → AllZip (IsKnown (IsDecidedIn whole limit) (IsUndecidedIn whole budget bound)) ts os
-  wider budget le [] [] h = tt
-  wider budget le [] (o ∷ os) h = absurd h
-  wider budget le (t ∷ ts) [] h = absurd h
-  wider budget le (t ∷ ts) (None ∷ os) h = (h.0, wider budget le ts os h.1)
-  wider budget le (t ∷ ts) (Some v ∷ os) h = (
-    reported_decided (unsized whole.task.now.settings.now.assignment) (FitIn whole budget) (FitIn whole limit) (λ s. ⊥) (circuit whole.task.now.first.now) (circuit whole.task.now.second.now) (condition whole.task.now.given) whole.naming.now t v
-        (more_nodes budget limit (circuit whole.task.now.first.now) (circuit whole.task.now.second.now) (condition whole.task.now.given) whole.naming.now t le) h.0,
-    wider budget le ts os h.1,
-  )
+  wider_one : (budget : ℕ) → budget ≤ limit → (s : Subject) (o : Option Verdict) → IsJudgedIn whole budget bound s o → IsKnown (IsDecidedIn whole limit) (IsUndecidedIn whole budget bound) s o
+  wider_one budget le s None h = h
+  wider_one budget le s (Some v) h =
+      reported_decided (unsized whole.task.now.settings.now.assignment) (FitIn whole budget) (FitIn whole limit) (λ t. ⊥) (circuit whole.task.now.first.now) (circuit whole.task.now.second.now) (condition whole.task.now.given) whole.naming.now s v
+      (more_nodes budget limit (circuit whole.task.now.first.now) (circuit whole.task.now.second.now) (condition whole.task.now.given) whole.naming.now s le) h
+
+  wider : (budget : ℕ) → budget ≤ limit → (s : Subject) (known new : Option Verdict) → IsPlaceOfRound whole budget bound s known new → IsKept (IsDecidedIn whole limit) (IsUndecidedIn whole budget bound) s known new
+  wider budget le s (Some v) new h = h
+  wider budget le s None new h = wider_one budget le s new h
 
   -- before the first round
   pub none_yet : (known : List (Option Verdict)) → length known ≡ length ss → All (λ o. o ≡ None) known → AllZip (IsKnown (IsDecidedIn whole limit) (λ s. (j : ℕ) → j < 0 → IsUndecidedIn whole (16384 * 16 ^ j) bound s)) ss known
@@ -81,14 +70,14 @@ module _ {H : Type 0} (whole : ConeContext H) (limit : ℕ) (bound : Option ℕ)
   pub round_more : (k budget : ℕ) (known new : List (Option Verdict)) → budget ≡ 16384 * 16 ^ k → budget ≤ limit → AllZip (IsKnown (IsDecidedIn whole limit) (λ s. (j : ℕ) → j < k → IsUndecidedIn whole (16384 * 16 ^ j) bound s)) ss known →
       IsRoundOf whole budget bound ss known new → AllZip (IsKnown (IsDecidedIn whole limit) (λ s. (j : ℕ) → j < suc k → IsUndecidedIn whole (16384 * 16 ^ j) bound s)) ss new
   round_more k budget known new is le before r =
-      subst (AllZip (IsKnown (IsDecidedIn whole limit) (λ s. (j : ℕ) → j < suc k → IsUndecidedIn whole (16384 * 16 ^ j) bound s)) ss) (sym r.all)
-      (filled_known (IsDecidedIn whole limit) (λ s. (j : ℕ) → j < k → IsUndecidedIn whole (16384 * 16 ^ j) bound s) (IsUndecidedIn whole budget bound) (λ s. (j : ℕ) → j < suc k → IsUndecidedIn whole (16384 * 16 ^ j) bound s)
-      (λ s tried now. tried_next (λ n. IsUndecidedIn whole n bound s) k budget is tried now) ss known r.found before (wider budget le (left_of ss known) r.found r.judged))
+      kept_known (IsDecidedIn whole limit) (λ s. (j : ℕ) → j < k → IsUndecidedIn whole (16384 * 16 ^ j) bound s) (IsUndecidedIn whole budget bound) (λ s. (j : ℕ) → j < suc k → IsUndecidedIn whole (16384 * 16 ^ j) bound s)
+      (λ s tried now. tried_next (λ n. IsUndecidedIn whole n bound s) k budget is tried now) ss known new before r.each
+      (λ i s lt. wider budget le (get_or ss i s) (get_or known i None) (get_or new i None) (r.places i s lt))
 
   -- after the last
   pub round_last : (k : ℕ) (known new : List (Option Verdict)) → limit ≤ 16384 * 16 ^ k → AllZip (IsKnown (IsDecidedIn whole limit) (λ s. (j : ℕ) → j < k → IsUndecidedIn whole (16384 * 16 ^ j) bound s)) ss known →
       IsRoundOf whole limit bound ss known new → AllZip (IsKnown (IsDecidedIn whole limit) (λ s. (budget : ℕ) → IsBudget limit budget → IsUndecidedIn whole budget bound s)) ss new
   round_last k known new most before r =
-      subst (AllZip (IsKnown (IsDecidedIn whole limit) (λ s. (budget : ℕ) → IsBudget limit budget → IsUndecidedIn whole budget bound s)) ss) (sym r.all)
-      (filled_known (IsDecidedIn whole limit) (λ s. (j : ℕ) → j < k → IsUndecidedIn whole (16384 * 16 ^ j) bound s) (IsUndecidedIn whole limit bound) (λ s. (budget : ℕ) → IsBudget limit budget → IsUndecidedIn whole budget bound s)
-      (λ s tried now budget is. each_budget (λ n. IsUndecidedIn whole n bound s) limit k tried most now budget is) ss known r.found before (wider limit (omega arith) (left_of ss known) r.found r.judged))
+      kept_known (IsDecidedIn whole limit) (λ s. (j : ℕ) → j < k → IsUndecidedIn whole (16384 * 16 ^ j) bound s) (IsUndecidedIn whole limit bound) (λ s. (budget : ℕ) → IsBudget limit budget → IsUndecidedIn whole budget bound s)
+      (λ s tried now budget is. each_budget (λ n. IsUndecidedIn whole n bound s) limit k tried most now budget is) ss known new before r.each
+      (λ i s lt. wider limit (omega arith) (get_or ss i s) (get_or known i None) (get_or new i None) (r.places i s lt))

@@ -5,6 +5,7 @@ pub mod Filling
 pub mod ByCones
 pub mod SerpentineOrder
 pub mod JobRounds
-pub mod Gathering
-pub mod Ended
+pub mod Batching
+pub mod Sharing
+pub mod Written
 pub mod ConeTasks

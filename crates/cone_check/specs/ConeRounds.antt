@@ -1,8 +1,8 @@
 -- How pairs are judged by their cones, step by step.
-use Rattle.std.specs.Prelude.{◌≡◌, ◌⊎◌, ◌<◌, ℕ, false, List, [], ◌∷◌, map, length, slice_index_or, Option, Some, None, Result, Ok, Err}
+use Rattle.std.specs.Prelude.{◌≡◌, ◌⊎◌, ◌<◌, ℕ, false, List, [], ◌∷◌, map, length, slice_index, slice_index_or, Option, Some, None, Result, Ok, Err}
 use Rattle.std.specs.Prelude.{IfSome, option_map}
-use Rattle.std.specs.Borrow.{Bor}
 use Rattle.std.specs.List.{AllZip}
+use Rattle.std.specs.List.Sorted.{IsPermutation}
 use Rattle.std.specs.declared.alloc.Global.{Global}
 use Rattle.std.specs.declared.vec.Vec.{Vec}
 use Rattle.net_bench.specs.Circuit.{Circuit, circuit}
@@ -10,6 +10,7 @@ use Rattle.net_cone.specs.declared.cone.Cone.{Cone}
 use Rattle.net_cone.specs.Cones.{AreNames, gate_signals}
 use Rattle.net_order.specs.declared.order.Match.TheVariants.{Name}
 use Rattle.net_order.specs.declared.order.Order.TheVariants.{Declared}
+use Rattle.net_order.specs.Force.{numbers_below}
 use Rattle.net_order.specs.Order.{NamingModel, condition, name_of}
 use Rattle.report_text.specs.declared.verdict.Verdict.{Verdict}
 use Rattle.report_text.specs.declared.verdict.Verdict.TheVariants.{Undecided}
@@ -20,14 +21,14 @@ use Rattle.compare_built.specs.declared.fault.CheckFault.{CheckFault}
 use Rattle.compare_built.specs.declared.fault.CheckFault.TheVariants.{Only}
 use Rattle.cone_check.specs.declared.variable_names.NetlistRole.{NetlistRole}
 use Rattle.cone_check.specs.declared.variable_names.NetlistRole.TheVariants.{First, Second, Given}
-use Rattle.cone_check.specs.declared.rounds.PairJob.{PairJob}
+use Rattle.compare_built.specs.declared.settings.Settings.{Settings}
 use Rattle.compare_built.specs.declared.subject.Subject.{Subject}
 use Rattle.compare_built.specs.declared.task.Task.{Task}
 use Rattle.compare_built.specs.Details.{unsized}
 use Rattle.compare_built.specs.Check.{IsComparisonFault}
 use Rattle.compare_built.specs.Comparing.{IsInside}
 use Rattle.compare_built.specs.Cones.{AreCones, AreNamed, AreConeVerdicts, FitByCones, IsConditionCone, IsUndecided, IsUndecidedWithin, IsConeVerdict, cone_limit}
-use Rattle.compare_built.specs.PairSelection.{ArePicked}
+use Rattle.compare_built.specs.PairSelection.{ArePicked, ComesBefore, HasWeight}
 use Rattle.compare_built.specs.Scatter.{IsOfNet, widened_verdict}
 use Rattle.order_search.specs.Trials.{EndsAtOnce, IsNamingIn}
 
@@ -46,10 +47,6 @@ texts names = map (λ (v : Vec ℕ Global). v.items) names
 -- ---- cones
 
 -- the circuit of a cone, where there is one
-abbrev pub circuit_of : Option (Bor Cone) → Option Circuit
-circuit_of None = None
-circuit_of (Some cone) = Some (circuit cone.now.net)
-
 abbrev pub circuit_in : Option Cone → Option Circuit
 circuit_in None = None
 circuit_in (Some cone) = Some (circuit cone.net)
@@ -63,11 +60,8 @@ pub record IsConeContext {H : Type 0} (context : ConeContext H) : Type 0 where
   pub second_apart : AreNames context.task.now.second.now (texts context.second.now)
   pub first_gates : context.first_gates.now ≡ gate_signals context.task.now.first.now
   pub second_gates : context.second_gates.now ≡ gate_signals context.task.now.second.now
-  pub conditional : IsConditionCone (condition context.task.now.given) context.naming.now (circuit_of context.given)
+  pub conditional : IsConditionCone (condition context.task.now.given) context.naming.now (circuit_in context.given.now)
   pub conditional_net : IfSome (condition context.task.now.given) IsOfNet
-  pub by_name : context.settings.now.matching ≡ Name
-  pub no_sizes : context.settings.now.sizes ≡ false
-  pub assignment : context.settings.now.assignment ≡ context.task.now.settings.now.assignment
 
 -- what is judged are signals of the netlists
 abbrev pub IsInContext : {H : Type 0} → ConeContext H → Subject → Type 0
@@ -77,14 +71,20 @@ IsInContext context s = IsInside (circuit context.task.now.first.now) (circuit c
 abbrev pub AreConesOf : {H : Type 0} → ConeContext H → Subject → Cones → Type 0
 AreConesOf context s cones = AreCones (circuit context.task.now.first.now) (circuit context.task.now.second.now)
     (condition context.task.now.given) context.naming.now s
-    (circuit cones.first.net) (circuit cones.second.net) (circuit_of context.given)
+    (circuit cones.first.net) (circuit cones.second.net) (circuit_in context.given.now)
+
+-- The cones of a pair are compared by name and without sizes, and their assignments are those that the whole's are.
+pub record IsPairSettings {H : Type 0} (context : ConeContext H) (settings : Settings) : Type 0 where
+  pub by_name : settings.matching ≡ Name
+  pub no_sizes : settings.sizes ≡ false
+  pub assignment : settings.assignment ≡ context.task.now.settings.now.assignment
 
 -- the comparison of a pair's cones
 pub record IsConeTask {H : Type 0} (context : ConeContext H) (cones : Cones) (task : Task H) : Type 0 where
   pub first : task.first.now ≡ cones.first.net
   pub second : task.second.now ≡ cones.second.net
-  pub given : condition task.given ≡ circuit_of context.given
-  pub settings : task.settings.now ≡ context.settings.now
+  pub given : condition task.given ≡ circuit_in context.given.now
+  pub settings : IsPairSettings context task.settings.now
 
 -- ---- verdicts
 
@@ -124,48 +124,29 @@ EndsPairs fault = IsComparisonFault fault × EndsAtOnce fault
 
 -- ---- rounds
 
--- the pairs that have no verdict yet
-abbrev pub left_of : List Subject → List (Option Verdict) → List Subject
-left_of [] known = []
-left_of (s ∷ ss) [] = []
-left_of (s ∷ ss) (None ∷ known) = s ∷ left_of ss known
-left_of (s ∷ ss) (Some v ∷ known) = left_of ss known
+-- These are the places of pairs by falling weight.
+pub record IsWeightOrder (a b : Circuit) (pairs : List Subject) (order : List ℕ) : Type 0 where
+  pub weights : List ℕ
+  pub weighed : AllZip (HasWeight a b) pairs weights
+  pub places : IsPermutation (numbers_below (length weights)) order
+  pub falls : (t u : ℕ) → t < u → u < length order → ComesBefore weights (slice_index order t) (slice_index order u)
 
--- a verdict that is known, or the first of those that were found
-abbrev pub first_filled : Option Verdict → List (Option Verdict) → Option Verdict
-first_filled (Some v) found = Some v
-first_filled None [] = None
-first_filled None (o ∷ found) = o
-
--- those that are left for the others
-abbrev pub rest_found : Option Verdict → List (Option Verdict) → List (Option Verdict)
-rest_found (Some v) found = found
-rest_found None [] = []
-rest_found None (o ∷ found) = found
-
--- the verdicts that are known, and in the places of the others what was found for them, in order
-abbrev pub filled : List (Option Verdict) → List (Option Verdict) → List (Option Verdict)
-filled [] found = []
-filled (o ∷ known) found = first_filled o found ∷ filled known (rest_found o found)
-
--- what a pair's turn in a round came to
+-- what a pair has come to in a round
 abbrev pub IsJobResult : {H : Type 0} → ConeContext H → (budget : ℕ) → (bound : Option ℕ) → Subject → Result (Option Verdict) CheckFault → Type 0
 IsJobResult context budget bound s (Ok o) = IsJudgedIn context budget bound s o
 IsJobResult context budget bound s (Err fault) = EndsPairs fault
 
--- each of these pairs had its turn
-pub record AreJobsDone {H : Type 0} (context : ConeContext H) (budget : ℕ) (bound : Option ℕ) (subjects : List Subject)
-    (jobs : List PairJob) : Type 0 where
-  pub each : map (λ (t : PairJob). t.subject) jobs ≡ subjects
-  pub ended : (i : ℕ) (t : PairJob) → i < length jobs → IsJobResult context budget bound (slice_index_or jobs i t).subject
-      (slice_index_or jobs i t).ended
+-- what a round leaves of a pair: its verdict if it had one, and else what the attempts came to
+abbrev pub IsPlaceOfRound : {H : Type 0} → ConeContext H → (budget : ℕ) → (bound : Option ℕ) → Subject → (known new : Option Verdict) → Type 0
+IsPlaceOfRound context budget bound s (Some v) new = new ≡ Some v
+IsPlaceOfRound context budget bound s None new = IsJudgedIn context budget bound s new
 
--- what a round leaves of what was known
+-- What a round leaves of what was known, place by place.
 pub record IsRoundOf {H : Type 0} (context : ConeContext H) (budget : ℕ) (bound : Option ℕ) (subjects : List Subject)
     (known new : List (Option Verdict)) : Type 0 where
-  pub found : List (Option Verdict)
-  pub judged : AllZip (IsJudgedIn context budget bound) (left_of subjects known) found
-  pub all : new ≡ filled known found
+  pub each : length new ≡ length known
+  pub places : (i : ℕ) (s : Subject) → i < length subjects →
+      IsPlaceOfRound context budget bound (slice_index_or subjects i s) (slice_index_or known i None) (slice_index_or new i None)
 
 -- ---- all pairs
 

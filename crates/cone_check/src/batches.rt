@@ -1,105 +1,143 @@
-//! Turns that are dealt to hands, each a thread's, and gathered again in their order.
-ghost use Rattle.std.specs.Prelude.{◌≡◌, ◌<◌, ◌≤◌, [], length, map, option_to_list, All, IfOk, OnOk};
-ghost use Rattle.cone_check.specs.declared.rounds.PairJob.{PairJob as PairJobValue};
-ghost use Rattle.cone_check.specs.ConeRounds.{IsInContext};
-ghost use Rattle.cone_check.specs.Batches.{gathered, last_at, put_at, jobs_in, without_last};
+//! The pairs of a round as jobs, dealt to batches: each batch is judged by one thread, with workers for its waves.
+ghost use Rattle.std.specs.Prelude.{◌≡◌, ◌+◌, ◌++◌, ◌∷◌, [], ◌<◌, ◌≤◌, length, All, IfOk, OnOk};
+ghost use Rattle.std.specs.List.Sorted.{IsNonDecreasingBy, IsPermutation};
+ghost use Rattle.compare_built.specs.PairSelection.{serpentine_share};
+ghost use Rattle.cone_check.specs.declared.batches.PairJob.{PairJob as PairJobValue};
+ghost use Rattle.cone_check.specs.Batches.{AreJobsFor, ShareWorkers, batch_workers, jobs_in, jobs_of, put_at, workers_of};
 
-use crate::pair_cones::ConeContext;
-use crate::rounds::PairJob;
-use crate::shares::shares_of;
+use crate::shares::serpentine_share;
+use compare_built::fault::CheckFault;
 use compare_built::subject::Subject;
+use expand_work::Workers;
+use report_text::Verdict;
 use std::alloc::{AllocError, Global};
 
-/// The hand of each pair. Those of the largest cones are dealt first, to and fro, so that no hand has much more to do than another.
-pub fn batch_numbers<H>(
-    context: &ConeContext<'_, H>,
-    subjects: &[Subject],
-    batches: u32,
-) -> Result<Vec<usize>, AllocError>
-    requires some { 1 ≤ batches }
-    requires in_range { All (IsInContext context.now) subjects.now }
-    ensures one_for_each { IfOk result (λ v. length v.items ≡ length subjects.now) }
-    ensures low { IfOk result (λ v. All (λ number. number < batches) v.items) }
-{
-    let task = context.task;
-    let shares = shares_of(task.alloc, task.first, task.second, subjects, batches)?;
-    let mut numbers = Vec::new(task.alloc);
-    for place in 0..subjects.len() {
-        numbers.push((shares[place] % batches) as usize)?;
-    }
-    Ok(numbers)
+/// A pair that a round judges, and what it comes to: its verdict, or none where each attempt was given up.
+#[derive(Drop)]
+pub struct PairJob {
+    /// Where the pair is among all.
+    pub place: usize,
+    pub subject: Subject,
+    pub ended: Result<Option<Verdict>, CheckFault>,
 }
 
-/// So many hands that have no turn.
-fn empty_batches(alloc: Global, count: u32) -> Result<Vec<Vec<PairJob>>, AllocError>
+/// Pairs that one thread judges, one after the other, and the workers that do their waves.
+#[derive(Drop)]
+pub struct Batch {
+    pub workers: Workers,
+    pub jobs: Vec<PairJob>,
+}
+
+impl PairJob {
+    /// A pair that is not judged yet.
+    fn of(place: usize, subject: Subject) -> PairJob
+        ensures place { result.place ≡ place }
+        ensures subject { result.subject ≡ subject }
+    {
+        PairJob {
+            place,
+            subject,
+            ended: Ok(None),
+        }
+    }
+}
+
+impl Batch {
+    /// Puts a job behind the others.
+    fn add(&mut self, job: PairJob) -> Result<(), AllocError>
+        ensures jobs { OnOk result (self.new.jobs.items ≡ self.old.jobs.items ++ job ∷ []) }
+        ensures workers { self.new.workers ≡ self.old.workers }
+    {
+        self.jobs.push(job)?;
+        Ok(())
+    }
+}
+
+/// The workers of the batch at this place, if so many batches share so many workers.
+fn batch_workers(workers: u32, batches: u32, place: u32) -> Workers
+    requires some { 1 ≤ batches }
+    requires few { batches ≤ workers }
+    requires most { workers ≤ 16 }
+    ensures { result.count ≡ batch_workers workers batches place }
+{
+    let more = if place < workers % batches { 1 } else { 0 };
+    Workers::new(workers / batches + more)
+}
+
+/// So many batches that have no job and share so many workers.
+fn empty_batches(alloc: Global, workers: u32, count: u32) -> Result<Vec<Batch>, AllocError>
+    requires some { 1 ≤ count }
+    requires few { count ≤ workers }
+    requires most { workers ≤ 16 }
     ensures one_for_each { IfOk result (λ v. length v.items ≡ count) }
-    ensures none { IfOk result (λ v. All (λ batch. batch ≡ []) (jobs_in v.items)) }
+    ensures none { IfOk result (λ v. jobs_of v.items ≡ []) }
+    ensures workers { IfOk result (λ v. ShareWorkers workers (workers_of v.items)) }
 {
     let mut batches = Vec::new(alloc);
-    for _ in 0..count {
-        batches.push(Vec::new(alloc))?;
+    for place in 0..count {
+        let jobs = Vec::new(alloc);
+        let workers = batch_workers(workers, count, place);
+        batches.push(Batch { workers, jobs })?;
     }
     Ok(batches)
 }
 
-/// Puts a turn behind those that a hand has.
-fn push_job(batches: &mut Vec<Vec<PairJob>>, number: usize, job: PairJob) -> Result<(), AllocError>
-    requires { number < length batches.old.items }
-    ensures { OnOk result (jobs_in batches.new.items ≡ put_at number job (jobs_in batches.old.items)) }
+/// The batch of the job that so many come before, of so many batches.
+fn batch_number(batches: u32, position: usize) -> usize
+    requires { 1 ≤ batches }
+    ensures value { result + 1 ≡ serpentine_share batches position }
+    ensures low { result < batches }
 {
-    batches[number].push(job)?;
+    (serpentine_share(batches, position) - 1) as usize
+}
+
+/// Puts a job behind those of a batch.
+fn add_job(batches: &mut Vec<Batch>, number: usize, job: PairJob) -> Result<(), AllocError>
+    requires { number < length batches.old.items }
+    ensures jobs { OnOk result (jobs_in batches.new.items ≡ put_at number job (jobs_in batches.old.items)) }
+    ensures workers { OnOk result (workers_of batches.new.items ≡ workers_of batches.old.items) }
+{
+    batches[number].add(job)?;
     Ok(())
 }
 
-/// Turns of these pairs, each in the hand of its number.
-pub fn into_batches<H>(
-    context: &ConeContext<'_, H>,
-    subjects: &[Subject],
-    numbers: &[usize],
-    batches: u32,
-) -> Result<Vec<Vec<PairJob>>, AllocError>
-    requires one_for_each { length numbers.now ≡ length subjects.now }
-    requires low { All (λ number. number < batches) numbers.now }
-    requires in_range { All (IsInContext context.now) subjects.now }
-    ensures count { IfOk result (λ v. length v.items ≡ batches) }
-    ensures back { IfOk result (λ v. map (λ (t : PairJobValue). t.subject)
-        (gathered numbers.now (length numbers.now) (jobs_in v.items)) ≡ subjects.now) }
-    ensures in_range { IfOk result (λ v. All (All (λ (t : PairJobValue). IsInContext context.now t.subject)) (jobs_in v.items)) }
-{
-    let mut filled = empty_batches(context.task.alloc, batches)?;
-    for place in 0..subjects.len() {
-        push_job(&mut filled, numbers[place], PairJob::of(subjects[place]))?;
-    }
-    Ok(filled)
-}
-
-/// Takes the last turn of a hand, if it has one.
-fn take_last(batches: &mut Vec<Vec<PairJob>>, number: usize) -> Option<PairJob>
-    requires { number < length batches.old.items }
-    ensures last { option_to_list result ≡ last_at number (jobs_in batches.old.items) }
-    ensures others { jobs_in batches.new.items ≡ without_last number (jobs_in batches.old.items) }
-{
-    batches[number].pop()
-}
-
-/// The turns that were dealt to hands by these numbers, in their order.
-pub fn gather(
+/// The pairs at these places as jobs, dealt to so many batches in serpentine order.
+pub fn dealt(
     alloc: Global,
-    batches: Vec<Vec<PairJob>>,
-    numbers: &[usize],
-) -> Result<Vec<PairJob>, AllocError>
-    requires { All (λ number. number < length batches.items) numbers.now }
-    ensures { IfOk result (λ v. v.items ≡ gathered numbers.now (length numbers.now) (jobs_in batches.items)) }
+    subjects: &[Subject],
+    places: &[usize],
+    workers: u32,
+    count: u32,
+) -> Result<Vec<Batch>, AllocError>
+    requires some { 1 ≤ count }
+    requires few { count ≤ workers }
+    requires most { workers ≤ 16 }
+    requires places { All (λ place. place < length subjects.now) places.now }
+    ensures one_for_each { IfOk result (λ v. length v.items ≡ count) }
+    ensures workers { IfOk result (λ v. ShareWorkers workers (workers_of v.items)) }
+    ensures jobs { IfOk result (λ v. AreJobsFor subjects.now places.now (jobs_of v.items)) }
 {
-    let mut batches = batches;
-    let mut jobs = Vec::new(alloc);
-    let mut place = numbers.len();
-    while place > 0 {
-        place -= 1;
-        if let Some(job) = take_last(&mut batches, numbers[place]) {
-            jobs.push(job)?;
-        }
+    let mut batches = empty_batches(alloc, workers, count)?;
+    for position in 0..places.len() {
+        let place = places[position];
+        let job = PairJob::of(place, subjects[place]);
+        let number = batch_number(count, position);
+        add_job(&mut batches, number, job)?;
     }
-    jobs.reverse();
+    Ok(batches)
+}
+
+/// The jobs of all batches, by place.
+pub fn gathered(alloc: Global, batches: Vec<Batch>) -> Result<Vec<PairJob>, AllocError>
+    ensures same { IfOk result (λ v. IsPermutation (jobs_of batches.items) v.items) }
+    ensures by_place { IfOk result (λ v. IsNonDecreasingBy (λ (t : PairJobValue). t.place) v.items) }
+{
+    let mut jobs = Vec::new(alloc);
+    for batch in batches {
+        let Batch { jobs: more, .. } = batch;
+        let mut more = more;
+        jobs.append(&mut more)?;
+    }
+    jobs.sort_by_key(|job| job.place)?;
     Ok(jobs)
 }

@@ -1,8 +1,7 @@
 //! A comparison by cones, pair by pair.
-ghost use Rattle.std.specs.Prelude.{◌≡◌, ◌<◌, ◌++◌, false, length, Err, All, IfOk, IfErr, IfSome};
+ghost use Rattle.std.specs.Prelude.{◌≡◌, ◌<◌, ◌++◌, length, Err, All, IfOk, IfErr, IfSome};
 ghost use Rattle.std.specs.List.{AllZip};
 ghost use Rattle.net_bench.specs.Circuit.{circuit};
-ghost use Rattle.net_order.specs.declared.order.Match.TheVariants.{Name as ByName};
 ghost use Rattle.net_order.specs.declared.order.Order.TheVariants.{Declared};
 ghost use Rattle.net_order.specs.Order.{condition};
 ghost use Rattle.compare_built.specs.Details.{unsized};
@@ -18,41 +17,16 @@ use crate::pair_selection::{Selection, select_pairs};
 use crate::rounds::judge_all;
 use crate::variable_names::{NetlistRole, names_in};
 use compare_built::fault::CheckFault;
-use compare_built::pair_filter::PairFilter;
-use compare_built::settings::Settings;
-use compare_built::strategy::Strategy;
 use compare_built::subject::Subject;
 use compare_built::task::Task;
 use expand_work::Monitor;
 use net_bench::netlist::Netlist;
 use net_cone::{Cone, cone_of, gate_signals};
 use net_order::naming::Naming;
-use net_order::order::Match;
 use report_text::{Name, Verdict, Verdicts};
 use std::alloc::{AllocError, Global};
 use std::sync::Wait;
 use std::thread::Threads;
-
-/// How the cones of a pair are compared: by name, in the candidates' orders, by one worker and without sizes.
-fn cone_settings(alloc: Global, settings: &Settings) -> Settings
-    ensures matching { result.matching ≡ ByName }
-    ensures no_sizes { result.sizes ≡ false }
-    ensures assignment { result.assignment ≡ settings.now.assignment }
-{
-    Settings {
-        matching: Match::Name,
-        order: Strategy::Best,
-        picked: PairFilter::All,
-        workers: 1,
-        limit: settings.limit,
-        sizes: false,
-        json: false,
-        explain: Vec::new(alloc),
-        assignment: settings.assignment,
-        vcd: false,
-        causes: false,
-    }
-}
 
 /// The cone of the condition's output, where there is one.
 fn given_cone<H>(task: &Task<'_, H>, naming: &Naming) -> Result<Option<Cone>, AllocError>
@@ -165,7 +139,6 @@ fn judge_selected<H: Threads + Wait + Sync, G: Monitor>(
     let first_gates = gate_signals(task.alloc, task.first)?;
     let second_gates = gate_signals(task.alloc, task.second)?;
     let given = given_cone(task, naming)?;
-    let settings = cone_settings(task.alloc, task.settings);
     let context = ConeContext {
         task,
         naming,
@@ -173,8 +146,7 @@ fn judge_selected<H: Threads + Wait + Sync, G: Monitor>(
         second: second.as_slice(),
         first_gates: first_gates.as_slice(),
         second_gates: second_gates.as_slice(),
-        given: given.as_ref(),
-        settings: &settings,
+        given: &given,
     };
     judged(&context, subjects, monitor)
 }

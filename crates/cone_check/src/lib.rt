@@ -2,13 +2,15 @@
 //!
 //! **Promises.** `cone_comparison::verdicts_by_cones` answers a verdict for each pair that is selected: that of the
 //! whole comparison, or Undecided only if the cones have more variables than a pairing has or each attempt at them was
-//! given up. Several pairs are compared at once, one a thread; the verdicts do not depend on it. `select_pairs` answers
-//! the pairs of a filter, and refuses a name only if the first netlist has no such output or register (`unknown`).
+//! given up. Several pairs are compared at once, each by a thread, and share the workers for their waves; the budgets of
+//! all of them are within the limit together (`at_once`). The verdicts depend on none of it. `select_pairs` answers the
+//! pairs of a filter, and refuses a name only if the first netlist has no such output or register (`unknown`).
 //!
 //! **Only tests show** what a monitor is notified of about rounds (`report_tests`).
 //!
-//! **Begin** with `specs/ConeRounds`; then `pair_cones` (the cones of a pair as a comparison of its own), `pairs` (one
-//! pair within one budget), `rounds` (all pairs that are left) and `cone_comparison`.
+//! **Begin** with `specs/ConeRounds` and `specs/Batches`; then `pair_cones` (the cones of a pair as a comparison of its
+//! own), `pairs` (one pair within one budget), `batches` (how pairs and workers are dealt), `rounds` (all pairs that are
+//! left) and `cone_comparison`.
 #![tactic(auto)]
 
 mod batches;

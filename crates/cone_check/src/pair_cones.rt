@@ -4,7 +4,7 @@ ghost use Rattle.net_bench.specs.Circuit.{circuit};
 ghost use Rattle.net_cone.specs.Cones.{variable_name};
 ghost use Rattle.net_order.specs.declared.order.Order.{Order as OrderValue};
 ghost use Rattle.net_order.specs.Order.{condition};
-ghost use Rattle.cone_check.specs.ConeRounds.{AreConesOf, EndsPairs, IsConeTask, IsInContext, IsConeContext, circuit_of};
+ghost use Rattle.cone_check.specs.ConeRounds.{AreConesOf, EndsPairs, IsConeTask, IsPairSettings, IsInContext, IsConeContext, circuit_in};
 ghost use Rattle.compare_built.specs.Scatter.{ArePlaces};
 ghost use Rattle.order_search.specs.Trials.{EndsAtOnce, HasTooManyVariables, IsPairingIn};
 
@@ -37,9 +37,7 @@ pub struct ConeContext<'a, H> {
     /// Those of the second's.
     pub second_gates: &'a [Signal],
     /// The cone of the condition's output, where there is one.
-    pub given: Option<&'a Cone>,
-    /// How the cones of a pair are compared.
-    pub settings: &'a Settings,
+    pub given: &'a Option<Cone>,
 }
 
 /// The cones of a pair's two signals.
@@ -157,8 +155,8 @@ fn names_at(alloc: Global, names: &Names, places: &[u32]) -> Result<Names, Alloc
 }
 
 /// A condition's cone as a netlist.
-fn net_of<'a>(given: Option<&'a Cone>) -> Option<&'a Netlist>
-    ensures { condition result ≡ circuit_of given.entry }
+fn net_of(given: &Option<Cone>) -> Option<&Netlist>
+    ensures { condition result ≡ circuit_in given.now }
 {
     match given {
         Some(cone) => Some(&cone.net),
@@ -167,8 +165,13 @@ fn net_of<'a>(given: Option<&'a Cone>) -> Option<&'a Netlist>
 }
 
 /// The comparison of a pair's cones.
-pub(crate) fn task_of<'a, H>(context: &ConeContext<'a, H>, cones: &'a Cones) -> Task<'a, H>
-    requires { IsConeContext context.now }
+pub(crate) fn task_of<'a, H>(
+    context: &ConeContext<'a, H>,
+    settings: &'a Settings,
+    cones: &'a Cones,
+) -> Task<'a, H>
+    requires ready { IsConeContext context.now }
+    requires settings { IsPairSettings context.now settings.now }
     ensures { IsConeTask context.now cones.now result }
 {
     Task {
@@ -177,7 +180,7 @@ pub(crate) fn task_of<'a, H>(context: &ConeContext<'a, H>, cones: &'a Cones) -> 
         first: &cones.first.net,
         second: &cones.second.net,
         given: net_of(context.given),
-        settings: context.settings,
+        settings,
     }
 }
 

@@ -6,7 +6,7 @@ ghost use Rattle.net_order.specs.Order.{condition};
 ghost use Rattle.report_text.specs.Lines.{Found};
 ghost use Rattle.compare_built.specs.declared.strategy.Candidate.{Candidate as CandidateValue};
 ghost use Rattle.compare_built.specs.Details.{details_in};
-ghost use Rattle.cone_check.specs.ConeRounds.{AreConesOf, EndsPairs, IsConeTask, IsJobResult, IsInContext, IsConeContext, IsWidened};
+ghost use Rattle.cone_check.specs.ConeRounds.{AreConesOf, EndsPairs, IsConeTask, IsJobResult, IsPairSettings, IsInContext, IsConeContext, IsWidened};
 ghost use Rattle.compare_built.specs.Report.{AreVerdicts};
 ghost use Rattle.order_search.specs.Trials.{EndsAtOnce, IsDecidedWithin, IsPairingIn, IsCandidateGivenUp};
 
@@ -15,16 +15,41 @@ use crate::pair_cones::{
 };
 use crate::pair_monitor::PairMonitor;
 use compare_built::fault::CheckFault;
+use compare_built::pair_filter::PairFilter;
 use compare_built::scatter::widen_verdict;
+use compare_built::settings::Settings;
+use compare_built::strategy::Strategy;
 use compare_built::subject::Subject;
 use compare_built::task::Task;
-use expand_work::Monitor;
+use expand_work::{Monitor, Workers};
+use net_order::order::Match;
 use net_order::pairing::Pairing;
 use order_search::attempts::{Decided, Round, try_first};
 use report_text::Verdict;
 use std::alloc::AllocError;
 use std::sync::Wait;
 use std::thread::Threads;
+
+/// How the cones of a pair are compared: by name, in the candidates' orders, by so many workers and without sizes.
+pub fn pair_settings<H>(context: &ConeContext<'_, H>, workers: Workers) -> Settings
+    ensures settings { IsPairSettings context.now result }
+    ensures workers { result.workers ≡ workers.count }
+{
+    let settings = context.task.settings;
+    Settings {
+        matching: Match::Name,
+        order: Strategy::Best,
+        picked: PairFilter::All,
+        workers: workers.count(),
+        limit: settings.limit,
+        sizes: false,
+        json: false,
+        explain: Vec::new(context.task.alloc),
+        assignment: settings.assignment,
+        vcd: false,
+        causes: false,
+    }
+}
 
 /// The verdict that is the only one.
 fn only_one(verdicts: Vec<Verdict>) -> Verdict
@@ -95,6 +120,7 @@ fn over_all_variables<H>(
 /// Judges a pair by its cones. It is left where they have more variables together than a pairing has.
 fn judge_cones<H: Threads + Wait + Sync, G: Monitor>(
     context: &ConeContext<'_, H>,
+    settings: &Settings,
     subject: &Subject,
     cones: &Cones,
     budget: u64,
@@ -102,6 +128,7 @@ fn judge_cones<H: Threads + Wait + Sync, G: Monitor>(
 ) -> Result<Option<Verdict>, CheckFault>
     requires small { budget < 2 ^ 32 }
     requires ready { IsConeContext context.now }
+    requires settings { IsPairSettings context.now settings.now }
     requires in_range { IsInContext context.now subject.now }
     requires cones { AreConesOf context.now subject.now cones.now }
     ensures { IsJobResult context.now budget (G.bound monitor.now) subject.now result }
@@ -109,7 +136,7 @@ fn judge_cones<H: Threads + Wait + Sync, G: Monitor>(
     let _ = context.task.first.inputs();
     let _ = context.task.second.inputs();
     let places = places_of(context, cones)?;
-    let task = task_of(context, cones);
+    let task = task_of(context, settings, cones);
     let paired = cone_pairing(&task, context.naming.names(), places.as_slice())?;
     let Some(pairing) = paired else {
         return Ok(None);
@@ -126,15 +153,17 @@ fn judge_cones<H: Threads + Wait + Sync, G: Monitor>(
 /// have more variables than a pairing has. All that it takes is given back.
 pub fn judge_pair<H: Threads + Wait + Sync, G: Monitor>(
     context: &ConeContext<'_, H>,
+    settings: &Settings,
     subject: &Subject,
     budget: u64,
     monitor: &G,
 ) -> Result<Option<Verdict>, CheckFault>
     requires small { budget < 2 ^ 32 }
     requires ready { IsConeContext context.now }
+    requires settings { IsPairSettings context.now settings.now }
     requires in_range { IsInContext context.now subject.now }
     ensures { IsJobResult context.now budget (G.bound monitor.now) subject.now result }
 {
     let cones = cones_of(context, subject)?;
-    judge_cones(context, subject, &cones, budget, monitor)
+    judge_cones(context, settings, subject, &cones, budget, monitor)
 }

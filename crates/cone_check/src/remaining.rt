@@ -1,11 +1,12 @@
-//! Which pairs have a verdict, and which are left.
-ghost use Rattle.std.specs.Prelude.{◌≡◌, ◌≤◌, ◌∷◌, ◌++◌, [], length, None, All, IfOk, OnOk};
-ghost use Rattle.cone_check.specs.ConeRounds.{filled, first_filled, left_of, rest_found};
+//! What is known of the pairs, by place: which of them have a verdict, and which are left.
+ghost use Rattle.std.specs.Prelude.{◌≡◌, ◌<◌, ◌≤◌, length, set, filter, None, Ok, Err, All, IfOk, IfErr};
+ghost use Rattle.cone_check.specs.declared.batches.PairJob.{PairJob as PairJobValue};
+ghost use Rattle.cone_check.specs.Batches.{is_left, written};
 
-use compare_built::subject::Subject;
+use crate::batches::PairJob;
+use compare_built::fault::CheckFault;
 use report_text::Verdict;
 use std::alloc::{AllocError, Global};
-use std::collections::VecDeque;
 
 /// No verdicts yet, for so many pairs.
 pub fn no_verdicts(alloc: Global, count: usize) -> Result<Vec<Option<Verdict>>, AllocError>
@@ -19,64 +20,47 @@ pub fn no_verdicts(alloc: Global, count: usize) -> Result<Vec<Option<Verdict>>, 
     Ok(known)
 }
 
-/// Puts a pair at the end, if it has no verdict yet.
-fn add_left(
-    left: &mut Vec<Subject>,
-    subject: &Subject,
-    known: &Option<Verdict>,
-) -> Result<(), AllocError>
-    ensures { OnOk result (left.new.items ≡ left.old.items ++ left_of (subject.now ∷ []) (known.now ∷ [])) }
-{
-    if known.is_some() {
-        return Ok(());
-    }
-    left.push(*subject)?;
-    Ok(())
-}
-
-/// The pairs that have no verdict yet.
+/// Those of these places whose pairs have no verdict yet, in the same order.
 pub fn left_in(
     alloc: Global,
-    subjects: &[Subject],
+    order: &[usize],
     known: &[Option<Verdict>],
-) -> Result<Vec<Subject>, AllocError>
-    requires { length known.now ≡ length subjects.now }
-    ensures { IfOk result (λ left. left.items ≡ left_of subjects.now known.now) }
+) -> Result<Vec<usize>, AllocError>
+    requires { All (λ place. place < length known.now) order.now }
+    ensures { IfOk result (λ left. left.items ≡ filter (is_left known.now) order.now) }
 {
     let mut left = Vec::new(alloc);
-    for place in 0..subjects.len() {
-        add_left(&mut left, &subjects[place], &known[place])?;
+    for position in 0..order.len() {
+        let place = order[position];
+        if known[place].is_none() {
+            left.push(place)?;
+        }
     }
     Ok(left)
 }
 
-/// A verdict that is known, or the next of those that were found.
-fn next_of(known: Option<Verdict>, found: &mut VecDeque<Option<Verdict>>) -> Option<Verdict>
-    ensures first { result ≡ first_filled known found.old.items }
-    ensures rest { found.new.items ≡ rest_found known found.old.items }
+/// Writes what is known of the pair at this place.
+fn put(all: &mut Vec<Option<Verdict>>, place: usize, one: Option<Verdict>)
+    requires { place < length all.old.items }
+    ensures { all.new.items ≡ set all.old.items place one }
 {
-    match known {
-        Some(verdict) => Some(verdict),
-        None => match found.pop_front() {
-            Some(next) => next,
-            None => None,
-        },
-    }
+    all[place] = one;
 }
 
-/// The verdicts that are known, and in the places of the others what was found for them, in order.
-pub fn fill(
-    alloc: Global,
+/// What is known after these jobs: what each has come to, at its place. The first fault is the result.
+pub fn written(
     known: Vec<Option<Verdict>>,
-    found: VecDeque<Option<Verdict>>,
-) -> Result<Vec<Option<Verdict>>, AllocError>
-    ensures { IfOk result (λ all. all.items ≡ filled known.items found.items) }
+    jobs: Vec<PairJob>,
+) -> Result<Vec<Option<Verdict>>, CheckFault>
+    requires { All (λ (job : PairJobValue). job.place < length known.items) jobs.items }
+    ensures ok { IfOk result (λ all. written known.items jobs.items ≡ Ok all.items) }
+    ensures err { IfErr result (λ fault. written known.items jobs.items ≡ Err fault) }
 {
-    let mut found = found;
-    let mut all = Vec::new(alloc);
-    for one in known {
-        let next = next_of(one, &mut found);
-        all.push(next)?;
+    let mut all = known;
+    for job in jobs {
+        let PairJob { place, ended, .. } = job;
+        let one = ended?;
+        put(&mut all, place, one);
     }
     Ok(all)
 }

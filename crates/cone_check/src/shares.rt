@@ -1,4 +1,5 @@
-//! The share of each pair, where all pairs are dealt to some shares: those of the largest cones first, to and fro.
+//! Pairs by the size of their cones, and the share of each, where all are dealt to some shares: those of the largest cones first, in
+//! serpentine order.
 ghost use Rattle.std.specs.Prelude.{◌≡◌, ℕ, ◌+◌, ◌≤◌, ◌<◌, All, IfOk, length, map, slice_index};
 ghost use Rattle.std.specs.List.{AllZip};
 ghost use Rattle.std.specs.List.Sorted.{IsPermutation};
@@ -6,6 +7,7 @@ ghost use Rattle.net_bench.specs.Circuit.{HaveNoRepeats, circuit};
 ghost use Rattle.net_order.specs.Force.{numbers_below};
 ghost use Rattle.compare_built.specs.Comparing.{IsInside};
 ghost use Rattle.compare_built.specs.PairSelection.{AreShares, ComesBefore, HasWeight, serpentine_share};
+ghost use Rattle.cone_check.specs.ConeRounds.{IsWeightOrder};
 
 use compare_built::subject::Subject;
 use net_bench::netlist::{Netlist, Signal};
@@ -96,10 +98,27 @@ fn order_of(alloc: Global, weights: &[u64]) -> Result<Vec<usize>, AllocError>
     Ok(order)
 }
 
+/// The places of the pairs by falling weight: those with the most gates in their cones first, those of equal weights as they stand.
+pub fn weight_order(
+    alloc: Global,
+    first: &Netlist,
+    second: &Netlist,
+    subjects: &[Subject],
+) -> Result<Vec<usize>, AllocError>
+    requires { All (IsInside (circuit first.now) (circuit second.now)) subjects.now }
+    ensures { IfOk result (λ v. IsWeightOrder (circuit first.now) (circuit second.now) subjects.now v.items) }
+{
+    let weights = weights_of(alloc, first, second, subjects)?;
+    let order = order_of(alloc, weights.as_slice())?;
+    Ok(order)
+}
+
 /// The share of the pair that so many come before.
-fn serpentine_share(of: u32, position: usize) -> u32
+pub fn serpentine_share(of: u32, position: usize) -> u32
     requires { 1 ≤ of }
-    ensures { result ≡ serpentine_share of position }
+    ensures value { result ≡ serpentine_share of position }
+    ensures some { 1 ≤ result }
+    ensures few { result ≤ of }
 {
     let shares = of as usize;
     let place = (position % shares) as u32;
@@ -137,8 +156,7 @@ pub fn shares_of(
     requires in_range { All (IsInside (circuit first.now) (circuit second.now)) subjects.now }
     ensures { IfOk result (λ v. AreShares (circuit first.now) (circuit second.now) subjects.now of v.items) }
 {
-    let weights = weights_of(alloc, first, second, subjects)?;
-    let order = order_of(alloc, weights.as_slice())?;
+    let order = weight_order(alloc, first, second, subjects)?;
     let shares = shares_by(alloc, of, order.as_slice())?;
     Ok(shares)
 }

@@ -4,10 +4,9 @@ use Rattle.net_bench.specs.Circuit.{circuit, variables_of}
 use Rattle.net_order.specs.declared.order.Order.TheVariants.{Declared}
 use Rattle.net_order.specs.Order.{condition}
 use Rattle.net_order.proofs.InputLevels.{first_below, second_below}
-use Rattle.compare_built.specs.Cones.{AreNamed, IsConditionCone}
+use Rattle.compare_built.specs.Cones.{AreNamed}
 use Rattle.cone_check.specs.ConeRounds.{texts}
 use Rattle.cone_check.proofs.Called.{all_below, first_names, second_names}
-use Rattle.cone_check.proofs.ByCones.{as_cone}
 use Rattle.cone_check.proofs.cone_comparison.judge_selected.Goals as goal
 
 pub names_in-requires : goal.names_in-requires
@@ -37,9 +36,6 @@ judged-requires-clause-ready g c κs within =
       second_apart = second_names how task.first.now task.second.now (condition task.given) Declared p c.requires.naming c.inputs.ensures.sound c.inputs-2.ensures.sound (texts c.as_slice-2.result.now) second;
       first_gates = c.as_slice-3.ensures.value ∙ c.in_ok-first_gates.ensures;
       second_gates = c.as_slice-4.ensures.value ∙ c.in_ok-second_gates.ensures;
-      conditional = subst (IsConditionCone (condition task.given) p) (as_cone c.in_ok-given.given c.as_ref.result c.as_ref.ensures.value) c.in_ok-given.ensures.cone;
+      conditional = c.in_ok-given.ensures.cone;
       conditional_net = c.in_ok-given.ensures.net;
-      by_name = c.cone_settings-settings.ensures.matching;
-      no_sizes = c.cone_settings-settings.ensures.no_sizes;
-      assignment = c.cone_settings-settings.ensures.assignment;
     }

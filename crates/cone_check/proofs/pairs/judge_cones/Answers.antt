@@ -5,7 +5,7 @@ use Rattle.net_order.specs.declared.order.Order.{Order}
 use Rattle.net_order.specs.Order.{NamingModel}
 use Rattle.cone_check.specs.ConeRounds.{IsWidened}
 use Rattle.order_search.specs.Trials.{IsPairingIn}
-use Rattle.cone_check.proofs.ConeTasks.{judged_pair, many_pair, one_pair}
+use Rattle.cone_check.proofs.ConeTasks.{judged_pair, one_pair}
 use Rattle.cone_check.proofs.pairs.judge_cones.Goals as goal
 
 pub try_cones-requires-clause-one : goal.try_cones-requires-clause-one

@@ -1,6 +1,4 @@
 use Rattle.std.proofs.Common.{Some, subst}
-use Rattle.net_bench.specs.Circuit.{circuit}
-use Rattle.net_order.specs.Order.{condition}
 use Rattle.order_search.specs.Trials.{Decides, IsRound}
 use Rattle.cone_check.proofs.pairs.try_cones.Goals as goal
 

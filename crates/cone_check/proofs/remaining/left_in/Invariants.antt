@@ -1,6 +1,7 @@
-use Rattle.std.proofs.Common.{◌≡◌, ◌++◌, drop}
-use Rattle.cone_check.specs.ConeRounds.{left_of}
+use Rattle.std.proofs.Common.{◌≡◌, take}
+use Rattle.std.specs.Prelude.{filter}
+use Rattle.cone_check.specs.Batches.{is_left}
 use Rattle.cone_check.proofs.remaining.left_in.Given as goal
 
-abbrev pub invariant-loop-place : goal.invariant-loop-place
-invariant-loop-place l = l.left.items ++ left_of (drop l.place l.subjects) (drop l.place l.known) ≡ left_of l.subjects l.known
+abbrev pub invariant-loop-position : goal.invariant-loop-position
+invariant-loop-position l = l.left.items ≡ filter (is_left l.known) (take l.position l.order)

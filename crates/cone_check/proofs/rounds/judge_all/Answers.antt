@@ -1,4 +1,9 @@
-use Rattle.std.proofs.Common.{◌<◌, ◌≤◌, ◌*◌, ◌^◌, ℕ, IfOk, refl, subst, suc, arith, lit<}
+use Rattle.std.specs.Prelude.{IsPermutation}
+use Rattle.net_bench.specs.Circuit.{circuit}
+use Rattle.net_order.specs.Force.{numbers_below}
+use Rattle.compare_built.specs.PairSelection.{HasWeight}
+use Rattle.cone_check.proofs.SerpentineOrder.{zip_long}
+use Rattle.std.proofs.Common.{length, sym, ◌<◌, ◌≤◌, ◌*◌, ◌^◌, ℕ, IfOk, refl, subst, suc, arith, lit<}
 use Rattle.order_search.proofs.Budgets.{next_budget}
 use Rattle.cone_check.proofs.Filling.{length_known}
 use Rattle.compare_built.specs.Attempts.{IsBudget}
@@ -10,7 +15,7 @@ use Rattle.cone_check.proofs.rounds.judge_all.Goals as goal
 
 pub loop-budget-init : goal.loop-budget-init
 loop-budget-init g c = record {
-  power = (0, refl, none_yet c.args.context.now c.cone_limit-limit.result (g.G.Monitor.bound c.args.monitor.now) c.args.subjects.now c.in-Ok.known.items c.in-Ok.ensures.one_for_each c.in-Ok.ensures.none);
+  power = (0, refl, none_yet c.args.context.now c.cone_limit-limit.result (g.G.Monitor.bound c.args.monitor.now) c.args.subjects.now c.in_ok-known.known.items c.in_ok-known.ensures.one_for_each c.in_ok-known.ensures.none);
   some = lit< tt;
 }
 
@@ -24,6 +29,20 @@ judge_round-requires-2-clause-one_for_each g c κs within =
     let p = c.loop-budget.invariant.power in
     length_known (IsDecidedIn c.args.context.now c.cone_limit-limit.result) (λ s. (j : ℕ) → j < p.0 → IsUndecidedIn c.args.context.now (16384 * 16 ^ j) (g.G.Monitor.bound c.args.monitor.now) s) c.args.subjects.now c.loop-budget.known.items p.2
 
+pub judge_round-requires-clause-order : goal.judge_round-requires-clause-order
+judge_round-requires-clause-order g c κs within =
+    let order = c.in_ok-order.ensures in
+    let task = c.args.context.now.task.now in
+    subst (IsPermutation (numbers_below (length c.args.subjects.now))) (sym c.as_slice.ensures.value)
+    (subst (λ n. IsPermutation (numbers_below n) c.in_ok-order.order.items) (zip_long (HasWeight (circuit task.first.now) (circuit task.second.now)) c.args.subjects.now order.weights order.weighed) order.places)
+
+pub judge_round-requires-2-clause-order : goal.judge_round-requires-2-clause-order
+judge_round-requires-2-clause-order g c κs within =
+    let order = c.in_ok-order.ensures in
+    let task = c.args.context.now.task.now in
+    subst (IsPermutation (numbers_below (length c.args.subjects.now))) (sym c.as_slice-2.ensures.value)
+    (subst (λ n. IsPermutation (numbers_below n) c.in_ok-order.order.items) (zip_long (HasWeight (circuit task.first.now) (circuit task.second.now)) c.args.subjects.now order.weights order.weighed) order.places)
+
 pub loop-budget-preserved : goal.loop-budget-preserved
 loop-budget-preserved g c =
     let p = c.loop-budget.invariant.power in
@@ -32,7 +51,7 @@ loop-budget-preserved g c =
       power = (
         suc p.0,
         next_budget p.0 c.loop-budget.budget p.1,
-        round_more c.args.context.now c.cone_limit-limit.result (g.G.Monitor.bound c.args.monitor.now) c.args.subjects.now p.0 c.loop-budget.budget c.loop-budget.known.items c.in_ok-known.known.items p.1 (let low = c.loop-budget-test.true in omega (arith, low)) p.2 c.in_ok-known.ensures.round,
+        round_more c.args.context.now c.cone_limit-limit.result (g.G.Monitor.bound c.args.monitor.now) c.args.subjects.now p.0 c.loop-budget.budget c.loop-budget.known.items c.in_ok-known-2.known.items p.1 (let low = c.loop-budget-test.true in omega (arith, low)) p.2 c.in_ok-known-2.ensures.round,
       );
       some = omega (arith, some);
     }

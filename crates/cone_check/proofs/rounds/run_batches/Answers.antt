@@ -1,8 +1,8 @@
 use Rattle.std.proofs.Common.{rules}
-use Rattle.cone_check.specs.declared.rounds.PairJob.{PairJob}
+use Rattle.cone_check.specs.declared.batches.PairJob.{PairJob}
 use Rattle.cone_check.specs.ConeRounds.{IsInContext}
 use Rattle.cone_check.specs.Batches.{IsJobDone}
-use Rattle.cone_check.proofs.Gathering.{batch_in, left_there, zip_in}
+use Rattle.cone_check.proofs.Batching.{batch_in, left_there, zip_in}
 use Rattle.cone_check.proofs.rounds.run_batches.Goals as goal
 
 pub fork_each-requires-after_bounds : goal.fork_each-requires-after_bounds
