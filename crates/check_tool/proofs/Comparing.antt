@@ -1,5 +1,5 @@
 -- From a check to a comparison of two texts, and from that to a run of the texts that the options name.
-use Rattle.std.proofs.Common.{◌≡◌, ◌≢◌, ◌∙◌, ◌++◌, ◌⊎◌, inl, inr, ℕ, Bool, false, List, [], Option, Some, None, Result, Ok, Err, IfOk, IfErr, OnOk, refl, sym, subst}
+use Rattle.std.proofs.Common.{◌≡◌, ◌≢◌, ◌∙◌, ◌++◌, ◌⊎◌, inl, inr, ℕ, Bool, false, List, [], Option, Some, None, Result, Ok, Err, IfOk, IfErr, OnOk, ap, refl, sym, subst}
 use Rattle.std.specs.Prelude.{IfSome}
 use Rattle.compare_built.specs.Devices.{device_texts}
 use Rattle.compare_built.specs.declared.strategy.Attempt.{Attempt}
@@ -16,8 +16,10 @@ use Rattle.check_tool.specs.declared.fault.ToolFault.{ToolFault}
 use Rattle.check_tool.specs.declared.fault.ToolFault.TheVariants.{OneFile, InputTwice as DashTwice, CannotOpen, CannotSave, InputUnread, InputTooLong, InputUndivided, BadOrder, Check, OutOfMemory}
 use Rattle.check_tool.specs.Comparing.{IsChecked, IsUnchecked, IsReady, IsUnready, IsComparison, IsFailedComparison, IsRunOf, IsFailedAfterTexts, IsFailedBeforeCheck, IsFailedRun}
 use Rattle.check_tool.specs.Ending.{Written}
+use Rattle.check_tool.specs.Failures.{MayFail}
 use Rattle.check_tool.specs.Opening.{Try, Extends, opened}
 use Rattle.check_tool.specs.Running.{AreNamed, AreEarlierAttemptsGivenUp, AreTexts, AreTwo, AreUnknown, HasFirstFailed, HasGivenFailed, HasReported, HasReportedFront, HasSecondFailed, IsBeyond, IsGivenUp, IsInputFault, IsLaterFault, IsOpenFault, IsToolFault, MayGoByCones, NamesOrder, attempt_of, later_paths, limit_of, paths_of, text_paths}
+use Rattle.check_tool.proofs.Answering.{from_each}
 use Rattle.check_tool.proofs.OptionsToSettings.{beyond, given_up, goes_by_cones, named_by, earlier_given_up, report_fault_of, unknown}
 use Rattle.check_tool.proofs.Composing.{extends_more, extends_none, later_fault, opened_more}
 use Rattle.check_tool.proofs.Failing.{report_fault}
@@ -184,21 +186,21 @@ module _ (bytes_at : List ℕ → Option (List ℕ)) (broken : List ℕ → Type
       by (inr u) = (u, let is : Check check ≡ Check u.failed.unchecked.check = u.failed.unchecked.is in cc)
 
   module _ (r : Result Done ToolFault) (h : IfErr r (IsFailedRun bytes_at broken input_broken input o tried tries w)) where
-    pub run_full : r ≡ Err (Check (Wave Full)) → IsBeyond bytes_at input o
+    run_full : r ≡ Err (Check (Wave Full)) → IsBeyond bytes_at input o
     run_full e =
         let b = following r h (Wave Full) e in
         let u = b.0 in
         let p = u.failed.ready in
         (u.one, u.two, u.failed.given, p.choice, u.texts, p.conditioned, p.ordered, beyond (device_texts u.one u.two u.failed.given) o p.choice p.picked u.failed.settings p.set (u.failed.unchecked.full b.1))
 
-    pub run_given_up : r ≡ Err (Check GivenUp) → IsGivenUp bytes_at input o
+    run_given_up : r ≡ Err (Check GivenUp) → IsGivenUp bytes_at input o
     run_given_up e =
         let b = following r h GivenUp e in
         let u = b.0 in
         let p = u.failed.ready in
         (u.one, u.two, u.failed.given, p.choice, u.texts, p.conditioned, p.ordered, given_up (device_texts u.one u.two u.failed.given) o p.choice p.picked u.failed.settings p.set (u.failed.unchecked.given_up b.1))
 
-    pub run_by_cones : MayGoByCones o.order → (r ≢ Err (Check (Wave Full))) × (r ≢ Err (Check GivenUp))
+    run_by_cones : MayGoByCones o.order → (r ≢ Err (Check (Wave Full))) × (r ≢ Err (Check GivenUp))
     run_by_cones may = (λ e. (by (Wave Full) e).0 (following r h (Wave Full) e).1, λ e. (by GivenUp e).1 (following r h GivenUp e).1)
       where
         by : (check : CheckFault) (e : r ≡ Err (Check check)) → ((following r h check e).0.failed.unchecked.check ≢ Wave Full) × ((following r h check e).0.failed.unchecked.check ≢ GivenUp)
@@ -207,21 +209,21 @@ module _ (bytes_at : List ℕ → Option (List ℕ)) (broken : List ℕ → Type
             let p = u.failed.ready in
             u.failed.unchecked.by_cones (subst MayCheckByCones (sym p.set.order) (goes_by_cones bytes_at o.order p.choice p.ordered may))
 
-    pub run_thread_for_named_order : r ≡ Err (Check (Wave NoWorker)) → (o.print_order ≡ false) × NamesOrder o.order
+    run_thread_for_named_order : r ≡ Err (Check (Wave NoWorker)) → (o.print_order ≡ false) × NamesOrder o.order
     run_thread_for_named_order e =
         let b = following r h (Wave NoWorker) e in
         let p = b.0.failed.ready in
         let thread_for_named_order = b.0.failed.unchecked.thread_for_named_order b.1 in
         (thread_for_named_order.0, named_by bytes_at o.order p.choice p.ordered (subst NamesCheckOrder p.set.order thread_for_named_order.1))
 
-    pub run_only : r ≡ Err (Check Only) → AreUnknown bytes_at input o
+    run_only : r ≡ Err (Check Only) → AreUnknown bytes_at input o
     run_only e =
         let b = following r h Only e in
         let u = b.0 in
         let p = u.failed.ready in
         (u.one, u.two, u.texts, (u.failed.given, p.picked, p.conditioned, p.picks, unknown (device_texts u.one u.two u.failed.given) o p.choice p.picked u.failed.settings p.set (u.failed.unchecked.only b.1)))
 
-    pub run_unbounded : r ≢ Err (Check (Wave TooManyRequests))
+    run_unbounded : r ≢ Err (Check (Wave TooManyRequests))
     run_unbounded e = let b = following r h (Wave TooManyRequests) e in b.0.failed.unchecked.never_too_many_requests b.1
 
     pub run_front : r ≡ Err (Check Write) → HasReportedFront bytes_at input o w.held w.holds w.has_failed w.has_stopped
@@ -236,9 +238,21 @@ module _ (bytes_at : List ℕ → Option (List ℕ)) (broken : List ℕ → Type
           front.3,
         )
 
-    pub run_read : r ≡ Err InputUnread → input_broken
+    run_read : r ≡ Err InputUnread → input_broken
     run_read e = by (subst (λ z. IfErr z (IsFailedRun bytes_at broken input_broken input o tried tries w)) e h)
       where
         by : IsFailedRun bytes_at broken input_broken input o tried tries w InputUnread → input_broken
         by (inl u) = u.read refl
         by (inr u) = let is : InputUnread ≡ Check u.failed.unchecked.check = u.failed.unchecked.is in cc
+
+  pub run_may : (r : Result Done ToolFault) → IfErr r (IsFailedRun bytes_at broken input_broken input o tried tries w) → IfErr r (MayFail bytes_at input_broken input o)
+  run_may (Ok done) h = tt
+  run_may (Err fault) h = from_each bytes_at input_broken input o fault (record {
+    read = λ e. run_read (Err fault) h (ap Err e);
+    full = λ e. run_full (Err fault) h (ap Err e);
+    given_up = λ e. run_given_up (Err fault) h (ap Err e);
+    by_cones = λ may. let never = run_by_cones (Err fault) h may in (λ e. never.0 (ap Err e), λ e. never.1 (ap Err e));
+    thread_for_named_order = λ e. run_thread_for_named_order (Err fault) h (ap Err e);
+    only = λ e. run_only (Err fault) h (ap Err e);
+    never_too_many_requests = λ e. run_unbounded (Err fault) h (ap Err e);
+  })

@@ -7,5 +7,6 @@ pub mod Naming
 pub mod OptionsToSettings
 pub mod Saying
 pub mod Unsaved
+pub mod Answering
 pub mod Comparing
 pub mod Finishing

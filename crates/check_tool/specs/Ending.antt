@@ -6,7 +6,7 @@ use Rattle.report_text.specs.declared.outcome.Outcome.{Outcome}
 use Rattle.compare_built.specs.declared.strategy.Attempt.{Attempt}
 use Rattle.compare_built.specs.Attempts.{candidate_text}
 use Rattle.compare_built.specs.Cones.{cone_limit}
-use Rattle.compare_built.specs.declared.fault.CheckFault.TheVariants.{Only, Wave, GivenUp, Write}
+use Rattle.compare_built.specs.declared.fault.CheckFault.TheVariants.{Write}
 use Rattle.report_text.specs.Writing.{AppendsFront}
 use Rattle.command_line.specs.declared.options.Options.{Options}
 use Rattle.command_line.specs.declared.options.OrderChoice.{OrderChoice}
@@ -15,18 +15,18 @@ use Rattle.command_line.specs.declared.options.OrderChoice.TheVariants.{Extended
 use Rattle.command_line.specs.declared.reading.Refused.{Refused}
 use Rattle.command_line.specs.declared.reading.Refused.TheVariants.{Help, Mistake, OutOfMemory as NoWordMemory}
 use Rattle.command_line.specs.Words.{AskFor, IsRefusal}
-use Rattle.expand_work.specs.declared.fault.WaveFault.TheVariants.{Full, NoWorker, TooManyRequests}
 use Rattle.check_tool.specs.declared.done.Done.{Done}
 use Rattle.check_tool.specs.declared.done.Done.TheVariants.{Compared, OrderPrinted}
 use Rattle.check_tool.specs.declared.fault.ToolFault.{ToolFault}
-use Rattle.check_tool.specs.declared.fault.ToolFault.TheVariants.{Check, InputUnread, OutOfMemory}
+use Rattle.check_tool.specs.declared.fault.ToolFault.TheVariants.{Check, OutOfMemory}
 use Rattle.check_tool.specs.declared.process.ArgumentsError.{ArgumentsError}
 use Rattle.check_tool.specs.declared.process.ArgumentsError.TheVariants.{OutOfMemory as NoArguments, NotUtf8}
 use Rattle.check_tool.specs.Faults.{fault_line, fault_status}
 use Rattle.check_tool.specs.Helping.{IsHelp, refused_paths}
 use Rattle.check_tool.specs.Opening.{Try, Save, Extends, AreTried, opened}
-use Rattle.check_tool.specs.Running.{paths_of, HasReported, HasReportedFront, IsBeyond, IsGivenUp, AreEarlierAttemptsGivenUp, AreUnknown, MayGoByCones}
-use Rattle.check_tool.specs.Running.{NamesOrder, IsToolFault, AreOnStandardInput, limit_of, node_bytes}
+use Rattle.check_tool.specs.Failures.{MayFail}
+use Rattle.check_tool.specs.Running.{paths_of, HasReported, HasReportedFront, AreEarlierAttemptsGivenUp, IsToolFault, AreOnStandardInput, limit_of}
+use Rattle.check_tool.specs.Running.{node_bytes}
 use Rattle.check_tool.specs.Saving.{IsSaveFault, saves_of}
 
 -- what a device held and holds now, and whether it has failed by now, and whether a write has taken nothing of some bytes
@@ -238,13 +238,7 @@ pub record Refuses (broken : List ℕ → Type 0) (s : RunEffects) (o : Options)
   pub tried : Extends s.tried s.tries (tries ++ again)
   pub once_more : AreTried (refused_paths o fault) again
   pub cause : IsToolFault s.bytes_at broken (IsTrue s.input_failed) s.input o tries fault
-  pub unread : fault ≡ InputUnread → IsTrue s.input_failed
-  pub full : fault ≡ Check (Wave Full) → IsBeyond s.bytes_at s.input o
-  pub given_up : fault ≡ Check GivenUp → IsGivenUp s.bytes_at s.input o
-  pub by_cones : MayGoByCones o.order → (fault ≢ Check (Wave Full)) × (fault ≢ Check GivenUp)
-  pub thread_for_named_order : fault ≡ Check (Wave NoWorker) → (o.print_order ≡ false) × NamesOrder o.order
-  pub only : fault ≡ Check Only → AreUnknown s.bytes_at s.input o
-  pub never_too_many_requests : fault ≢ Check (Wave TooManyRequests)
+  pub may : MayFail s.bytes_at (IsTrue s.input_failed) s.input o fault
   pub line : IsAfterProgress (shows_progress o s.on_terminal) s.errors (λ w. IsSaidOf s.bytes_at o w fault status)
   pub front : fault ≡ Check Write → HasReportedFront s.bytes_at s.input o s.output.held s.output.holds s.output.has_failed s.output.has_stopped
   pub nothing : fault ≢ Check Write → Keeps s.output.held s.output.holds

@@ -1,4 +1,5 @@
 pub mod Splitting
+pub mod Failures
 pub mod Faults
 pub mod Helping
 pub mod Opening

@@ -26,6 +26,10 @@ AreTried [] (t ∷ ts) = ⊥
 AreTried (path ∷ paths) ((asked, true) ∷ ts) = (asked ≡ path) × AreTried paths ts
 AreTried (path ∷ paths) ((asked, false) ∷ ts) = (asked ≡ path) × (ts ≡ [])
 
+-- the files of these paths were opened once more, up to one that could not be
+abbrev pub OpensAgain : (tried tries : Option (List Try)) → List (List ℕ) → Type 0
+OpensAgain tried tries paths = (again : List Try) × Extends tried tries again × AreTried paths again
+
 -- A file that was opened at this path, where files tell their paths, has failed.
 abbrev pub HasFailedAt : {File : Type 0} → (origin : File → Option (List ℕ)) → (has_failed : File → Bool) → List ℕ → Type 0
 HasFailedAt {File} origin has_failed path = (file : File) × IfSome (origin file) (λ from. from ≡ path) × IsTrue (has_failed file)

@@ -11,12 +11,12 @@ use Rattle.net_order.specs.declared.order.Order.TheVariants.{Index as index, For
 use Rattle.net_order.specs.declared.order.OrderFault.{OrderFault}
 use Rattle.net_order.specs.declared.order.OrderFault.TheVariants.{Read as OrderReadFailed, OutOfMemory as NoOrderMemory}
 use Rattle.net_order.specs.OrderText.{IsOrderText, IsBadText}
-use Rattle.check_report.specs.Listing.{IsOrderPrinted}
+use Rattle.check_report.specs.Listing.{IsListing}
 use Rattle.compare_built.specs.Check.{IsCheckFault}
 use Rattle.compare_built.specs.Devices.{DeviceTexts, device_texts}
 use Rattle.compare_built.specs.declared.fault.CheckFault.{CheckFault}
 use Rattle.compare_built.specs.Limits.{AreBeyond}
-use Rattle.compare_built.specs.Attempts.{AreGivenUp, AreTried as TriesOrders, IsAllowed, IsFound, IsGivenUpWithin, last_budget}
+use Rattle.compare_built.specs.Attempts.{AreGivenUp, AreTried as TriesOrders, IsAllowed, IsGivenUpWithin, last_budget}
 use Rattle.compare_built.specs.declared.strategy.Attempt.{Attempt}
 use Rattle.compare_built.specs.declared.strategy.Strategy.{Strategy}
 use Rattle.compare_built.specs.declared.strategy.Strategy.TheVariants.{One as Ordered, Best as TheBest, Auto as Found, Cones as ByCones}
@@ -243,8 +243,7 @@ pub record AreSettings (o : Options) (choice : Strategy) (picked : PairFilter) (
 -- limit of the settings.
 abbrev pub IsMade : DeviceTexts → Settings → (print : Bool) → Done → (bytes : List ℕ) → Type 0
 IsMade sources s print (Compared outcome tried vcd) bytes = (print ≡ false) × IsReportWithVcd sources s None tried outcome bytes (bytes_in vcd)
-IsMade sources s print (OrderPrinted tried) bytes =
-    (print ≡ true) × (order : Order) × IsOrderPrinted sources s.matching order bytes × IsFound sources s.matching s.order s.limit tried order
+IsMade sources s print (OrderPrinted tried) bytes = (print ≡ true) × IsListing sources s tried bytes
 
 -- the bytes are what the options ask for of these two texts
 pub record IsCompared (bytes_at : List ℕ → Option (List ℕ)) (one two : Option (List ℕ)) (o : Options) (done : Done)

@@ -77,24 +77,18 @@ fn check_or_print<
     ensures origins { (R1.origin first.new ≡ R1.origin first.old) × (R2.origin second.new ≡ R2.origin second.old)
         × (device_text R3.origin given.new ≡ device_text R3.origin given.old) }
 {
-    let options = run.options;
     let context = Context {
         rt: run.rt,
         alloc: run.rt.alloc(),
         settings,
         monitor: run.monitor,
     };
-    if options.print_order {
-        let printed = print_order(&context, first, second, given, out);
-        return match printed {
-            Ok(tried) => Ok(Done::OrderPrinted(tried)),
-            Err(fault) => Err(ToolFault::Check(fault)),
-        };
+    if run.options.print_order {
+        let tried = print_order(&context, first, second, given, out)?;
+        return Ok(Done::OrderPrinted(tried));
     }
-    match check(&context, first, second, given, out) {
-        Ok((outcome, tried, vcd)) => Ok(Done::Compared(outcome, tried, vcd)),
-        Err(fault) => Err(ToolFault::Check(fault)),
-    }
+    let (outcome, tried, vcd) = check(&context, first, second, given, out)?;
+    Ok(Done::Compared(outcome, tried, vcd))
 }
 
 /// Compares two texts, or prints the order of their variables. The condition's file is opened, and a file of the order read, before them.

@@ -5,12 +5,14 @@ ghost use Rattle.net_order.specs.Fault.{order_fault_text};
 ghost use Rattle.expand_work.specs.Fault.{wave_fault_text};
 ghost use Rattle.compare_built.specs.Texts.{check_fault_text};
 ghost use Rattle.check_tool.specs.Faults.{file_role_text, tool_fault_text, words_text, text_status, order_status, check_status, fault_status};
+ghost use Rattle.check_tool.specs.declared.fault.ToolFault.TheVariants as tool_faults;
 
 use crate::folder::Obstacle;
 use check_report::CheckFault;
 use expand_work::WaveFault;
 use net_bench::fault::BenchFault;
 use net_order::order::OrderFault;
+use std::alloc::AllocError;
 
 /// What a file is.
 #[derive(Clone, Copy, Drop, Debug, PartialEq, Eq)]
@@ -39,6 +41,22 @@ pub enum ToolFault {
     BadOrder(OrderFault),
     Check(CheckFault),
     OutOfMemory,
+}
+
+impl From<AllocError> for ToolFault {
+    ghost from_gives = { λ _ fault. fault ≡ tool_faults.OutOfMemory };
+
+    fn from(_: AllocError) -> ToolFault {
+        ToolFault::OutOfMemory
+    }
+}
+
+impl From<CheckFault> for ToolFault {
+    ghost from_gives = { λ check fault. fault ≡ tool_faults.Check check };
+
+    fn from(check: CheckFault) -> ToolFault {
+        ToolFault::Check(check)
+    }
 }
 
 /// The text of a fault in parts, which need no memory: what is refused, what stands before the number of a line or of a name, this number

@@ -16,7 +16,7 @@ use std::alloc::{AllocError, Global};
 
 /// Where a fault is.
 #[derive(Clone, Copy, Drop)]
-pub enum Location<'a> {
+pub(crate) enum Location<'a> {
     NoLocation,
     /// In a text, which is named by its path or by what it is.
     Text(&'a str),
@@ -181,7 +181,7 @@ fn refused_file<'a>(options: &Options<'a>, fault: ToolFault) -> Option<&'a str>
 
 /// What a fault points at in a file: a line, a line with a broken statement, or a name of a list by its place.
 #[derive(Clone, Copy, Drop)]
-pub enum QuotedPart {
+pub(crate) enum QuotedPart {
     Line(u32),
     BrokenStatement(u32),
     Listed(u32),
@@ -230,7 +230,10 @@ fn quoted_part_of(fault: ToolFault) -> Option<QuotedPart>
 }
 
 /// The file of a text that was refused, and what the fault points at in it.
-pub fn refused_part<'a>(options: &Options<'a>, fault: ToolFault) -> Option<(&'a str, QuotedPart)>
+pub(crate) fn refused_part<'a>(
+    options: &Options<'a>,
+    fault: ToolFault,
+) -> Option<(&'a str, QuotedPart)>
     ensures { IfSome result (λ r. (refused_paths options.now fault ≡ r.0.now ∷ []) × (fault_part fault ≡ Some r.1)) }
 {
     let path = refused_file(options, fault)?;
@@ -262,7 +265,11 @@ fn line_at(alloc: Global, location: Location<'_>, help: &str) -> Result<String, 
 }
 
 /// The line that says where a fault is, and what helps, with all names of which one is refused.
-pub fn help_of(alloc: Global, options: &Options<'_>, fault: ToolFault) -> Result<String, AllocError>
+pub(crate) fn help_of(
+    alloc: Global,
+    options: &Options<'_>,
+    fault: ToolFault,
+) -> Result<String, AllocError>
     ensures { IfOk result (λ line. string_bytes line ≡ help_text options.now fault) }
 {
     let location = location_of(options, fault);
@@ -272,7 +279,7 @@ pub fn help_of(alloc: Global, options: &Options<'_>, fault: ToolFault) -> Result
 }
 
 /// The same line with what is shown of a file, or with the name that is refused.
-pub fn help_with(
+pub(crate) fn help_with(
     alloc: Global,
     options: &Options<'_>,
     fault: ToolFault,

@@ -6,8 +6,8 @@
 //! (`silent`). If a pair differs, the file for the VCD has it (`ending`).
 //! `run::run_options` says so of options: the report (`report`, `unwritten`), the files that were opened, in their
 //! order (`opened`), the input that is read only where a text stands on it (`input_unread`), faults and their causes
-//! (`fault`, `full`, `given_up`, `only`, `thread_for_named_order`, `never_too_many_requests`). `split::split_input` divides at the first line `%%`;
-//! `fault::status_of_fault` is the status of a fault (`status`).
+//! (`fault`), and which of them may come (`may`). `split::split_input` divides at the first line `%%`;
+//! `fault::status_of_fault` is the status of a fault (`status`). A law: `failures`.
 //!
 //! **Only tests show** files, pipes, terminals and signals of the built program (`tests/run.sh`), and what progress
 //! says (`report_tests`).
@@ -22,7 +22,8 @@ pub mod done;
 pub mod fault;
 mod files;
 pub mod folder;
-pub mod help;
+mod help;
+pub mod laws;
 mod names;
 pub mod process;
 pub mod progress;

@@ -5,7 +5,7 @@ ghost use Rattle.compare_built.specs.Check.{Gives};
 ghost use Rattle.compare_built.specs.PairSelection.{IsNamedIn};
 ghost use Rattle.check_tool.specs.Helping.{names_text, picked_names, refused_names, refused_paths, IsFirstCircuit, IsQuoted};
 ghost use Rattle.check_tool.specs.Helping.{IsRefusedName, IsUnknownTargetWord, IsUnknownPick, IsUnknownTarget};
-ghost use Rattle.check_tool.specs.Opening.{AreTried, Extends, Try};
+ghost use Rattle.check_tool.specs.Opening.{OpensAgain};
 ghost use Rattle.check_tool.specs.Running.{first_paths};
 
 use crate::fault::ToolFault;
@@ -56,33 +56,25 @@ pub(crate) fn with_names(alloc: Global, text: &str, names: &[&str]) -> Result<St
 #[tactic(auto, using(crate::proofs::Composing::extends_none, crate::proofs::Quoting::tried_once, crate::proofs::Naming::gives_again))]
 fn read_again<F: Folder>(alloc: Global, folder: &mut F, path: &str) -> Option<Netlist>
     ensures read { IfSome result (λ net. Gives (F.bytes_at folder.old path.now) (circuit net)) }
-    ensures tried { (again : List Try) × Extends (F.tries folder.old) (F.tries folder.new) again × AreTried (path.now ∷ []) again }
+    ensures tried { OpensAgain (F.tries folder.old) (F.tries folder.new) (path.now ∷ []) }
     ensures unsaved { F.saves folder.new ≡ F.saves folder.old }
 {
     if !folder.is_regular(path) {
         return None;
     }
-    let Ok(mut file) = folder.open(path) else {
-        return None;
-    };
-    match read_bench(alloc, &mut file) {
-        Ok(net) => Some(net),
-        Err(_) => None,
-    }
+    let mut file = folder.open(path).ok()?;
+    read_bench(alloc, &mut file).ok()
 }
 
 /// The first netlist, if it is in a file that can be read once more.
 #[tactic(auto, using(crate::proofs::Composing::extends_none))]
 fn first_netlist<F: Folder>(alloc: Global, folder: &mut F, options: &Options<'_>) -> Option<Netlist>
     ensures read { IfSome result (λ net. IsFirstCircuit (F.bytes_at folder.old) options.now (circuit net)) }
-    ensures tried { (again : List Try) × Extends (F.tries folder.old) (F.tries folder.new) again
-        × AreTried (first_paths options.now.texts) again }
+    ensures tried { OpensAgain (F.tries folder.old) (F.tries folder.new) (first_paths options.now.texts) }
     ensures unsaved { F.saves folder.new ≡ F.saves folder.old }
 {
-    match file_of_first(options.texts) {
-        Some(path) => read_again(alloc, folder, path),
-        None => None,
-    }
+    let path = file_of_first(options.texts)?;
+    read_again(alloc, folder, path)
 }
 
 /// The first of these names that is that of no output and no register.
@@ -102,9 +94,7 @@ fn unknown_target_in<'a>(alloc: Global, net: &Netlist, words: &[&'a str]) -> Opt
     ensures { IfSome result (λ w. Contains words.now w × IsUnknownTarget (circuit net.now) w.now) }
 {
     for word in words {
-        let Ok(target) = target_of(alloc, *word) else {
-            return None;
-        };
+        let target = target_of(alloc, *word).ok()?;
         if !has_pair(net, &target) {
             return Some(*word);
         }
@@ -119,14 +109,11 @@ fn unknown_pick<'a, F: Folder>(
     options: &Options<'a>,
 ) -> Option<&'a str>
     ensures unknown { IfSome result (IsUnknownPick (F.bytes_at folder.old) options.now) }
-    ensures tried { (again : List Try) × Extends (F.tries folder.old) (F.tries folder.new) again
-        × AreTried (first_paths options.now.texts) again }
+    ensures tried { OpensAgain (F.tries folder.old) (F.tries folder.new) (first_paths options.now.texts) }
     ensures unsaved { F.saves folder.new ≡ F.saves folder.old }
 {
-    match first_netlist(alloc, folder, options) {
-        Some(net) => unknown_name_in(&net, picked_names(&options.picks)),
-        None => None,
-    }
+    let net = first_netlist(alloc, folder, options)?;
+    unknown_name_in(&net, picked_names(&options.picks))
 }
 
 /// The first word that calls what is to be explained and is no output and no register of the first netlist.
@@ -136,14 +123,11 @@ fn unknown_target_word<'a, F: Folder>(
     options: &Options<'a>,
 ) -> Option<&'a str>
     ensures unknown { IfSome result (IsUnknownTargetWord (F.bytes_at folder.old) options.now) }
-    ensures tried { (again : List Try) × Extends (F.tries folder.old) (F.tries folder.new) again
-        × AreTried (first_paths options.now.texts) again }
+    ensures tried { OpensAgain (F.tries folder.old) (F.tries folder.new) (first_paths options.now.texts) }
     ensures unsaved { F.saves folder.new ≡ F.saves folder.old }
 {
-    match first_netlist(alloc, folder, options) {
-        Some(net) => unknown_target_in(alloc, &net, options.explain.as_slice()),
-        None => None,
-    }
+    let net = first_netlist(alloc, folder, options)?;
+    unknown_target_in(alloc, &net, options.explain.as_slice())
 }
 
 /// The name that a fault refuses: the only one of which it may refuse one, or that which the first netlist does not have.
@@ -154,8 +138,7 @@ fn refused_name<'a, F: Folder>(
     fault: ToolFault,
 ) -> Option<&'a str>
     ensures named { IfSome result (IsRefusedName (F.bytes_at folder.old) options.now fault) }
-    ensures tried { (again : List Try) × Extends (F.tries folder.old) (F.tries folder.new) again
-        × AreTried (refused_paths options.now fault) again }
+    ensures tried { OpensAgain (F.tries folder.old) (F.tries folder.new) (refused_paths options.now fault) }
     ensures unsaved { F.saves folder.new ≡ F.saves folder.old }
 {
     let names = refused_names(options, fault);
@@ -177,15 +160,9 @@ pub(crate) fn name_of_refused<F: Folder>(
     fault: ToolFault,
 ) -> Option<String>
     ensures quoted { IfSome result (λ s. IsQuoted (F.bytes_at folder.old) options.now fault (string_bytes s)) }
-    ensures tried { (again : List Try) × Extends (F.tries folder.old) (F.tries folder.new) again
-        × AreTried (refused_paths options.now fault) again }
+    ensures tried { OpensAgain (F.tries folder.old) (F.tries folder.new) (refused_paths options.now fault) }
     ensures unsaved { F.saves folder.new ≡ F.saves folder.old }
 {
-    match refused_name(alloc, folder, options, fault) {
-        Some(name) => match String::from_str(alloc, name) {
-            Ok(text) => Some(text),
-            Err(_) => None,
-        },
-        None => None,
-    }
+    let name = refused_name(alloc, folder, options, fault)?;
+    String::from_str(alloc, name).ok()
 }

@@ -3,7 +3,7 @@ ghost use Rattle.std.specs.Prelude.{◌≡◌, ◌+◌, ◌-◌, ◌^◌, ◌<�
 ghost use Rattle.std.specs.Prelude.{string_bytes, ◌++◌};
 ghost use Rattle.net_bench.specs.Pieces.{tokens_at};
 ghost use Rattle.check_tool.specs.Helping.{refused_paths, IsQuoted, IsShown};
-ghost use Rattle.check_tool.specs.Opening.{Extends, Try, AreTried};
+ghost use Rattle.check_tool.specs.Opening.{OpensAgain};
 ghost use Rattle.check_tool.specs.Quoting.{before_line, following, broken_remark, excerpt, first_line, line_in, name_remark, unclosed_in};
 ghost use Rattle.check_tool.specs.Quoting.{quotation, read_byte, remark, shown, unread};
 ghost use Rattle.check_tool.specs.Running.{IsReadOf};
@@ -245,22 +245,15 @@ fn quote_file<F: Folder>(
 ) -> Option<String>
     ensures quoted { IfSome result (λ s. (text : List ℕ) × IsReadOf (F.bytes_at folder.old path.now) (Some text)
         × (string_bytes s ≡ remark quoted_part text)) }
-    ensures tried { (again : List Try) × Extends (F.tries folder.old) (F.tries folder.new) again × AreTried (path.now ∷ []) again }
+    ensures tried { OpensAgain (F.tries folder.old) (F.tries folder.new) (path.now ∷ []) }
     ensures unsaved { F.saves folder.new ≡ F.saves folder.old }
 {
     if !folder.is_regular(path) {
         return None;
     }
-    let Ok(mut file) = folder.open(path) else {
-        return None;
-    };
-    let Ok(text) = read_text(alloc, &mut file, MAX_TEXT) else {
-        return None;
-    };
-    match remark(alloc, text.as_slice(), quoted_part) {
-        Ok(shown) => Some(shown),
-        Err(_) => None,
-    }
+    let mut file = folder.open(path).ok()?;
+    let text = read_text(alloc, &mut file, MAX_TEXT).ok()?;
+    remark(alloc, text.as_slice(), quoted_part).ok()
 }
 
 /// What is shown of the file of a text that was refused, if it can be read once more.
@@ -272,26 +265,22 @@ fn quote_refused<F: Folder>(
     fault: ToolFault,
 ) -> Option<String>
     ensures quoted { IfSome result (λ s. IsShown (F.bytes_at folder.old) options.now fault (string_bytes s)) }
-    ensures tried { (again : List Try) × Extends (F.tries folder.old) (F.tries folder.new) again
-        × AreTried (refused_paths options.now fault) again }
+    ensures tried { OpensAgain (F.tries folder.old) (F.tries folder.new) (refused_paths options.now fault) }
     ensures unsaved { F.saves folder.new ≡ F.saves folder.old }
 {
-    match refused_part(options, fault) {
-        Some((path, quoted_part)) => quote_file(alloc, folder, path, quoted_part),
-        None => None,
-    }
+    let (path, quoted_part) = refused_part(options, fault)?;
+    quote_file(alloc, folder, path, quoted_part)
 }
 
 /// What is shown of a fault: a line of the file that was refused, or a name, or the name that the first netlist does not have.
-pub fn quote<F: Folder>(
+pub(crate) fn quote<F: Folder>(
     alloc: Global,
     folder: &mut F,
     options: &Options<'_>,
     fault: ToolFault,
 ) -> Option<String>
     ensures quoted { IfSome result (λ s. IsQuoted (F.bytes_at folder.old) options.now fault (string_bytes s)) }
-    ensures tried { (again : List Try) × Extends (F.tries folder.old) (F.tries folder.new) again
-        × AreTried (refused_paths options.now fault) again }
+    ensures tried { OpensAgain (F.tries folder.old) (F.tries folder.new) (refused_paths options.now fault) }
     ensures unsaved { F.saves folder.new ≡ F.saves folder.old }
 {
     match fault {

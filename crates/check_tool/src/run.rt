@@ -1,13 +1,13 @@
 //! A run with its options, over any folder, input and output.
 ghost use Rattle.std.specs.Prelude.{◌≡◌, ◌≢◌, ℕ, Bool, false, List, Option, None, IfOk, IfErr, OnOk, OnErr, IfSome, IsTrue, Err};
-ghost use Rattle.compare_built.specs.declared.fault.CheckFault.TheVariants.{Only, Wave, GivenUp, Write};
+ghost use Rattle.compare_built.specs.declared.fault.CheckFault.TheVariants.{Write};
 ghost use Rattle.command_line.specs.declared.options.Texts.TheVariants.{Input, Files, InputAndFile, FileAndInput};
-ghost use Rattle.expand_work.specs.declared.fault.WaveFault.TheVariants.{Full, NoWorker, TooManyRequests};
 ghost use Rattle.check_tool.specs.Comparing.{IsRunOf, IsFailedRun};
-ghost use Rattle.check_tool.specs.Opening.{Extends, HasFailedAt, Try, opened};
-ghost use Rattle.check_tool.specs.Running.{paths_of, IsShort, IsInputFault, IsToolFault, HasReported, HasReportedFront, IsBeyond};
-ghost use Rattle.check_tool.specs.Running.{IsGivenUp, AreEarlierAttemptsGivenUp, AreUnknown, MayGoByCones, NamesOrder, AreOnStandardInput};
 ghost use Rattle.check_tool.specs.Ending.{HasProgress, shows_progress, written, written as said_by};
+ghost use Rattle.check_tool.specs.Failures.{MayFail};
+ghost use Rattle.check_tool.specs.Opening.{Extends, HasFailedAt, Try, opened};
+ghost use Rattle.check_tool.specs.Running.{paths_of, IsShort, IsInputFault, IsToolFault, HasReported, HasReportedFront};
+ghost use Rattle.check_tool.specs.Running.{AreEarlierAttemptsGivenUp, AreOnStandardInput};
 
 use crate::compare::{Run, compare};
 use crate::done::Done;
@@ -214,20 +214,8 @@ pub fn run_options<
     ensures unsaved { F.saves folder.new ≡ F.saves folder.old }
     // The attempts before the one that is told were given up: each within a smaller budget, and within the first budget each before it.
     ensures earlier_given_up { IfOk result (AreEarlierAttemptsGivenUp (F.bytes_at folder.old) (R.remaining input.old) options.now) }
-    // The nodes that the texts need are within the limit where there is a report, and Full comes only where they are not, in any order
-    // that is asked for.
-    ensures full { result ≡ Err (ToolFault.Check (Wave Full)) → IsBeyond (F.bytes_at folder.old) (R.remaining input.old) options.now }
-    // GivenUp comes only where orders are tried, and each attempt within the limit was given up; where one is to be found, neither comes,
-    // since pairs are judged by their cones then.
-    ensures given_up { result ≡ Err (ToolFault.Check GivenUp) → IsGivenUp (F.bytes_at folder.old) (R.remaining input.old) options.now }
-    ensures by_cones { MayGoByCones options.now.order → (result ≢ Err (ToolFault.Check (Wave Full)))
-        × (result ≢ Err (ToolFault.Check GivenUp)) }
-    // NoWorker comes only of a comparison in an order that is named.
-    ensures thread_for_named_order { result ≡ Err (ToolFault.Check (Wave NoWorker)) → (options.now.print_order ≡ false) × NamesOrder options.now.order }
-    // A name that is picked is refused only where the first text has no such output or register.
-    ensures only { result ≡ Err (ToolFault.Check Only) → AreUnknown (F.bytes_at folder.old) (R.remaining input.old) options.now }
-    // No wave of a run of the program is given up for its requests but within an attempt.
-    ensures never_too_many_requests { result ≢ Err (ToolFault.Check (Wave TooManyRequests)) }
+    // A fault comes only if it may: the limit is refused only if it is too low, a name only if it is unknown, and so on.
+    ensures may { IfErr result (MayFail (F.bytes_at folder.old) (IsTrue (R.has_failed input.new)) (R.remaining input.old) options.now) }
     // A fault has its cause, what comes before it was accepted, and no file was tried beyond it.
     ensures fault { IfErr result (λ fault. (tries : List Try) × Extends (F.tries folder.old) (F.tries folder.new) tries
         × IsToolFault (F.bytes_at folder.old) (HasFailedAt F.File.origin F.File.has_failed) (IsTrue (R.has_failed input.new))
@@ -238,8 +226,7 @@ pub fn run_options<
         (W.has_failed out.new) (W.has_stopped out.new) }
     // At any other fault nothing was written.
     ensures untouched { OnErr result (result ≢ Err (ToolFault.Check Write) → out.new ≡ out.old) }
-    // An input that is said to have failed has failed, and an output that took the report has not.
-    ensures read { result ≡ Err ToolFault.InputUnread → IsTrue (R.has_failed input.new) }
+    // An output that took the report has not failed.
     ensures written { OnOk result ((W.has_failed out.new ≡ W.has_failed out.old) × (W.has_stopped out.new ≡ W.has_stopped out.old)) }
     // The input is read only where a text stands on it.
     ensures input_unread { (AreOnStandardInput options.now.texts → ⊥) → input.new ≡ input.old }
@@ -248,35 +235,31 @@ pub fn run_options<
     ensures progress { HasProgress (shows_progress options.now (E.on_terminal errors.old))
         (said_by E.contents E.has_failed E.has_stopped errors.old errors.new) }
 {
-    match form_on(options.verbose, errors) {
-        None => {
-            let monitor = &NoMonitor;
-            run_by(
-                &Run {
-                    rt,
-                    options,
-                    monitor,
-                },
-                folder,
-                input,
-                out,
-            )
-        }
-        Some(form) => {
-            let progress = Progress::new(rt, rt.alloc(), form, errors);
-            let monitor = &progress;
-            let ended = run_by(
-                &Run {
-                    rt,
-                    options,
-                    monitor,
-                },
-                folder,
-                input,
-                out,
-            );
-            progress.end();
-            ended
-        }
-    }
+    let Some(form) = form_on(options.verbose, errors) else {
+        let monitor = &NoMonitor;
+        return run_by(
+            &Run {
+                rt,
+                options,
+                monitor,
+            },
+            folder,
+            input,
+            out,
+        );
+    };
+    let progress = Progress::new(rt, rt.alloc(), form, errors);
+    let monitor = &progress;
+    let ended = run_by(
+        &Run {
+            rt,
+            options,
+            monitor,
+        },
+        folder,
+        input,
+        out,
+    );
+    progress.end();
+    ended
 }

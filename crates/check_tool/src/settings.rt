@@ -1,10 +1,9 @@
 //! From the options of a run to the settings of its check.
-ghost use Rattle.std.specs.Prelude.{◌≡◌, ◌≤◌, ◌++◌, List, ℕ, IfOk, IfErr, map, take};
+ghost use Rattle.std.specs.Prelude.{◌≡◌, ◌≤◌, ◌++◌, List, ℕ, IfOk, map, take};
 ghost use Rattle.compare_built.specs.declared.strategy.Strategy.{Strategy as StrategyValue};
 ghost use Rattle.command_line.specs.declared.options.OrderChoice.{OrderChoice as OrderValue};
 ghost use Rattle.check_tool.specs.Running.{AreSettings, AreTargetsOf, IsKindAndName, IsPickedOf, limit_of, limit_in};
 
-use crate::fault::ToolFault;
 use check_report::{Name, PairFilter, PairKind, PairName, Settings, Strategy};
 use command_line::{Options, OrderChoice, Picks};
 use std::alloc::{AllocError, Global};
@@ -36,17 +35,16 @@ fn names_of(alloc: Global, words: &[&str]) -> Result<Vec<Name>, AllocError>
 }
 
 /// The pairs that are asked for.
-pub(crate) fn picked_of(alloc: Global, picks: &Picks<'_>) -> Result<PairFilter, ToolFault>
-    ensures picked { IfOk result (IsPickedOf picks.now) }
-    ensures fault { IfErr result (λ fault. fault ≡ ToolFault.OutOfMemory) }
+pub(crate) fn picked_of(alloc: Global, picks: &Picks<'_>) -> Result<PairFilter, AllocError>
+    ensures { IfOk result (IsPickedOf picks.now) }
 {
     match picks {
         Picks::All => Ok(PairFilter::All),
         Picks::Share(share) => Ok(PairFilter::Share(*share)),
-        Picks::Only(words) => match names_of(alloc, words.as_slice()) {
-            Ok(names) => Ok(PairFilter::Only(names)),
-            Err(_) => Err(ToolFault::OutOfMemory),
-        },
+        Picks::Only(words) => {
+            let names = names_of(alloc, words.as_slice())?;
+            Ok(PairFilter::Only(names))
+        }
     }
 }
 
@@ -70,7 +68,7 @@ pub(crate) fn target_of(alloc: Global, word: &str) -> Result<PairName, AllocErro
 }
 
 /// What words ask to be explained.
-fn all_targets(alloc: Global, words: &[&str]) -> Result<Vec<PairName>, AllocError>
+pub(crate) fn targets_of(alloc: Global, words: &[&str]) -> Result<Vec<PairName>, AllocError>
     ensures { IfOk result (λ targets. AreTargetsOf words.now targets.items) }
 {
     let mut targets = Vec::new(alloc);
@@ -78,17 +76,6 @@ fn all_targets(alloc: Global, words: &[&str]) -> Result<Vec<PairName>, AllocErro
         targets.push(target_of(alloc, *word)?)?;
     }
     Ok(targets)
-}
-
-/// What is asked to be explained.
-pub(crate) fn targets_of(alloc: Global, words: &[&str]) -> Result<Vec<PairName>, ToolFault>
-    ensures targets { IfOk result (λ targets. AreTargetsOf words.now targets.items) }
-    ensures fault { IfErr result (λ fault. fault ≡ ToolFault.OutOfMemory) }
-{
-    match all_targets(alloc, words) {
-        Ok(targets) => Ok(targets),
-        Err(_) => Err(ToolFault::OutOfMemory),
-    }
 }
 
 /// The settings of a check in this order, of these pairs, with what is to be explained.

@@ -6,7 +6,7 @@ ghost use Rattle.check_tool.specs.Ending.{IsDoneStatus, Finishes, FailsToSave, I
 ghost use Rattle.check_tool.specs.declared.fault.ToolFault.{ToolFault as FaultValue};
 ghost use Rattle.check_tool.specs.Running.{AreOnStandardInput};
 ghost use Rattle.check_tool.specs.Helping.{IsHelp, refused_paths};
-ghost use Rattle.check_tool.specs.Opening.{AreTried, Extends, HasFailedAt, Try};
+ghost use Rattle.check_tool.specs.Opening.{HasFailedAt, OpensAgain};
 
 use crate::done::Done;
 use crate::fault::{ToolFault, status_of_fault, words_of};
@@ -66,8 +66,7 @@ fn help_line<F: Folder>(
     fault: ToolFault,
 ) -> Result<String, AllocError>
     ensures line { IfOk result (λ line. IsHelp (F.bytes_at folder.old) options.now fault (string_bytes line)) }
-    ensures tried { (again : List Try) × Extends (F.tries folder.old) (F.tries folder.new) again
-        × AreTried (refused_paths options.now fault) again }
+    ensures tried { OpensAgain (F.tries folder.old) (F.tries folder.new) (refused_paths options.now fault) }
     ensures unsaved { F.saves folder.new ≡ F.saves folder.old }
 {
     match quote(alloc, folder, options, fault) {
@@ -86,8 +85,7 @@ fn help<F: Folder, E: Sink>(
 )
     ensures said { (line : List ℕ) × IsHelp (F.bytes_at folder.old) options.now fault line
         × MaySay (written E.contents E.has_failed E.has_stopped errors.old errors.new) line }
-    ensures tried { (again : List Try) × Extends (F.tries folder.old) (F.tries folder.new) again
-        × AreTried (refused_paths options.now fault) again }
+    ensures tried { OpensAgain (F.tries folder.old) (F.tries folder.new) (refused_paths options.now fault) }
     ensures unsaved { F.saves folder.new ≡ F.saves folder.old }
 {
     if let Ok(line) = help_line(alloc, folder, options, fault) {
@@ -105,8 +103,7 @@ fn refuse_run<F: Folder, E: Sink>(
 ) -> u8
     ensures said { IsSaidOf (F.bytes_at folder.old) options.now
         (written E.contents E.has_failed E.has_stopped errors.old errors.new) fault result }
-    ensures tried { (again : List Try) × Extends (F.tries folder.old) (F.tries folder.new) again
-        × AreTried (refused_paths options.now fault) again }
+    ensures tried { OpensAgain (F.tries folder.old) (F.tries folder.new) (refused_paths options.now fault) }
     ensures unsaved { F.saves folder.new ≡ F.saves folder.old }
     ensures bound { result ≤ 3 }
     ensures refused { 2 ≤ result }

@@ -6,7 +6,7 @@ returns-clause-ready g c = record {
   picked = c.in_ok-picked.picked;
   conditioned = c.in_ok-given.ensures.given;
   ordered = c.in_ok-given.ensures.order;
-  picks = c.in_ok-picked.ensures.picked;
+  picks = c.in_ok-picked.ensures;
   set = c.settings_of.ensures;
   opened_all = c.in_ok-given.ensures.opened;
 }

@@ -47,16 +47,7 @@ returns-in-Err-clause-ending g c =
         tried = extends_more (g.F.Folder.tries c.args.folder.now) (g.F.Folder.tries c.run_options.new.folder) (g.F.Folder.tries c.refuse_run.new.folder) cause.0 again.0 cause.1 again.1;
         once_more = again.2;
         cause = cause.2;
-        unread = λ e. c.run_options.ensures.read (c.in-Err.is ∙ ap Err e);
-        full = λ e. c.run_options.ensures.full (c.in-Err.is ∙ ap Err e);
-        given_up = λ e. c.run_options.ensures.given_up (c.in-Err.is ∙ ap Err e);
-        by_cones = λ may. (
-          λ e. (c.run_options.ensures.by_cones may).0 (c.in-Err.is ∙ ap Err e),
-          λ e. (c.run_options.ensures.by_cones may).1 (c.in-Err.is ∙ ap Err e),
-        );
-        thread_for_named_order = λ e. c.run_options.ensures.thread_for_named_order (c.in-Err.is ∙ ap Err e);
-        only = λ e. c.run_options.ensures.only (c.in-Err.is ∙ ap Err e);
-        never_too_many_requests = λ e. c.run_options.ensures.never_too_many_requests (c.in-Err.is ∙ ap Err e);
+        may = c.in-Err.ensures.may;
         line = (
           record { holds = g.E.Sink.contents c.run_options.new.errors; has_failed = g.E.Sink.has_failed c.run_options.new.errors; has_stopped = g.E.Sink.has_stopped c.run_options.new.errors },
           c.run_options.ensures.progress,

@@ -3,7 +3,7 @@ use Rattle.std.proofs.lemmas.List.{take_more}
 use Rattle.report_text.specs.declared.cause.PairName.{PairName}
 use Rattle.compare_built.proofs.Adding.{zip_push}
 use Rattle.check_tool.specs.Running.{AreTargetsOf, IsKindAndName}
-use Rattle.check_tool.proofs.settings.all_targets.Goals as goal
+use Rattle.check_tool.proofs.settings.targets_of.Goals as goal
 
 pub loop-word-preserved : goal.loop-word-preserved
 loop-word-preserved c =

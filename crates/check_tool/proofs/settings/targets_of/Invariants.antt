@@ -1,6 +1,6 @@
 use Rattle.std.proofs.Common.{take}
 use Rattle.check_tool.specs.Running.{AreTargetsOf}
-use Rattle.check_tool.proofs.settings.all_targets.Given as goal
+use Rattle.check_tool.proofs.settings.targets_of.Given as goal
 
 -- those so far
 abbrev pub invariant-loop-word : goal.invariant-loop-word
