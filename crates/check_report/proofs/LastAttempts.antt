@@ -40,9 +40,9 @@ after_all task limit bound t all is more = record {
 }
 
 -- both of the last orders were given up
-pub last_given_up : {H : Type 0} (task : Task H) {declared : Option (Bor NamingModel)} (furthest : Candidate) (budget : ℕ) (bound : Option ℕ) {round : Round} {full : Bool} → round ≡ GivenUp full →
+pub last_given_up : {H : Type 0} (task : Task H) (declared : Option (Bor NamingModel)) (furthest : Candidate) (budget : ℕ) (bound : Option ℕ) {round : Round} {full : Bool} → round ≡ GivenUp full →
     IsLastRound task declared furthest budget bound round → IsCandidateGivenUp task budget bound Declared
-last_given_up task {declared} furthest budget bound {round} {full} is last = (let h : IsLastRound task declared furthest budget bound (GivenUp full) = subst (IsLastRound task declared furthest budget bound) is last in h.1)
+last_given_up task declared furthest budget bound {round} {full} is last = (let h : IsLastRound task declared furthest budget bound (GivenUp full) = subst (IsLastRound task declared furthest budget bound) is last in h.1)
 
 module _ {H : Type 0} (task : Task H) (input : DeviceTexts) (given : AreGiven input (circuit task.first.now) (circuit task.second.now) (condition task.given)) (bound : Option ℕ) where
   -- what auto owes for a pair that is left, from each way in which it ends

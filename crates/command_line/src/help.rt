@@ -68,7 +68,7 @@ How it is decided:
   --workers N          use N threads, 1 to 16, by default 4: by auto, by best
                        and in a named order they share each wide wave, a set of
                        operations that is done at once for gates of one rank; by
-                       cones several pairs are judged at once, one thread a pair
+                       cones several pairs are judged at once and share them
   --limit N            give up if the diagrams have more than N nodes, 1 to
                        4294967295; by default 67108864, and for auto and cones
                        what --memory holds

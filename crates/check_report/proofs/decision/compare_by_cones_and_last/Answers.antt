@@ -10,7 +10,7 @@ use Rattle.compare_built.specs.Limits.{AreWithin}
 use Rattle.explain_report.specs.Deciding.IsFoundBy.{in_order}
 use Rattle.explain_report.specs.Explaining.{reported_order}
 use Rattle.order_search.specs.declared.attempts.Round.TheVariants.{Decided}
-use Rattle.order_search.specs.Trials.{IsLastRound, IsNamingIn, IsPairingIn, ordered_names}
+use Rattle.order_search.specs.Trials.{EndsAtOnce, IsLastRound, IsNamingIn, IsPairingIn, ordered_names}
 use Rattle.order_search.proofs.Namings.{as_pairing}
 use Rattle.order_search.proofs.Reporting.{late_fault, late_whole}
 use Rattle.order_search.proofs.Rounds.{accepted_paired, earlier_in_input, judged, within}
@@ -101,4 +101,17 @@ returns-in-Ok-GivenUp-clause-decision g c = λ input ga.
     let found = c.in_ok-verdicts.verdicts in
     by_cones_of_auto task input ga bound c.args.declared found c.requires.auto c.requires.naming c.requires.given_up c.in_ok-verdicts.ensures.verdicts
     (given_up_last task input ga bound found c.requires.auto
-    (last_given_up task c.args.furthest task.settings.now.limit bound c.in-Ok-GivenUp.field-0-is c.in-Ok-GivenUp.ensures.last))
+    (last_given_up task _ c.args.furthest task.settings.now.limit bound c.in-Ok-GivenUp.field-0-is c.in-Ok-GivenUp.ensures.last))
+
+pub returns-in-Err-try_last-clause-no_decision : goal.returns-in-Err-try_last-clause-no_decision
+returns-in-Err-try_last-clause-no_decision g c = λ input ga.
+    let task = c.args.task.now in
+    let s = task.settings.now in
+    let named = c.in_ok-named.ensures.named in
+    let is : IsPairingIn task orders.Declared c.in-Ok.pairing =
+    subst (IsPairingIn task orders.Declared) (sym c.in-Ok.ensures.same)
+    (as_pairing s.matching (circuit task.first.now) (circuit task.second.now) (condition task.given) orders.Declared c.in_ok-named.field-0 named c.in-Ok.ensures.few) in
+    let fault = c.as_comparison_fault.result in
+    let ends = c.as_comparison_fault.ensures in
+    none_by_cones input s (g.G.Monitor.bound c.args.monitor.now) fault (subst MayGoByCones (sym c.requires.auto) tt)
+    (late_fault input ⊥ ⊥ ⊥ s.order s.matching orders.Declared fault (accepted_paired task input ga s.order orders.Declared c.in-Ok.pairing is) ends.0) (inr ends.1) (λ only. absurd (subst EndsAtOnce only ends.1)) (late_whole fault ends.0)
