@@ -1,0 +1,10 @@
+use Rattle.std.proofs.Common.{ℕ, arith}
+use Rattle.std.proofs.lemmas.Grind.{common_steps}
+use Rattle.group_order.proofs.Folding.{folded_none, folded_more}
+use Rattle.group_order.proofs.weight_step.heaviest.Goals as goal
+
+pub loop-place-init : goal.loop-place-init
+loop-place-init c = let none = folded_none {X = ℕ} in grind (arith, common_steps, none)
+
+pub loop-place-preserved : goal.loop-place-preserved
+loop-place-preserved c = let more = folded_more {X = ℕ} in grind (arith, common_steps, more)

@@ -1,0 +1,9 @@
+pub mod Sides
+pub mod FanOut
+pub mod SmallFunctions
+pub mod Groups
+pub mod NameKeys
+pub mod Weights
+pub mod WeightCones
+pub mod FreeForce
+pub mod Orders
