@@ -9,7 +9,7 @@ use Rattle.pair_graph.specs.Graphs.{AreEquivalent, AreBelow, IsGraph, bit, node_
 use Rattle.pair_graph.proofs.Values.{operation-same, operation_at-same, value_within-more}
 use Rattle.cut_window.proofs.Places.{place_of-is}
 use Rattle.cut_window.specs.declared.finding.Finding.{Finding}
-use Rattle.cut_window.specs.declared.finding.Finding.TheVariants.{Equal, Complement, Unknown}
+use Rattle.cut_window.specs.declared.finding.Finding.TheVariants.{Equal, Complement, Differ, GivenUp}
 use Rattle.cut_window.specs.Windows.{AgreeOver, AreLeafValues, Holds, HoldsOver, leaf_or, node_over, place_of, value_over_within}
 
 -- a leaf has its bit
@@ -78,4 +78,5 @@ equivalent_from_over g sound leaves a b agree x =
 pub holds_from_over : (g : List Node) → IsGraph g → (leaves : List ℕ) (a b : Parts) (v : Finding) → HoldsOver g leaves a b v → Holds g a b v
 holds_from_over g sound leaves a b Equal agree = equivalent_from_over g sound leaves a b agree
 holds_from_over g sound leaves a b Complement agree = equivalent_from_over g sound leaves a (negated b) agree
-holds_from_over g sound leaves a b Unknown agree = tt
+holds_from_over g sound leaves a b (Differ bits) differ = tt
+holds_from_over g sound leaves a b GivenUp none = tt

@@ -5,7 +5,7 @@ use Rattle.pair_graph.specs.declared.node.Node.{Node}
 use Rattle.pair_graph.specs.Literals.{Parts, negated}
 use Rattle.pair_graph.specs.Graphs.{AreEquivalent, bit, literal_value, node_value, operation_at}
 use Rattle.cut_window.specs.declared.finding.Finding.{Finding}
-use Rattle.cut_window.specs.declared.finding.Finding.TheVariants.{Equal, Complement, Unknown}
+use Rattle.cut_window.specs.declared.finding.Finding.TheVariants.{Equal, Complement, Differ, GivenUp}
 
 -- the place of a node among the leaves
 abbrev pub place_of : List ℕ → ℕ → Option ℕ
@@ -33,7 +33,7 @@ value_over g leaves x y l = literal_value (node_over g leaves x y) l
 abbrev pub AgreeOver : List Node → List ℕ → Parts → Parts → Type 0
 AgreeOver g leaves a b = (x y : List Bool) → length y ≡ length leaves → value_over g leaves x y a ≡ value_over g leaves x y b
 
--- these bits of the leaves tell two literals apart: their values over the leaves are different
+-- two literals have different values if the leaves have these bits
 pub record DifferOver (g : List Node) (leaves : List ℕ) (a b : Parts) (y : List Bool) : Type 0 where
   pub each : length y ≡ length leaves
   pub differ : (x : List Bool) → value_over g leaves x y a ≢ value_over g leaves x y b
@@ -46,10 +46,12 @@ AreLeafValues g leaves x y = (i n : ℕ) → slice_get leaves i ≡ Some n → b
 abbrev pub HoldsOver : List Node → List ℕ → Parts → Parts → Finding → Type 0
 HoldsOver g leaves a b Equal = AgreeOver g leaves a b
 HoldsOver g leaves a b Complement = AgreeOver g leaves a (negated b)
-HoldsOver g leaves a b Unknown = Unit {0}
+HoldsOver g leaves a b (Differ bits) = DifferOver g leaves a b bits.items
+HoldsOver g leaves a b GivenUp = Unit {0}
 
--- and what it means at every assignment of the variables
+-- and what it means at every assignment of the variables: a difference over the leaves means nothing there
 abbrev pub Holds : List Node → Parts → Parts → Finding → Type 0
 Holds g a b Equal = AreEquivalent g a b
 Holds g a b Complement = AreEquivalent g a (negated b)
-Holds g a b Unknown = Unit {0}
+Holds g a b (Differ bits) = Unit {0}
+Holds g a b GivenUp = Unit {0}

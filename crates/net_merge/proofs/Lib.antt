@@ -1,0 +1,5 @@
+pub mod Folding
+pub mod Past
+pub mod Representing
+pub mod SignalValues
+pub mod Stepping

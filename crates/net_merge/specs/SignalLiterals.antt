@@ -1,0 +1,47 @@
+-- Signals of netlists as literals of one graph.
+use Rattle.std.specs.Prelude.{◌≡◌, ℕ, ◌<◌, Bool, List, Contains, length, slice_get, slice_index, slice_index_or, Some}
+use Rattle.net_bench.specs.Circuit.{Circuit, Net, circuit, variables_of}
+use Rattle.net_bench.specs.Labels.{IsLabelling, bit_of}
+use Rattle.net_simulate.specs.Schedules.{Equation}
+use Rattle.pair_graph.specs.declared.node.Node.{Node}
+use Rattle.pair_graph.specs.Literals.{Parts, false_literal}
+use Rattle.pair_graph.specs.Graphs.{HasNode, value}
+
+-- a literal has the values of a signal: in each labelling the signal's bit
+abbrev pub IsLiteralOf : Circuit → (ℕ → ℕ) → List Node → ℕ → Parts → Type 0
+IsLiteralOf c level g s l = (x bits : List Bool) → IsLabelling c level x bits → value g x l ≡ bit_of bits s
+
+-- the literal of a signal, the constant 0 after the last
+abbrev pub literal_at : List Parts → ℕ → Parts
+literal_at literals s = slice_index_or literals s false_literal
+
+-- each signal of a netlist has a literal of the graph, and this literal has the signal's values
+pub record AreSignalLiterals (c : Circuit) (level : ℕ → ℕ) (g : List Node) (literals : List Parts) : Type 0 where
+  pub each : length literals ≡ length c.names
+  pub has : (s : ℕ) → HasNode g (literal_at literals s)
+  pub values : (s : ℕ) → s < length c.names → IsLiteralOf c level g s (literal_at literals s)
+
+-- two netlists as one graph: its nodes, and by signal the literals of the first netlist and of the second
+pub record MergedModel : Type 0 where
+  pub graph : List Node
+  pub first : List Parts
+  pub second : List Parts
+
+-- ---- what is done so far
+
+-- the literals are of the graph
+abbrev pub HaveNodes : List Node → List Parts → Type 0
+HaveNodes g literals = (s : ℕ) → HasNode g (literal_at literals s)
+
+-- so many variables of a netlist have a literal with their values
+pub record AreVariablesDone (c : Circuit) (level : ℕ → ℕ) (g : List Node) (done : ℕ) (literals : List Parts) : Type 0 where
+  pub each : length literals ≡ length c.names
+  pub has : HaveNodes g literals
+  pub values : (k s : ℕ) → k < done → slice_get (variables_of c) k ≡ Some s → IsLiteralOf c level g s (literal_at literals s)
+
+-- all variables of a netlist, and so many gates of a schedule, have a literal with their values
+pub record AreGatesDone (c : Circuit) (level : ℕ → ℕ) (schedule : List Equation) (g : List Node) (done : ℕ) (literals : List Parts) : Type 0 where
+  pub each : length literals ≡ length c.names
+  pub has : HaveNodes g literals
+  pub variables : (s : ℕ) → Contains (variables_of c) s → IsLiteralOf c level g s (literal_at literals s)
+  pub gates : (k : ℕ) (e : Equation) → k < done → slice_get schedule k ≡ Some e → IsLiteralOf c level g e.out (literal_at literals e.out)
