@@ -1,9 +1,11 @@
-//! Tests of evaluation at many assignments at once, by its public calls. They stand apart, since a crate with tests is
-//! proved twice.
+//! Tests of evaluation at many assignments at once, and of the differences that patterns show, by public calls. They
+//! stand apart, since a crate with tests is proved twice.
 //!
-//! They show what no contract of `net_simulate` can: that calls with ample memory succeed, and truth tables of each kind
-//! of gate. **Begin** with `tables`.
+//! They show what no contract of `net_simulate` and `net_patterns` can: that calls with ample memory succeed, truth
+//! tables of each kind of gate, and how small a difference becomes. **Begin** with `tables`.
 #![tactic(auto)]
 
+#[cfg(test)]
+mod differences;
 #[cfg(test)]
 mod tables;

@@ -1,0 +1,29 @@
+//! Assignments at which two netlists differ, without a diagram: patterns that are tried in all bits of blocks at once.
+//!
+//! **Promises.** `Patterns` are assignments by number, a function of how many variables and gates there are (`pattern`).
+//! `first_differences` answers for each pair the first pattern at which the condition holds and the two functions
+//! differ, and `None` only if there is none (`AreFirst`). `make_small` answers a difference again, and none that comes
+//! after the one that it is given (`MakesSmaller`). What a difference says of functions are the laws `functions` and
+//! `condition`.
+//!
+//! **Only tests show** that ample memory suffices, and that a difference becomes smaller where it can. That time is linear
+//! in the netlists for each block no clause says.
+//!
+//! **Begin** with `specs/Patterns` and `Differences`; then `differences`, over `sides` (what is compared) and `simulator`
+//! (one netlist), and `small`.
+#![tactic(auto)]
+
+mod apart;
+mod candidates;
+mod differences;
+mod drawing;
+pub mod laws;
+mod patterns;
+mod sides;
+mod simulator;
+mod small;
+
+pub use differences::first_differences;
+pub use patterns::Patterns;
+pub use sides::Netlists;
+pub use small::make_small;

@@ -1,0 +1,92 @@
+//! What is compared, ready to be evaluated.
+ghost use Rattle.std.specs.Prelude.{◌≡◌, ◌<◌, ◌↔◌, ℕ, true, Option, length, IfOk, IfSome};
+ghost use Rattle.net_bench.specs.Circuit.{Circuit, circuit};
+ghost use Rattle.net_order.specs.Order.{NamingModel, condition, given_level};
+ghost use Rattle.net_simulate.specs.Columns.{bit_in_block, column};
+ghost use Rattle.net_patterns.specs.Differences.{HoldsAt, IsDifferenceAt, IsPairOf};
+ghost use Rattle.net_patterns.specs.Simulated.{AreApart, AreKept, AreOf, HaveOutput, IsKeptCondition, IsOfCondition};
+
+use crate::simulator::{Part, Simulator};
+use net_bench::netlist::Netlist;
+use net_order::naming::Naming;
+use net_simulate::{Block, all_bits};
+use std::alloc::{AllocError, Global};
+
+/// Two netlists and a condition, if there is one, under a naming.
+#[derive(Clone, Copy, Drop)]
+pub struct Netlists<'a, 'n> {
+    pub first: &'a Netlist,
+    pub second: &'a Netlist,
+    pub given: Option<&'a Netlist>,
+    pub naming: &'n Naming,
+}
+
+/// The same, ready to be evaluated.
+#[derive(Drop)]
+pub(crate) struct Sides<'a> {
+    pub(crate) first: Simulator<'a>,
+    pub(crate) second: Simulator<'a>,
+    pub(crate) given: Option<Simulator<'a>>,
+}
+
+/// The condition, if there is one.
+fn condition_of<'a>(
+    alloc: Global,
+    given: Option<&'a Netlist>,
+    naming: &Naming,
+) -> Result<Option<Simulator<'a>>, AllocError>
+    ensures { IfOk result (IsOfCondition (condition given.entry) (given_level naming.now)) }
+{
+    match given {
+        None => Ok(None),
+        Some(net) => Ok(Some(Simulator::new(alloc, net, naming, Part::Condition)?)),
+    }
+}
+
+/// The netlists and the condition. Time and memory are linear in them.
+pub(crate) fn sides_of<'a>(
+    alloc: Global,
+    netlists: &Netlists<'a, '_>,
+) -> Result<Sides<'a>, AllocError>
+    ensures { IfOk result (λ s. AreOf (circuit netlists.now.first.now) (circuit netlists.now.second.now)
+        (condition netlists.now.given) netlists.now.naming.now s) }
+{
+    let first = Simulator::new(alloc, netlists.first, netlists.naming, Part::First)?;
+    let second = Simulator::new(alloc, netlists.second, netlists.naming, Part::Second)?;
+    let given = condition_of(alloc, netlists.given, netlists.naming)?;
+    Ok(Sides {
+        first,
+        second,
+        given,
+    })
+}
+
+/// Evaluates the condition at the assignments of a block, and answers where it holds.
+fn evaluate_condition(given: &mut Option<Simulator<'_>>, at: &[Block]) -> Block
+    requires { HaveOutput given.old }
+    ensures kept { IsKeptCondition given.old given.new }
+    ensures holds { (c : Option Circuit) (p : NamingModel) → IsOfCondition c (given_level p) given.old
+        → (i : ℕ) → i < 512 → (bit_in_block i result ≡ true) ↔ HoldsAt c p (column bit_in_block i at.now) }
+{
+    match given {
+        None => all_bits(),
+        Some(condition) => {
+            condition.evaluate(at);
+            condition.output()
+        }
+    }
+}
+
+/// Evaluates all at the assignments of a block, whose bits are given by level, and answers where the condition holds.
+pub(crate) fn evaluate(sides: &mut Sides<'_>, at: &[Block]) -> Block
+    requires { HaveOutput sides.old.given }
+    ensures kept { AreKept sides.old sides.new }
+    // A pair differs at an assignment exactly if its values do in that bit.
+    ensures shown { (a b : Circuit) (given : Option Circuit) (p : NamingModel) → AreOf a b given p sides.old
+        → (pair : ℕ × ℕ) → IsPairOf a b pair → length at.now ≡ length p.names → (i : ℕ) → i < 512
+        → IsDifferenceAt a b given p pair (column bit_in_block i at.now) ↔ AreApart sides.new result pair i }
+{
+    sides.first.evaluate(at);
+    sides.second.evaluate(at);
+    evaluate_condition(&mut sides.given, at)
+}

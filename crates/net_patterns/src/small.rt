@@ -1,0 +1,176 @@
+//! A difference made small.
+ghost use Rattle.std.specs.Prelude.{◌≡◌, ◌<◌, ◌≤◌, ℕ, Option, length, vec_len, IfOk, IfSome, IsTrue, MatchOption};
+ghost use Rattle.dd_store.specs.Functions.{Before};
+ghost use Rattle.net_bench.specs.Circuit.{Circuit, circuit};
+ghost use Rattle.net_order.specs.Order.{NamingModel, condition};
+ghost use Rattle.net_simulate.specs.Columns.{bit_in_block, column};
+ghost use Rattle.net_patterns.specs.Differences.{HasOutput, IsDifferenceAt, IsNotAfter, IsLesser, IsPairOf, MakesSmaller};
+ghost use Rattle.net_patterns.specs.Simulated.{AreKept, AreOf, HaveOutput, IsPairIn};
+
+use crate::apart::first_apart;
+use crate::candidates::Window;
+use crate::drawing::has_bit;
+use crate::sides::{Netlists, Sides, evaluate, sides_of};
+use net_bench::netlist::Signal;
+use net_simulate::{Block, no_bits};
+use std::alloc::{AllocError, Global};
+
+/// The gates that are evaluated for the windows of one size, unless 16 windows have more.
+const GATE_WINDOWS: usize = 4_000_000;
+
+/// Whether an assignment comes before another one.
+fn is_before(one: &[bool], two: &[bool]) -> bool
+    requires { length one.now ≡ length two.now }
+    ensures { IsTrue result → Before one.now two.now }
+{
+    for level in 0..one.len() {
+        if one[level] != two[level] {
+            return two[level];
+        }
+    }
+    false
+}
+
+/// The assignment of a bit.
+fn column_at(alloc: Global, at: &[Block], bit: usize) -> Result<Vec<bool>, AllocError>
+    requires { bit < 512 }
+    ensures { IfOk result (λ v. v.items ≡ column bit_in_block bit at.now) }
+{
+    let mut bits = Vec::new(alloc);
+    for level in 0..at.len() {
+        let block = at[level];
+        bits.push(has_bit(block[bit / 64], bit % 64))?;
+    }
+    Ok(bits)
+}
+
+/// The first of 512 candidates that is a difference of the pair.
+fn first_candidate(
+    alloc: Global,
+    sides: &mut Sides<'_>,
+    pair: &(Signal, Signal),
+    at: &[Block],
+) -> Result<Option<Vec<bool>>, AllocError>
+    requires output { HaveOutput sides.old.given }
+    requires pair { IsPairIn sides.old pair.now }
+    ensures kept { AreKept sides.old sides.new }
+    ensures found { (a b : Circuit) (given : Option Circuit) (p : NamingModel) → AreOf a b given p sides.old
+        → length at.now ≡ length p.names
+        → IfOk result (λ o. IfSome o (λ y. IsDifferenceAt a b given p pair.now y.items)) }
+{
+    let holds = evaluate(sides, at);
+    match first_apart(sides, pair, &holds) {
+        Some(bit) => Ok(Some(column_at(alloc, at, bit)?)),
+        None => Ok(None),
+    }
+}
+
+/// The candidate if it comes before the assignment, else the assignment.
+fn lesser(small: Vec<bool>, candidate: Option<Vec<bool>>) -> Vec<bool>
+    ensures each { vec_len result ≡ vec_len small }
+    ensures lesser { MatchOption candidate (result.items ≡ small.items) (λ c. IsLesser small.items c.items result.items) }
+{
+    let Some(less) = candidate else {
+        return small;
+    };
+    if less.len() == small.len() && is_before(less.as_slice(), small.as_slice()) {
+        less
+    } else {
+        small
+    }
+}
+
+/// The least of the candidates of a window that is a difference of the pair, if it comes before the assignment.
+fn try_window(
+    alloc: Global,
+    sides: &mut Sides<'_>,
+    pair: &(Signal, Signal),
+    window: &Window,
+    candidates: &mut [Block],
+    small: Vec<bool>,
+) -> Result<Vec<bool>, AllocError>
+    requires output { HaveOutput sides.old.given }
+    requires pair { IsPairIn sides.old pair.now }
+    requires each { vec_len small ≡ length candidates.old }
+    requires window { window.now.from ≤ vec_len small }
+    ensures kept { AreKept sides.old sides.new }
+    ensures each { IfOk result (λ y. vec_len y ≡ vec_len small) }
+    ensures smaller { (a b : Circuit) (given : Option Circuit) (p : NamingModel) → AreOf a b given p sides.old
+        → IsDifferenceAt a b given p pair.now small.items → IfOk result (λ y. MakesSmaller a b given p pair.now small.items y.items) }
+{
+    if !window.is_tried(small.as_slice()) {
+        return Ok(small);
+    }
+    window.set_candidates(small.as_slice(), candidates);
+    let candidate = first_candidate(alloc, sides, pair, candidates)?;
+    Ok(lesser(small, candidate))
+}
+
+/// The assignment made small by the first of the windows whose groups have so many levels.
+fn by_windows(
+    alloc: Global,
+    sides: &mut Sides<'_>,
+    pair: &(Signal, Signal),
+    size: usize,
+    tried: usize,
+    small: Vec<bool>,
+) -> Result<Vec<bool>, AllocError>
+    requires output { HaveOutput sides.old.given }
+    requires pair { IsPairIn sides.old pair.now }
+    requires some { 0 < size }
+    requires few { size ≤ 1000 }
+    ensures kept { AreKept sides.old sides.new }
+    ensures smaller { (a b : Circuit) (given : Option Circuit) (p : NamingModel) → AreOf a b given p sides.old
+        → IsDifferenceAt a b given p pair.now small.items → IfOk result (λ y. MakesSmaller a b given p pair.now small.items y.items) }
+{
+    let mut candidates = Vec::from_elem(alloc, no_bits(), small.len())?;
+    let mut small = small;
+    for from in 0..candidates.len() {
+        let window = Window { from, size, tried };
+        small = try_window(
+            alloc,
+            sides,
+            pair,
+            &window,
+            candidates.as_mut_slice(),
+            small,
+        )?;
+    }
+    Ok(small)
+}
+
+/// How many windows of each size are tried.
+fn windows_for(gates: usize) -> usize {
+    (GATE_WINDOWS / gates.max(1)).max(16)
+}
+
+/// Another difference of a pair, if one is found that comes before this one in the order in which the least difference is the first. In
+/// windows of nine groups, from the first level on, those groups become 0 without which the pair still differs and the condition holds;
+/// groups have 729 levels, then 81, 9 and 1, and single levels take the least of all their combinations. One block of candidates is
+/// evaluated for each window in which there is a 1, and for each size only so many windows that it stays cheap.
+pub fn make_small(
+    alloc: Global,
+    netlists: &Netlists<'_, '_>,
+    pair: (Signal, Signal),
+    at: Vec<bool>,
+) -> Result<Vec<bool>, AllocError>
+    requires pair { IsPairOf (circuit netlists.now.first.now) (circuit netlists.now.second.now) pair }
+    requires condition { IfSome (condition netlists.now.given) HasOutput }
+    requires difference { IsDifferenceAt (circuit netlists.now.first.now) (circuit netlists.now.second.now)
+        (condition netlists.now.given) netlists.now.naming.now pair at.items }
+    ensures { IfOk result (λ y. MakesSmaller (circuit netlists.now.first.now) (circuit netlists.now.second.now)
+        (condition netlists.now.given) netlists.now.naming.now pair at.items y.items) }
+{
+    let mut sides = sides_of(alloc, netlists)?;
+    let gates = netlists
+        .first
+        .gates()
+        .len()
+        .max(netlists.second.gates().len());
+    let windows = windows_for(gates);
+    let rough = by_windows(alloc, &mut sides, &pair, 729, windows, at)?;
+    let finer = by_windows(alloc, &mut sides, &pair, 81, windows, rough)?;
+    let fine = by_windows(alloc, &mut sides, &pair, 9, windows, finer)?;
+    let small = by_windows(alloc, &mut sides, &pair, 1, windows, fine)?;
+    Ok(small)
+}
