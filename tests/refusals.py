@@ -132,7 +132,8 @@ def rows(place):
     yield Row("extended order file", ["--workers", 2, "--order-file", order, "--extend", c17, c17b])
     yield Row("registers", ["--workers", 2, "--sizes", *machines])
     condition = written(place, "condition", netlist("INPUT(1); INPUT(x); OUTPUT(c); c = NAND(1, x)"))
-    yield Row("condition", ["--workers", 2, "--sizes", "--given", condition, c17, c17b])
+    yield Row("condition", ["--workers", 2, "--sizes", "--given", condition, c17, c17b], (EACH, EACH_START))
+    yield Row("auto by a condition", ["--given", condition, c17, c17b], (EACH, EACH_START))
     yield Row("refused netlist", [c17, written(place, "bad", C17 + b"x")])
     yield Row("refused words", ["--workers", "none"])
     yield Row("help", ["--help"])
@@ -142,6 +143,7 @@ def rows(place):
         yield Row(f"products by {workers}", ["--workers", workers, "--sizes", one, folded])
     yield wide_row(place, 2)
     yield searched_row(place, 2)
+    yield coned_row(place, 16)
 
 
 def wide_row(place, workers):
@@ -155,6 +157,12 @@ def searched_row(place, workers):
     array = written(place, f"array{workers}", multiplier(circuits.array, MULTIPLIED))
     wallace = written(place, f"wallace{workers}", multiplier(circuits.wallace, MULTIPLIED))
     return Row(f"auto, multipliers by {workers}", ["--workers", workers, array, wallace], draws=1, counts=1)
+
+
+def coned_row(place, workers):
+    """The same by cones: fewer pairs are left in the last rounds than there are workers, so these share the workers for their waves."""
+    row = searched_row(place, workers)
+    return Row(f"cones, multipliers by {workers}", ["--order", "cones", *row.words], draws=1, counts=1)
 
 
 @dataclass

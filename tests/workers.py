@@ -3,11 +3,12 @@
 
 usage: tests/workers.py PROGRAM [FOLDER ..] [--jobs J] [--seconds N] [--orders ORDER,ORDER ..]
 
-Each pair is compared in the orders `auto` and `best` by 1, 2, 3, 4, 7 and 16 workers. The status, the report and what --verbose says of
+Each pair is compared in the orders `auto`, `best` and `cones` by 1, 2, 3, 4, 7 and 16 workers. The status, the report and what --verbose says of
 each attempt have to be those of one worker, byte for byte. The pairs are some of examples/ and some that bench/circuits.py writes, of
 which the multipliers of ten bits have waves that call workers in; where a FOLDER is given, in their place those of its folders NAME/:
 a.bench with b.bench and, if it is there, with c.bench. A run of such a pair that takes N (120) seconds is stopped; if one worker takes
-as long, the pair is not tried in this order, and is counted.
+as long, the pair is not tried in this order, and is counted. Without a FOLDER a multiplier of 12 by 11 bits is compared by the bare
+command too: its cones leave pairs undecided, and only the last attempts of the whole decide them.
 """
 import argparse
 import pathlib
@@ -79,13 +80,29 @@ def compared(program, name, order, pair, seconds):
     return Found(f"{name} by {order}", [f"{workers} workers: {other}, one: {first}" for workers, other in others.items() if other != first])
 
 
+def decided_at_last(program, place, tally):
+    """Whether the last attempts decide what each attempt before them has left."""
+
+    def product(net, multiply):
+        net.outputs("p", multiply(net, net.inputs("a", 12), net.inputs("b", 11))[:23])
+
+    pair = [written(place, f"last{way.__name__}", made(product, way)) for way in (circuits.array, circuits.wallace)]
+    one = run([program, "--verbose", *pair], seconds=600)
+    tally.check("a pair that only the last attempts decide: each is equal", one.status == 0 and one.out.count(b"EQUAL ") == 23, one)
+    notes = one.err.split(b"\n")
+    left = [line for line in notes if b"undecided by cones" in line]
+    decided = [line for line in notes if b"decided within" in line]
+    tally.check("a pair that only the last attempts decide: its cones left some", bool(left) and not left[-1].startswith(b"bddcheck: 0 of"), one)
+    tally.check("a pair that only the last attempts decide: one attempt decided, after them", len(decided) == 1 and notes.index(decided[0]) > notes.index(left[-1]), one)
+
+
 def main():
     parser = argparse.ArgumentParser(usage=__doc__.split("usage: ")[1].split("\n")[0])
     parser.add_argument("program")
     parser.add_argument("folders", nargs="*", type=pathlib.Path)
     parser.add_argument("--jobs", type=int, default=2)
     parser.add_argument("--seconds", type=float, default=120)
-    parser.add_argument("--orders", type=lambda text: text.split(","), default=["auto", "best"])
+    parser.add_argument("--orders", type=lambda text: text.split(","), default=["auto", "best", "cones"])
     settings = parser.parse_args()
     tally, too_long = Tally("workers"), []
     with harness.folder() as place, harness.pool(settings.jobs) as pool:
@@ -101,6 +118,8 @@ def main():
                 too_long.append(found.name)
             else:
                 tally.check(found.name, not found.differs, "; ".join(found.differs)[:2000])
+        if not settings.folders:
+            decided_at_last(settings.program, place, tally)
     if too_long:
         tally.figures(f"one worker took longer than {settings.seconds:.0f} s, so these were not tried: {', '.join(too_long)}")
     tally.end()

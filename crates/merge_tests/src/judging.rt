@@ -20,6 +20,7 @@ fn found<R: Threads + Wait + Sync>(
     tries: u32,
 ) -> Result<(Finding, u64), AllocError> {
     let (graph, window) = over;
+    let (first, second) = pair;
     let bound = WindowBound::of(nodes);
     let crew = Crew {
         rt,
@@ -29,10 +30,10 @@ fn found<R: Threads + Wait + Sync>(
     };
     let engine = Engine::new(&crew)?;
     let mut judge = WaveJudge::new(engine, nodes);
-    let mut last = Finding::GivenUp;
-    for _ in 0..tries {
-        last = judge.judge(graph, window, pair.0, pair.1)?;
+    for _ in 1..tries {
+        let _ = judge.judge(graph, window, first, second)?;
     }
+    let last = judge.judge(graph, window, first, second)?;
     Ok((last, judge.work()))
 }
 

@@ -47,17 +47,17 @@ fn add_adder(
 
 /// The name of the sum that comes to a place from the row before: in the first row a product, at the end of a row a carry.
 fn from_above(alloc: Global, row: usize, column: usize) -> Result<String, AllocError> {
-    if column + 1 == BITS {
-        return if row == 1 {
-            String::from_str(alloc, "zero")
-        } else {
-            format!(in alloc; "k{}_{}", row - 1, column)
-        };
+    let (above, next) = (row.wrapping_sub(1), column.wrapping_add(1));
+    if next == BITS && row == 1 {
+        return String::from_str(alloc, "zero");
+    }
+    if next == BITS {
+        return format!(in alloc; "k{above}_{column}");
     }
     if row == 1 {
-        format!(in alloc; "p0_{}", column + 1)
+        format!(in alloc; "p0_{next}")
     } else {
-        format!(in alloc; "s{}_{}", row - 1, column + 1)
+        format!(in alloc; "s{above}_{next}")
     }
 }
 
