@@ -7,7 +7,8 @@ use expand_work::Monitor;
 use std::sync::atomic::{AtomicU32, Ordering};
 
 /// A wave of an attempt calls workers in only if so many requests are expected of it. A smaller one is done by the caller's thread
-/// alone: an attempt has hundreds of them, and starting the threads for each takes longer than they save.
+/// alone: an attempt has hundreds of them, and starting the threads for each takes longer than they save. A monitor that leaves
+/// the caller no level has workers in each wave all the same.
 const SHARED_FROM: usize = 1 << 17;
 
 /// A monitor that bounds the requests of a wave as well, and keeps the number of the last rank that it was notified of.
@@ -32,10 +33,11 @@ impl<'a, G: Monitor> Monitor for BoundedMonitor<'a, G> {
     }
 
     fn caller_level_limit(&self, workers: u32, expected: usize) -> usize {
-        if expected < SHARED_FROM {
+        let most = self.monitor.caller_level_limit(workers, expected);
+        if most > 0 && expected < SHARED_FROM {
             usize::MAX
         } else {
-            self.monitor.caller_level_limit(workers, expected)
+            most
         }
     }
 
