@@ -78,11 +78,14 @@ declared_allowed Best may = absurd may
 declared_allowed Auto may = (Declared, refl)
 declared_allowed Cones may = refl
 
-pub declared_reported : (choice : Strategy) (tried : Option Attempt) → MayGoByCones choice → orders.Declared ≡ reported_order choice tried
+declared_reported : (choice : Strategy) (tried : Option Attempt) → MayGoByCones choice → orders.Declared ≡ reported_order choice tried
 declared_reported (One o) tried may = absurd may
 declared_reported Best tried may = absurd may
 declared_reported Auto tried may = refl
 declared_reported Cones tried may = refl
+
+pub declared_naming : {H : Type 0} (task : Task H) (tried : Option Attempt) (p : NamingModel) → MayGoByCones task.settings.now.order → IsNamingIn task orders.Declared p → IsNamingIn task (reported_order task.settings.now.order tried) p
+declared_naming task tried p may is = subst (λ order. IsNamingIn task order p) (declared_reported task.settings.now.order tried may) is
 
 -- ---- faults
 

@@ -7,6 +7,7 @@ use Rattle.net_bench.specs.Circuit.{circuit}
 use Rattle.net_order.specs.declared.order.Order.TheVariants as orders
 use Rattle.net_order.specs.Order.{NamingModel, condition, max_variables}
 use Rattle.net_order.proofs.InputLevels.{names_count}
+use Rattle.report_text.specs.Findings.{VerdictsModel, found_of}
 use Rattle.report_text.specs.Lines.{Found, counted}
 use Rattle.compare_built.specs.declared.fault.CheckFault.{CheckFault}
 use Rattle.compare_built.specs.declared.settings.Settings.{Settings}
@@ -83,7 +84,7 @@ pub last_of_cones : (input : DeviceTexts) (s : Settings) (bound : Option ℕ) (f
 last_of_cones input s bound found cones = subst (λ choice. HasLastAttempt input s bound choice found) (sym cones) tt
 
 -- what is found is decided
-pub decided_with : (input : DeviceTexts) (s : Settings) (bound : Option ℕ) (r : Result (Found × Option Attempt) CheckFault) → ((found : Found) → HasLastAttempt input s bound s.order found) →
-    IfOk r (λ v. HasLastAttempt input s bound s.order v.0 → IsDecision input s bound v.0 v.1) → IfOk r (λ v. IsDecision input s bound v.0 v.1)
-decided_with input s bound (Ok v) last h = h (last v.0)
+pub decided_with : (input : DeviceTexts) (s : Settings) (bound : Option ℕ) (r : Result (VerdictsModel × Option Attempt) CheckFault) → ((found : Found) → HasLastAttempt input s bound s.order found) →
+    IfOk r (λ v. HasLastAttempt input s bound s.order (found_of v.0) → IsDecision input s bound (found_of v.0) v.1) → IfOk r (λ v. IsDecision input s bound (found_of v.0) v.1)
+decided_with input s bound (Ok v) last h = h (last (found_of v.0))
 decided_with input s bound (Err fault) last h = tt

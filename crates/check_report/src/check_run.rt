@@ -2,6 +2,7 @@
 ghost use Rattle.std.specs.Prelude.{◌≡◌, ◌≢◌, ℕ, List, Option, IfOk, IfErr, IfSome, OnOk, OnErr, IsTrue, Err};
 ghost use Rattle.std.specs.Io.KnownBytes.{Appends};
 ghost use Rattle.report_text.specs.declared.outcome.Outcome.{Outcome};
+ghost use Rattle.report_text.specs.Findings.{found_of};
 ghost use Rattle.report_text.specs.Writing.{AppendsFront};
 ghost use Rattle.compare_built.specs.declared.strategy.Attempt.{Attempt as AttemptValue};
 ghost use Rattle.compare_built.specs.Attempts.{AreGivenUp, last_budget};
@@ -40,7 +41,7 @@ pub fn judge<H: Threads + Wait + Sync, R1: Source, R2: Source, R3: Source, G: Mo
     // the one that is reported was given up, and within the first budget each before it.
     ensures decision { let input = device_texts (R1.remaining first.old) (R2.remaining second.old) (device_text R3.remaining given.old) in
         let s = context.now.settings.now in
-        IfOk result (λ r. IsDecision input s (G.bound context.now.monitor.now) r.0 r.1) }
+        IfOk result (λ r. IsDecision input s (G.bound context.now.monitor.now) (found_of r.0) r.1) }
     // A fault has its cause, what comes before it was accepted, and it comes only if it may.
     ensures no_decision { let input = device_texts (R1.remaining first.old) (R2.remaining second.old) (device_text R3.remaining given.old) in
         let s = context.now.settings.now in

@@ -1,12 +1,13 @@
 //! A comparison in the order that is asked for, or in one that is found.
 ghost use Rattle.std.specs.Prelude.{◌≡◌, ◌↔◌, IfOk, IfErr, IsTrue};
 ghost use Rattle.net_order.specs.declared.order.Order.TheVariants as orders;
+ghost use Rattle.report_text.specs.Findings.{found_of};
 ghost use Rattle.compare_built.specs.declared.strategy.Strategy.{Strategy as StrategyValue};
 ghost use Rattle.compare_built.specs.Attempts.{MayGoByCones, whole_limit};
 ghost use Rattle.explain_report.specs.Deciding.{HasLastAttempt, MayTakeCones};
-ghost use Rattle.explain_report.specs.Explaining.{reported_order};
+ghost use Rattle.explain_report.specs.Explaining.{HaveReportNaming};
 ghost use Rattle.order_search.specs.Tasks.{OfTask};
-ghost use Rattle.order_search.specs.Trials.{AreAllGivenUp, EndsSearch, IsGivingUp, IsNamingIn, ordered_names};
+ghost use Rattle.order_search.specs.Trials.{AreAllGivenUp, EndsSearch, IsGivingUp, IsNamingIn};
 ghost use Rattle.check_report.specs.Decisions.{IsDecision, IsNoDecision};
 
 use compare_built::comparison::compare;
@@ -37,9 +38,9 @@ fn compare_in_order<H: Threads + Wait + Sync, G: Monitor>(
     monitor: &G,
 ) -> Result<(Verdicts, Option<Attempt>), CheckFault>
     requires named { task.now.settings.now.order ≡ StrategyValue.One order.now }
-    ensures decision { OfTask task.now (λ input s. IfOk result (λ r. IsDecision input s (G.bound monitor.now) r.0 r.1)) }
+    ensures decision { OfTask task.now (λ input s. IfOk result (λ r. IsDecision input s (G.bound monitor.now) (found_of r.0) r.1)) }
     ensures no_decision { OfTask task.now (λ input s. IfErr result (IsNoDecision input ⊥ ⊥ ⊥ s (G.bound monitor.now))) }
-    ensures names { IfOk result (λ r. r.0.variables ≡ ordered_names task.now (reported_order task.now.settings.now.order r.1)) }
+    ensures named { IfOk result (λ r. HaveReportNaming task.now r.1 r.0) }
 {
     let pairing = paired(task, order)?;
     let verdicts = compare(task, &pairing, task.settings.limit, monitor)?;
@@ -52,10 +53,10 @@ pub(crate) fn compare_in_best_order<H: Threads + Wait + Sync, G: Monitor>(
     monitor: &G,
 ) -> Result<(Verdicts, Option<Attempt>), CheckFault>
     requires best { task.now.settings.now.order ≡ StrategyValue.Best }
-    ensures decision { OfTask task.now (λ input s. IfOk result (λ r. IsDecision input s (G.bound monitor.now) r.0 r.1)) }
+    ensures decision { OfTask task.now (λ input s. IfOk result (λ r. IsDecision input s (G.bound monitor.now) (found_of r.0) r.1)) }
     ensures no_decision { OfTask task.now (λ input s. IfErr result (IsNoDecision input ⊥ ⊥ ⊥ s (G.bound monitor.now))) }
     ensures ends { IfErr result EndsSearch }
-    ensures names { IfOk result (λ r. r.0.variables ≡ ordered_names task.now (reported_order task.now.settings.now.order r.1)) }
+    ensures named { IfOk result (λ r. HaveReportNaming task.now r.1 r.0) }
 {
     let decided = find_attempt(task, None, task.settings.limit, monitor)?;
     let Decided {
@@ -81,9 +82,10 @@ fn cone_verdicts_in<H: Threads + Wait + Sync, G: Monitor>(
     requires naming { IsNamingIn task.now orders.Declared declared }
     requires may { MayGoByCones task.now.settings.now.order }
     ensures decision { OfTask task.now (λ input s. MayTakeCones input s (G.bound monitor.now) s.order
-        → IfOk result (λ r. HasLastAttempt input s (G.bound monitor.now) s.order r.0 → IsDecision input s (G.bound monitor.now) r.0 r.1)) }
+        → IfOk result (λ r. HasLastAttempt input s (G.bound monitor.now) s.order (found_of r.0)
+        → IsDecision input s (G.bound monitor.now) (found_of r.0) r.1)) }
     ensures no_decision { OfTask task.now (λ input s. IfErr result (IsNoDecision input ⊥ ⊥ ⊥ s (G.bound monitor.now))) }
-    ensures names { IfOk result (λ r. r.0.variables ≡ ordered_names task.now (reported_order task.now.settings.now.order r.1)) }
+    ensures named { IfOk result (λ r. HaveReportNaming task.now r.1 r.0) }
 {
     let verdicts = verdicts_by_cones(task, declared, monitor)?;
     Ok((verdicts, None))
@@ -100,9 +102,9 @@ fn compare_by_cones_and_last<H: Threads + Wait + Sync, G: Monitor>(
     requires auto { task.now.settings.now.order ≡ StrategyValue.Auto }
     requires naming { IsNamingIn task.now orders.Declared declared }
     requires given_up { AreAllGivenUp task.now (whole_limit task.now.settings.now.limit) (G.bound monitor.now) }
-    ensures decision { OfTask task.now (λ input s. IfOk result (λ r. IsDecision input s (G.bound monitor.now) r.0 r.1)) }
+    ensures decision { OfTask task.now (λ input s. IfOk result (λ r. IsDecision input s (G.bound monitor.now) (found_of r.0) r.1)) }
     ensures no_decision { OfTask task.now (λ input s. IfErr result (IsNoDecision input ⊥ ⊥ ⊥ s (G.bound monitor.now))) }
-    ensures names { IfOk result (λ r. r.0.variables ≡ ordered_names task.now (reported_order task.now.settings.now.order r.1)) }
+    ensures named { IfOk result (λ r. HaveReportNaming task.now r.1 r.0) }
 {
     let verdicts = verdicts_by_cones(task, declared, monitor)?;
     if verdicts.outcome().undecided == 0 {
@@ -151,9 +153,9 @@ fn compare_auto<H: Threads + Wait + Sync, G: Monitor>(
     monitor: &G,
 ) -> Result<(Verdicts, Option<Attempt>), CheckFault>
     requires auto { task.now.settings.now.order ≡ StrategyValue.Auto }
-    ensures decision { OfTask task.now (λ input s. IfOk result (λ r. IsDecision input s (G.bound monitor.now) r.0 r.1)) }
+    ensures decision { OfTask task.now (λ input s. IfOk result (λ r. IsDecision input s (G.bound monitor.now) (found_of r.0) r.1)) }
     ensures no_decision { OfTask task.now (λ input s. IfErr result (IsNoDecision input ⊥ ⊥ ⊥ s (G.bound monitor.now))) }
-    ensures names { IfOk result (λ r. r.0.variables ≡ ordered_names task.now (reported_order task.now.settings.now.order r.1)) }
+    ensures named { IfOk result (λ r. HaveReportNaming task.now r.1 r.0) }
 {
     let declared = named(task)?;
     let declared = match Pairing::of(declared) {
@@ -189,9 +191,9 @@ fn compare_by_cones<H: Threads + Wait + Sync, G: Monitor>(
     monitor: &G,
 ) -> Result<(Verdicts, Option<Attempt>), CheckFault>
     requires cones { task.now.settings.now.order ≡ StrategyValue.Cones }
-    ensures decision { OfTask task.now (λ input s. IfOk result (λ r. IsDecision input s (G.bound monitor.now) r.0 r.1)) }
+    ensures decision { OfTask task.now (λ input s. IfOk result (λ r. IsDecision input s (G.bound monitor.now) (found_of r.0) r.1)) }
     ensures no_decision { OfTask task.now (λ input s. IfErr result (IsNoDecision input ⊥ ⊥ ⊥ s (G.bound monitor.now))) }
-    ensures names { IfOk result (λ r. r.0.variables ≡ ordered_names task.now (reported_order task.now.settings.now.order r.1)) }
+    ensures named { IfOk result (λ r. HaveReportNaming task.now r.1 r.0) }
 {
     let declared = named(task)?;
     cone_verdicts_in(task, declared, monitor)
@@ -202,9 +204,9 @@ pub(crate) fn decide<H: Threads + Wait + Sync, G: Monitor>(
     task: &Task<'_, H>,
     monitor: &G,
 ) -> Result<(Verdicts, Option<Attempt>), CheckFault>
-    ensures decision { OfTask task.now (λ input s. IfOk result (λ r. IsDecision input s (G.bound monitor.now) r.0 r.1)) }
+    ensures decision { OfTask task.now (λ input s. IfOk result (λ r. IsDecision input s (G.bound monitor.now) (found_of r.0) r.1)) }
     ensures no_decision { OfTask task.now (λ input s. IfErr result (IsNoDecision input ⊥ ⊥ ⊥ s (G.bound monitor.now))) }
-    ensures names { IfOk result (λ r. r.0.variables ≡ ordered_names task.now (reported_order task.now.settings.now.order r.1)) }
+    ensures named { IfOk result (λ r. HaveReportNaming task.now r.1 r.0) }
 {
     match &task.settings.order {
         Strategy::One(order) => compare_in_order(task, order, monitor),

@@ -1,18 +1,15 @@
 //! The report of two netlists that were read, with what explains pairs behind it, and the VCD of the first pair that differs.
 ghost use Rattle.std.specs.Prelude.{◌≡◌, ◌≢◌, ◌++◌, ℕ, List, Option, IfOk, IfErr, IfSome, Err, is_some};
 ghost use Rattle.net_bench.specs.Circuit.{circuit};
-ghost use Rattle.net_order.specs.declared.order.Order.{Order as OrderValue};
 ghost use Rattle.report_text.specs.Causes.{Caused};
+ghost use Rattle.report_text.specs.Findings.{found_of};
 ghost use Rattle.report_text.specs.Json.{form_text};
-ghost use Rattle.compare_built.specs.Attempts.{AreGivenUp, IsAllowed, MayGoByCones, last_budget, reported_kind};
-ghost use Rattle.compare_built.specs.Check.{AreAccepted};
+ghost use Rattle.compare_built.specs.Attempts.{AreGivenUp, last_budget, reported_kind};
 ghost use Rattle.compare_built.specs.PairSelection.{share_of};
 ghost use Rattle.order_search.specs.Tasks.{OfTask};
-ghost use Rattle.order_search.specs.Trials.{EndsAtOnce, ordered_names};
 ghost use Rattle.explain_report.specs.Causing.{AreCauses};
 ghost use Rattle.explain_report.specs.Dumping.{IsReportWithVcd, bytes_in};
-ghost use Rattle.explain_report.specs.Explaining.{AreTargetsIn, IsAppended, IsReportFault, reported_order};
-ghost use Rattle.check_report.specs.Decisions.{HasCause};
+ghost use Rattle.explain_report.specs.Explaining.{AreTargetsIn, HaveReportNaming, IsAppended, IsReportFault};
 ghost use Rattle.check_report.specs.Refusals.{MayAnswer};
 
 use crate::decision::decide;
@@ -24,8 +21,8 @@ use explain_report::causes::{causes, listed};
 use explain_report::explanations::{explanations_after, has_pairs};
 use explain_report::report::form_text;
 use explain_report::vcd_dump::dump;
-use net_order::order::OrderFault;
 use report_text::{Outcome, Verdicts};
+use std::alloc::AllocError;
 use std::sync::Wait;
 use std::thread::Threads;
 
@@ -42,25 +39,20 @@ fn full_text<H>(
     task: &Task<'_, H>,
     tried: Option<Attempt>,
     verdicts: &Verdicts,
-) -> Result<Vec<u8>, CheckFault>
-    requires names { verdicts.now.variables ≡ ordered_names task.now (reported_order task.now.settings.now.order tried) }
+) -> Result<Vec<u8>, AllocError>
+    requires named { HaveReportNaming task.now tried verdicts.now }
     requires known { AreTargetsIn (circuit task.now.first.now) task.now.settings.now.explain.items }
-    requires accepted { OfTask task.now (λ input s. (order : OrderValue) × IsAllowed s.order order
-        × AreAccepted input s.order s.matching order) }
     ensures text { OfTask task.now (λ input s. IfOk result (λ text. (causes : Option (List Caused))
-        × AreCauses s.causes input s tried verdicts.now causes
-        × (explanations : List ℕ) × IsAppended s.explain.items input s tried verdicts.now explanations
+        × AreCauses s.causes input s tried (found_of verdicts.now) causes
+        × (explanations : List ℕ) × IsAppended s.explain.items input s tried (found_of verdicts.now) explanations
         × (text.items ≡ form_text s.json s.assignment s.matching (reported_kind s.order tried) (is_some input.given)
-        (share_of s.picked) causes verdicts.now ++ explanations))) }
-    ensures fault { OfTask task.now (λ input s. IfErr result (HasCause input ⊥ ⊥ ⊥ s)) }
-    ensures ends { IfErr result EndsAtOnce }
-    ensures any_number_of_inputs { MayGoByCones task.now.settings.now.order → result ≢ Err (CheckFault.Order OrderFault.TooManyInputs) }
+        (share_of s.picked) causes (found_of verdicts.now) ++ explanations))) }
 {
     let given = task.given.is_some();
-    let causes = causes(task, tried, verdicts)?;
+    let causes = causes(task, verdicts)?;
     let list = listed(&causes);
     let mut text = form_text(task.alloc, task.settings, tried, given, list, verdicts)?;
-    let explanations = explanations_after(task, tried, verdicts)?;
+    let explanations = explanations_after(task, verdicts)?;
     text.extend_from_slice(explanations.as_slice())?;
     Ok(text)
 }
@@ -84,6 +76,6 @@ pub(crate) fn task_report<H: Threads + Wait + Sync, G: Monitor>(
     }
     let (verdicts, tried) = decide(task, monitor)?;
     let report = full_text(task, tried, &verdicts)?;
-    let vcd = dump(task, tried, &verdicts)?;
+    let vcd = dump(task, &verdicts)?;
     Ok((ReportTexts { report, vcd }, verdicts.outcome(), tried))
 }

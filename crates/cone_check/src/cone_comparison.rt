@@ -11,6 +11,7 @@ ghost use Rattle.cone_check.specs.ConeRounds.{EndsCones, EndsPairs, IsInContext,
 ghost use Rattle.compare_built.specs.PairSelection.{HasUnknown};
 ghost use Rattle.compare_built.specs.Scatter.{IsOfNet};
 ghost use Rattle.order_search.specs.Trials.{IsNamingIn};
+ghost use Rattle.report_text.specs.Findings.{found_of};
 
 use crate::pair_cones::ConeContext;
 use crate::pair_selection::{Selection, select_pairs};
@@ -158,7 +159,8 @@ pub fn verdicts_by_cones<H: Threads + Wait + Sync, G: Monitor>(
     monitor: &G,
 ) -> Result<Verdicts, CheckFault>
     requires { IsNamingIn task.now Declared naming }
-    ensures verdicts { IfOk result (IsFoundByCones task.now (G.bound monitor.now) naming) }
+    ensures verdicts { IfOk result (λ v. IsFoundByCones task.now (G.bound monitor.now) naming (found_of v)) }
+    ensures named { IfOk result (λ v. v.naming ≡ naming) }
     ensures unknown { result ≡ Err CheckFault.Only → HasUnknown (circuit task.now.first.now) task.now.settings.now.picked }
     ensures ends { IfErr result EndsCones }
 {

@@ -6,21 +6,17 @@ use Rattle.std.proofs.lemmas.List.{drop_more, take_more}
 use Rattle.std.specs.Borrow.{Bor}
 use Rattle.net_bench.specs.Circuit.{Circuit, Net, circuit}
 use Rattle.net_order.specs.declared.order.Order.{Order}
-use Rattle.net_order.specs.declared.order.Order.TheVariants as orders
 use Rattle.net_order.specs.Order.{NamingModel, condition}
 use Rattle.report_text.specs.declared.cause.PairName.{PairName}
 use Rattle.report_text.specs.declared.verdict.Verdict.{Verdict}
 use Rattle.report_text.specs.Lines.{Found}
 use Rattle.compare_built.specs.declared.strategy.Attempt.{Attempt}
-use Rattle.compare_built.specs.declared.strategy.Candidate.TheVariants.{Declared}
-use Rattle.compare_built.specs.declared.strategy.Strategy.{Strategy}
-use Rattle.compare_built.specs.declared.strategy.Strategy.TheVariants.{One, Best, Auto, Cones}
 use Rattle.compare_built.specs.declared.fault.CheckFault.{CheckFault}
 use Rattle.compare_built.specs.declared.settings.Settings.{Settings}
 use Rattle.compare_built.specs.Attempts.{IsAllowed}
 use Rattle.compare_built.specs.Check.{AreGiven, IsCheckFault, IsCondition}
 use Rattle.compare_built.specs.Devices.{DeviceTexts}
-use Rattle.explain_report.specs.Explaining.{AreExplained, HaveExplanations, IsAppended, IsExplained, IsReportFault, reported_order}
+use Rattle.explain_report.specs.Explaining.{AreExplained, HaveExplanations, IsAppended, IsExplained, IsReportFault}
 use Rattle.explain_report.proofs.Trying.{none_failed}
 
 -- ---- the first of a list
@@ -65,14 +61,6 @@ module _ (a b : Net) (p : NamingModel) (verdicts : List Verdict) where
       subst (λ us. AreExplained a b p verdicts us new) (sym e) (subst (AreExplained a b p verdicts (take i ts ++ t ∷ [])) (sym grown) (one_more (take i ts) t old one are is))
 
 -- ---- behind a report
-
--- the order in which a report is told is allowed
-pub reported_allowed : (choice : Strategy) (tried : Option Attempt) → IsAllowed choice (reported_order choice tried)
-reported_allowed (One o) tried = refl
-reported_allowed Best (Some t) = (t.order, refl)
-reported_allowed Best None = (Declared, refl)
-reported_allowed Auto tried = (Declared, refl)
-reported_allowed Cones tried = refl
 
 -- something is asked for, or nothing is
 pub some_targets : (ts : List PairName) → false ≡ (length ts == 0) → 0 < length ts

@@ -12,6 +12,7 @@ use Rattle.report_text.specs.declared.outcome.PairKind.{PairKind}
 use Rattle.report_text.specs.declared.outcome.PairKind.TheVariants.{Output, NextState}
 use Rattle.report_text.specs.declared.verdict.Verdict.{Verdict}
 use Rattle.report_text.specs.declared.verdict.Verdict.TheVariants.{Equal, Differs, Unmatched, Undecided}
+use Rattle.report_text.specs.Findings.{VerdictsModel}
 use Rattle.report_text.specs.Lines.{Found, subject_text}
 use Rattle.compare_built.specs.declared.strategy.Attempt.{Attempt}
 use Rattle.compare_built.specs.declared.strategy.Strategy.{Strategy}
@@ -20,11 +21,14 @@ use Rattle.compare_built.specs.declared.fault.CheckFault.{CheckFault}
 use Rattle.compare_built.specs.declared.fault.CheckFault.TheVariants.{Explain}
 use Rattle.compare_built.specs.declared.settings.Settings.{Settings}
 use Rattle.compare_built.specs.declared.subject.Subject.{Subject}
+use Rattle.compare_built.specs.declared.task.Task.{Task}
 use Rattle.compare_built.specs.Attempts.{IsAllowed, order_of}
 use Rattle.compare_built.specs.Check.{AreGiven, HaveNaming, IsCheckFault}
 use Rattle.compare_built.specs.Devices.{DeviceTexts}
 use Rattle.compare_built.specs.PairSelection.{is_among}
 use Rattle.compare_built.specs.Report.{subjects}
+use Rattle.order_search.specs.Tasks.{OfTask}
+use Rattle.order_search.specs.Trials.{IsNamingIn}
 
 -- ---- what is asked for
 
@@ -111,6 +115,14 @@ reported_order Best (Some t) = order_of t.order
 reported_order Best None = orders.Declared
 reported_order Auto tried = orders.Declared
 reported_order Cones tried = orders.Declared
+
+-- the naming of these verdicts is that of the task's netlists, in the order in which the report of this attempt tells the variables
+abbrev pub HaveReportNaming : {H : Type 0} → Task H → Option Attempt → VerdictsModel → Type 0
+HaveReportNaming task tried v = IsNamingIn task (reported_order task.settings.now.order tried) v.naming
+
+-- this holds of a task as `OfTask` says, and of each attempt whose report these verdicts have the naming of
+abbrev pub OfReport : {H : Type 0} → Task H → VerdictsModel → (DeviceTexts → Settings → Option Attempt → Type 0) → Type 0
+OfReport task v P = OfTask task (λ input s. (tried : Option Attempt) → HaveReportNaming task tried v → P input s tried)
 
 -- The bytes explain what the settings ask for: the pairs of the netlists that the devices gave, at the assignments of the verdicts.
 pub record HaveExplanations (input : DeviceTexts) (s : Settings) (tried : Option Attempt) (found : Found) (bytes : List ℕ) : Type 0 where

@@ -1,29 +1,21 @@
 //! The causes of the pairs that differ: their first inner signals, each with the pairs that have it.
-ghost use Rattle.std.specs.Prelude.{◌≡◌, ◌≢◌, ◌<◌, ◌≤◌, ◌++◌, ◌∷◌, [], List, length, map, filter, take, option_map, All, Err, IfOk, IfErr};
-ghost use Rattle.std.specs.Prelude.{OnOk};
+ghost use Rattle.std.specs.Prelude.{◌≡◌, ◌<◌, ◌≤◌, ◌++◌, ◌∷◌, [], List, Option, length, map, filter, take, option_map, All, IfOk, OnOk};
 ghost use Rattle.std.specs.List.{list_any};
 ghost use Rattle.net_bench.specs.Circuit.{circuit};
-ghost use Rattle.net_order.specs.declared.order.Order.{Order as OrderValue};
 ghost use Rattle.explain_report.specs.declared.first_differences.FirstDifference.{FirstDifference as FirstDifferenceValue};
-ghost use Rattle.compare_built.specs.Attempts.{IsAllowed, MayGoByCones};
+ghost use Rattle.compare_built.specs.declared.strategy.Attempt.{Attempt};
 ghost use Rattle.explain_report.specs.Causing.{AreCauses, AreFirstDifferences, cause_of, causes_in, causes_of, first_time, has_first_signal};
-ghost use Rattle.compare_built.specs.Check.{IsCheckFault};
 ghost use Rattle.compare_built.specs.Comparing.{IsInside};
-ghost use Rattle.explain_report.specs.Explaining.{reported_order};
-ghost use Rattle.order_search.specs.Tasks.{OfTask};
-ghost use Rattle.order_search.specs.Trials.{EndsAtOnce, ordered_names};
+ghost use Rattle.explain_report.specs.Explaining.{HaveReportNaming, OfReport};
+ghost use Rattle.report_text.specs.Findings.{found_of};
 
-use crate::explanations::reported_naming;
 use crate::first_differences::{FirstDifference, all_first_differences};
 use compare_built::compared_pairs::subjects_of;
-use compare_built::fault::CheckFault;
-use compare_built::strategy::Attempt;
 use compare_built::subject::Subject;
 use compare_built::task::Task;
 use net_bench::netlist::{Netlist, Signal};
 use net_explain::InnerSignal;
 use net_order::naming::Naming;
-use net_order::order::OrderFault;
 use report_text::{Cause, Name, PairName, Verdict, Verdicts};
 use std::alloc::{AllocError, Global};
 
@@ -181,33 +173,19 @@ pub fn listed(causes: &Option<Vec<Cause>>) -> Option<&[Cause]>
     }
 }
 
-/// The causes that the report of these verdicts tells, where they are asked for.
-pub fn causes<H>(
-    task: &Task<'_, H>,
-    tried: Option<Attempt>,
-    verdicts: &Verdicts,
-) -> Result<Option<Vec<Cause>>, CheckFault>
-    requires names { verdicts.now.variables ≡ ordered_names task.now (reported_order task.now.settings.now.order tried) }
-    ensures causes { OfTask task.now (λ input s. IfOk result (λ causes. AreCauses s.causes input s tried verdicts.now (causes_in causes))) }
-    ensures fault { OfTask task.now (λ input s. IfErr result (λ fault. (order : OrderValue) × IsAllowed s.order order
-        × IsCheckFault input ⊥ ⊥ ⊥ s.order s.matching order fault)) }
-    ensures ends { IfErr result EndsAtOnce }
-    ensures any_number_of_inputs { MayGoByCones task.now.settings.now.order → result ≢ Err (CheckFault.Order OrderFault.TooManyInputs) }
+/// The causes of the pairs of these verdicts, over their naming, where the settings ask for them.
+pub fn causes<H>(task: &Task<'_, H>, verdicts: &Verdicts) -> Result<Option<Vec<Cause>>, AllocError>
+    requires { (tried : Option Attempt) × HaveReportNaming task.now tried verdicts.now }
+    ensures causes { OfReport task.now verdicts.now (λ input s tried.
+        IfOk result (λ causes. AreCauses s.causes input s tried (found_of verdicts.now) (causes_in causes))) }
 {
     if !task.settings.causes {
         return Ok(None);
     }
     let _ = task.first.inputs();
     let _ = task.second.inputs();
-    let naming = match reported_naming(task, tried) {
-        Ok(naming) => naming,
-        Err(fault) => return Err(fault),
-    };
-    let Ok(pairs) = subjects_of(task.alloc, task.first, task.second, &naming) else {
-        return Err(CheckFault::OutOfMemory);
-    };
-    match all_causes(task, &naming, pairs.as_slice(), verdicts.as_slice()) {
-        Ok(causes) => Ok(Some(causes)),
-        Err(_) => Err(CheckFault::OutOfMemory),
-    }
+    let naming = verdicts.naming();
+    let pairs = subjects_of(task.alloc, task.first, task.second, naming)?;
+    let causes = all_causes(task, naming, pairs.as_slice(), verdicts.as_slice())?;
+    Ok(Some(causes))
 }

@@ -1,35 +1,24 @@
 //! What stands behind a report: an explanation of each pair that is asked for.
-ghost use Rattle.std.specs.Prelude.{◌≡◌, ◌≢◌, ◌++◌, ◌∷◌, ◌↔◌, ◌<◌, true, false, length, find, All, Contains, Err, IfOk, IfErr, IsTrue};
-ghost use Rattle.std.specs.Prelude.{OnOk};
+ghost use Rattle.std.specs.Prelude.{◌≡◌, ◌++◌, ◌↔◌, ◌<◌, true, false, length, find, All, Option, IfOk, IsTrue, OnOk};
 ghost use Rattle.net_bench.specs.Circuit.{circuit};
 ghost use Rattle.net_explain.specs.Explaining.{ExplanationModel, IsExplanation};
 ghost use Rattle.net_explain.specs.Text.{explanation_text};
-ghost use Rattle.net_order.specs.declared.order.Order.{Order as OrderValue};
-ghost use Rattle.net_order.specs.declared.order.OrderFault.{OrderFault as OrderFaultValue};
-ghost use Rattle.net_order.specs.Order.{condition};
+ghost use Rattle.report_text.specs.Findings.{found_of};
 ghost use Rattle.report_text.specs.Lines.{subject_text};
-ghost use Rattle.compare_built.specs.declared.strategy.Strategy.{Strategy as StrategyValue};
-ghost use Rattle.compare_built.specs.Attempts.{IsAllowed, MayGoByCones};
-ghost use Rattle.compare_built.specs.Check.{AreVariablesFewFor, IsCheckFault};
+ghost use Rattle.compare_built.specs.declared.strategy.Attempt.{Attempt};
 ghost use Rattle.compare_built.specs.Comparing.{IsInside};
 ghost use Rattle.explain_report.specs.Explaining.{AreExplained, AreTargetsIn, ExplainsPair, ExplainsTarget, ExplainsVerdict};
-ghost use Rattle.explain_report.specs.Explaining.{HasUnknownTarget, IsAppended, IsTargetIn, is_same_role, is_subject_of, is_target};
-ghost use Rattle.explain_report.specs.Explaining.{is_verdict_on, status_text, reported_order};
+ghost use Rattle.explain_report.specs.Explaining.{HasUnknownTarget, HaveReportNaming, IsAppended, IsTargetIn, OfReport, is_same_role};
+ghost use Rattle.explain_report.specs.Explaining.{is_subject_of, is_target, is_verdict_on, status_text};
 ghost use Rattle.compare_built.specs.Report.{subjects};
-ghost use Rattle.order_search.specs.Tasks.{OfTask};
-ghost use Rattle.order_search.specs.Trials.{EndsAtOnce, IsNamingIn, ordered_names};
 
 use compare_built::compared_pairs::subjects_of;
-use compare_built::fault::CheckFault;
 use compare_built::named_signals::{has_name, is_same, registers_of};
-use compare_built::strategy::{Attempt, Strategy};
 use compare_built::subject::Subject;
 use compare_built::task::Task;
 use net_bench::netlist::Netlist;
 use net_explain::{explain, explanation_of};
 use net_order::naming::Naming;
-use net_order::order::{Order, OrderFault};
-use order_search::trials::{named, named_in};
 use report_text::{PairKind, PairName, Verdict, Verdicts};
 use std::alloc::{AllocError, Global};
 
@@ -175,7 +164,7 @@ fn explained_pair<H>(
 }
 
 /// The pair that is asked for, where there is one.
-pub fn subject_of(net: &Netlist, target: &PairName, subjects: &[Subject]) -> Option<Subject>
+pub(crate) fn subject_of(net: &Netlist, target: &PairName, subjects: &[Subject]) -> Option<Subject>
     requires { All (λ subject. subject.named < length net.now.names) subjects.now }
     ensures { result ≡ find (is_subject_of (circuit net.now) target.now) subjects.now }
 {
@@ -228,46 +217,12 @@ fn explanations<H>(
     Ok(text)
 }
 
-/// The order of the best attempt.
-fn best_order(tried: Option<Attempt>) -> Order
-    ensures { result ≡ reported_order StrategyValue.Best tried }
-{
-    match tried {
-        Some(attempt) => attempt.order.order(),
-        None => Order::Declared,
-    }
-}
-
-/// The naming over whose variables the report of an attempt is told.
-pub fn reported_naming<H>(task: &Task<'_, H>, tried: Option<Attempt>) -> Result<Naming, CheckFault>
-    ensures named { IfOk result (IsNamingIn task.now (reported_order task.now.settings.now.order tried)) }
-    ensures few { IfOk result (λ _. AreVariablesFewFor task.now.settings.now.order task.now.settings.now.matching (circuit task.now.first.now)
-        (circuit task.now.second.now) (condition task.now.given)) }
-    ensures fault { OfTask task.now (λ input s. IfErr result (IsCheckFault input ⊥ ⊥ ⊥ s.order s.matching (reported_order s.order tried))) }
-    ensures refused { IfErr result (λ fault. (f : OrderFaultValue) × (fault ≡ CheckFault.Order f)) }
-    ensures any_number_of_inputs { MayGoByCones task.now.settings.now.order → result ≢ Err (CheckFault.Order OrderFault.TooManyInputs) }
-{
-    match &task.settings.order {
-        Strategy::One(order) => named_in(task, order),
-        Strategy::Best => named_in(task, &best_order(tried)),
-        Strategy::Auto => named(task),
-        Strategy::Cones => named(task),
-    }
-}
-
-/// What stands behind the report of these verdicts.
-pub fn explanations_after<H>(
-    task: &Task<'_, H>,
-    tried: Option<Attempt>,
-    verdicts: &Verdicts,
-) -> Result<Vec<u8>, CheckFault>
-    requires names { verdicts.now.variables ≡ ordered_names task.now (reported_order task.now.settings.now.order tried) }
+/// The explanations of the pairs that the settings ask for, by the verdicts of the comparison, over their naming.
+pub fn explanations_after<H>(task: &Task<'_, H>, verdicts: &Verdicts) -> Result<Vec<u8>, AllocError>
+    requires named { (tried : Option Attempt) × HaveReportNaming task.now tried verdicts.now }
     requires known { AreTargetsIn (circuit task.now.first.now) task.now.settings.now.explain.items }
-    ensures explanations_after { OfTask task.now (λ input s. IfOk result (λ text. IsAppended s.explain.items input s tried verdicts.now text.items)) }
-    ensures fault { OfTask task.now (λ input s. IfErr result (λ fault. (order : OrderValue) × IsAllowed s.order order
-        × IsCheckFault input ⊥ ⊥ ⊥ s.order s.matching order fault)) }
-    ensures ends { IfErr result EndsAtOnce }
-    ensures any_number_of_inputs { MayGoByCones task.now.settings.now.order → result ≢ Err (CheckFault.Order OrderFault.TooManyInputs) }
+    ensures explanations_after { OfReport task.now verdicts.now (λ input s tried.
+        IfOk result (λ text. IsAppended s.explain.items input s tried (found_of verdicts.now) text.items)) }
 {
     let targets = task.settings.explain.as_slice();
     if targets.is_empty() {
@@ -275,15 +230,7 @@ pub fn explanations_after<H>(
     }
     let _ = task.first.inputs();
     let _ = task.second.inputs();
-    let naming = match reported_naming(task, tried) {
-        Ok(naming) => naming,
-        Err(fault) => return Err(fault),
-    };
-    let Ok(subjects) = subjects_of(task.alloc, task.first, task.second, &naming) else {
-        return Err(CheckFault::OutOfMemory);
-    };
-    match explanations(task, &naming, subjects.as_slice(), verdicts.as_slice()) {
-        Ok(text) => Ok(text),
-        Err(_) => Err(CheckFault::OutOfMemory),
-    }
+    let naming = verdicts.naming();
+    let subjects = subjects_of(task.alloc, task.first, task.second, naming)?;
+    explanations(task, naming, subjects.as_slice(), verdicts.as_slice())
 }

@@ -3,6 +3,7 @@ ghost use Rattle.std.specs.Prelude.{◌≡◌, IfOk, option_map};
 ghost use Rattle.compare_built.specs.Attempts.{reported_kind};
 ghost use Rattle.compare_built.specs.PairSelection.{share_of};
 ghost use Rattle.report_text.specs.Json.{form_text};
+ghost use Rattle.report_text.specs.Findings.{found_of};
 
 use compare_built::settings::Settings;
 use compare_built::strategy::Attempt;
@@ -20,7 +21,7 @@ pub fn form_text(
 ) -> Result<Vec<u8>, AllocError>
     ensures { IfOk result (λ text. text.items ≡ form_text settings.now.json settings.now.assignment settings.now.matching
         (reported_kind settings.now.order tried) given
-        (share_of settings.now.picked) (option_map (λ c. c.now) causes.entry) verdicts.now) }
+        (share_of settings.now.picked) (option_map (λ c. c.now) causes.entry) (found_of verdicts.now)) }
 {
     let share = settings.picked.share();
     if settings.json {

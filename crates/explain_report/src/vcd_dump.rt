@@ -1,20 +1,12 @@
 //! The values of the first pair that differs, as a VCD.
-ghost use Rattle.std.specs.Prelude.{◌≡◌, ◌≢◌, Err, IfOk, IfErr, option_map};
-ghost use Rattle.net_order.specs.declared.order.Order.{Order as OrderValue};
-ghost use Rattle.compare_built.specs.Attempts.{IsAllowed, MayGoByCones};
-ghost use Rattle.compare_built.specs.Check.{IsCheckFault};
+ghost use Rattle.std.specs.Prelude.{◌≡◌, IfOk, option_map};
 ghost use Rattle.explain_report.specs.Dumping.{IsVcdDump, IsVcdAt, bytes_in, first_difference_at, difference_of};
-ghost use Rattle.explain_report.specs.Explaining.{reported_order};
-ghost use Rattle.order_search.specs.Tasks.{OfTask};
-ghost use Rattle.order_search.specs.Trials.{EndsAtOnce, ordered_names};
+ghost use Rattle.explain_report.specs.Explaining.{OfReport};
+ghost use Rattle.report_text.specs.Findings.{found_of};
 
-use crate::explanations::reported_naming;
-use compare_built::fault::CheckFault;
-use compare_built::strategy::Attempt;
 use compare_built::task::Task;
 use net_explain::{WhichNetlist, values, vcd_of};
 use net_order::naming::Naming;
-use net_order::order::OrderFault;
 use report_text::{Verdict, Verdicts};
 use std::alloc::AllocError;
 
@@ -50,18 +42,10 @@ fn vcd_at<H>(task: &Task<'_, H>, naming: &Naming, at: &[bool]) -> Result<Vec<u8>
     vcd_of(task.alloc, task.first, bits, task.second, others)
 }
 
-/// The values at the assignment of the first of these verdicts that tells one, where that is asked for.
-pub fn dump<H>(
-    task: &Task<'_, H>,
-    tried: Option<Attempt>,
-    verdicts: &Verdicts,
-) -> Result<Option<Vec<u8>>, CheckFault>
-    requires names { verdicts.now.variables ≡ ordered_names task.now (reported_order task.now.settings.now.order tried) }
-    ensures dump { OfTask task.now (λ input s. IfOk result (λ vcd. IsVcdDump s.vcd input s tried verdicts.now (bytes_in vcd))) }
-    ensures fault { OfTask task.now (λ input s. IfErr result (λ fault. (order : OrderValue) × IsAllowed s.order order
-        × IsCheckFault input ⊥ ⊥ ⊥ s.order s.matching order fault)) }
-    ensures ends { IfErr result EndsAtOnce }
-    ensures any_number_of_inputs { MayGoByCones task.now.settings.now.order → result ≢ Err (CheckFault.Order OrderFault.TooManyInputs) }
+/// The values at the assignment of the first of these verdicts that has one, over their naming, where the settings ask for them.
+pub fn dump<H>(task: &Task<'_, H>, verdicts: &Verdicts) -> Result<Option<Vec<u8>>, AllocError>
+    ensures dump { OfReport task.now verdicts.now (λ input s tried.
+        IfOk result (λ vcd. IsVcdDump s.vcd input s tried (found_of verdicts.now) (bytes_in vcd))) }
 {
     if !task.settings.vcd {
         return Ok(None);
@@ -69,12 +53,6 @@ pub fn dump<H>(
     let Some(at) = first_difference_at(verdicts.as_slice()) else {
         return Ok(None);
     };
-    let naming = match reported_naming(task, tried) {
-        Ok(naming) => naming,
-        Err(fault) => return Err(fault),
-    };
-    match vcd_at(task, &naming, at) {
-        Ok(text) => Ok(Some(text)),
-        Err(_) => Err(CheckFault::OutOfMemory),
-    }
+    let text = vcd_at(task, verdicts.naming(), at)?;
+    Ok(Some(text))
 }

@@ -1,6 +1,5 @@
 -- Namings and pairings of a task's netlists: why there is none, and how many variables there are.
-use Rattle.std.proofs.Common.{◌≡◌, ◌≢◌, ◌⊎◌, ◌<◌, ◌≤◌, inl, inr, sym, ◌∙◌, subst, length, Option, Result, Ok, Err}
-use Rattle.std.specs.Prelude.{IfOk}
+use Rattle.std.proofs.Common.{◌≡◌, ◌≢◌, ◌⊎◌, ◌<◌, ◌≤◌, inl, inr, sym, ◌∙◌, subst, length, Option}
 use Rattle.net_bench.specs.Circuit.{Circuit}
 use Rattle.net_order.specs.declared.order.Match.{Match}
 use Rattle.net_order.specs.declared.order.Order.{Order}
@@ -28,8 +27,3 @@ module _ (f : OrderFault) (how : Match) (a b : Circuit) (given : Option Circuit)
 -- a naming of few variables is a pairing
 pub as_pairing : (how : Match) (a b : Circuit) (given : Option Circuit) (order : Order) (p : NamingModel) → IsNaming how a b given order p → length p.names ≤ max_variables → IsPairing how a b given order p
 as_pairing how a b given order p is few = record { naming = is; few = subst (λ n. n ≤ max_variables) (names_count how a b given order p is) few }
-
--- what holds anyway holds of an answer
-pub whatever : {A E : Type 0} (P : Type 0) (r : Result A E) → P → IfOk r (λ _. P)
-whatever P (Ok v) h = h
-whatever P (Err e) h = tt

@@ -6,7 +6,7 @@ use Rattle.expand_work.specs.Bounds.{most_of}
 use Rattle.expand_work.specs.declared.fault.WaveFault.TheVariants.{OutOfMemory as NoWaveMemory, Full, TooManyRequests, NoWorker}
 use Rattle.net_bench.specs.Circuit.{circuit}
 use Rattle.net_order.specs.declared.order.Order.{Order}
-use Rattle.net_order.specs.Order.{NamingModel, IsNaming, IsPairing, condition, max_variables, names_by, variables_in}
+use Rattle.net_order.specs.Order.{NamingModel, IsNaming, IsPairing, condition, max_variables, variables_in}
 use Rattle.report_text.specs.declared.verdict.Verdict.{Verdict}
 use Rattle.order_search.specs.declared.attempts.Decided.{Decided as DecidedValue}
 use Rattle.order_search.specs.declared.attempts.Ended.{Ended}
@@ -40,20 +40,10 @@ abbrev pub IsNamingIn : {H : Type 0} → Task H → Order → NamingModel → Ty
 IsNamingIn task order p = IsNaming task.settings.now.matching (circuit task.first.now) (circuit task.second.now)
     (condition task.given) order p
 
--- a task's netlists have no more variables than a pairing may have
-abbrev pub HasFewVariables : {H : Type 0} → Task H → Type 0
-HasFewVariables task = length (variables_in task.settings.now.matching (circuit task.first.now) (circuit task.second.now)
-    (condition task.given)) ≤ max_variables
-
--- a task's netlists have more
+-- a task's netlists have more variables than a pairing may have
 abbrev pub HasTooManyVariables : {H : Type 0} → Task H → Type 0
 HasTooManyVariables task = max_variables < length (variables_in task.settings.now.matching (circuit task.first.now) (circuit task.second.now)
     (condition task.given))
-
--- the names of the variables in this order
-abbrev pub ordered_names : {H : Type 0} → Task H → Order → List (List ℕ)
-ordered_names task order = names_by task.settings.now.matching (circuit task.first.now) (circuit task.second.now)
-    (condition task.given) order
 
 -- a trial has the pairing in its candidate's order
 abbrev pub IsTrial : {H : Type 0} → Task H → Trial → Type 0

@@ -7,7 +7,7 @@ ghost use Rattle.net_order.specs.declared.order.OrderFault.{OrderFault as OrderF
 ghost use Rattle.net_order.specs.declared.order.Order.TheVariants.{Declared};
 ghost use Rattle.compare_built.specs.Check.{IsCheckFault};
 ghost use Rattle.order_search.specs.Tasks.{OfTask};
-ghost use Rattle.order_search.specs.Trials.{HasFewVariables, HasTooManyVariables, IsNamingIn};
+ghost use Rattle.order_search.specs.Trials.{HasTooManyVariables, IsNamingIn};
 ghost use Rattle.order_search.specs.declared.trials.Trial.{Trial as TrialValue};
 
 use compare_built::fault::CheckFault;
@@ -47,16 +47,6 @@ pub fn paired<H>(task: &Task<'_, H>, order: &Order) -> Result<Pairing, CheckFaul
         task.settings.matching,
         order,
     )?)
-}
-
-/// The naming of a task's netlists in this order, in which they have a pairing.
-pub fn named_in<H>(task: &Task<'_, H>, order: &Order) -> Result<Naming, CheckFault>
-    ensures named { IfOk result (IsNamingIn task.now order.now) }
-    ensures few { IfOk result (λ _. HasFewVariables task.now) }
-    ensures fault { OfTask task.now (λ input s. IfErr result (IsCheckFault input ⊥ ⊥ ⊥ s.order s.matching order.now)) }
-    ensures refused { IfErr result (λ fault. (f : OrderFaultValue) × (fault ≡ CheckFault.Order f)) }
-{
-    Ok(paired(task, order)?.into_naming())
 }
 
 /// The naming of a task's netlists as their variables are declared, of whatever number.

@@ -2,6 +2,7 @@
 ghost use Rattle.std.specs.Prelude.{◌≡◌, IfOk, codes, option_map};
 ghost use Rattle.report_text.specs.Json.{Adds, names_tokens, settings_tokens, given_tokens, undecided_tokens, share_tokens, counts_tokens};
 ghost use Rattle.report_text.specs.Json.{array_tokens, json_text};
+ghost use Rattle.report_text.specs.Findings.{found_of};
 
 use crate::assignment::Assignment;
 use crate::cause::Cause;
@@ -113,7 +114,7 @@ pub fn json_of(
 ) -> Result<Vec<u8>, AllocError>
     ensures { IfOk result (λ text. text.items
         ≡ json_text which heading.now.matching heading.now.kind heading.now.given heading.now.share
-        (option_map (λ c. c.now) causes.entry) found.now) }
+        (option_map (λ c. c.now) causes.entry) (found_of found.now)) }
 {
     let Heading {
         matching,

@@ -226,7 +226,7 @@ pub(crate) fn add_judged(
     which: Option<Assignment>,
     found: &Verdicts,
 ) -> Result<(), AllocError>
-    ensures { Adds result out.old out.new (array_tokens (codes "verdicts") (verdicts_tokens which found.now.variables found.now.verdicts)) }
+    ensures { Adds result out.old out.new (array_tokens (codes "verdicts") (verdicts_tokens which found.now.naming.names found.now.verdicts)) }
 {
     let names = found.variables();
     let buses = buses_in(alloc, which, names)?;

@@ -1,5 +1,6 @@
 //! What a comparison found as the lines of a report.
 ghost use Rattle.std.specs.Prelude.{◌≡◌, IfOk};
+ghost use Rattle.report_text.specs.Findings.{found_of};
 ghost use Rattle.report_text.specs.Lines.{report_text};
 
 use crate::assignment::Assignment;
@@ -16,7 +17,7 @@ pub fn report_of(
     share: Option<Share>,
     verdicts: &Verdicts,
 ) -> Result<Vec<u8>, AllocError>
-    ensures { IfOk result (λ text. text.items ≡ report_text which share verdicts.now) }
+    ensures { IfOk result (λ text. text.items ≡ report_text which share (found_of verdicts.now)) }
 {
     let mut text = Vec::new(alloc);
     for verdict in verdicts.as_slice() {

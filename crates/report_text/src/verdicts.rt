@@ -8,7 +8,7 @@ use net_order::names::Names;
 use net_order::naming::Naming;
 use std::marker::Model;
 
-/// What a comparison found: the variables by level, and a verdict for each line of its report, in their order.
+/// What a comparison found: the naming that it was over, and a verdict for each line of its report, in their order.
 #[derive(Drop)]
 pub struct Verdicts {
     naming: Naming,
@@ -16,24 +16,31 @@ pub struct Verdicts {
 }
 
 impl Model for Verdicts {
-    ghost use Rattle.report_text.specs.Lines.{Found};
+    ghost use Rattle.report_text.specs.Findings.{VerdictsModel};
 
-    ghost Value = { Found };
+    ghost Value = { VerdictsModel };
 
-    ghost view = { λ a. record { variables = a.naming.names; verdicts = a.list.items } };
+    ghost view = { λ a. record { naming = a.naming; verdicts = a.list.items } };
 }
 
 impl Verdicts {
     /// These verdicts over the variables of a naming.
     pub fn of(naming: Naming, list: Vec<Verdict>) -> Verdicts
-        ensures { result ≡ record { variables = naming.names; verdicts = list.items } }
+        ensures { result ≡ record { naming = naming; verdicts = list.items } }
     {
         Verdicts { naming, list }
     }
 
+    /// The naming of the netlists that were compared: the verdicts' assignments are over its variables.
+    pub fn naming(&self) -> &Naming
+        ensures { result.now ≡ self.now.naming }
+    {
+        &self.naming
+    }
+
     /// The variables by level.
     pub fn variables(&self) -> &Names
-        ensures { result.now ≡ self.now.variables }
+        ensures { result.now ≡ self.now.naming.names }
     {
         self.naming.names()
     }

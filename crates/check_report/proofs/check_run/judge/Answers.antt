@@ -1,5 +1,6 @@
 use Rattle.std.proofs.Common.{IfErr, IfOk, subst}
 use Rattle.std.proofs.lemmas.Result.{err_from_is_err_and}
+use Rattle.report_text.specs.Findings.{found_of}
 use Rattle.compare_built.specs.Devices.{device_text, device_texts}
 use Rattle.compare_built.specs.declared.settings.Settings.{Settings}
 use Rattle.explain_report.proofs.Trying.{some_order}
@@ -25,7 +26,7 @@ returns-in_err-netlists-clause-no_decision g c =
 pub returns-clause-decision : goal.returns-clause-decision
 returns-clause-decision g c =
     let input = device_texts (g.R1.Source.remaining c.args.first.now) (g.R2.Source.remaining c.args.second.now) (device_text g.R3.Source.remaining c.args.given.now) in
-    subst (λ (s : Settings). IfOk c.decide.result (λ r. IsDecision input s (g.G.Monitor.bound c.args.context.now.monitor.now) r.0 r.1)) c.task-task.ensures.settings
+    subst (λ (s : Settings). IfOk c.decide.result (λ r. IsDecision input s (g.G.Monitor.bound c.args.context.now.monitor.now) (found_of r.0) r.1)) c.task-task.ensures.settings
     (c.decide.ensures.decision input (given_of input _ _ _ _ _ c.task-task.ensures c.in_ok-netlists.ensures.read))
 
 pub returns-clause-no_decision : goal.returns-clause-no_decision

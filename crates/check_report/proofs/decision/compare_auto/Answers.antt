@@ -3,17 +3,16 @@ use Rattle.std.proofs.lemmas.Result.{err_from_is_err_and}
 use Rattle.net_bench.specs.Circuit.{circuit}
 use Rattle.net_order.specs.declared.order.Order.TheVariants as orders
 use Rattle.net_order.specs.Order.{NamingModel, condition}
-use Rattle.report_text.specs.Lines.{Found}
+use Rattle.report_text.specs.Findings.{VerdictsModel, found_of}
 use Rattle.compare_built.specs.declared.strategy.Attempt.{Attempt}
 use Rattle.compare_built.specs.Attempts.{AreGivenUp, IsBudget, IsChosen, MayGoByCones, last_budget, order_of}
 use Rattle.explain_report.specs.Deciding.IsFoundBy.{in_order}
-use Rattle.explain_report.specs.Explaining.{reported_order}
-use Rattle.order_search.specs.Trials.{EndsAtOnce, AreAllGivenUp, IsNamingIn, IsPairingIn, ordered_names}
+use Rattle.order_search.specs.Trials.{EndsAtOnce, AreAllGivenUp, IsNamingIn, IsPairingIn}
 use Rattle.order_search.proofs.Namings.{as_pairing}
 use Rattle.order_search.proofs.Reporting.{late_fault, late_whole}
 use Rattle.order_search.proofs.Rounds.{accepted_paired, earlier_in_input, judged, within}
 use Rattle.check_report.proofs.LastAttempts.{decided_with, many_before}
-use Rattle.check_report.proofs.Findings.{many_cause, none_by_cones, unnamed}
+use Rattle.check_report.proofs.Findings.{declared_naming, many_cause, none_by_cones, unnamed}
 use Rattle.check_report.proofs.decision.compare_auto.Goals as goal
 
 -- ---- no naming
@@ -66,7 +65,7 @@ returns-in-Ok-search-clause-decision g c = λ input ga.
     let d = c.in-Ok-search.ensures.found.decided in
     let t = c.in-Ok-search.decided.trial in
     let attempt : Attempt = record { order = t.candidate; budget = c.in-Ok-search.decided.budget } in
-    let reported_as = c.of-in-Ok-search.ensures ∙ ap (λ (p : NamingModel). record { variables = p.names; verdicts = c.in-Ok-search.decided.verdicts.items }) c.into_naming.ensures in
+    let reported_as = ap found_of (c.of-in-Ok-search.ensures ∙ ap (λ (p : NamingModel). record { naming = p; verdicts = c.in-Ok-search.decided.verdicts.items }) c.into_naming.ensures) in
     record {
       found_by = in_order orders.Declared (judged task input ga orders.Declared c.in-Ok.pairing _ _ is reported_as d.verdicts_of)
           (subst (λ choice. IsChosen input s.matching choice s.limit (Some attempt) orders.Declared) (sym c.requires.auto) (
@@ -79,11 +78,12 @@ returns-in-Ok-search-clause-decision g c = λ input ga.
           (earlier_in_input task input ga c.min-limit.result bound attempt c.in-Ok-search.ensures.found.earlier_given_up));
     }
 
-pub returns-in-Ok-search-clause-names : goal.returns-in-Ok-search-clause-names
-returns-in-Ok-search-clause-names g c =
+pub returns-in-Ok-search-clause-named : goal.returns-in-Ok-search-clause-named
+returns-in-Ok-search-clause-named g c =
+    let task = c.args.task.now in
     let attempt : Attempt = record { order = c.in-Ok-search.decided.trial.candidate; budget = c.in-Ok-search.decided.budget } in
-    ap (λ (f : Found). f.variables) c.of-in-Ok-search.ensures ∙ ap (λ (p : NamingModel). p.names) (c.into_naming.ensures ∙ c.in-Ok.ensures.same) ∙ c.in_ok-declared.ensures.named.names ∙
-    ap (λ choice. ordered_names c.args.task.now (reported_order choice (Some attempt))) (sym c.requires.auto)
+    let same = ap (λ (v : VerdictsModel). v.naming) c.of-in-Ok-search.ensures ∙ c.into_naming.ensures ∙ c.in-Ok.ensures.same in
+    declared_naming task (Some attempt) _ (subst MayGoByCones (sym c.requires.auto) tt) (subst (IsNamingIn task orders.Declared) (sym same) c.in_ok-declared.ensures.named)
 
 -- ---- each attempt was given up
 

@@ -3,18 +3,17 @@ use Rattle.std.proofs.lemmas.Result.{err_from_is_err_and}
 use Rattle.net_bench.specs.Circuit.{circuit}
 use Rattle.net_order.specs.declared.order.Order.TheVariants as orders
 use Rattle.net_order.specs.Order.{NamingModel, condition}
-use Rattle.report_text.specs.Lines.{Found}
+use Rattle.report_text.specs.Findings.{VerdictsModel, found_of}
 use Rattle.compare_built.specs.declared.strategy.Attempt.{Attempt}
 use Rattle.compare_built.specs.Attempts.{AreGivenUp, IsChosen, MayGoByCones, last_budget, order_of, whole_limit}
 use Rattle.compare_built.specs.Limits.{AreWithin}
 use Rattle.explain_report.specs.Deciding.IsFoundBy.{in_order}
-use Rattle.explain_report.specs.Explaining.{reported_order}
 use Rattle.order_search.specs.declared.attempts.Round.TheVariants.{Decided}
-use Rattle.order_search.specs.Trials.{EndsAtOnce, IsLastRound, IsNamingIn, IsPairingIn, ordered_names}
+use Rattle.order_search.specs.Trials.{EndsAtOnce, IsLastRound, IsNamingIn, IsPairingIn}
 use Rattle.order_search.proofs.Namings.{as_pairing}
 use Rattle.order_search.proofs.Reporting.{late_fault, late_whole}
 use Rattle.order_search.proofs.Rounds.{accepted_paired, earlier_in_input, judged, within}
-use Rattle.check_report.proofs.Findings.{cones_end, cones_fault, cones_whole, declared_reported, none_by_cones, unnamed}
+use Rattle.check_report.proofs.Findings.{cones_end, cones_fault, cones_whole, declared_naming, none_by_cones, unnamed}
 use Rattle.check_report.proofs.LastAttempts.{after_all, by_cones_of_auto, given_up_before, given_up_last, last_given_up, many_before, none_left}
 use Rattle.check_report.proofs.decision.compare_by_cones_and_last.Goals as goal
 
@@ -35,7 +34,7 @@ pub returns-then-outcome-eq0-clause-decision : goal.returns-then-outcome-eq0-cla
 returns-then-outcome-eq0-clause-decision g c = λ input ga.
     let task = c.args.task.now in
     let bound = g.G.Monitor.bound c.args.monitor.now in
-    let found = c.in_ok-verdicts.verdicts in
+    let found = found_of c.in_ok-verdicts.verdicts in
     by_cones_of_auto task input ga bound c.args.declared found c.requires.auto c.requires.naming c.requires.given_up c.in_ok-verdicts.ensures.verdicts
     (none_left task input ga bound found c.requires.auto (let counts = c.outcome.ensures in let none = c.if-outcome-eq0.true in cc))
 
@@ -43,9 +42,17 @@ pub returns-then-limit-le-WHOLE_LIMIT-clause-decision : goal.returns-then-limit-
 returns-then-limit-le-WHOLE_LIMIT-clause-decision g c = λ input ga.
     let task = c.args.task.now in
     let bound = g.G.Monitor.bound c.args.monitor.now in
-    let found = c.in_ok-verdicts.verdicts in
+    let found = found_of c.in_ok-verdicts.verdicts in
     by_cones_of_auto task input ga bound c.args.declared found c.requires.auto c.requires.naming c.requires.given_up c.in_ok-verdicts.ensures.verdicts
     (given_up_before task input ga bound found c.requires.auto (let few = c.if-limit-le-WHOLE_LIMIT.true in omega (arith, few)) c.requires.given_up)
+
+pub returns-then-outcome-eq0-clause-named : goal.returns-then-outcome-eq0-clause-named
+returns-then-outcome-eq0-clause-named g c =
+    declared_naming c.args.task.now None _ (subst MayGoByCones (sym c.requires.auto) tt) (subst (IsNamingIn c.args.task.now orders.Declared) (sym c.in_ok-verdicts.ensures.named) c.requires.naming)
+
+pub returns-then-limit-le-WHOLE_LIMIT-clause-named : goal.returns-then-limit-le-WHOLE_LIMIT-clause-named
+returns-then-limit-le-WHOLE_LIMIT-clause-named g c =
+    declared_naming c.args.task.now None _ (subst MayGoByCones (sym c.requires.auto) tt) (subst (IsNamingIn c.args.task.now orders.Declared) (sym c.in_ok-verdicts.ensures.named) c.requires.naming)
 
 -- ---- no pairing
 
@@ -61,9 +68,13 @@ pub returns-in-Err-clause-decision : goal.returns-in-Err-clause-decision
 returns-in-Err-clause-decision g c = λ input ga.
     let task = c.args.task.now in
     let bound = g.G.Monitor.bound c.args.monitor.now in
-    let found = c.in_ok-verdicts.verdicts in
+    let found = found_of c.in_ok-verdicts.verdicts in
     by_cones_of_auto task input ga bound c.args.declared found c.requires.auto c.requires.naming c.requires.given_up c.in_ok-verdicts.ensures.verdicts
     (many_before task input ga bound found c.in_ok-named.field-0 c.requires.auto c.in_ok-named.ensures.named c.in-Err.ensures.many)
+
+pub returns-in-Err-clause-named : goal.returns-in-Err-clause-named
+returns-in-Err-clause-named g c =
+    declared_naming c.args.task.now None _ (subst MayGoByCones (sym c.requires.auto) tt) (subst (IsNamingIn c.args.task.now orders.Declared) (sym c.in_ok-verdicts.ensures.named) c.requires.naming)
 
 -- ---- the last attempts
 
@@ -81,7 +92,7 @@ returns-in-Ok-Decided-clause-decision g c = λ input ga.
     let d = last.0 in
     let t = c.in-Ok-Decided.decided.trial in
     let attempt : Attempt = record { order = t.candidate; budget = c.in-Ok-Decided.decided.budget } in
-    let reported_as = c.of-in-Ok-Decided.ensures ∙ ap (λ (p : NamingModel). record { variables = p.names; verdicts = c.in-Ok-Decided.decided.verdicts.items }) c.into_naming.ensures in
+    let reported_as = ap found_of (c.of-in-Ok-Decided.ensures ∙ ap (λ (p : NamingModel). record { naming = p; verdicts = c.in-Ok-Decided.decided.verdicts.items }) c.into_naming.ensures) in
     record {
       found_by = in_order orders.Declared (judged task input ga orders.Declared c.in-Ok.pairing _ _ is reported_as d.verdicts_of)
           (subst (λ choice. IsChosen input s.matching choice s.limit (Some attempt) orders.Declared) (sym c.requires.auto) (
@@ -94,14 +105,25 @@ returns-in-Ok-Decided-clause-decision g c = λ input ga.
           (after_all task s.limit bound attempt c.requires.given_up last.1 (let more = c.if-limit-le-WHOLE_LIMIT.false in omega (arith, more))));
     }
 
+pub returns-in-Ok-Decided-clause-named : goal.returns-in-Ok-Decided-clause-named
+returns-in-Ok-Decided-clause-named g c =
+    let task = c.args.task.now in
+    let attempt : Attempt = record { order = c.in-Ok-Decided.decided.trial.candidate; budget = c.in-Ok-Decided.decided.budget } in
+    let same = ap (λ (v : VerdictsModel). v.naming) c.of-in-Ok-Decided.ensures ∙ c.into_naming.ensures ∙ c.in-Ok.ensures.same in
+    declared_naming task (Some attempt) _ (subst MayGoByCones (sym c.requires.auto) tt) (subst (IsNamingIn task orders.Declared) (sym same) c.in_ok-named.ensures.named)
+
 pub returns-in-Ok-GivenUp-clause-decision : goal.returns-in-Ok-GivenUp-clause-decision
 returns-in-Ok-GivenUp-clause-decision g c = λ input ga.
     let task = c.args.task.now in
     let bound = g.G.Monitor.bound c.args.monitor.now in
-    let found = c.in_ok-verdicts.verdicts in
+    let found = found_of c.in_ok-verdicts.verdicts in
     by_cones_of_auto task input ga bound c.args.declared found c.requires.auto c.requires.naming c.requires.given_up c.in_ok-verdicts.ensures.verdicts
     (given_up_last task input ga bound found c.requires.auto
     (last_given_up task _ c.args.furthest task.settings.now.limit bound c.in-Ok-GivenUp.field-0-is c.in-Ok-GivenUp.ensures.last))
+
+pub returns-in-Ok-GivenUp-clause-named : goal.returns-in-Ok-GivenUp-clause-named
+returns-in-Ok-GivenUp-clause-named g c =
+    declared_naming c.args.task.now None _ (subst MayGoByCones (sym c.requires.auto) tt) (subst (IsNamingIn c.args.task.now orders.Declared) (sym c.in_ok-verdicts.ensures.named) c.requires.naming)
 
 pub returns-in-Err-try_last-clause-no_decision : goal.returns-in-Err-try_last-clause-no_decision
 returns-in-Err-try_last-clause-no_decision g c = λ input ga.

@@ -1,13 +1,13 @@
 use Rattle.std.proofs.Common.{◌∙◌, ap, sym, subst, refl, inr, Some}
 use Rattle.std.proofs.lemmas.Result.{err_from_is_err_and}
 use Rattle.net_order.specs.Order.{NamingModel}
-use Rattle.report_text.specs.Lines.{Found}
+use Rattle.report_text.specs.Findings.{VerdictsModel, found_of}
 use Rattle.compare_built.specs.declared.strategy.Attempt.{Attempt}
 use Rattle.compare_built.specs.Attempts.{AreGivenUp, AreTried, IsAllowed, IsChosen, IsGivenUpWithin, MayGoByCones, last_budget, order_of}
 use Rattle.compare_built.specs.Limits.{AreBeyond}
 use Rattle.explain_report.specs.Deciding.IsFoundBy.{in_order}
 use Rattle.explain_report.specs.Explaining.{reported_order}
-use Rattle.order_search.specs.Trials.{EndsSearch, ordered_names}
+use Rattle.order_search.specs.Trials.{EndsSearch, IsNamingIn}
 use Rattle.order_search.proofs.Rounds.{beyond_in_input, earlier_in_input, given_up_in_input, judged, within}
 use Rattle.check_report.proofs.Refusing.{from_each}
 use Rattle.check_report.proofs.decision.compare_in_best_order.Goals as goal
@@ -23,17 +23,18 @@ returns-clause-decision g c = λ input ga.
     let attempt : Attempt = record { order = d.trial.candidate; budget = d.budget } in
     record {
       found_by = in_order o
-          (judged task input ga o d.trial.pairing _ _ has.decided.paired (c.of.ensures ∙ ap (λ (p : NamingModel). record { variables = p.names; verdicts = d.verdicts.items }) c.into_naming.ensures) has.decided.verdicts_of)
+          (judged task input ga o d.trial.pairing _ _ has.decided.paired (ap found_of (c.of.ensures ∙ ap (λ (p : NamingModel). record { naming = p; verdicts = d.verdicts.items }) c.into_naming.ensures)) has.decided.verdicts_of)
           (subst (λ choice. IsChosen input s.matching choice s.limit (Some attempt) o) (sym c.requires.best) (refl, has.budget, within task input ga o d.trial.pairing d.budget has.decided.paired has.decided.within));
       earlier_given_up = subst (λ choice. AreGivenUp input s.matching (last_budget choice s.limit) bound attempt) (sym c.requires.best) (earlier_in_input task input ga s.limit bound attempt has.earlier_given_up);
     }
 
-pub returns-clause-names : goal.returns-clause-names
-returns-clause-names g c =
+pub returns-clause-named : goal.returns-clause-named
+returns-clause-named g c =
+    let task = c.args.task.now in
     let d = c.in_ok-decided.decided in
     let attempt : Attempt = record { order = d.trial.candidate; budget = d.budget } in
-    ap (λ (f : Found). f.variables) c.of.ensures ∙ ap (λ (p : NamingModel). p.names) c.into_naming.ensures ∙ c.in_ok-decided.ensures.found.decided.paired.naming.names ∙
-    ap (λ choice. ordered_names c.args.task.now (reported_order choice (Some attempt))) (sym c.requires.best)
+    let naming = subst (IsNamingIn task (order_of d.trial.candidate)) (sym (ap (λ (v : VerdictsModel). v.naming) c.of.ensures ∙ c.into_naming.ensures)) c.in_ok-decided.ensures.found.decided.paired.naming in
+    subst (λ choice. IsNamingIn task (reported_order choice (Some attempt)) c.of.result.naming) (sym c.requires.best) naming
 
 pub returns-in_err-decided-clause-no_decision : goal.returns-in_err-decided-clause-no_decision
 returns-in_err-decided-clause-no_decision g c = λ input ga.

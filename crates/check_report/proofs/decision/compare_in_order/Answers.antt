@@ -2,14 +2,14 @@ use Rattle.std.proofs.Common.{◌≡◌, ◌∙◌, ap, sym, subst, refl, Err, N
 use Rattle.std.proofs.lemmas.Result.{err_from_is_err_and}
 use Rattle.net_bench.specs.Circuit.{circuit}
 use Rattle.net_order.specs.Order.{NamingModel, condition}
-use Rattle.report_text.specs.Lines.{Found}
+use Rattle.report_text.specs.Findings.{VerdictsModel, found_of}
 use Rattle.compare_built.specs.Attempts.{IsAllowed, IsChosen, MayGoByCones, NamesOrder}
 use Rattle.compare_built.specs.Check.{IsComparisonFault}
 use Rattle.compare_built.specs.Limits.{AreBeyond}
 use Rattle.compare_built.proofs.Widening.{wide_given}
 use Rattle.explain_report.specs.Deciding.IsFoundBy.{in_order}
 use Rattle.explain_report.specs.Explaining.{reported_order}
-use Rattle.order_search.specs.Trials.{EndsAtOnce, ordered_names}
+use Rattle.order_search.specs.Trials.{EndsAtOnce, IsNamingIn}
 use Rattle.order_search.proofs.Reporting.{late_fault}
 use Rattle.order_search.proofs.Rounds.{accepted_paired, beyond, judged, order_ends, within}
 use Rattle.check_report.proofs.Refusing.{at_once, from_each}
@@ -23,15 +23,16 @@ returns-clause-decision g c = λ input ga.
     let is = c.in_ok-pairing.ensures.paired in
     record {
       found_by = in_order o
-          (judged task input ga o c.in_ok-pairing.pairing _ _ is (c.of.ensures ∙ ap (λ (p : NamingModel). record { variables = p.names; verdicts = c.in_ok-verdicts.verdicts.items }) c.into_naming.ensures) c.in_ok-verdicts.ensures.ok)
+          (judged task input ga o c.in_ok-pairing.pairing _ _ is (ap found_of (c.of.ensures ∙ ap (λ (p : NamingModel). record { naming = p; verdicts = c.in_ok-verdicts.verdicts.items }) c.into_naming.ensures)) c.in_ok-verdicts.ensures.ok)
           (subst (λ choice. IsChosen input s.matching choice s.limit None o) (sym c.requires.named) (refl, within task input ga o c.in_ok-pairing.pairing s.limit is c.in_ok-verdicts.ensures.within));
       earlier_given_up = tt;
     }
 
-pub returns-clause-names : goal.returns-clause-names
-returns-clause-names g c =
-    ap (λ (f : Found). f.variables) c.of.ensures ∙ ap (λ (p : NamingModel). p.names) c.into_naming.ensures ∙ c.in_ok-pairing.ensures.paired.naming.names ∙
-    ap (λ choice. ordered_names c.args.task.now (reported_order choice None)) (sym c.requires.named)
+pub returns-clause-named : goal.returns-clause-named
+returns-clause-named g c =
+    let task = c.args.task.now in
+    let naming = subst (IsNamingIn task c.args.order.now) (sym (ap (λ (v : VerdictsModel). v.naming) c.of.ensures ∙ c.into_naming.ensures)) c.in_ok-pairing.ensures.paired.naming in
+    subst (λ choice. IsNamingIn task (reported_order choice None) c.of.result.naming) (sym c.requires.named) naming
 
 pub returns-in_err-pairing-clause-no_decision : goal.returns-in_err-pairing-clause-no_decision
 returns-in_err-pairing-clause-no_decision g c = λ input ga.

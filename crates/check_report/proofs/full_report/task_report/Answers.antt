@@ -1,20 +1,16 @@
-use Rattle.std.proofs.Common.{subst, ◌≡◌, ap, inr, Err}
+use Rattle.std.proofs.Common.{◌≡◌, inr}
 use Rattle.std.proofs.lemmas.Result.{err_from_is_err_and}
+use Rattle.report_text.specs.Findings.{found_of}
 use Rattle.compare_built.specs.declared.fault.CheckFault.TheVariants.{Write}
 use Rattle.explain_report.proofs.Trying.{found_accepted}
-use Rattle.order_search.specs.Trials.{EndsAtOnce}
-use Rattle.check_report.proofs.Refusing.{at_once}
 use Rattle.check_report.proofs.full_report.task_report.Goals as goal
-
-pub full_text-requires-clause-accepted : goal.full_text-requires-clause-accepted
-full_text-requires-clause-accepted g c = λ input ga. found_accepted _ _ _ _ _ (c.in_ok-verdicts.ensures.decision input ga).found_by
 
 pub returns-clause-report : goal.returns-clause-report
 returns-clause-report g c = λ input ga.
     let text = c.in_ok-report.ensures.text input ga in
     record {
       report = record {
-        found = c.in_ok-verdicts.verdicts;
+        found = found_of c.in_ok-verdicts.verdicts;
         by = (c.in_ok-verdicts.ensures.decision input ga).found_by;
         counts = c.outcome.ensures;
         causes = text.0;
@@ -23,7 +19,7 @@ returns-clause-report g c = λ input ga.
         explained = text.3;
         text = text.4;
       };
-      dump = c.in_ok-vcd.ensures.dump input ga;
+      dump = c.in_ok-vcd.ensures.dump input ga c.in_ok-verdicts.tried c.in_ok-verdicts.ensures.named;
     }
 
 pub returns-clause-earlier_given_up : goal.returns-clause-earlier_given_up
@@ -46,36 +42,24 @@ returns-in_err-verdicts-clause-unwritten g c = λ input ga.
     let e = err_from_is_err_and c.from_residual.result c.from_residual.ensures.1 in
     rw (e.1, e.2) (λ w. let same : c.in_err-verdicts.field-0.0 ≡ Write = cc in (c.in_err-verdicts.ensures.no_decision input ga).unwritten same)
 
--- ---- no text, or no VCD
+-- ---- no memory for the text, or for the VCD
 
 pub returns-in_err-report-clause-answer : goal.returns-in_err-report-clause-answer
 returns-in_err-report-clause-answer g c = λ input ga.
-    let has = c.in_err-report.ensures in
     let e = err_from_is_err_and c.from_residual-in_err-report.result c.from_residual-in_err-report.ensures.1 in
-    rw (e.1, e.2) (at_once input c.args.task.now.settings.now (g.G.Monitor.bound c.args.monitor.now) c.in_err-report.field-0.0 has.ends (λ may many. has.any_number_of_inputs may (ap Err many)))
+    rw (e.1, e.2) tt
 
 pub returns-in_err-report-clause-fault : goal.returns-in_err-report-clause-fault
 returns-in_err-report-clause-fault g c = λ input ga.
     let e = err_from_is_err_and c.from_residual-in_err-report.result c.from_residual-in_err-report.ensures.1 in
-    rw (e.1, e.2) (inr (c.in_err-report.ensures.fault input ga))
-
-pub returns-in_err-report-clause-unwritten : goal.returns-in_err-report-clause-unwritten
-returns-in_err-report-clause-unwritten g c = λ input ga.
-    let e = err_from_is_err_and c.from_residual-in_err-report.result c.from_residual-in_err-report.ensures.1 in
-    rw (e.1, e.2) (λ w. let same : c.in_err-report.field-0.0 ≡ Write = cc in subst EndsAtOnce same c.in_err-report.ensures.ends)
+    rw (e.1, e.2) (inr (found_accepted _ _ _ _ _ (c.in_ok-verdicts.ensures.decision input ga).found_by))
 
 pub returns-in_err-vcd-clause-answer : goal.returns-in_err-vcd-clause-answer
 returns-in_err-vcd-clause-answer g c = λ input ga.
-    let has = c.in_err-vcd.ensures in
     let e = err_from_is_err_and c.from_residual-in_err-vcd.result c.from_residual-in_err-vcd.ensures.1 in
-    rw (e.1, e.2) (at_once input c.args.task.now.settings.now (g.G.Monitor.bound c.args.monitor.now) c.in_err-vcd.field-0.0 has.ends (λ may many. has.any_number_of_inputs may (ap Err many)))
+    rw (e.1, e.2) tt
 
 pub returns-in_err-vcd-clause-fault : goal.returns-in_err-vcd-clause-fault
 returns-in_err-vcd-clause-fault g c = λ input ga.
     let e = err_from_is_err_and c.from_residual-in_err-vcd.result c.from_residual-in_err-vcd.ensures.1 in
-    rw (e.1, e.2) (inr (c.in_err-vcd.ensures.fault input ga))
-
-pub returns-in_err-vcd-clause-unwritten : goal.returns-in_err-vcd-clause-unwritten
-returns-in_err-vcd-clause-unwritten g c = λ input ga.
-    let e = err_from_is_err_and c.from_residual-in_err-vcd.result c.from_residual-in_err-vcd.ensures.1 in
-    rw (e.1, e.2) (λ w. let same : c.in_err-vcd.field-0.0 ≡ Write = cc in subst EndsAtOnce same c.in_err-vcd.ensures.ends)
+    rw (e.1, e.2) (inr (found_accepted _ _ _ _ _ (c.in_ok-verdicts.ensures.decision input ga).found_by))

@@ -1,6 +1,7 @@
 use Rattle.std.proofs.Common.{subst, ◌≡◌, ◌∙◌, ap}
 use Rattle.std.proofs.lemmas.Result.{err_from_is_err_and}
 use Rattle.net_order.specs.OrderText.{order_text}
+use Rattle.report_text.specs.Findings.{found_of}
 use Rattle.compare_built.specs.declared.fault.CheckFault.TheVariants.{Write}
 use Rattle.explain_report.proofs.Trying.{found_accepted}
 use Rattle.check_report.proofs.Printing.{best_printed}
@@ -10,7 +11,7 @@ use Rattle.check_report.proofs.ordering.best_text.Goals as goal
 
 pub returns-clause-text : goal.returns-clause-text
 returns-clause-text g c = λ input ga.
-    best_printed input c.args.task.now.settings.now (g.G.Monitor.bound c.args.monitor.now) c.in_ok-verdicts.verdicts c.in_ok-verdicts.tried c.in_ok-text.text.items c.requires.best
+    best_printed input c.args.task.now.settings.now (g.G.Monitor.bound c.args.monitor.now) (found_of c.in_ok-verdicts.verdicts) c.in_ok-verdicts.tried c.in_ok-text.text.items c.requires.best
     (c.in_ok-verdicts.ensures.decision input ga).found_by (c.in_ok-text.ensures ∙ ap order_text c.variables.ensures)
 
 pub returns-clause-earlier_given_up : goal.returns-clause-earlier_given_up
@@ -40,4 +41,4 @@ returns-in_err-text-clause-answer g c = λ input ga.
 pub returns-in_err-text-clause-fault : goal.returns-in_err-text-clause-fault
 returns-in_err-text-clause-fault g c = λ input ga.
     let e = err_from_is_err_and c.from_residual-in_err-text.result c.from_residual-in_err-text.ensures.1 in
-    rw (e.1, e.2) (found_accepted input c.args.task.now.settings.now (g.G.Monitor.bound c.args.monitor.now) c.in_ok-verdicts.verdicts c.in_ok-verdicts.tried (c.in_ok-verdicts.ensures.decision input ga).found_by)
+    rw (e.1, e.2) (found_accepted input c.args.task.now.settings.now (g.G.Monitor.bound c.args.monitor.now) (found_of c.in_ok-verdicts.verdicts) c.in_ok-verdicts.tried (c.in_ok-verdicts.ensures.decision input ga).found_by)

@@ -3,7 +3,7 @@ use Rattle.std.specs.List.{AllZip}
 use Rattle.net_bench.specs.Circuit.{circuit}
 use Rattle.net_order.specs.declared.order.Order.TheVariants.{Declared}
 use Rattle.net_order.specs.Order.{condition}
-use Rattle.report_text.specs.Lines.{Found}
+use Rattle.report_text.specs.Findings.{VerdictsModel}
 use Rattle.compare_built.specs.Details.{unsized}
 use Rattle.compare_built.specs.Comparing.{IsInside}
 use Rattle.compare_built.specs.Cones.{FitByCones, IsUndecided, IsConeVerdict, cone_limit}
@@ -36,9 +36,12 @@ returns-clause-verdicts g c =
       unmatched_lines = c.in_ok-subjects.field-0.unmatched_lines.items;
       picked = c.in_ok-subjects.ensures.picked;
       verdicts = record {
-        variables = ap (λ (f : Found). f.variables) c.of.ensures;
+        variables = ap (λ (v : VerdictsModel). v.naming.names) c.of.ensures;
         of_pairs = c.in_ok-verdicts.verdicts.items;
         verdicts = subst (λ ss. AllZip (IsConeVerdict (unsized task.settings.now.assignment) (FitByCones (cone_limit task.settings.now.limit) a b given p) (IsUndecided task.settings.now.limit (g.G.Monitor.bound c.args.monitor.now) a b given p) a b given p) ss c.in_ok-verdicts.verdicts.items) c.as_slice.ensures.value c.in_ok-verdicts.ensures.verdicts;
-        all = ap (λ (f : Found). f.verdicts) c.of.ensures ∙ c.in_ok-verdicts-2.ensures;
+        all = ap (λ (v : VerdictsModel). v.verdicts) c.of.ensures ∙ c.in_ok-verdicts-2.ensures;
       };
     }
+
+pub returns-clause-named : goal.returns-clause-named
+returns-clause-named g c = ap (λ (v : VerdictsModel). v.naming) c.of.ensures
