@@ -31,7 +31,7 @@ fn text_in<H>(task: &Task<'_, H>, order: &Order) -> Result<Vec<u8>, CheckFault>
     Ok(text)
 }
 
-/// The same where no order is tried: in the order that is given, or in declared order, in which a report is told if other orders are taken
+/// The same where no order is tried: in the order that is given, or in declared order, in which a report is written if other orders are taken
 /// for it.
 fn given_text<H>(
     task: &Task<'_, H>,

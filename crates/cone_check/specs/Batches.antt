@@ -46,7 +46,7 @@ jobs_in batches = map (λ (b : Batch). b.jobs.items) batches
 abbrev pub jobs_of : List Batch → List PairJob
 jobs_of batches = flat_map (λ (jobs : List PairJob). jobs) (jobs_in batches)
 
--- the batches where the one at this place has one thing more, behind those that it had
+-- the batches where the one at this place has one thing more, after those that it had
 abbrev pub put_at : {X : Type 0} → ℕ → X → List (List X) → List (List X)
 put_at n x [] = []
 put_at zero x (batch ∷ batches) = (batch ++ x ∷ []) ∷ batches

@@ -43,7 +43,7 @@ impl PairJob {
 }
 
 impl Batch {
-    /// Puts a job behind the others.
+    /// Adds a job after the others.
     fn add(&mut self, job: PairJob) -> Result<(), AllocError>
         ensures jobs { OnOk result (self.new.jobs.items ≡ self.old.jobs.items ++ job ∷ []) }
         ensures workers { self.new.workers ≡ self.old.workers }
@@ -91,7 +91,7 @@ fn batch_number(batches: u32, position: usize) -> usize
     (serpentine_share(batches, position) - 1) as usize
 }
 
-/// Puts a job behind those of a batch.
+/// Adds a job after those of a batch.
 fn add_job(batches: &mut Vec<Batch>, number: usize, job: PairJob) -> Result<(), AllocError>
     requires { number < length batches.old.items }
     ensures jobs { OnOk result (jobs_in batches.new.items ≡ put_at number job (jobs_in batches.old.items)) }

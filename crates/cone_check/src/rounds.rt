@@ -145,7 +145,7 @@ fn notify_round<G: Monitor>(known: &[Option<Verdict>], budget: u64, monitor: &G)
     monitor.at_attempt(budget, end);
 }
 
-/// Judges the pairs that have no verdict yet, each within so many nodes, and tells the monitor how many are left. A round that has none
+/// Judges the pairs that have no verdict yet, each within so many nodes, and notifies the monitor how many are left. A round that has none
 /// to judge is not reported.
 fn judge_round<H: Threads + Wait + Sync, G: Monitor>(
     context: &ConeContext<'_, H>,

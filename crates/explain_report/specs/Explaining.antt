@@ -116,7 +116,7 @@ reported_order Best None = orders.Declared
 reported_order Auto tried = orders.Declared
 reported_order Cones tried = orders.Declared
 
--- the naming of these verdicts is that of the task's netlists, in the order in which the report of this attempt tells the variables
+-- the naming of these verdicts is that of the task's netlists, in the order in which the report of this attempt has the variables
 abbrev pub HaveReportNaming : {H : Type 0} → Task H → Option Attempt → VerdictsModel → Type 0
 HaveReportNaming task tried v = IsNamingIn task (reported_order task.settings.now.order tried) v.naming
 
