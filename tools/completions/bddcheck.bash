@@ -4,9 +4,10 @@ _bddcheck() {
     local IFS=$' \t\n'
     case $before in
     --match) mapfile -t COMPREPLY < <(compgen -W 'name position' -- "$word") ;;
-    --order) mapfile -t COMPREPLY < <(compgen -W 'auto cones declared depth interleave index force best' -- "$word") ;;
+    --order) mapfile -t COMPREPLY < <(compgen -W 'auto cones merge declared depth interleave index force best' -- "$word") ;;
     --format) mapfile -t COMPREPLY < <(compgen -W 'text json' -- "$word") ;;
     --assignment) mapfile -t COMPREPLY < <(compgen -W 'all support ones' -- "$word") ;;
+    --difference) mapfile -t COMPREPLY < <(compgen -W 'least any' -- "$word") ;;
     --workers) mapfile -t COMPREPLY < <(compgen -W '1 2 4 8 16' -- "$word") ;;
     --limit | --only | --explain) COMPREPLY=() ;;
     --share) mapfile -t COMPREPLY < <(compgen -W '1/2 1/4 1/8 1/16' -- "$word") ;;
@@ -14,7 +15,7 @@ _bddcheck() {
     --order-file | --given | --vcd) mapfile -t COMPREPLY < <(compgen -f -- "$word") ;;
     *)
         case $word in
-        -*) mapfile -t COMPREPLY < <(compgen -W '--match --order --order-file --extend --given --only --share --explain --vcd --workers --limit --memory --sizes --print-order --format --assignment --causes --verbose --help --version' -- "$word") ;;
+        -*) mapfile -t COMPREPLY < <(compgen -W '--match --order --order-file --extend --given --only --share --explain --vcd --workers --limit --memory --sizes --print-order --format --assignment --causes --difference --verbose --help --version' -- "$word") ;;
         *) mapfile -t COMPREPLY < <(compgen -f -- "$word") ;;
         esac
         ;;
