@@ -5,22 +5,35 @@ their registers. tools/rtl2bench.sh --help says how both are called.
 A bench netlist has `q = DFF(n)` for a register, and nothing of its clock, edge, reset or initial value. These are comments at its head:
 
     # register q[0] kind=flip-flop clock=clk edge=rising clear=rst/1 set=none init=0
+    # also q[0] u_part.state[0]
+    # box u_ram module=ram parameters=DEPTH:16
 
 `clear=rst/1` is an asynchronous reset to 0 where `rst` is 1. A clock or reset that is neither an input nor a register is `@`, and its
-function an output `q[0]@clock`, `q[0]@clear` or `q[0]@set`, so that bddcheck compares it. What is `unknown` is like nothing.
+function an output `q[0]@clock`, `q[0]@clear` or `q[0]@set`, so that bddcheck compares it. What is `unknown` is like nothing. `also` has the
+other names that the design has for the register, by which `--like` finds it in another netlist. A box is an
+instance of a module without a body: its outputs are inputs of the netlist, and its inputs are outputs, by names such as `u_ram.addr[0]`.
 """
 from __future__ import annotations
 
 import argparse
+import hashlib
 import json
 import re
+import string
 import sys
 from dataclasses import dataclass, field
 
+from open_bits import Gate, OpenBits, read_places
+
 MARK = "# rtl2bench 1:"
 REGISTER = "# register "
+ALSO = "# also "
+BOX = "# box "
 FACTS = ["kind", "clock", "edge", "clear", "set", "init"]
+BOX_FACTS = ["module", "parameters"]
 MOST_NAME = 255
+# The lines of one kind that are printed about a design.
+MOST_NOTES = 20
 # The largest cone of a clock or reset that is looked through here.
 MOST_LEAVES = 8
 MOST_GATES = 200
@@ -80,6 +93,27 @@ class Register:
     name: str = ""
     # The register's name is that of the complement of its bit: the bit of that name.
     complement: int | None = None
+    # The line of the source that it is from.
+    line: str = ""
+
+    def reads(self) -> list[tuple]:
+        """The bits that it reads, each with the level at which it acts."""
+        controls = (self.clock, self.enable, self.clear, self.set, None if self.data is None else (self.data, 1))
+        return [control for control in controls if control is not None]
+
+
+@dataclass
+class Box:
+    """An instance of a module without a body."""
+
+    name: str
+    module: str
+    parameters: dict[str, str]
+
+    def facts(self) -> dict[str, str]:
+        """What `--compare` compares of it. A comma divides parameters, so written() replaces those in values."""
+        told = ",".join(written(f"{name}:{value}") for name, value in sorted(self.parameters.items()))
+        return {"module": written(self.module), "parameters": told or "none"}
 
 
 def register_of(cell_type, ports):
@@ -125,30 +159,62 @@ def cell_table(steps, tables, whole):
     return made[-1]
 
 
+def is_set(attributes: dict[str, str], name: str) -> bool:
+    """Whether an attribute is there and is not 0."""
+    value = str(attributes.get(name, "0"))
+    return int(value, 2) != 0 if re.fullmatch("[01]+", value) else bool(value.strip())
+
+
+def line_of(attributes: dict[str, str]) -> str:
+    """The file and line of the source that an attribute names, the innermost if there are instances around it; or nothing."""
+    for place in reversed(str(attributes.get("src", "")).split("|")):
+        match = re.fullmatch(r"(.+):([1-9]\d*)(\.\d+(-[\d.]+)?|-\d+)?", place)
+        if match and "/share/yosys/" not in match[1]:
+            return f"{match[1][2:] if match[1].startswith('./') else match[1]}:{match[2]}"
+    return ""
+
+
+def bits_at(cell: dict, is_input: bool) -> list:
+    """The bits at the inputs of a cell, or at its other ports."""
+    directions = cell.get("port_directions", {})
+    ports = cell["connections"].items()
+    return [bit for port, bits in ports if (directions.get(port, "output") == "input") == is_input for bit in bits]
+
+
 class Module:
     """The top module of a yosys JSON, flat and of fine gates. A bit is a number, or a constant: '0', '1', 'x' or 'z'."""
 
-    def __init__(self, design):
+    def __init__(self, design, liked_boxes=()):
         modules = design["modules"]
-        tops = [name for name, module in modules.items() if int(str(module["attributes"].get("top", "0")), 2)]
+        tops = [name for name, module in modules.items() if is_set(module["attributes"], "top")]
         if len(tops) != 1:
             raise Refusal("yosys did not tell one top module")
         self.name, module = tops[0], modules[tops[0]]
+        self.modules, self.prefix, self.liked_boxes = modules, prefix_of(module), liked_boxes
         self.inputs, self.outputs = [], []
-        self.gates, self.registers, self.drivers = {}, [], {}
-        self.single_known = {}
+        self.gates, self.registers, self.boxes, self.drivers = {}, [], [], {}
+        # The lines of the source: of a bit that a gate or a net of the design drives, and of a named bit that is open.
+        self.single_known, self.lines, self.open_lines = {}, {}, {}
         self.aliases, self.hidden, inits = {}, {}, {}
         for name, port in module["ports"].items():
             self.add_port(name, port)
         for name, net in module["netnames"].items():
-            known = self.hidden if net["hide_name"] else self.aliases
-            for bit, named in zip(net["bits"], bit_names(name, net)):
-                known.setdefault(bit, []).append(named)
+            self.add_net(name, net)
             add_inits(inits, net)
+        # Buffers and inverters, also those that drive nothing else: the names of their nets may be those of registers.
+        self.through = {
+            cell["connections"]["Y"][0]: (cell["connections"]["A"][0], cell["type"] == "$_NOT_")
+            for cell in module["cells"].values()
+            if cell["type"] in ("$_BUF_", "$_NOT_")
+        }
+        self.own_outputs = len(self.outputs)
+        needed = self.needed(module)
         for name, cell in module["cells"].items():
-            self.add_cell(name, cell)
+            if name in needed:
+                self.add_cell(name, cell)
         for register in self.registers:
             register.init = inits.get(register.q, "x")
+        self.settle_open_bits()
 
     def add_port(self, name, port):
         if port["direction"] == "inout":
@@ -159,6 +225,17 @@ class Module:
             else:
                 self.drive(bit, named, f"input {named}")
                 self.inputs.append((named, bit))
+
+    def add_net(self, name: str, net: dict) -> None:
+        """Notes the names of its bits, and the line of a net that the design has named."""
+        known = self.hidden if net["hide_name"] else self.aliases
+        line = "" if net["hide_name"] else line_of(net["attributes"])
+        for bit, named in zip(net["bits"], bit_names(name, net)):
+            known.setdefault(bit, []).append(named)
+            if isinstance(bit, int) and line:
+                self.lines.setdefault(bit, line)
+            elif self.is_open(bit):
+                self.open_lines[named] = line
 
     def drive(self, bit, what, driver):
         if not isinstance(bit, int):
@@ -171,9 +248,32 @@ class Module:
         """A name of the bit, for messages."""
         return (self.aliases.get(bit) or self.hidden.get(bit) or [f"net {bit}"])[0]
 
+    def is_box(self, cell: dict) -> bool:
+        """Whether the cell is an instance of a module without a body."""
+        return is_set(self.modules.get(cell["type"], {"attributes": {}})["attributes"], "blackbox")
+
+    def needed(self, module: dict) -> set[str]:
+        """The names of the cells on which an output, a box or something with the attribute `keep` depends, and of these boxes."""
+        cells, drivers = module["cells"], {}
+        found = {name for name, cell in cells.items() if self.is_box(cell) or is_set(cell["attributes"], "keep")}
+        for name, cell in cells.items():
+            for bit in bits_at(cell, is_input=False):
+                drivers.setdefault(bit, []).append(name)
+        waiting = [bit for _, bit in self.outputs]
+        waiting += [bit for net in module["netnames"].values() if is_set(net["attributes"], "keep") for bit in net["bits"]]
+        waiting += [bit for name in found for bit in bits_at(cells[name], is_input=True)]
+        while waiting:
+            for name in drivers.pop(waiting.pop(), []):
+                if name not in found:
+                    found.add(name)
+                    waiting += bits_at(cells[name], is_input=True)
+        return found
+
     def add_cell(self, name, cell):
-        ports, directions = cell["connections"], cell.get("port_directions", {})
-        outputs = [bit for port, bits in ports.items() if directions.get(port, "output") != "input" for bit in bits]
+        if self.is_box(cell):
+            self.add_box(name, cell)
+            return
+        ports, outputs = cell["connections"], bits_at(cell, is_input=False)
         if not outputs:
             return  # an assertion, or a note on the hierarchy
         register = register_of(cell["type"], ports)
@@ -182,9 +282,50 @@ class Module:
         for bit in outputs:
             self.drive(bit, self.called(bit), f"cell {name}")
         if register is not None:
+            register.line = line_of(cell["attributes"])
             self.registers.append(register)
         else:
             self.gates[outputs[0]] = (cell["type"], {port: bits[0] for port, bits in ports.items() if port != "Y"})
+            self.lines[outputs[0]] = line_of(cell["attributes"]) or self.lines.get(outputs[0], "")
+
+    def add_box(self, name: str, cell: dict) -> None:
+        """Its outputs become inputs of the netlist, and its inputs become outputs."""
+        module = self.modules[cell["type"]]
+        # yosys writes the parameters into the name of a module that it has made for them.
+        made = re.match(r"\$paramod(?:\$[0-9a-f]+)?\\([^\\]+)", cell["type"])
+        kind = made[1] if made else cell["type"]
+        name = next((spelt for spelt in spellings(name) if spelt in self.liked_boxes), name)
+        for port, bits in cell["connections"].items():
+            direction = cell["port_directions"][port]
+            if direction == "inout":
+                raise Refusal(f"port {port} of {name}, a {kind} without a body: a bench netlist has no port of both directions")
+            for bit, named in zip(bits, bit_names(f"{name}.{port}", {**module["ports"][port], "bits": bits})):
+                if direction == "input":
+                    self.outputs.append((named, bit))
+                else:
+                    self.drive(bit, named, f"output {named}")
+                    self.inputs.append((named, bit))
+        values = {**module.get("parameter_default_values", {}), **cell["parameters"]}
+        parameters = {name: str(int(value, 2)) if re.fullmatch("[01]+", value) else value for name, value in values.items()}
+        self.boxes.append(Box(name, kind, parameters))
+
+    def settle_open_bits(self) -> None:
+        """Makes 0 of each open bit on which nothing depends. A net that yosys has made and that nothing drives is such a bit."""
+        gates = {out: Gate(CELLS[kind], ports) for out, (kind, ports) in self.gates.items()}
+        below = [bit for gate in gates.values() for bit in gate.ports.values()]
+        undriven = dict.fromkeys(bit for bit in below if isinstance(bit, int) and bit not in self.drivers)
+        for out, port in [place for places in read_places(gates, [*undriven, "x", "z"]).values() for place in places]:
+            if gates[out].ports[port] not in self.aliases:
+                gates[out].ports[port] = "x"
+        ends = {bit for _, bit in self.outputs} | {control[0] for register in self.registers for control in register.reads()}
+        places = read_places(gates, [*undriven, "x", "z"])
+        groups = [[place] for bit in "xz" for place in places[bit]] + [places[bit] for bit in undriven if bit not in ends]
+        bits = OpenBits(gates, ends) if any(groups) else None
+        for group in groups:
+            if group and not bits.is_seen(group):
+                for out, port in group:
+                    gates[out].ports[port] = "0"
+                    bits.settle(out, port)
 
     def is_open(self, bit):
         """Whether the design leaves the bit open."""
@@ -197,8 +338,8 @@ class Module:
             for port, bit in ports.items():
                 found.setdefault(bit, []).append((out, port))
         for register in self.registers:
-            for control in (register.clock, register.enable, register.clear, register.set, (register.data, 1)):
-                found.setdefault(control and control[0], []).append(None)
+            for bit, _ in register.reads():
+                found.setdefault(bit, []).append(None)
         for _, bit in self.outputs:
             found.setdefault(bit, []).append(None)
         return found
@@ -218,12 +359,11 @@ class Module:
     def source(self, bit):
         """Where buffers and inverters come from: a bit, and whether it is complemented on the way."""
         inverted, met = False, set()
-        while bit in self.gates and self.gates[bit][0] in ("$_BUF_", "$_NOT_") and bit not in met:
+        while bit in self.through and bit not in met:
             met.add(bit)
-            inverted ^= self.gates[bit][0] == "$_NOT_"
-            bit = self.gates[bit][1]["A"]
+            bit, inverts = self.through[bit]
+            inverted ^= inverts
         return bit, inverted
-
 
     def cone(self, bit):
         """The gates below a bit, operands first, and the bits that they come from; nothing where they are many, or in a loop."""
@@ -267,6 +407,16 @@ class Module:
         return None
 
 
+def prefix_of(module: dict) -> str:
+    """What the names begin with that this script gives to signals: for another netlist it is another one, so these names never pair.
+    It is made of all that yosys has of the module but lines and paths, and of the names that the design has."""
+    named = {name: net["bits"] for name, net in module["netnames"].items() if not net["hide_name"]}
+    whole = [module["ports"], named, [[cell["type"], cell["connections"]] for cell in module["cells"].values()]]
+    number = int.from_bytes(hashlib.sha256(json.dumps(whole).encode()).digest()[:8], "big")
+    digits = string.digits + string.ascii_lowercase
+    return f"${''.join(digits[number // 36**place % 36] for place in range(5))}$"
+
+
 def bit_names(name, net):
     """The names of a net's bits, as yosys writes them itself."""
     width, offset = len(net["bits"]), net.get("offset", 0)
@@ -294,13 +444,45 @@ def written(name):
     return text
 
 
-def some_of(names):
-    return " ".join(names[:8]) + (" .." if len(names) > 8 else "")
+def fact_line(head: str, name: str, facts: dict[str, str]) -> str:
+    """A comment of the netlist: what the format does not hold of a register or box."""
+    return f"{head}{name} {' '.join(f'{what}={told}' for what, told in facts.items())}"
+
+
+def of_buses(names: list[str]) -> list[str]:
+    """The names, with bits that follow one another in a bus as one: `s[0]$x` and `s[1]$x` are `s[1:0]$x`."""
+    runs: list[tuple] = []
+    for name in sorted(names, key=natural):
+        match = re.fullmatch(r"(.*)\[(\d+)\](\D*)", name)
+        base, place, rest = (match[1], int(match[2]), match[3]) if match else (name, None, "")
+        if runs and match and runs[-1][0] == base and runs[-1][3] == rest and runs[-1][2] + 1 == place:
+            runs[-1] = (base, runs[-1][1], place, rest)
+        else:
+            runs.append((base, place, place, rest))
+    written_place = lambda low, high: "" if low is None else f"[{low}]" if low == high else f"[{high}:{low}]"
+    return [f"{base}{written_place(low, high)}{rest}" for base, low, high, rest in runs]
+
+
+def notes_by_line(what: str, lines: dict[str, str]) -> list[str]:
+    """Lines that say this of names, each with the line of the source."""
+    by_line: dict[str, list[str]] = {}
+    for name, line in lines.items():
+        by_line.setdefault(line, []).append(name)
+    notes = [f"{line}{': ' if line else ''}{what}: {' '.join(of_buses(names))}" for line, names in by_line.items()]
+    if len(notes) > MOST_NOTES:
+        more = sum(len(names) for names in list(by_line.values())[MOST_NOTES:])
+        notes = [*notes[:MOST_NOTES], f"{what}: {more} more"]
+    return notes
 
 
 def natural(name):
     """Sorts numbers in names as numbers."""
     return [(0, int(part), "") if part.isdigit() else (1, 0, part) for part in re.split(r"(\d+)", name) if part]
+
+
+def spellings(name: str) -> list[str]:
+    """The name, and as it is if a tool has joined the names of a hierarchy by `/`."""
+    return [name, name.replace("/", ".")]
 
 
 def is_made(name):
@@ -319,10 +501,12 @@ def cell_names(aliases):
 
 
 class Names:
-    """Chooses a name of its own for each signal."""
+    """Chooses a name of its own for each signal. `like` is what another netlist says, or None."""
 
     def __init__(self, module, style, like):
         self.module, self.style, self.like = module, style, like
+        # The other netlist's name of a register, by that name and then by each other one that it has there.
+        self.liked = [{name: name for name in like.registers}, like.also] if like else []
         self.taken, self.numbers, self.of = set(), {}, {}
         self.ports = {named for named, _ in module.outputs}
         for named, bit in module.inputs:
@@ -346,24 +530,43 @@ class Names:
         self.taken.add(tried)
         return tried
 
+    def made(self, name: str) -> str:
+        """A name that the design does not have, and that no other netlist has."""
+        return self.fresh(f"{self.module.prefix}{name}")
+
+    def rank(self, name: str) -> tuple:
+        """Orders the names of one signal, the best first."""
+        return (is_made(name), name not in self.ports, name.count("."), len(name), name)
+
+    def name_gate(self, bit: int) -> str:
+        """Names a gate as a net of the design that it drives; if there are several, then as one that the other netlist has, too."""
+        known = sorted(self.module.aliases.get(bit, []), key=self.rank)
+        nets = [written(name) for name in known if not is_made(name) and len(name) <= MOST_NAME]
+        free = [name for name in nets if name not in self.taken and name not in self.reserved]
+        if self.like:
+            free.sort(key=lambda name: name not in self.like.signals)
+        if free:
+            self.taken.add(free[0])
+        self.of[bit] = free[0] if free else self.made(written(known[0]) if known and len(known[0]) < MOST_NAME // 2 else str(bit))
+        return self.of[bit]
+
     def candidates(self, bit):
         """The names of a register's bit, the best first."""
         aliases = self.module.aliases.get(bit, [])
-        rank = lambda name: (is_made(name), name not in self.ports, name.count("."), len(name), name)
-        nets, cells = sorted(aliases, key=rank), sorted(cell_names(aliases), key=rank)
+        nets, cells = sorted(aliases, key=self.rank), sorted(cell_names(aliases), key=self.rank)
         given = [*cells, *nets] if self.style == "cell" else [*nets, *cells]
         return [written(name) for name in given + self.module.hidden.get(bit, []) + [f"register${bit}"]]
 
     def name_registers(self):
-        complements = {}
+        complements: dict[int, list[int]] = {}
         if self.like:
-            for bit, (kind, _) in self.module.gates.items():
+            for bit in self.module.through:
                 source, inverted = self.module.source(bit)
                 if inverted:
                     complements.setdefault(source, []).append(bit)
         waiting = sorted(self.module.registers, key=lambda register: natural(self.candidates(register.q)[0]))
-        if self.like:
-            waiting = [register for register in waiting if not self.take_liked(register, complements)]
+        for liked in self.liked:
+            waiting = [register for register in waiting if not self.take_liked(register, complements, liked)]
         for register in waiting:
             names = self.candidates(register.q)
             free = [name for name in names if self.is_free(name, register.q)]
@@ -376,11 +579,12 @@ class Names:
         """Whether a register of this bit may have the name: an output's only where it is that output."""
         return name not in self.taken and (name not in self.reserved or name in self.own.get(bit, ()))
 
-    def take_liked(self, register, complements):
+    def take_liked(self, register, complements, liked):
         """Takes the name that the other netlist has for this register, or for its complement."""
         for bit in [register.q, *complements.get(register.q, [])]:
-            for name in self.candidates(bit):
-                if name in self.like and self.is_free(name, bit):
+            for spelt in [spelt for name in self.candidates(bit) for spelt in spellings(name)]:
+                name = liked.get(spelt)
+                if name and self.is_free(name, bit):
                     self.taken.add(name)
                     self.of[bit] = register.name = name
                     register.complement = bit if bit != register.q else None
@@ -401,23 +605,25 @@ class Writer:
         self.outputs, self.facts, self.registers, self.lines = [], [], [], []
         self.constants, self.undriven = {}, []
         self.choosers, self.open, self.complemented = module.choosers(), {}, {}
+        self.readers, self.places = module.readers(), {}
+        self.next_of = {register.data: register for register in module.registers}
 
-    def gate(self, word, *operands, name="$g"):
+    def gate(self, word, *operands, name=None):
         """Writes a gate, and gives its signal."""
-        name = self.names.fresh(name)
+        name = self.names.fresh(name) if name else self.names.made("g")
         self.lines.append(f"{name} = {word}({', '.join(operands)})")
         return name
 
-    def signal(self, bit, reader=None):
-        """The signal of a bit that the gate of `reader` reads, with what is below it still to be written."""
-        if self.module.is_open(bit):
-            return self.constant(self.undefined) if self.undefined else self.any_value(reader)
+    def signal(self, bit, reader=None, near=None):
+        """The signal of a bit that the gate of `reader` reads, with what is below it still to be written. `near` has the name and
+        the line of the register or output that reads it."""
+        is_unnamed = isinstance(bit, int) and bit not in self.module.drivers and bit not in self.module.aliases
+        if self.module.is_open(bit) or is_unnamed:
+            return self.constant(self.undefined) if self.undefined else self.any_value(reader, near)
         if not isinstance(bit, int):
             return self.constant(bit)
         if bit not in self.names.of:
-            if bit not in self.module.drivers:
-                return self.without_driver(bit)
-            self.names.of[bit] = self.names.fresh(f"${bit}")
+            return self.names.name_gate(bit) if bit in self.module.drivers else self.without_driver(bit)
         return self.names.of[bit]
 
     def constant(self, value):
@@ -428,15 +634,31 @@ class Writer:
             self.constants[value] = self.gate("XNOR" if value == "1" else "XOR", source, source, name=f"constant${value}")
         return self.constants[value]
 
-    def any_value(self, reader):
+    def any_value(self, reader, near=None):
         """A bit that the design leaves open: an input of its own. Multiplexers that choose one of several such bits share it."""
-        root = self.choosers.get(reader)
+        root = self.choosers.get(reader, reader)
         if root is None or root not in self.open:
-            known = [name for name in self.module.aliases.get(root, []) if not is_made(name)]
-            name = f"{written(min(known, key=lambda name: (len(name), name)))}$x" if known else "$x"
-            self.inputs.append(self.names.fresh(name))
-            self.open[root if root is not None else self.inputs[-1]] = self.inputs[-1]
-        return self.open[root] if root is not None else self.inputs[-1]
+            name, line = near or self.reached(root)
+            made = self.names.fresh(f"{written(name)}$x") if name else self.names.made("x")
+            self.inputs.append(made)
+            self.places[made] = self.module.lines.get(reader, "") or line
+            self.open[made if root is None else root] = made
+            return made
+        return self.open[root]
+
+    def reached(self, bit) -> tuple[str, str]:
+        """The name of the first register, output or net with a name on a way from a gate, the gate's own before others, and its line."""
+        met = set()
+        while bit not in met:
+            met.add(bit)
+            known = [name for name in self.module.aliases.get(bit, []) if not is_made(name)]
+            if known:
+                return min(known, key=lambda name: (len(name), name)), self.module.lines.get(bit, "")
+            if bit in self.next_of:
+                return self.next_of[bit].name, self.next_of[bit].line
+            further = [read[0] for read in self.readers.get(bit, []) if read]
+            bit = further[0] if further else bit
+        return "", ""
 
     def without_driver(self, bit):
         called = self.module.called(bit)
@@ -446,6 +668,7 @@ class Writer:
         else:
             self.names.of[bit] = self.names.fresh(written(called))
             self.inputs.append(self.names.of[bit])
+        self.places[called] = self.module.lines.get(bit, "")
         return self.names.of[bit]
 
     def write(self):
@@ -453,11 +676,13 @@ class Writer:
         self.names.name_registers()
         self.complemented = {register.q: register for register in self.module.registers if register.complement is not None}
         complements = {register.complement for register in self.complemented.values()}
+        ports = {name for name, _ in self.module.outputs[: self.module.own_outputs]}
         for name, bit in self.module.outputs:
-            if isinstance(bit, int) and bit in self.module.gates and bit not in self.names.of:
+            is_named = name in ports or bit not in self.module.aliases
+            if isinstance(bit, int) and bit in self.module.gates and bit not in self.names.of and is_named:
                 self.names.of[bit] = self.names.claim(written(name), name)
         for bit, register in self.complemented.items():
-            self.names.of[bit] = self.gate("NOT", register.name, name=f"${bit}")
+            self.lines.append(f"{self.names.name_gate(bit)} = NOT({register.name})")
         for register in self.module.registers:
             self.add_register(register)
         for name, bit in self.module.outputs:
@@ -467,18 +692,19 @@ class Writer:
                 self.add_gate(bit, CELLS[kind], ports)
         ports = [f"INPUT({name})" for name in self.inputs] + [f"OUTPUT({name})" for name in self.outputs]
         head = f"{MARK} module {written(self.module.name)}; what a bench netlist does not hold of its registers"
-        return [head, *self.facts, *ports, *self.registers, *self.lines]
+        boxes = [fact_line(BOX, written(box.name), box.facts()) for box in self.module.boxes]
+        return [head, *self.facts, *boxes, *ports, *self.registers, *self.lines]
 
     def notes(self):
-        """What the user should know of the design."""
-        if self.undriven:
-            stand = f"stand for {self.undefined}" if self.undefined else "are inputs of the netlist"
-            yield f"{len(self.undriven)} nets without a driver {stand}: {some_of(self.undriven)}"
-        if self.open:
-            yield f"{len(self.open)} inputs stand for what is left open (x or z): {some_of(list(self.open.values()))}"
+        """What the user should know of the design, a line for each line of the source that it is about."""
+        latches = [register for register in self.module.registers if register.kind == "latch"]
+        yield from notes_by_line("latch", {register.name: register.line for register in latches})
+        becomes = f"made {self.undefined}" if self.undefined else "inputs of the netlist"
+        yield from notes_by_line(f"without a driver, {becomes}", {name: self.places[name] for name in self.undriven})
+        yield from notes_by_line("left open (x or z), inputs of the netlist", {name: self.places[name] for name in self.open.values()})
 
     def add_output(self, name, bit):
-        name, signal = written(name), self.signal(bit)
+        name, signal = written(name), self.signal(bit, near=(name, self.module.open_lines.get(name, "")))
         if name != signal:
             self.names.claim(name, name)
             self.lines.append(f"{name} = BUFF({signal})")
@@ -503,7 +729,7 @@ class Writer:
     def add_register(self, register):
         """The register's line: what it takes next, with its latch's enable and its asynchronous resets, and what else is known of it."""
         state = self.signal(register.q)
-        after = self.signal(register.data) if register.data is not None else state
+        after = self.signal(register.data, near=(register.name, register.line)) if register.data is not None else state
         if register.enable:
             enabled = self.active(register.enable)
             after = self.gate("OR", self.gate("AND", enabled, after), self.gate("AND", self.gate("NOT", enabled), state))
@@ -514,7 +740,11 @@ class Writer:
         if register.complement is not None:
             after = self.gate("NOT", after)
         self.registers.append(f"{register.name} = DFF({after})")
-        self.facts.append(f"{REGISTER}{register.name} {' '.join(f'{what}={told}' for what, told in self.facts_of(register).items())}")
+        self.facts.append(fact_line(REGISTER, register.name, self.facts_of(register)))
+        named = self.module.aliases.get(register.q if register.complement is None else register.complement, [])
+        others = {written(name) for name in named if not is_made(name)} - {register.name}
+        if others:
+            self.facts.append(f"{ALSO}{register.name} {' '.join(sorted(others))}")
 
     def facts_of(self, register):
         """What the format does not hold of a register. What acts on a latch does so by its level, as its next state has it."""
@@ -573,9 +803,9 @@ class Writer:
 
 
 def convert(words):
+    like = read_facts(words.like) if words.like else None
     with open(words.json, encoding="utf-8", errors="replace") as file:
-        module = Module(json.load(file))
-    like = set(read_facts(words.like).registers) if words.like else set()
+        module = Module(json.load(file), like.boxes if like else ())
     writer = Writer(module, words.name_style, like, words.undefined)
     text = "".join(line + "\n" for line in writer.write())
     with open(words.bench, "w", encoding="ascii") as file:
@@ -589,10 +819,23 @@ def convert(words):
 
 @dataclass
 class Facts:
-    """What a bench netlist says of its registers, in the order of their lines, and its inputs."""
+    """What a bench netlist says of its registers, in the order of their lines, and of its boxes; its inputs, and all that it defines.
+    `also` has the register of each other name."""
 
     registers: dict = field(default_factory=dict)
+    also: dict = field(default_factory=dict)
+    boxes: dict = field(default_factory=dict)
     inputs: list = field(default_factory=list)
+    signals: set = field(default_factory=set)
+
+
+def read_fact(path: str, line: str, head: str, known: list[str]) -> tuple[str, dict[str, str]]:
+    """The name and the facts of a comment that fact_line() has made."""
+    name, *tokens = line[len(head) :].split()
+    facts = dict(token.partition("=")[::2] for token in tokens)
+    if list(facts) != known:
+        raise Refusal(f"{path}: a broken line: {line.strip()}")
+    return name, facts
 
 
 def read_facts(path):
@@ -600,15 +843,18 @@ def read_facts(path):
     with open(path, encoding="latin-1") as file:
         for line in file:
             is_marked = is_marked or line.startswith(MARK)
-            if line.startswith(REGISTER):
-                name, *tokens = line[len(REGISTER) :].split()
-                facts.registers[name] = dict(token.partition("=")[::2] for token in tokens)
-                if list(facts.registers[name]) != FACTS:
-                    raise Refusal(f"{path}: a broken line: {line.strip()}")
+            for head, known, found in ((REGISTER, FACTS, facts.registers), (BOX, BOX_FACTS, facts.boxes)):
+                if line.startswith(head):
+                    name, found[name] = read_fact(path, line, head, known)
+            if line.startswith(ALSO):
+                name, *others = line[len(ALSO) :].split()
+                facts.also.update(dict.fromkeys(others, name))
             elif match := re.match(r"\s*INPUT\s*\(\s*([^\s()]+)\s*\)", line, re.IGNORECASE):
                 facts.inputs.append(match[1])
-            elif match := re.match(r"\s*([^\s()#=]+)\s*=\s*DFF\s*\(", line, re.IGNORECASE):
-                defined.append(match[1])
+            elif match := re.match(r"\s*([^\s()#=]+)\s*=\s*(DFF)?", line, re.IGNORECASE):
+                facts.signals.add(match[1])
+                if match[2]:
+                    defined.append(match[1])
     if not is_marked:
         raise Refusal(f"{path}: it says nothing of its registers: not written by rtl2bench")
     if set(defined) != set(facts.registers):
@@ -618,38 +864,49 @@ def read_facts(path):
 
 
 def compare(words):
-    """Prints each difference of two registers that are paired, and each register without a partner, and gives the status."""
+    """Prints each difference of two registers or boxes that are paired, and each without a partner, and gives the status."""
     first, second = read_facts(words.first), read_facts(words.second)
+    called = {}
     if words.match == "position":
         if len(first.registers) != len(second.registers):
             raise Refusal("the netlists have different numbers of registers")
-        pairs, alone = list(zip(first.registers, second.registers)), []
         called = dict([*zip(second.inputs, first.inputs), *zip(second.registers, first.registers)])
+    alike = compare_kind("registers", "", first.registers, second.registers, called, words)
+    if first.boxes or second.boxes:
+        alike &= compare_kind("boxes", "BOX ", first.boxes, second.boxes, called, words)
+    return 0 if alike else 1
+
+
+def compare_kind(kind: str, head: str, first: dict, second: dict, called: dict[str, str], words: argparse.Namespace) -> bool:
+    """Prints how the registers, or the boxes, of two netlists differ. `called` has the first netlist's name of a signal of the second."""
+    if words.match == "position" and len(first) == len(second):
+        pairs, alone = list(zip(first, second)), []
     else:
-        pairs, called = [(name, name) for name in first.registers if name in second.registers], {}
-        alone = [f"ONLY FIRST {name}" for name in first.registers if name not in second.registers]
-        alone += [f"ONLY SECOND {name}" for name in second.registers if name not in first.registers]
+        pairs = [(name, name) for name in first if name in second]
+        alone = [f"ONLY FIRST {head}{name}" for name in first if name not in second]
+        alone += [f"ONLY SECOND {head}{name}" for name in second if name not in first]
     different, report = 0, []
     for a, b in pairs:
-        told = list(differences(first.registers[a], second.registers[b], called, words.leave_out))
+        told = list(differences(first[a], second[b], called, words.leave_out))
         different += bool(told)
-        report += [f"DIFFER {a} {what}: first={one} second={other}" for what, one, other in told]
-    counts = f"registers: {len(pairs) - different} alike, {different} different, {len(alone)} without a partner"
+        report += [f"DIFFER {head}{a} {what}: first={one} second={other}" for what, one, other in told]
+    counts = f"{kind}: {len(pairs) - different} alike, {different} different, {len(alone)} without a partner"
     print(*report, *alone, counts, sep="\n", flush=True)
-    return 1 if different or alone else 0
+    return not different and not alone
 
 
 def differences(first, second, called, left_out):
-    for what in [what for what in FACTS if what not in left_out]:
+    for what in [what for what in first if what not in left_out]:
         one, other = first[what], second[what]
         name, slash, level = other.rpartition("/") if what in ("clear", "set") else (other, "", "")
-        if one != called.get(name, name) + slash + level or one == "unknown":
+        if one != (other if what in BOX_FACTS else called.get(name, name) + slash + level) or one == "unknown":
             yield what, one, other
 
 
 def facts_left_out(text):
-    if not set(text.split(",")) <= set(FACTS):
-        raise argparse.ArgumentTypeError(f"{text}: not of {', '.join(FACTS)}")
+    known = FACTS + BOX_FACTS
+    if not set(text.split(",")) <= set(known):
+        raise argparse.ArgumentTypeError(f"{text}: not of {', '.join(known)}")
     return text.split(",")
 
 
