@@ -13,10 +13,14 @@ from harness import Run
 from reading import Fault, Netlist, read, read_names, split
 
 # Each of these is tried within a budget: the cases here are far below the first one, so only the limit counts. Best is the first that
-# fits. Auto takes the same for the diagrams, and reports as by declared order; where each was given up, and by cones at once, each pair
-# is judged alone.
+# fits. Auto takes the same for the diagrams, and reports as by declared order; if each was given up, and by cones and merge at once, each
+# pair is judged by itself.
 CANDIDATES = ["interleave", "force", "index", "depth", "declared"]
-BY_CONES = ("auto", "cones")
+BY_CONES = ("auto", "cones", "merge")
+# By these signals are merged, so that an equal pair may be decided whatever its diagrams need.
+MERGING = ("auto", "merge")
+# The end of a line of a difference that may not be the least.
+NOT_LEAST = b" (may not be the least)"
 TRIED = ("best", *BY_CONES)
 FULL = "build: more nodes than the limit"
 GIVEN_UP = "build: given up in each order; more memory, or a good order by --order-file, may help"
@@ -46,6 +50,8 @@ class Case:
     # What is picked: names, or the number of a share and how many there are.
     only: list | None = None
     share: tuple | None = None
+    # Any difference is enough.
+    is_any: bool = False
 
 
 def read_text(place, text):
@@ -168,6 +174,11 @@ def picked(paired, case, result):
     return result.pairs, result.unmatched
 
 
+def shown_line(pair):
+    """What stands here for each line of a difference of the pair that may not be the least."""
+    return f"DIFFER {pair.label}{pair.name}{NOT_LEAST.decode()}"
+
+
 def by_cones(paired, case):
     """The reports that may come of a case by cones: those of all choices, where an attempt may be given up for its requests."""
     result = judge(paired, "declared", False)
@@ -175,7 +186,10 @@ def by_cones(paired, case):
     choices = []
     for pair in pairs:
         is_decided, is_left = may_be_reported(paired, pair, case.limit)
-        choices.append([pair.line] * is_decided + [f"UNDECIDED {pair.label}{pair.name}"] * is_left)
+        is_equal = pair.line.startswith("EQUAL ")
+        is_shown = not is_equal and (is_left or case.is_any)
+        lines = [pair.line] * (is_decided or (is_equal and case.order in MERGING))
+        choices.append(lines + [shown_line(pair)] * is_shown + [f"UNDECIDED {pair.label}{pair.name}"] * is_left)
     return [report(list(lines), unmatched, case.share) for lines in itertools.product(*choices)]
 
 
@@ -232,7 +246,7 @@ def best(paired, case):
 def auto(paired, case):
     found, may_be_none, _ = attempts(paired, case)
     runs = [report_of(judge(paired, "declared", False))] if found else []
-    return runs + (by_cones(paired, case) if may_be_none else [])
+    return runs + (by_cones(paired, case) if may_be_none or case.is_any else [])
 
 
 def judged(case):
@@ -262,12 +276,36 @@ def reported(case, paired, seen):
     return Run(seen.status, DIFFER.sub(line, seen.out), seen.err)
 
 
+def is_difference(pair, names, bits, values):
+    """Whether the condition holds at an assignment, and the two functions have these values there, which differ."""
+    ones = {bit[:-2].decode() for bit in bits if bit.endswith(b"=1")}
+    place = sum((name in ones) << (len(names) - 1 - level) for level, name in enumerate(names))
+    first, second, holds = (table >> place & 1 for table in pair.tables)
+    return holds and first != second and values == f" first={first} second={second}".encode()
+
+
+def checked(case, seen):
+    """The run with one line for each difference that may not be the least, if it is a difference; its assignment is not predicted."""
+    if NOT_LEAST not in seen.out:
+        return seen
+    paired, _ = paired_of(case)
+    names = levels(paired, "declared")
+    pairs = {f"{pair.label}{pair.name}".encode(): pair for pair in judge(paired, "declared", False).pairs}
+    lines = []
+    for line in seen.out.split(b"\n"):
+        found = DIFFER.fullmatch(line.removesuffix(NOT_LEAST)) if line.endswith(NOT_LEAST) else None
+        if found and is_difference(pairs[found[1]], names, found[2].split(), found[3]):
+            line = shown_line(pairs[found[1]]).encode()
+        lines.append(line)
+    return Run(seen.status, b"\n".join(lines), seen.err)
+
+
 def answers(case):
     """The runs that the program may make of the case: one, and more where orders are tried within a limit."""
     try:
         paired, order = paired_of(case)
         if order in TRIED:
-            return [reported(case, paired, seen) for seen in {"best": best, "auto": auto, "cones": by_cones}[order](paired, case)]
+            return [reported(case, paired, seen) for seen in {"best": best, "auto": auto, "cones": by_cones, "merge": by_cones}[order](paired, case)]
         return [order_of(paired, order) if case.print_order else reported(case, paired, report_of(judged(case)))]
     except Refusal as refusal:
         return [run_of(refusal)]

@@ -148,10 +148,11 @@ class Devices:
         rounds = [self.run("--verbose", "--order", "cones", "--workers", workers, *texts, seconds=240) for workers in (1, 3)]
         reported = [[line for line in one.err.decode().splitlines() if " rank " not in line] for one in rounds]
         self.check("a line for each round, whatever the workers are", reported[1], reported[0])
+        self.check("first what patterns show", reported[0][:1], ["bddcheck: patterns show that 0 of 18 pairs differ"])
         self.tally.check("some pairs are left by each round but the last", re.fullmatch(
             r"(bddcheck: [1-9]\d* of 18 pairs are undecided by cones within (16384|262144) nodes\n){2}"
             r"bddcheck: 0 of 18 pairs are undecided by cones within 2097152 nodes\nbddcheck: each pair was judged by its cones",
-            "\n".join(reported[0])), reported)
+            "\n".join(reported[0][1:])), reported)
 
     def full_disk(self):
         for words in (["--sizes"], ["--workers", 1], ["--format", "json"]):

@@ -15,7 +15,7 @@ import time
 from dataclasses import replace
 
 import harness
-from answering import BY_CONES, CANDIDATES, TRIED, Case, answers, cones, judged, paired_of
+from answering import BY_CONES, CANDIDATES, TRIED, Case, answers, checked, cones, judged, paired_of
 from judging import ORDERS, Refusal, judge
 from harness import Tally, run, say
 
@@ -247,7 +247,8 @@ def make_case(kind, rng):
     plain = rng.random() < 0.4
     texts = [laid_out(rng, first, plain), laid_out(rng, second, plain)]
     case = Case(*texts, match=match, workers=rng.choice([1, 2, 3, 4, 16]))
-    case.order = rng.choice(BY_CONES) if kind == "coned" else rng.choice(list(ORDERS)) if kind in ("position", "damaged", "input", "limit", "print") else kind
+    case.is_any = kind == "any" or (kind in BY_CONES and rng.random() < 0.2)
+    case.order = rng.choice(BY_CONES) if kind in ("coned", "any") else rng.choice(list(ORDERS)) if kind in ("position", "damaged", "input", "limit", "print") else kind
     if kind == "list" or (kind in ("position", "limit", "print") and rng.random() < 0.3):
         case.order = listed(rng, first, second, match)
         case.extend = rng.random() < 0.4
@@ -267,7 +268,7 @@ def make_case(kind, rng):
             case.first += b"\n"
         if rng.random() < 0.1:
             case.first = damaged(rng, case.first)
-    if kind == "given" or (kind in (*BY_CONES, "coned", "only", "share") and rng.random() < 0.3):
+    if kind == "given" or (kind in (*BY_CONES, "coned", "any", "only", "share") and rng.random() < 0.3):
         condition = random_netlist(rng, sources_of(first)[:4] or ["g"], rng.randrange(1, 6), 1)
         case.given = laid_out(rng, condition, plain)
         if rng.random() < 0.1:
@@ -310,9 +311,9 @@ def damage(rng, case):
             setattr(case, place, text)
 
 
-KINDS = [*ORDERS, "list", "position", "sizes", "limit", "coned", "only", "share", "print", "input", "damaged", "given"]
+KINDS = [*ORDERS, "list", "position", "sizes", "limit", "coned", "any", "only", "share", "print", "input", "damaged", "given"]
 # Those that take the limits of each case.
-LIMITED = ("limit", "coned")
+LIMITED = ("limit", "coned", "any")
 
 
 # Running.
@@ -357,6 +358,8 @@ def words_of(program, case, place):
         words += ["--limit", str(case.limit)]
     if case.given is not None:
         words += ["--given", harness.written(place, "given.bench", case.given)]
+    if case.is_any:
+        words += ["--difference", "any"]
     if case.divider is None:
         words += [harness.written(place, "first.bench", case.first), harness.written(place, "second.bench", case.second)]
     return words
@@ -402,7 +405,7 @@ def try_case(program, seed, kind, index, place):
         words = words_of(program, case, place)
         given = b"" if case.divider is None else case.first + case.divider + case.second
         seen = run(words, given)
-        seen = harness.unhelped(seen) if seen.err else seen
+        seen = harness.unhelped(seen) if seen.err else checked(case, seen)
         if case.print_order and seen in wanted and seen.status == 0:
             again, seen = taken_again(program, case, seen.out, place)
             wanted = [again]

@@ -89,6 +89,10 @@ def joined(tally):
             lines("DIFFER w at first=0 second=1", "0 equal, 1 different, 0 unmatched, share 2 of 2")]
     wanted = lines("DIFFER x at a=1 first=0 second=1", "DIFFER w at first=0 second=1", "0 equal, 2 different, 0 unmatched")
     tally.check("variables that are 1 alone", (told_ones := join(TWO_OUTPUTS, *ones)) == Run(1, wanted, b""), told_ones)
+    shown = "DIFFER w at a=1 first=0 second=1 (may not be the least)"
+    seen_shown = join(TWO_OUTPUTS, X, lines(shown, "0 equal, 1 different, 0 unmatched, share 1 of 2"))
+    wanted = Run(1, lines("EQUAL x", shown, "1 equal, 1 different, 0 unmatched"), b"")
+    tally.check("a difference that may not be the least", seen_shown == wanted, seen_shown)
     tally.check("a register at", seen == Run(1, at_at.replace(b", share 1 of 1", b""), b""), seen)
 
 

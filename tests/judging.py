@@ -187,6 +187,7 @@ ORDERS = {
     "force": Paired.by_force,
     "auto": Paired.declared,
     "cones": Paired.declared,
+    "merge": Paired.declared,
 }
 
 
@@ -298,13 +299,15 @@ def reached(pair, count):
 
 @dataclass
 class Pair:
-    """Two outputs, or the next states of two registers, which have a label: their name, signals, and line."""
+    """Two outputs, or the next states of two registers, which have a label: their name, signals, and line; and their tables, with that of the
+    condition."""
 
     label: str
     name: str
     first: str
     second: str
     line: str
+    tables: tuple = ()
 
 
 @dataclass
@@ -371,7 +374,8 @@ def judge(paired, order, sizes):
         both, *only = paired_outputs(parts(paired.first), parts(paired.second), paired.by_position)
         for a, b in both:
             f, g = signal(what, paired.first, a), signal(what, paired.second, b)
-            pairs.append(Pair(what, a, f, g, line(what, a, first.known[f], second.known[g])))
+            f_table, g_table = first.known[f], second.known[g]
+            pairs.append(Pair(what, a, f, g, line(what, a, f_table, g_table), (f_table, g_table, condition)))
         for side, unmatched, single in zip(("FIRST", "SECOND"), alone, only):
             unmatched += [Unpaired(side, what, name) for name in single]
     if given:

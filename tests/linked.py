@@ -11,7 +11,8 @@ import harness
 from harness import TOP, Tally
 
 PROGRAM = "bddcheck"
-CRATES = ("crossbeam_queue", "crossbeam_utils", "rayon", "indexmap", "lru", "thiserror", "clap", "itoa", "json")
+CRATES = ("crossbeam_queue", "crossbeam_utils", "rayon", "indexmap", "lru", "thiserror", "clap", "itoa", "json",
+          "rand_xoshiro", "rand_core")
 
 
 def named_by(text):

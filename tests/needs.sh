@@ -17,6 +17,8 @@ bsdutils devices script
 man-db shipped man
 yosys flows,shipped yosys
 berkeley-abc flows berkeley-abc|yosys-abc|abc
+chromium page chromium|chromium-browser|google-chrome
+graphviz page dot
 parallel cluster parallel
 munge cluster munged
 slurm-wlm cluster slurmctld

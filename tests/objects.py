@@ -35,7 +35,7 @@ def pairs(place):
     yield ["--match", "position", "--sizes", s27, renamed]
     yield ["--order-file", order, c17, c17b]
     for files in ((c17, c17b), (c17, lone), (odd, odder), (empty, empty), (s27, wrong), (s27, renamed)):
-        for words in (["--order", "cones"], ["--order", "cones", "--limit", 8], ["--share", "1/2"], ["--share", "2/2", "--limit", 8]):
+        for words in (["--order", "cones"], ["--order", "cones", "--limit", 8], ["--order", "merge", "--limit", 1], ["--difference", "any"], ["--share", "1/2"], ["--share", "2/2", "--limit", 8]):
             yield [*words, *files]
     buses, wider = written(place, "buses", BUSES), written(place, "wider", BUSES.replace(b"NOR", b"XOR"))
     for files in ((c17, c17b), (odd, odder), (s27, wrong), (buses, wider), (buses, buses)):
@@ -56,7 +56,8 @@ def line_of(verdict):
         return f"EQUAL {name}" + (f" size {verdict['size']}" if "size" in verdict else "")
     bits = "".join(f" {variable}={bit}" for variable, bit in verdict["at"].items())
     sizes = " sizes {} {}".format(*verdict["sizes"]) if "sizes" in verdict else ""
-    return f"DIFFER {name} at{bits} first={verdict['first']} second={verdict['second']}{sizes}"
+    least = "" if verdict.get("least", True) else " (may not be the least)"
+    return f"DIFFER {name} at{bits} first={verdict['first']} second={verdict['second']}{sizes}{least}"
 
 
 def text_of(report):
@@ -102,7 +103,7 @@ def tells(verdict, variables, words):
 def fits(value, schema, top):
     """Whether a value is as a schema says, of the words that docs/report.schema.json uses."""
     if isinstance(value, bool):
-        return False
+        return schema.get("const") is value
     while "$ref" in schema:
         schema = top["$defs"][schema["$ref"].rsplit("/", 1)[1]]
     if "oneOf" in schema:

@@ -94,7 +94,7 @@ class Row:
         """Whether the words name an order, or imply the declared one."""
         words = [str(word) for word in self.words]
         if "--order" in words:
-            return words[words.index("--order") + 1] not in ("auto", "best", "cones")
+            return words[words.index("--order") + 1] not in ("auto", "best", "cones", "merge")
         return any(word in words for word in ("--order-file", "--sizes", "--limit"))
 
 
@@ -121,6 +121,14 @@ def rows(place):
     array, wallace = written(place, "array", multiplier(circuits.array, 7)), written(place, "wallace", multiplier(circuits.wallace, 7))
     yield Row("cones in two rounds by 4", ["--order", "cones", "--workers", 4, array, wallace], (EACH_START, STARTS_FROM), draws=4, counts=1)
     yield Row("cones of registers by a condition", ["--order", "cones", "--given", TOP / "examples" / "s27.bench", *machines])
+    # By merging: pairs that are equal inside, and pairs that are left; and differences that patterns show.
+    yield Row("merge", ["--order", "merge", "--workers", 1, c17, c17b], (EACH,))
+    yield Row("merge, equal inside", ["--order", "merge", "--workers", 2, "--limit", 1, chain, tree], (EACH, EACH_START, STARTS_FROM))
+    yield Row("merge, multipliers", ["--order", "merge", "--workers", 2, array, wallace], draws=2, counts=1)
+    yield Row("auto, merging", ["--order", "auto", "--limit", 1, "--workers", 1, chain, tree], (EACH,))
+    yield Row("any difference", ["--difference", "any", "--workers", 1, c17, c17b], (EACH,))
+    yield Row("any difference by a condition", ["--difference", "any", "--given", TOP / "examples" / "s27.bench", *machines])
+    yield Row("not the least", ["--order", "cones", "--limit", 1, "--explain", 23, c17, c17b], (EACH,))
     yield Row("only", ["--only", 23, "--only", 22, "--workers", 1, c17, c17b], (EACH,))
     yield Row("share", ["--share", "2/2", c17, c17b], (EACH,))
     yield Row("auto, products", [one, folded])

@@ -17,7 +17,7 @@ from harness import C17, C17B, TOP, Tally, folder, run, written
 
 # A path that a document of the installation names: of the folders that the repository has.
 PATH = re.compile(r"(?:tools|tests|docs|bench|examples|crates)/[\w./-]+")
-COMMAND = re.compile(r"\b(?:bddcheck(?:-\w+)?|rtl2bench)\b")
+COMMAND = re.compile(r"\b(?:bddcheck(?:-\w+)?|rtl2bench|rtlcheck)\b")
 # What a document says of the repository, and not of what is installed, begins so.
 OF_A_CLONE = re.compile(r"In a clone\b.*?\.(?=[\s)]|$)", re.S)
 
@@ -66,7 +66,8 @@ def check_texts(tally, prefix, program, place):
     """The documents that the manual page and the program name are installed, with the scripts' own words."""
     there = {path.name for path in (prefix / "share" / "doc" / "bddcheck").rglob("*") if path.is_file()}
     texts = {"the manual page": (prefix / "share" / "man" / "man1" / "bddcheck.1").read_text().replace("\\-", "-")}
-    for words in (["bddcheck", "--help"], ["rtl2bench", "--help"], ["bddcheck-join", "--help"], ["bddcheck-vcd", "--help"]):
+    for command in ("bddcheck", "rtl2bench", "rtlcheck", "bddcheck-join", "bddcheck-vcd", "bddcheck-page"):
+        words = [command, "--help"]
         seen = run([prefix / "bin" / words[0], *words[1:]])
         tally.check(f"{' '.join(words)}", seen.status == 0 and seen.out, seen)
         texts[" ".join(words)] = seen.out.decode()
@@ -95,12 +96,21 @@ def check_commands(tally, prefix):
         tally.check("bddcheck-join", joined.status == 1 and joined.out == whole.out, joined)
         made = run([prefix / "bin" / "bddcheck-vcd", golden, revised], whole.out)
         tally.check("bddcheck-vcd", made.status == 0 and made.out.startswith(b"$"), made)
+        page = pathlib.Path(place) / "page.html"
+        reported = run([prefix / "bin" / "bddcheck", "--format", "json", golden, revised])
+        report = written(place, "report.json", reported.out)
+        made = run([prefix / "bin" / "bddcheck-page", report, "-o", page, "--first", golden, "--second", revised, "--most", "0"])
+        is_made = made.status == 0 and page.exists() and page.read_bytes().startswith(b"<!doctype html>")
+        tally.check("bddcheck-page", is_made, made)
         if shutil.which("yosys"):
             out = pathlib.Path(place) / "adder.bench"
             seen = run([prefix / "bin" / "rtl2bench", examples / "verilog" / "adder.v", "-o", out])
             tally.check("rtl2bench", seen.status == 0 and out.exists(), seen)
+            verilog = examples / "verilog"
+            seen = run([prefix / "bin" / "rtlcheck", "-g", verilog / "adder.v", "-r", verilog / "adder_select.v"])
+            tally.check("rtlcheck", seen.status == 0 and b"6 equal, 0 different" in seen.out, seen)
         else:
-            tally.skip("yosys is not installed (Debian: yosys), so rtl2bench was not run")
+            tally.skip("yosys is not installed (Debian: yosys), so rtl2bench and rtlcheck were not run")
         if shutil.which("man"):
             words = ["man", "-l", prefix / "share" / "man" / "man1" / "bddcheck.1"]
             page = subprocess.run(words, capture_output=True, env={"MANPAGER": "cat", "PATH": "/usr/bin:/bin"})

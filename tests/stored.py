@@ -135,20 +135,29 @@ def best_of(program, place, tally, name, limit, needs, words):
     return wanted or (3, b"", joined([*reported, "bddcheck: build: more nodes than the limit", f"bddcheck: {more}"]))
 
 
+def is_shown(line, old, name):
+    """Whether a line has another difference of the pair, which may not be the least."""
+    return old.startswith("DIFFER ") and line.startswith(f"DIFFER {name} at ") and line.endswith(" (may not be the least)")
+
+
 def is_left(seen, wanted, limit):
-    """Whether a report is a wanted one but for pairs that are undecided, and both its status and what it says tell of them."""
+    """Whether a report is a wanted one but for pairs that are undecided or whose difference may not be the least, and both its status and what
+    it says report the former."""
     said, lines = wanted.out.decode().splitlines()[:-1], seen.out.decode().splitlines()
     names = [line.split(" at ")[0].split(" ", 1)[1] for line in said]
-    kept = [line == old or line == f"UNDECIDED {name}" for line, old, name in zip(lines, said, names)]
+    kept = [line == old or line == f"UNDECIDED {name}" or is_shown(line, old, name) for line, old, name in zip(lines, said, names)]
     counts = [sum(line.startswith(word) for line in lines[:-1]) for word in ("EQUAL", "DIFFER", "ONLY", "UNDECIDED")]
     last = "{} equal, {} different, {} unmatched".format(*counts) + (f", {counts[3]} undecided" if counts[3] else "")
     status = 1 if counts[1] or counts[2] else 3 if counts[3] else 0
-    reported = [line for line in seen.err.decode().splitlines() if " needs more than " not in line]
+    others = re.compile("bddcheck: (order .* needs more than |patterns show that |merging, )")
+    reported = [line.split(";")[0] for line in seen.err.decode().splitlines() if not others.match(line)]
     pairs = counts[0] + counts[1] + counts[3]
-    left = f"bddcheck: {counts[3]} of {pairs} pairs are undecided by cones within {max(1, limit // 4)} nodes"
-    ways = [left, "bddcheck: each pair was judged by its cones"]
+    left = counts[3] + sum(line.endswith(" (may not be the least)") for line in lines)
+    of_cones = f"bddcheck: {left} of {pairs} pairs are undecided by cones within {max(1, limit // 4)} nodes"
     last_reported = [f"bddcheck: the number of undecided pairs is {counts[3]}"][: counts[3]]
-    is_reported = reported[:2] == ways and [line.split(";")[0] for line in reported[2:]] == last_reported
+    way = ["bddcheck: each pair was judged by its cones", *last_reported]
+    # No round of cones is reported if merging has decided each pair.
+    is_reported = reported == [of_cones, *way] or (left == 0 and reported == way)
     return len(lines) == len(said) + 1 and all(kept) and (lines[-1], seen.status) == (last, status) and is_reported
 
 

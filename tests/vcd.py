@@ -98,6 +98,7 @@ REPORTS: list[tuple[str, str, list[str], bytes | None]] = [
     ("a line", f"EQUAL q\n{NEXT}1 equal, 1 different, 0 unmatched\n", [], None),
     ("only ones", NEXT.replace(" q=0", ""), [], None),
     ("sizes", NEXT.replace("\n", " sizes 3 4\n"), [], None),
+    ("not the least", NEXT.replace("\n", " (may not be the least)\n"), [], None),
     ("another pair first", "DIFFER x at e=0 q=0 first=0 second=1\n" + NEXT, ["--of", "NEXT q"], None),
     ("by position", NEXT, ["--match", "position"], None),
     ("as an output", "DIFFER q at e=1 q=0 first=0 second=0\n", [], None),

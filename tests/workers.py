@@ -3,7 +3,7 @@
 
 usage: tests/workers.py PROGRAM [FOLDER ..] [--jobs J] [--seconds N] [--orders ORDER,ORDER ..]
 
-Each pair is compared in the orders `auto`, `best` and `cones` by 1, 2, 3, 4, 7 and 16 workers. The status, the report and what --verbose says of
+Each pair is compared in the orders `auto`, `best`, `cones` and `merge` by 1, 2, 3, 4, 7 and 16 workers. The status, the report and what --verbose says of
 each attempt have to be those of one worker, byte for byte. The pairs are some of examples/ and some that bench/circuits.py writes, of
 which the multipliers of ten bits have waves that call workers in; where a FOLDER is given, in their place those of its folders NAME/:
 a.bench with b.bench and, if it is there, with c.bench. A run of such a pair that takes N (120) seconds is stopped; if one worker takes
@@ -59,7 +59,8 @@ def folder_pairs(folders):
 def seen(program, order, workers, pair, seconds):
     """A run: its status, its report and what it says of its attempts."""
     one = run([program, "--order", order, "--workers", workers, "--verbose", *pair], seconds=seconds)
-    return one.status, one.out, [line for line in one.err.split(b"\n") if b": order " in line or b"cones" in line]
+    kept = (b": order ", b"cones", b"merging", b"patterns")
+    return one.status, one.out, [line for line in one.err.split(b"\n") if any(word in line for word in kept)]
 
 
 @dataclass
@@ -102,7 +103,7 @@ def main():
     parser.add_argument("folders", nargs="*", type=pathlib.Path)
     parser.add_argument("--jobs", type=int, default=2)
     parser.add_argument("--seconds", type=float, default=120)
-    parser.add_argument("--orders", type=lambda text: text.split(","), default=["auto", "best", "cones"])
+    parser.add_argument("--orders", type=lambda text: text.split(","), default=["auto", "best", "cones", "merge"])
     settings = parser.parse_args()
     tally, too_long = Tally("workers"), []
     with harness.folder() as place, harness.pool(settings.jobs) as pool:

@@ -1,7 +1,7 @@
 #!/bin/sh
 # Puts bddcheck where it belongs: tools/install.sh PREFIX, as /usr/local or ~/.local. Below PREFIX go
 #
-#   bin                       bddcheck, rtl2bench, bddcheck-join, bddcheck-vcd
+#   bin                       bddcheck, rtlcheck, rtl2bench, bddcheck-join, bddcheck-vcd, bddcheck-page
 #   share/man, completions    the manual page; what bash, zsh and fish complete
 #   share/doc/bddcheck        the documents that the manual page names, and examples, in the folders that they have in the repository
 #
@@ -32,7 +32,7 @@ script() {
     put 755 "$here/$1" "share/bddcheck/$1" && ln -sf "../share/bddcheck/$1" "$prefix/bin/$2" && echo "$prefix/bin/$2"
 }
 documents() {
-    for path in CHANGELOG.md docs/FLOWS.md docs/CI.md docs/CLUSTER.md docs/ORDERS.md docs/report.schema.json docs/report.example.json \
+    for path in CHANGELOG.md docs/FLOWS.md docs/page.webp docs/CI.md docs/CLUSTER.md docs/ORDERS.md docs/EQUAL_INSIDE.md docs/report.schema.json docs/report.example.json \
         $(cd "$top" && find examples -type f | sort); do
         put 644 "$top/$path" "share/doc/bddcheck/$path" || return
     done
@@ -42,5 +42,7 @@ put 755 "$program" bin/bddcheck &&
     put 644 "$here/completions/bddcheck.bash" share/bash-completion/completions/bddcheck &&
     put 644 "$here/completions/_bddcheck" share/zsh/site-functions/_bddcheck &&
     put 644 "$here/completions/bddcheck.fish" share/fish/vendor_completions.d/bddcheck.fish &&
-    put 755 "$here/rtl2bench.py" share/bddcheck/rtl2bench.py &&
-    script rtl2bench.sh rtl2bench && script join.py bddcheck-join && script vcd.py bddcheck-vcd && documents
+    put 755 "$here/rtl2bench.py" share/bddcheck/rtl2bench.py && put 644 "$here/open_bits.py" share/bddcheck/open_bits.py &&
+    put 644 "$here/page.html" share/bddcheck/page.html &&
+    script rtl2bench.sh rtl2bench && script rtlcheck.py rtlcheck && script join.py bddcheck-join && script vcd.py bddcheck-vcd &&
+    script page.py bddcheck-page && documents

@@ -25,7 +25,7 @@ SETTINGS = ("match", "order", "given", "variables")
 # Comments and blanks are left out. A name has no mark and no blank.
 TOKEN = re.compile(rb"#[^\n]*|([(),=]|[^\s(),=#]+)")
 EQUAL = re.compile(r"(EQUAL|UNDECIDED) (NEXT )?(\S+)")
-DIFFER = re.compile(r"(DIFFER) (NEXT )?(\S+) at((?: [^\s=]+=[01])*) first=[01] second=[01]")
+DIFFER = re.compile(r"(DIFFER) (NEXT )?(\S+) at((?: [^\s=]+=[01])*) first=[01] second=[01](?: \(may not be the least\))?")
 ONLY = re.compile(r"(ONLY) (FIRST|SECOND) (NEXT )?(\S+)")
 LAST = re.compile(r"(\d+) equal, (\d+) different, (\d+) unmatched(?:, (\d+) undecided)?, share (\d+) of (\d+)")
 

@@ -29,7 +29,7 @@ import tempfile
 TOP = pathlib.Path(__file__).resolve().parent.parent
 NO_ANSWER = 4
 # The options that take a value, and those of them whose value is the path of a file that is read.
-VALUED = "--match --order --order-file --given --only --share --explain --vcd --workers --limit --memory --format --assignment".split()
+VALUED = "--match --order --order-file --given --only --share --explain --vcd --workers --limit --memory --difference --format --assignment".split()
 READ = ("--order-file", "--given")
 # Options by which no netlist is read.
 ASKING = ("-h", "--help", "-V", "--version")

@@ -12,7 +12,9 @@ pair are not those of the report, or nothing differs, there is no VCD, and the s
 from __future__ import annotations
 
 import argparse
+import functools
 import json
+import operator
 import re
 import sys
 from dataclasses import dataclass, field
@@ -20,6 +22,14 @@ from pathlib import Path
 
 STATEMENT = re.compile(rb"\s*([^\s(),=#]+)\s*(?:=\s*([^\s(),=#]+)\s*)?\(([^()=]*)\)")
 REGISTER = b"DFF"
+# What joins the operands of a gate. A gate of one operand has nothing to join.
+FOLDS = {
+    b"AND": operator.and_, b"OR": operator.or_, b"XOR": operator.xor, b"BUFF": operator.or_, b"BUF": operator.or_,
+    b"NAND": operator.and_, b"NOR": operator.or_, b"XNOR": operator.xor, b"NOT": operator.or_,
+}
+COMPLEMENTED = {b"NAND", b"NOR", b"XNOR", b"NOT"}
+# The end of a line whose assignment may not be the least one at which the pair differs.
+NOT_LEAST = b" (may not be the least)"
 
 
 class Refusal(Exception):
@@ -39,14 +49,17 @@ class Net:
     outputs: list[bytes] = field(default_factory=list)
     registers: list[bytes] = field(default_factory=list)
     gates: dict[bytes, tuple[bytes, list[bytes]]] = field(default_factory=dict)
+    # The line of each gate and register.
+    lines: dict[bytes, int] = field(default_factory=dict)
 
-    def add(self, out: bytes, word: bytes | None, operands: list[bytes]) -> None:
+    def add(self, out: bytes, word: bytes | None, operands: list[bytes], line: int) -> None:
         if word is None:
             {b"INPUT": self.inputs, b"OUTPUT": self.outputs}[out.upper()].extend(operands)
             self.signals.update(dict.fromkeys(operands))
             return
         self.signals.update(dict.fromkeys([out, *operands]))
         self.gates[out] = (word.upper(), operands)
+        self.lines[out] = line
         if word.upper() == REGISTER:
             self.registers.append(out)
 
@@ -54,16 +67,37 @@ class Net:
         """The output at a place, or what the register at a place takes next."""
         return self.outputs[place] if role == "output" else self.gates[self.registers[place]][1][0]
 
+    @functools.cached_property
+    def ordered(self) -> list[bytes]:
+        """The variables, and then the gates, each after its operands."""
+        placed = dict.fromkeys([*self.inputs, *self.registers])
+        opened: set[bytes] = set()
+        for signal in self.signals:
+            below = [signal]
+            while below:
+                name = below[-1]
+                missing = [] if name in placed else [operand for operand in self.gates[name][1] if operand not in placed]
+                if not missing:
+                    placed[below.pop()] = None
+                    continue
+                opened.add(name)
+                if not opened.isdisjoint(missing):
+                    raise ValueError(f"a cycle at {name.decode()}")
+                below.extend(missing)
+        return list(placed)
+
 
 def net_of(path: str) -> Net:
-    text = re.sub(rb"#[^\n]*", b"", Path(path).read_bytes())
-    net, at = Net(), 0
-    while text[at:].strip():
+    text = re.sub(rb"#[^\n]*", b"", Path(path).read_bytes()).rstrip()
+    net, at, line = Net(), 0, 1
+    while at < len(text):
         found = STATEMENT.match(text, at)
         if found is None:
             raise Refusal(2, f"{path}: no netlist")
         out, word, operands = found.groups()
-        net.add(out, word, [operand.strip() for operand in operands.split(b",")])
+        line += text.count(b"\n", at, found.start(1))
+        net.add(out, word, [operand.strip() for operand in operands.split(b",")], line)
+        line += text.count(b"\n", found.start(1), found.end())
         at = found.end()
     return net
 
@@ -83,7 +117,7 @@ class Difference:
 
 
 def of_line(line: bytes) -> Difference:
-    words = line.split(b" ")
+    words = line.removesuffix(NOT_LEAST).split(b" ")
     is_next = words[1] == b"NEXT" and words[3:4] == [b"at"]
     if words[-3] == b"sizes":
         words = words[:-3]
@@ -107,29 +141,22 @@ def differences(report: bytes) -> list[Difference]:
         raise Refusal(2, f"the report cannot be read: {error}") from error
 
 
-def value(word: bytes, bits: list[int]) -> int:
-    ones, all_ones = sum(bits), min(bits)
-    plain = {
-        b"AND": all_ones, b"OR": max(bits), b"XOR": ones % 2, b"BUFF": bits[0], b"BUF": bits[0],
-        b"NAND": 1 - all_ones, b"NOR": 1 - max(bits), b"XNOR": 1 - ones % 2, b"NOT": 1 - bits[0],
-    }
-    return plain[word]
+def value(word: bytes, operands: list[int], ones: int = 1) -> int:
+    """The value of a gate. An operand has a bit for each of several assignments, and `ones` is 1 in all of them."""
+    joined = functools.reduce(FOLDS[word], operands)
+    return ones ^ joined if word in COMPLEMENTED else joined
 
 
-def values(net: Net, at: dict[bytes, int]) -> dict[bytes, int]:
-    """The value of each signal; a register has its bit."""
-    known = {name: at.get(name, 0) for name in [*net.inputs, *net.registers]}
-    for signal in net.signals:
-        below = [signal]
-        while below:
-            word, operands = net.gates.get(below[-1], (b"", []))
-            missing = [operand for operand in operands if operand not in known]
-            if below[-1] in known or not missing:
-                name = below.pop()
-                if name not in known:
-                    known[name] = value(word, [known[operand] for operand in operands])
-            else:
-                below.extend(missing)
+def values(net: Net, at: dict[bytes, int], ones: int = 1) -> dict[bytes, int]:
+    """The value of each signal, as `value` has it; a register has that of the assignment."""
+    known: dict[bytes, int] = {}
+    variables = {*net.inputs, *net.registers}
+    for name in net.ordered:
+        if name in variables:
+            known[name] = at.get(name, 0)
+        else:
+            word, operands = net.gates[name]
+            known[name] = value(word, [known[operand] for operand in operands], ones)
     return {signal: known[signal] for signal in net.signals}
 
 
@@ -158,13 +185,22 @@ def matched(first: list[bytes], second: list[bytes], by_name: bool, name: bytes)
     return place
 
 
+def pair_of(one: Net, two: Net, by_name: bool, role: str, name: bytes) -> tuple[bytes, bytes]:
+    """The signals of a pair in both netlists; a ValueError if there is no such pair."""
+    names = {"output": (one.outputs, two.outputs), "next state": (one.registers, two.registers)}[role]
+    return one.signal(role, names[0].index(name)), two.signal(role, matched(*names, by_name, name))
+
+
+def at_second(one: Net, two: Net, by_name: bool, at: dict[bytes, int]) -> dict[bytes, int]:
+    """An assignment by the names that the second netlist has for the variables."""
+    variables = [*zip(one.inputs, two.inputs), *zip(one.registers, two.registers)]
+    return at if by_name else {other: at.get(name, 0) for name, other in variables}
+
+
 def dumped(one: Net, two: Net, by_name: bool, it: Difference) -> bytes:
-    names = {"output": (one.outputs, two.outputs), "next state": (one.registers, two.registers)}[it.role]
-    variables = [(a, b) for a, b in [*zip(one.inputs, two.inputs), *zip(one.registers, two.registers)]]
-    others = it.at if by_name else {b: it.at.get(a, 0) for a, b in variables}
     try:
-        pair = one.signal(it.role, names[0].index(it.name)), two.signal(it.role, matched(*names, by_name, it.name))
-        first, second = values(one, it.at), values(two, others)
+        pair = pair_of(one, two, by_name, it.role, it.name)
+        first, second = values(one, it.at), values(two, at_second(one, two, by_name, it.at))
     except (ValueError, KeyError) as error:
         raise Refusal(1, f"the netlists are not those of the report: {error}") from error
     if (first[pair[0]], second[pair[1]]) != it.values:

@@ -1,5 +1,5 @@
 -- What a comparison finds by its settings, and why it finds nothing.
-use Rattle.std.proofs.Common.{◌≡◌, ◌≢◌, ◌∙◌, sym, subst, refl, inl, inr, ℕ, ◌<◌, length, Option, None, Result, Ok, Err, IfErr}
+use Rattle.std.proofs.Common.{◌≡◌, ◌≢◌, ◌⊎◌, ◌∙◌, sym, subst, refl, inl, inr, ℕ, ◌<◌, length, Option, None, Result, Ok, Err, IfErr}
 use Rattle.std.specs.Prelude.{option_map}
 use Rattle.net_bench.specs.Circuit.{Net, circuit}
 use Rattle.net_order.specs.declared.order.Order.TheVariants as orders
@@ -11,15 +11,15 @@ use Rattle.report_text.specs.Lines.{Found}
 use Rattle.compare_built.specs.declared.strategy.Attempt.{Attempt}
 use Rattle.compare_built.specs.declared.strategy.Candidate.TheVariants.{Declared}
 use Rattle.compare_built.specs.declared.strategy.Strategy.{Strategy}
-use Rattle.compare_built.specs.declared.strategy.Strategy.TheVariants.{One, Best, Auto, Cones}
+use Rattle.compare_built.specs.declared.strategy.Strategy.TheVariants.{One, Best, Auto, Cones, Merge}
 use Rattle.compare_built.specs.declared.fault.CheckFault.{CheckFault}
 use Rattle.compare_built.specs.declared.fault.CheckFault.TheVariants.{Only, Order as OrderRefused, Write}
 use Rattle.compare_built.specs.declared.settings.Settings.{Settings}
 use Rattle.compare_built.specs.declared.task.Task.{Task}
-use Rattle.compare_built.specs.Attempts.{IsAllowed, MayGoByCones, whole_limit}
+use Rattle.compare_built.specs.Attempts.{IsAllowed, MayGoByCones, first_whole_limit}
 use Rattle.compare_built.specs.Check.{AreAccepted, AreGiven, Gives, IsCheckFault, IsCondition}
 use Rattle.compare_built.specs.Devices.{DeviceTexts}
-use Rattle.cone_check.specs.ConeRounds.{EndsAuto, EndsCones, IsFoundByCones}
+use Rattle.cone_check.specs.ConeRounds.{EndsAuto, EndsPairs, IsFoundByCones}
 use Rattle.explain_report.specs.Deciding.{HasLastAttempt, IsFoundBy, IsUnknown, MayTakeCones}
 use Rattle.explain_report.specs.Deciding.IsFoundBy.{by_cones}
 use Rattle.explain_report.specs.Explaining.{reported_order}
@@ -50,21 +50,21 @@ module _ {H : Type 0} (task : Task H) (input : DeviceTexts) (given : AreGiven in
   }) last
 
   -- the cause for cones where the whole was tried
-  pub auto_cause : (bound : Option ℕ) → task.settings.now.order ≡ Auto → AreAllGivenUp task (whole_limit task.settings.now.limit) bound → MayTakeCones input task.settings.now bound task.settings.now.order
+  pub auto_cause : (bound : Option ℕ) → task.settings.now.order ≡ Auto → AreAllGivenUp task (first_whole_limit task.settings.now.limit) bound → MayTakeCones input task.settings.now bound task.settings.now.order
   auto_cause bound auto earlier_given_up = subst (MayTakeCones input task.settings.now bound) (sym auto) (inl (λ budget is c. given_up_in_input task input given budget bound c (earlier_given_up budget is c)))
 
   -- and where it has too many variables
   pub many_cause : (bound : Option ℕ) (p : NamingModel) → task.settings.now.order ≡ Auto → IsNamingIn task orders.Declared p → max_variables < length p.names → MayTakeCones input task.settings.now bound task.settings.now.order
   many_cause bound p auto is many =
       let count = names_count task.settings.now.matching (circuit task.first.now) (circuit task.second.now) (condition task.given) orders.Declared p is in
-      subst (MayTakeCones input task.settings.now bound) (sym auto) (inr (circuit task.first.now, circuit task.second.now, condition task.given, given, subst (λ n. max_variables < n) count many))
+      subst (MayTakeCones input task.settings.now bound) (sym auto) (inr (inl (circuit task.first.now, circuit task.second.now, condition task.given, given, subst (λ n. max_variables < n) count many)))
 
   of_cones : (p : NamingModel) → IsNamingIn task orders.Declared p → MayGoByCones task.settings.now.order → AreAccepted input task.settings.now.order task.settings.now.matching orders.Declared
   of_cones p is may =
       accepted task input given task.settings.now.order orders.Declared p is (any_for task.settings.now.order task.settings.now.matching (circuit task.first.now) (circuit task.second.now) (condition task.given) may)
 
   -- a fault of cones has its cause
-  pub cones_fault : (p : NamingModel) (fault : CheckFault) → IsNamingIn task orders.Declared p → MayGoByCones task.settings.now.order → EndsCones fault →
+  pub cones_fault : (p : NamingModel) (fault : CheckFault) → IsNamingIn task orders.Declared p → MayGoByCones task.settings.now.order → (fault ≡ Only) ⊎ EndsPairs fault →
       IsCheckFault input ⊥ ⊥ ⊥ task.settings.now.order task.settings.now.matching orders.Declared fault
   cones_fault p fault is may (inl only) = subst (IsCheckFault input ⊥ ⊥ ⊥ task.settings.now.order task.settings.now.matching orders.Declared) (sym only) (of_cones p is may)
   cones_fault p fault is may (inr ends) = late_fault input ⊥ ⊥ ⊥ task.settings.now.order task.settings.now.matching orders.Declared fault (of_cones p is may) ends.0
@@ -77,24 +77,22 @@ declared_allowed (One o) may = absurd may
 declared_allowed Best may = absurd may
 declared_allowed Auto may = (Declared, refl)
 declared_allowed Cones may = refl
+declared_allowed Merge may = refl
 
 declared_reported : (choice : Strategy) (tried : Option Attempt) → MayGoByCones choice → orders.Declared ≡ reported_order choice tried
 declared_reported (One o) tried may = absurd may
 declared_reported Best tried may = absurd may
 declared_reported Auto tried may = refl
 declared_reported Cones tried may = refl
+declared_reported Merge tried may = refl
 
 pub declared_naming : {H : Type 0} (task : Task H) (tried : Option Attempt) (p : NamingModel) → MayGoByCones task.settings.now.order → IsNamingIn task orders.Declared p → IsNamingIn task (reported_order task.settings.now.order tried) p
 declared_naming task tried p may is = subst (λ order. IsNamingIn task order p) (declared_reported task.settings.now.order tried may) is
 
 -- ---- faults
 
-pub cones_end : (fault : CheckFault) → EndsCones fault → EndsAuto fault
-cones_end fault (inl only) = inl only
-cones_end fault (inr ends) = inr ends.1
-
--- and not that the variables are too many
-pub cones_whole : (fault : CheckFault) → EndsCones fault → fault ≢ OrderRefused TooManyInputs
+-- a fault of cones is not that the variables are too many
+pub cones_whole : (fault : CheckFault) → (fault ≡ Only) ⊎ EndsPairs fault → fault ≢ OrderRefused TooManyInputs
 cones_whole fault (inl only) e = let never : Only ≡ OrderRefused TooManyInputs = sym only ∙ e in cc
 cones_whole fault (inr ends) e = late_whole fault ends.0 e
 

@@ -1,44 +1,45 @@
--- The last attempts of auto, after the pairs were judged by their cones.
-use Rattle.std.proofs.Common.{◌≡◌, ◌≢◌, ◌⊎◌, ◌<◌, ◌≤◌, ◌∙◌, refl, inl, inr, sym, subst, arith, ℕ, Bool, Option, Some, None, Result, Ok, Err, length}
-use Rattle.std.specs.Prelude.{IfOk, min}
+-- How auto ends: by an attempt of the whole, or by the pairs, after the last attempts if one of them is left.
+use Rattle.std.proofs.Common.{◌≡◌, ◌≢◌, ◌⊎◌, ◌<◌, ◌≤◌, ◌∙◌, ap, refl, inl, inr, sym, subst, ℕ, Bool, true, false, Option, Some, None, Result, Ok, Err, IfErr, length}
 use Rattle.std.specs.Borrow.{Bor}
-use Rattle.std.proofs.Math.Nat.{min-eq_right, min-le_left}
+use Rattle.std.specs.List.{list_any}
+use Rattle.std.specs.declared.alloc.Global.{Global}
+use Rattle.std.specs.declared.vec.Vec.{Vec}
 use Rattle.net_bench.specs.Circuit.{circuit}
 use Rattle.net_order.specs.declared.order.Order.TheVariants as orders
 use Rattle.net_order.specs.Order.{NamingModel, condition, max_variables}
 use Rattle.net_order.proofs.InputLevels.{names_count}
 use Rattle.report_text.specs.Findings.{VerdictsModel, found_of}
-use Rattle.report_text.specs.Lines.{Found, counted}
+use Rattle.report_text.specs.Lines.{Found}
 use Rattle.compare_built.specs.declared.fault.CheckFault.{CheckFault}
 use Rattle.compare_built.specs.declared.settings.Settings.{Settings}
 use Rattle.compare_built.specs.declared.strategy.Attempt.{Attempt}
 use Rattle.compare_built.specs.declared.strategy.Candidate.{Candidate}
 use Rattle.compare_built.specs.declared.strategy.Candidate.TheVariants.{Declared}
-use Rattle.compare_built.specs.declared.strategy.Strategy.TheVariants.{Auto, Cones}
+use Rattle.compare_built.specs.declared.strategy.Strategy.TheVariants.{Auto, Cones, Merge}
 use Rattle.compare_built.specs.declared.task.Task.{Task}
-use Rattle.compare_built.specs.Attempts.{IsGivenUpWithin, first_budget, whole_limit}
+use Rattle.compare_built.specs.Attempts.{AreGivenUp, IsChosen, IsGivenUpWithin, MayGoByCones, first_whole_limit, last_budget, order_of, whole_limit}
 use Rattle.compare_built.specs.Check.{AreGiven, HaveTooManyVariables}
+use Rattle.compare_built.specs.Details.{details_in}
 use Rattle.compare_built.specs.Devices.{DeviceTexts}
-use Rattle.explain_report.specs.Deciding.{HasLastAttempt}
+use Rattle.compare_built.specs.Report.{AreVerdicts}
+use Rattle.explain_report.specs.Deciding.{HasLastAttempt, MayTakeCones, is_open}
+use Rattle.explain_report.specs.Deciding.IsFoundBy.{in_order}
+use Rattle.order_search.specs.declared.attempts.Decided.{Decided as DecidedValue}
 use Rattle.order_search.specs.declared.attempts.Round.{Round}
 use Rattle.order_search.specs.declared.attempts.Round.TheVariants.{GivenUp}
-use Rattle.order_search.specs.Trials.{AreAllGivenUp, AreEarlierGivenUp, IsCandidateGivenUp, IsLastRound, IsNamingIn}
-use Rattle.order_search.proofs.Rounds.{given_up_in_input}
+use Rattle.order_search.specs.declared.trials.Trial.{Trial}
+use Rattle.order_search.specs.Trials.{AreAllGivenUp, AreTrials, EndsAtOnce, IsCandidateGivenUp, IsFoundWithin, IsLastRound, IsNamingIn, IsPairingIn, reported_pairing}
+use Rattle.order_search.proofs.Rounds.{earlier_in_input, given_up_in_input, judged, within}
 use Rattle.cone_check.specs.ConeRounds.{IsFoundByCones}
-use Rattle.check_report.specs.Decisions.{IsDecision}
-use Rattle.check_report.proofs.Findings.{auto_cause, found_by_cones}
-
--- a limit of no more than the whole's is the whole's
-pub small_limit : (limit : ℕ) → limit ≤ 4194304 → whole_limit limit ≡ limit
-small_limit limit few = min-eq_right few
-
--- an attempt within more than the whole's limit comes after all within it
-pub after_all : {H : Type 0} (task : Task H) (limit : ℕ) (bound : Option ℕ) (t : Attempt) → AreAllGivenUp task (whole_limit limit) bound → t.budget ≡ limit → 4194304 < limit →
-    AreEarlierGivenUp task (whole_limit limit) bound t
-after_all task limit bound t all is more = record {
-  smaller = λ budget within lt c. all budget within c;
-  first = λ first. absurd (let most : first_budget (whole_limit limit) ≤ 16384 = min-le_left 16384 (whole_limit limit) in omega (arith, first, is, more, most));
-}
+use Rattle.check_report.specs.Decisions.{IsDecision, IsNoDecision}
+use Rattle.check_report.specs.Pairs.{EndsComparison}
+use Rattle.check_report.specs.Wholes.{AreTriedBefore, IsDecidedWhole, IsRestOfWhole, IsSearched, IsTriedAgain, attempt_of}
+use Rattle.check_report.specs.declared.whole.WholeEnd.{WholeEnd}
+use Rattle.check_report.specs.declared.whole.WholeEnd.TheVariants.{Decided, GivenUp as WholeGivenUp}
+use Rattle.check_report.specs.declared.whole.TriedBefore.{TriedBefore}
+use Rattle.check_report.specs.declared.whole.TriedBefore.TheVariants.{Nothing, First, Second}
+use Rattle.check_report.proofs.Findings.{auto_cause, cones_fault, cones_whole, found_by_cones, none_by_cones}
+use Rattle.check_report.proofs.Wholes.{all_first, decided_first}
 
 -- both of the last orders were given up
 pub last_given_up : {H : Type 0} (task : Task H) (declared : Option (Bor NamingModel)) (furthest : Candidate) (budget : ℕ) (bound : Option ℕ) {round : Round} {full : Bool} → round ≡ GivenUp full →
@@ -46,20 +47,14 @@ pub last_given_up : {H : Type 0} (task : Task H) (declared : Option (Bor NamingM
 last_given_up task declared furthest budget bound {round} {full} is last = (let h : IsLastRound task declared furthest budget bound (GivenUp full) = subst (IsLastRound task declared furthest budget bound) is last in h.1)
 
 module _ {H : Type 0} (task : Task H) (input : DeviceTexts) (given : AreGiven input (circuit task.first.now) (circuit task.second.now) (condition task.given)) (bound : Option ℕ) where
-  -- what auto owes for a pair that is left, from each way in which it ends
+  -- what auto owes for a pair of which another attempt could say more, from each way in which it ends
   pub last_of_auto : (found : Found) → task.settings.now.order ≡ Auto →
-      (0 < (counted found.verdicts).undecided → IsGivenUpWithin input task.settings.now.matching task.settings.now.limit bound orders.Declared ⊎ HaveTooManyVariables input task.settings.now.matching) →
+      (list_any (is_open task.settings.now.difference) found.verdicts ≡ true → IsGivenUpWithin input task.settings.now.matching task.settings.now.limit bound orders.Declared ⊎ HaveTooManyVariables input task.settings.now.matching) →
       HasLastAttempt input task.settings.now bound task.settings.now.order found
   last_of_auto found auto h = subst (λ choice. HasLastAttempt input task.settings.now bound choice found) (sym auto) h
 
-  pub none_left : (found : Found) → task.settings.now.order ≡ Auto → (counted found.verdicts).undecided ≡ 0 → HasLastAttempt input task.settings.now bound task.settings.now.order found
-  none_left found auto none = last_of_auto found auto (λ some. absurd (omega (arith, some, none)))
-
-  pub given_up_before : (found : Found) → task.settings.now.order ≡ Auto → task.settings.now.limit ≤ 4194304 → AreAllGivenUp task (whole_limit task.settings.now.limit) bound →
-      HasLastAttempt input task.settings.now bound task.settings.now.order found
-  given_up_before found auto few all =
-      last_of_auto found auto
-      (λ _. inl (given_up_in_input task input given task.settings.now.limit bound Declared (all task.settings.now.limit (inr (sym (small_limit task.settings.now.limit few))) Declared)))
+  pub none_open : (found : Found) → task.settings.now.order ≡ Auto → list_any (is_open task.settings.now.difference) found.verdicts ≡ false → HasLastAttempt input task.settings.now bound task.settings.now.order found
+  none_open found auto none = last_of_auto found auto (λ some. let never : false ≡ true = sym none ∙ some in cc)
 
   pub many_before : (found : Found) (p : NamingModel) → task.settings.now.order ≡ Auto → IsNamingIn task orders.Declared p → max_variables < length p.names →
       HasLastAttempt input task.settings.now bound task.settings.now.order found
@@ -71,20 +66,81 @@ module _ {H : Type 0} (task : Task H) (input : DeviceTexts) (given : AreGiven in
       HasLastAttempt input task.settings.now bound task.settings.now.order found
   given_up_last found auto last = last_of_auto found auto (λ _. inl (given_up_in_input task input given task.settings.now.limit bound Declared last))
 
-  -- the verdicts of cones, after each attempt of the whole within small budgets was given up
-  pub by_cones_of_auto : (p : NamingModel) (found : Found) → task.settings.now.order ≡ Auto → IsNamingIn task orders.Declared p → AreAllGivenUp task (whole_limit task.settings.now.limit) bound →
-      IsFoundByCones task bound p found → HasLastAttempt input task.settings.now bound task.settings.now.order found → IsDecision input task.settings.now bound found None
-  by_cones_of_auto p found auto is all t last = record {
-    found_by = found_by_cones task input given bound p found is (auto_cause task input given bound auto all) t last;
-    earlier_given_up = tt;
-  }
+  -- why the pairs may be judged one by one
+  pub may_take : (before : TriedBefore) → task.settings.now.order ≡ Auto → AreTriedBefore task bound before → MayTakeCones input task.settings.now bound task.settings.now.order
+  may_take Nothing auto is = subst (MayTakeCones input task.settings.now bound) (sym auto) (inr (inr is))
+  may_take (First trials) auto is = auto_cause task input given bound auto is.1
+  may_take (Second trials) auto is = auto_cause task input given bound auto (all_first task bound is)
 
--- cones that were asked for owe nothing more
+  -- the verdicts of the pairs
+  pub decided_by_pairs : (p : NamingModel) (found : Found) → IsNamingIn task orders.Declared p → MayTakeCones input task.settings.now bound task.settings.now.order → IsFoundByCones task bound p found →
+      HasLastAttempt input task.settings.now bound task.settings.now.order found → IsDecision input task.settings.now bound found None
+  decided_by_pairs p found is may t last = record { found_by = found_by_cones task input given bound p found is may t last; earlier_given_up = tt }
+
+  -- an attempt of the whole
+  pub decided_by_whole : (declared : Option (Bor NamingModel)) (p : NamingModel) (d : DecidedValue) (v : VerdictsModel) (tried : Option Attempt) → task.settings.now.order ≡ Auto → IsPairingIn task orders.Declared p →
+      reported_pairing declared d.trial.pairing ≡ p → IsDecidedWhole task declared bound d → v ≡ record { naming = p; verdicts = d.verdicts.items } → tried ≡ Some (attempt_of d) → IsDecision input task.settings.now bound (found_of v) tried
+  decided_by_whole declared p d v tried auto is reported h said told = subst (IsDecision input task.settings.now bound (found_of v)) (sym told) (record {
+    found_by = in_order orders.Declared (judged task input given orders.Declared p _ _ is (ap found_of said) (subst (λ (q : NamingModel). AreVerdicts (details_in task.settings.now) (circuit task.first.now) (circuit task.second.now)
+        (condition task.given) q (record { variables = q.names; verdicts = d.verdicts.items })) reported h.decided.verdicts_of))
+        (subst (λ choice. IsChosen input task.settings.now.matching choice task.settings.now.limit (Some (attempt_of d)) orders.Declared) (sym auto) (
+          refl,
+          h.budget,
+          within task input given (order_of d.trial.candidate) d.trial.pairing d.budget h.decided.paired h.decided.within,
+        ));
+    earlier_given_up = subst (λ choice. AreGivenUp input task.settings.now.matching (last_budget choice task.settings.now.limit) bound (attempt_of d)) (sym auto)
+        (earlier_in_input task input given (whole_limit task.settings.now.limit) bound (attempt_of d) h.earlier_given_up);
+  })
+
+  -- the same from what attempts have come to: within the first limit, and within the second
+  pub decided_by_first : (declared : Option (Bor NamingModel)) (p : NamingModel) (d : DecidedValue) (v : VerdictsModel) (tried : Option Attempt) {end : WholeEnd} → task.settings.now.order ≡ Auto → IsPairingIn task orders.Declared p →
+      reported_pairing declared d.trial.pairing ≡ p → end ≡ Decided d → IsSearched task declared (first_whole_limit task.settings.now.limit) bound end → v ≡ record { naming = p; verdicts = d.verdicts.items } → tried ≡ Some (attempt_of d) →
+      IsDecision input task.settings.now bound (found_of v) tried
+  decided_by_first declared p d v tried auto is reported ended h said told =
+      let found : IsFoundWithin task declared (first_whole_limit task.settings.now.limit) bound d = subst (IsSearched task declared (first_whole_limit task.settings.now.limit) bound) ended h in
+      decided_by_whole declared p d v tried auto is reported (decided_first task declared bound d found) said told
+
+  pub decided_by_second : (declared : Option (Bor NamingModel)) (p : NamingModel) (d : DecidedValue) (v : VerdictsModel) (tried : Option Attempt) {end : WholeEnd} → task.settings.now.order ≡ Auto → IsPairingIn task orders.Declared p →
+      reported_pairing declared d.trial.pairing ≡ p → end ≡ Decided d → IsTriedAgain task declared bound end → v ≡ record { naming = p; verdicts = d.verdicts.items } → tried ≡ Some (attempt_of d) →
+      IsDecision input task.settings.now bound (found_of v) tried
+  decided_by_second declared p d v tried auto is reported ended h said told =
+      let found : IsDecidedWhole task declared bound d = subst (IsTriedAgain task declared bound) ended h in
+      decided_by_whole declared p d v tried auto is reported found said told
+
+  pub decided_by_rest : (declared : Option (Bor NamingModel)) (p : NamingModel) (d : DecidedValue) (v : VerdictsModel) (tried : Option Attempt) {end : Option DecidedValue} → task.settings.now.order ≡ Auto → IsPairingIn task orders.Declared p →
+      reported_pairing declared d.trial.pairing ≡ p → end ≡ Some d → IsRestOfWhole task declared bound end → v ≡ record { naming = p; verdicts = d.verdicts.items } → tried ≡ Some (attempt_of d) →
+      IsDecision input task.settings.now bound (found_of v) tried
+  decided_by_rest declared p d v tried auto is reported ended h said told =
+      let found : IsDecidedWhole task declared bound d = subst (IsRestOfWhole task declared bound) ended h in
+      decided_by_whole declared p d v tried auto is reported found said told
+
+  -- why there are none
+  pub none_of_pairs : (p : NamingModel) (fault : CheckFault) → MayGoByCones task.settings.now.order → IsNamingIn task orders.Declared p → EndsComparison task fault → IsNoDecision input ⊥ ⊥ ⊥ task.settings.now bound fault
+  none_of_pairs p fault may is (inl (only, unknown)) =
+      none_by_cones input task.settings.now bound fault may (cones_fault task input given p fault is may (inl only)) (inl only) (λ _. (circuit task.first.now, given.first, unknown)) (cones_whole fault (inl only))
+  none_of_pairs p fault may is (inr ends) =
+      none_by_cones input task.settings.now bound fault may (cones_fault task input given p fault is may (inr ends)) (inr ends.1) (λ only. absurd (subst EndsAtOnce only ends.1)) (cones_whole fault (inr ends))
+
+  -- so a comparison that ends in one of these ways decides nothing
+  pub none_of_ends : {T : Type 0} (p : NamingModel) (r : Result T CheckFault) → MayGoByCones task.settings.now.order → IsNamingIn task orders.Declared p → IfErr r (EndsComparison task) → IfErr r (IsNoDecision input ⊥ ⊥ ⊥ task.settings.now bound)
+  none_of_ends p (Ok v) may is ends = tt
+  none_of_ends p (Err fault) may is ends = none_of_pairs p fault may is ends
+
+-- what attempts have come to that were given up
+module _ {H : Type 0} (task : Task H) (bound : Option ℕ) where
+  pub searched_first : (declared : Option (Bor NamingModel)) {trials : Vec Trial Global} {end : WholeEnd} → end ≡ WholeGivenUp trials → IsSearched task declared (first_whole_limit task.settings.now.limit) bound end →
+      AreTrials task trials.items × AreAllGivenUp task (first_whole_limit task.settings.now.limit) bound
+  searched_first declared {trials} ended h = subst (IsSearched task declared (first_whole_limit task.settings.now.limit) bound) ended h
+
+  pub again_given_up : (declared : Option (Bor NamingModel)) {trials : Vec Trial Global} {end : WholeEnd} → end ≡ WholeGivenUp trials → IsTriedAgain task declared bound end → AreAllGivenUp task (whole_limit task.settings.now.limit) bound
+  again_given_up declared {trials} ended h = subst (IsTriedAgain task declared bound) ended h
+
+  pub given_up_by_rest : (declared : Option (Bor NamingModel)) {end : Option DecidedValue} → end ≡ None → IsRestOfWhole task declared bound end → IsCandidateGivenUp task task.settings.now.limit bound Declared
+  given_up_by_rest declared ended h = subst (IsRestOfWhole task declared bound) ended h
+
+-- cones and merging that were asked for owe nothing more
 pub last_of_cones : (input : DeviceTexts) (s : Settings) (bound : Option ℕ) (found : Found) → s.order ≡ Cones → HasLastAttempt input s bound s.order found
 last_of_cones input s bound found cones = subst (λ choice. HasLastAttempt input s bound choice found) (sym cones) tt
 
--- what is found is decided
-pub decided_with : (input : DeviceTexts) (s : Settings) (bound : Option ℕ) (r : Result (VerdictsModel × Option Attempt) CheckFault) → ((found : Found) → HasLastAttempt input s bound s.order found) →
-    IfOk r (λ v. HasLastAttempt input s bound s.order (found_of v.0) → IsDecision input s bound (found_of v.0) v.1) → IfOk r (λ v. IsDecision input s bound (found_of v.0) v.1)
-decided_with input s bound (Ok v) last h = h (last (found_of v.0))
-decided_with input s bound (Err fault) last h = tt
+pub last_of_merge : (input : DeviceTexts) (s : Settings) (bound : Option ℕ) (found : Found) → s.order ≡ Merge → HasLastAttempt input s bound s.order found
+last_of_merge input s bound found merge = subst (λ choice. HasLastAttempt input s bound choice found) (sym merge) tt

@@ -6,3 +6,6 @@ pub mod Printing
 pub mod Findings
 pub mod Shares
 pub mod LastAttempts
+pub mod Wholes
+pub mod Flags
+pub mod Facts

@@ -6,7 +6,7 @@ use Rattle.net_order.specs.OrderText.{order_text}
 use Rattle.compare_built.specs.declared.verdict_order.Details.{Details}
 use Rattle.compare_built.specs.Devices.{DeviceTexts}
 use Rattle.compare_built.specs.declared.strategy.Strategy.{Strategy}
-use Rattle.compare_built.specs.declared.strategy.Strategy.TheVariants.{One, Best, Auto, Cones}
+use Rattle.compare_built.specs.declared.strategy.Strategy.TheVariants.{One, Best, Auto, Cones, Merge}
 use Rattle.compare_built.specs.declared.strategy.Attempt.{Attempt}
 use Rattle.compare_built.specs.declared.strategy.Candidate.TheVariants.{Declared}
 use Rattle.compare_built.specs.declared.fault.CheckFault.{CheckFault}
@@ -33,6 +33,7 @@ found_allowed input how Best limit None order f = absurd f
 found_allowed input how Best limit (Some t) order f = (t.order, f.0)
 found_allowed input how Auto limit tried order f = (Declared, f.1)
 found_allowed input how Cones limit tried order f = f.1
+found_allowed input how Merge limit tried order f = f.1
 
 -- where no order was tried, whatever is said of an attempt
 pub never_tried : {A B E : Type 0} (P : B → Type 0) (r : Result (A × Option B) E) → IfOk r (λ r. r.1 ≡ None) → IfOk r (λ r. IfSome r.1 P)

@@ -13,7 +13,7 @@ use Rattle.compare_built.specs.declared.fault.CheckFault.TheVariants.{First, Sec
 use Rattle.compare_built.specs.declared.fault.CheckFault.TheVariants.{Wave, GivenUp, Write, OutOfMemory}
 use Rattle.compare_built.specs.declared.settings.Settings.{Settings}
 use Rattle.compare_built.specs.declared.strategy.Strategy.{Strategy}
-use Rattle.compare_built.specs.declared.strategy.Strategy.TheVariants.{One, Best, Auto, Cones}
+use Rattle.compare_built.specs.declared.strategy.Strategy.TheVariants.{One, Best, Auto, Cones, Merge}
 use Rattle.cone_check.specs.ConeRounds.{EndsAuto}
 use Rattle.explain_report.specs.Deciding.{IsUnknown}
 use Rattle.order_search.specs.Trials.{EndsAtOnce, EndsSearch}
@@ -25,6 +25,7 @@ not_both (One o) may tried = may
 not_both Best may tried = may
 not_both Auto may tried = tried
 not_both Cones may tried = tried
+not_both Merge may tried = tried
 
 at_least : (n m : ℕ) → (n < m → ⊥) → m ≤ n
 at_least n m none = elim (cases_lt n m) [

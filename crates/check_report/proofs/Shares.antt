@@ -12,7 +12,7 @@ use Rattle.net_cone.specs.Cones.{HasGates, IsBelow}
 use Rattle.net_order.specs.Force.{numbers_below}
 use Rattle.compare_built.specs.declared.subject.Subject.{Subject}
 use Rattle.compare_built.specs.PairSelection.{AreShares, ComesBefore, HasWeight, serpentine_share}
-use Rattle.cone_check.proofs.SerpentineOrder.{number_at, numbers_long, shares_long}
+use Rattle.pair_facts.proofs.SerpentineOrder.{number_at, numbers_long, shares_long}
 
 -- ---- a pair's share is one of those that there are
 

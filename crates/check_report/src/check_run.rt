@@ -36,9 +36,10 @@ pub fn judge<H: Threads + Wait + Sync, R1: Source, R2: Source, R3: Source, G: Mo
 ) -> Result<(Verdicts, Option<Attempt>), CheckFault>
     // The verdicts are those of what was read, in an order that the settings allow, or of each pair by its cones. In them two outputs, or
     // the next states of two registers, are called equal exactly where their functions agree wherever the condition holds. The nodes that
-    // are needed in this order are within the limit, and within the budget of the attempt. A pair is undecided only where its
-    // cones have more variables than a pairing has, or each attempt of them was given up. Each attempt within a smaller budget than that of
-    // the one that is reported was given up, and within the first budget each before it.
+    // are needed in this order are within the limit, and within the budget of the attempt. A pair is undecided only if no pattern shows
+    // that it differs, and its cones have more variables than a pairing has, or each attempt of them was given up. A difference that may not
+    // be the least comes only then too, or if any difference is asked for. Each attempt within a smaller budget than that of the one that is
+    // reported was given up, and within the first budget each before it.
     ensures decision { let input = device_texts (R1.remaining first.old) (R2.remaining second.old) (device_text R3.remaining given.old) in
         let s = context.now.settings.now in
         IfOk result (λ r. IsDecision input s (G.bound context.now.monitor.now) (found_of r.0) r.1) }
@@ -97,7 +98,8 @@ pub fn check<H: Threads + Wait + Sync, R1: Source, R2: Source, R3: Source, G: Mo
     // What was written is the report of what was read, in an order that the settings allow, or of each pair by its cones, and nothing
     // else. In it two outputs, or the next states of two registers, are called equal exactly where their functions agree wherever the
     // condition holds. The nodes that are needed in this order are within the limit, and within the budget of the attempt. A pair is
-    // undecided only where its cones have more variables than a pairing has, or each attempt of them was given up.
+    // undecided only if no pattern shows that it differs, and its cones have more variables than a pairing has, or each attempt of them was
+    // given up. A difference that may not be the least comes only then too, or if any difference is asked for.
     ensures report { let input = device_texts (R1.remaining first.old) (R2.remaining second.old) (device_text R3.remaining given.old) in
         let s = context.now.settings.now in
         IfOk result (λ r. (bytes : List ℕ) × IsReportBy input s (G.bound context.now.monitor.now) r.1 r.0 bytes

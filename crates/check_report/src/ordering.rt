@@ -80,6 +80,6 @@ pub(crate) fn text_for<H: Threads + Wait + Sync, G: Monitor>(
     match &task.settings.order {
         Strategy::One(order) => given_text(task, order),
         Strategy::Best => best_text(task, monitor),
-        Strategy::Auto | Strategy::Cones => given_text(task, &Order::Declared),
+        Strategy::Auto | Strategy::Cones | Strategy::Merge => { given_text(task, &Order::Declared) }
     }
 }

@@ -1,5 +1,5 @@
 -- The table of a run's faults, and the statements that it says.
-use Rattle.std.proofs.Common.{◌≡◌, ◌≢◌, subst, refl, ℕ, List, Option}
+use Rattle.std.proofs.Common.{subst, refl, ℕ, List, Option}
 use Rattle.expand_work.specs.declared.fault.WaveFault.TheVariants.{OutOfMemory as NoWaveMemory, NoWorker, Full, TooManyRequests}
 use Rattle.compare_built.specs.declared.fault.CheckFault.TheVariants.{First, Second, Given, GivenOutputs, Order, Only, Explain, Wave, GivenUp}
 use Rattle.compare_built.specs.declared.fault.CheckFault.TheVariants.{Write, OutOfMemory as NoCheckMemory}

@@ -18,13 +18,14 @@ use Rattle.net_order.specs.declared.order.Match.{Match}
 use Rattle.net_order.specs.declared.order.Order.{Order}
 use Rattle.command_line.specs.declared.options.Options.{Options}
 use Rattle.command_line.specs.declared.options.OrderChoice.{OrderChoice}
-use Rattle.command_line.specs.declared.options.OrderChoice.TheVariants.{Declared, Depth, Interleave, Index, Force, Best, Auto, Cones, File, Extended}
+use Rattle.command_line.specs.declared.options.OrderChoice.TheVariants.{Declared, Depth, Interleave, Index, Force, Best, Auto, Cones, Merge, File, Extended}
 use Rattle.check_tool.specs.Running.{AreSettings, IsFailedCheck, IsOrderOf, MayGoByCones, NamesOrder, limit_of}
 
 -- cones may be taken where the options allow them
 pub goes_by_cones : (bytes_at : List ℕ → Option (List ℕ)) (c : OrderChoice) (choice : Strategy) → IsOrderOf bytes_at c choice → MayGoByCones c → MayCheckByCones choice
 goes_by_cones bytes_at Auto choice is may = subst MayCheckByCones (sym is) tt
 goes_by_cones bytes_at Cones choice is may = subst MayCheckByCones (sym is) tt
+goes_by_cones bytes_at Merge choice is may = subst MayCheckByCones (sym is) tt
 goes_by_cones bytes_at Declared choice is may = absurd may
 goes_by_cones bytes_at Depth choice is may = absurd may
 goes_by_cones bytes_at Interleave choice is may = absurd may
@@ -46,6 +47,7 @@ named_by bytes_at (Extended path) choice is named = tt
 named_by bytes_at Best choice is named = absurd (subst NamesCheckOrder is named)
 named_by bytes_at Auto choice is named = absurd (subst NamesCheckOrder is named)
 named_by bytes_at Cones choice is named = absurd (subst NamesCheckOrder is named)
+named_by bytes_at Merge choice is named = absurd (subst NamesCheckOrder is named)
 
 -- no bound is passed where there is none
 pub none_past : {A : Type 0} (bound : Option A) (P : A → Type 0) → bound ≡ None → IsSomeAnd bound P → ⊥

@@ -10,7 +10,7 @@ use Rattle.compare_built.specs.declared.fault.CheckFault.TheVariants.{Write}
 use Rattle.report_text.specs.Writing.{AppendsFront}
 use Rattle.command_line.specs.declared.options.Options.{Options}
 use Rattle.command_line.specs.declared.options.OrderChoice.{OrderChoice}
-use Rattle.command_line.specs.declared.options.OrderChoice.TheVariants.{Declared, Depth, Interleave, Index, Force, Best, Auto, Cones, File}
+use Rattle.command_line.specs.declared.options.OrderChoice.TheVariants.{Declared, Depth, Interleave, Index, Force, Best, Auto, Cones, Merge, File}
 use Rattle.command_line.specs.declared.options.OrderChoice.TheVariants.{Extended}
 use Rattle.command_line.specs.declared.reading.Refused.{Refused}
 use Rattle.command_line.specs.declared.reading.Refused.TheVariants.{Help, Mistake, OutOfMemory as NoWordMemory}
@@ -108,6 +108,7 @@ abbrev pub IsMethodSaid : OrderChoice → Option Attempt → Written → Type 0
 IsMethodSaid choice (Some t) w = IsAttemptSaid (Some t) w
 IsMethodSaid Auto None w = Says w cones_line
 IsMethodSaid Cones None w = Says w cones_line
+IsMethodSaid Merge None w = Says w cones_line
 IsMethodSaid Declared None w = IsAttemptSaid None w
 IsMethodSaid Depth None w = IsAttemptSaid None w
 IsMethodSaid Interleave None w = IsAttemptSaid None w

@@ -24,7 +24,7 @@ use Rattle.command_line.specs.declared.options.Picks.{Picks}
 use Rattle.command_line.specs.declared.options.Picks.TheVariants.{All as AllPicks, Only as OnlyPicks, Share as SharePicks}
 use Rattle.command_line.specs.declared.options.Options.{Options}
 use Rattle.command_line.specs.declared.options.OrderChoice.{OrderChoice}
-use Rattle.command_line.specs.declared.options.OrderChoice.TheVariants.{Declared, Depth, Interleave, Index, Force, Best, Auto, Cones, File}
+use Rattle.command_line.specs.declared.options.OrderChoice.TheVariants.{Declared, Depth, Interleave, Index, Force, Best, Auto, Cones, Merge, File}
 use Rattle.command_line.specs.declared.options.OrderChoice.TheVariants.{Extended}
 use Rattle.command_line.specs.declared.options.Texts.{Texts}
 use Rattle.command_line.specs.declared.options.Texts.TheVariants.{Input, Files, InputAndFile, FileAndInput, InputTwice, One}
@@ -115,6 +115,7 @@ order_location Force fault = None
 order_location Best fault = None
 order_location Auto fault = None
 order_location Cones fault = None
+order_location Merge fault = None
 
 -- where the condition is at fault: in the line of a refused text, or as a whole
 abbrev pub given_location : Option (Bor (List ℕ)) → BenchFault → Where
@@ -185,6 +186,7 @@ abbrev pub fewer_nodes : OrderChoice → List ℕ
 fewer_nodes Best = codes "interleave, force, index, depth and declared were tried; a list by --order-file may need fewer nodes"
 fewer_nodes Auto = codes "interleave, force, index, depth and declared were tried; another --memory, or a list by --order-file, may help"
 fewer_nodes Cones = codes "each pair was judged by its cones; another --memory, or fewer --workers, may help"
+fewer_nodes Merge = codes "each pair was judged by its cones; another --memory, or fewer --workers, may help"
 fewer_nodes Declared = codes "another order may need fewer nodes: try --order auto"
 fewer_nodes Depth = codes "another order may need fewer nodes: try --order auto"
 fewer_nodes Interleave = codes "another order may need fewer nodes: try --order auto"

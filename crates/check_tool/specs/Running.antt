@@ -19,7 +19,7 @@ use Rattle.compare_built.specs.Limits.{AreBeyond}
 use Rattle.compare_built.specs.Attempts.{AreGivenUp, AreTried as TriesOrders, IsAllowed, IsGivenUpWithin, last_budget}
 use Rattle.compare_built.specs.declared.strategy.Attempt.{Attempt}
 use Rattle.compare_built.specs.declared.strategy.Strategy.{Strategy}
-use Rattle.compare_built.specs.declared.strategy.Strategy.TheVariants.{One as Ordered, Best as TheBest, Auto as Found, Cones as ByCones}
+use Rattle.compare_built.specs.declared.strategy.Strategy.TheVariants.{One as Ordered, Best as TheBest, Auto as Found, Cones as ByCones, Merge as ByMerging}
 use Rattle.compare_built.specs.declared.pair_filter.PairFilter.{PairFilter}
 use Rattle.compare_built.specs.declared.pair_filter.PairFilter.TheVariants.{All as AllPairs, Only as OnlyPairs, Share as SharedPairs}
 use Rattle.compare_built.specs.declared.settings.Settings.{Settings}
@@ -33,7 +33,11 @@ use Rattle.command_line.specs.declared.options.Picks.{Picks}
 use Rattle.command_line.specs.declared.options.Picks.TheVariants.{All, Only, Share}
 use Rattle.command_line.specs.declared.options.Options.{Options}
 use Rattle.command_line.specs.declared.options.OrderChoice.{OrderChoice}
-use Rattle.command_line.specs.declared.options.OrderChoice.TheVariants.{Declared, Depth, Interleave, Index, Force, Best, Auto, Cones, File}
+use Rattle.command_line.specs.declared.options.DifferenceChoice.{DifferenceChoice}
+use Rattle.command_line.specs.declared.options.DifferenceChoice.TheVariants.{Least, AnyOne}
+use Rattle.compare_built.specs.declared.settings.Difference.{Difference}
+use Rattle.compare_built.specs.declared.settings.Difference.TheVariants.{Least as TheLeast, AnyOne as TheAny}
+use Rattle.command_line.specs.declared.options.OrderChoice.TheVariants.{Declared, Depth, Interleave, Index, Force, Best, Auto, Cones, Merge, File}
 use Rattle.command_line.specs.declared.options.OrderChoice.TheVariants.{Extended}
 use Rattle.command_line.specs.declared.options.Texts.{Texts}
 use Rattle.command_line.specs.declared.options.Texts.TheVariants.{Input, Files, InputAndFile, FileAndInput, InputTwice, One}
@@ -104,6 +108,7 @@ order_paths Force = []
 order_paths Best = []
 order_paths Auto = []
 order_paths Cones = []
+order_paths Merge = []
 
 -- a path, where there is one
 abbrev pub path_in : Option (Bor (List ℕ)) → List (List ℕ)
@@ -156,6 +161,7 @@ IsOrderOf bytes_at Force choice = choice ≡ Ordered force
 IsOrderOf bytes_at Best choice = choice ≡ TheBest
 IsOrderOf bytes_at Auto choice = choice ≡ Found
 IsOrderOf bytes_at Cones choice = choice ≡ ByCones
+IsOrderOf bytes_at Merge choice = choice ≡ ByMerging
 IsOrderOf bytes_at (File path) choice = (names : List (List ℕ)) × (choice ≡ Ordered (Listed names))
     × IfSome (bytes_at path.now) (λ text. IsOrderText text names)
 IsOrderOf bytes_at (Extended path) choice = (names : List (List ℕ)) × (choice ≡ Ordered (extended names))
@@ -165,10 +171,11 @@ IsOrderOf bytes_at (Extended path) choice = (names : List (List ℕ)) × (choice
 abbrev pub node_bytes : ℕ
 node_bytes = 512
 
--- the most nodes in this order: of auto and of cones as many as the memory holds, where the limit is not less
+-- the most nodes in this order: of auto, of cones and of merge as many as the memory holds, where the limit is not less
 abbrev pub limit_in : OrderChoice → (limit memory : ℕ) → ℕ
 limit_in Auto limit memory = min limit (memory / node_bytes)
 limit_in Cones limit memory = min limit (memory / node_bytes)
+limit_in Merge limit memory = min limit (memory / node_bytes)
 limit_in Declared limit memory = limit
 limit_in Depth limit memory = limit
 limit_in Interleave limit memory = limit
@@ -186,6 +193,7 @@ limit_of o = limit_in o.order o.limit o.memory
 abbrev pub MayGoByCones : OrderChoice → Type 0
 MayGoByCones Auto = ⊤
 MayGoByCones Cones = ⊤
+MayGoByCones Merge = ⊤
 MayGoByCones Declared = ⊥
 MayGoByCones Depth = ⊥
 MayGoByCones Interleave = ⊥
@@ -207,6 +215,7 @@ NamesOrder (Extended path) = ⊤
 NamesOrder Best = ⊥
 NamesOrder Auto = ⊥
 NamesOrder Cones = ⊥
+NamesOrder Merge = ⊥
 
 -- the pairs that are asked for
 abbrev pub IsPickedOf : Picks → PairFilter → Type 0
@@ -225,9 +234,15 @@ IsKindAndName word NextState name = word ≡ codes "NEXT " ++ name
 abbrev pub AreTargetsOf : List (Bor (List ℕ)) → List PairName → Type 0
 AreTargetsOf words targets = AllZip (λ (w : Bor (List ℕ)) (t : PairName). IsKindAndName w.now t.role t.name) words targets
 
+-- the difference that is wanted
+abbrev pub IsDifferenceOf : DifferenceChoice → Difference → Type 0
+IsDifferenceOf Least difference = difference ≡ TheLeast
+IsDifferenceOf AnyOne difference = difference ≡ TheAny
+
 -- The settings of a check that the options ask for, in an order of this choice, of these pairs.
 pub record AreSettings (o : Options) (choice : Strategy) (picked : PairFilter) (s : Settings) : Type 0 where
   pub matching : s.matching ≡ o.matching
+  pub difference : IsDifferenceOf o.difference s.difference
   pub order : s.order ≡ choice
   pub picked_pairs : s.picked ≡ picked
   pub limit : s.limit ≡ limit_of o

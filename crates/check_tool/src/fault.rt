@@ -170,7 +170,7 @@ fn words_of_wave(fault: WaveFault) -> Words
         WaveFault::OutOfMemory => plain("out of memory"),
         WaveFault::NoWorker => plain("a worker could not be started"),
         WaveFault::Full => plain("more nodes than the limit"),
-        WaveFault::TooManyRequests => plain("more requests than the gate allows"),
+        WaveFault::TooManyRequests => plain("more requests than the bound allows"),
     }
 }
 

@@ -1,7 +1,7 @@
 //! The files that a run opens, and what is read of them before its texts are compared.
 ghost use Rattle.std.specs.Prelude.{◌≡◌, ◌∷◌, [], List, IfOk, IfErr, OnOk, IfSome, Some, is_ok};
 ghost use Rattle.compare_built.specs.declared.strategy.Strategy.{Strategy as StrategyValue};
-ghost use Rattle.command_line.specs.declared.options.OrderChoice.TheVariants.{Auto, Cones};
+ghost use Rattle.command_line.specs.declared.options.OrderChoice.TheVariants.{Auto, Cones, Merge};
 ghost use Rattle.compare_built.specs.Devices.{device_text};
 ghost use Rattle.net_order.specs.OrderText.{IsOrderText};
 ghost use Rattle.check_tool.specs.Opening.{Extends, HasFailedAt, Try, opened};
@@ -62,6 +62,7 @@ fn order_of<F: Folder>(
     ensures order { IfOk result (IsOrderOf (F.bytes_at folder.old) choice.entry) }
     ensures auto { IfOk result (λ c. c ≡ StrategyValue.Auto → choice.entry ≡ Auto) }
     ensures cones { IfOk result (λ c. (c ≡ StrategyValue.Cones → choice.entry ≡ Cones) × (choice.entry ≡ Cones → c ≡ StrategyValue.Cones)) }
+    ensures merge { IfOk result (λ c. c ≡ StrategyValue.Merge → choice.entry ≡ Merge) }
     ensures opened { OnOk result (Extends (F.tries folder.old) (F.tries folder.new) (opened (order_paths choice.entry))) }
     ensures files_unchanged { F.bytes_at folder.new ≡ F.bytes_at folder.old }
     ensures unsaved { F.saves folder.new ≡ F.saves folder.old }
@@ -77,6 +78,7 @@ fn order_of<F: Folder>(
         OrderChoice::Best => Ok(Strategy::Best),
         OrderChoice::Auto => Ok(Strategy::Auto),
         OrderChoice::Cones => Ok(Strategy::Cones),
+        OrderChoice::Merge => Ok(Strategy::Merge),
         OrderChoice::File(path) => {
             let names = names_in(alloc, folder, path)?;
             Ok(Strategy::One(Order::Listed(names)))
@@ -119,6 +121,7 @@ pub(crate) fn prepare<F: Folder>(
     ensures auto { IfOk result (λ r. r.1 ≡ StrategyValue.Auto → options.now.order ≡ Auto) }
     ensures cones { IfOk result (λ r. (r.1 ≡ StrategyValue.Cones → options.now.order ≡ Cones)
         × (options.now.order ≡ Cones → r.1 ≡ StrategyValue.Cones)) }
+    ensures merge { IfOk result (λ r. r.1 ≡ StrategyValue.Merge → options.now.order ≡ Merge) }
     ensures opened { OnOk result (Extends (F.tries folder.old) (F.tries folder.new) (opened (later_paths options.now))) }
     ensures files_unchanged { F.bytes_at folder.new ≡ F.bytes_at folder.old }
     ensures unsaved { F.saves folder.new ≡ F.saves folder.old }

@@ -30,6 +30,7 @@ pub mod progress;
 pub mod quote;
 mod remedy;
 pub mod run;
+pub mod run_monitor;
 mod saving;
 mod say;
 mod settings;

@@ -1,11 +1,12 @@
-//! How far a build is, told on standard error.
+//! How far a run is, as standard error reports it: builds, attempts, patterns and rounds of merging.
 ghost use Rattle.std.specs.Prelude.{◌≡◌, ◌||◌, is_some};
 
 use crate::folder::{Disk, Folder};
+use crate::quote::excerpt;
 use crate::say::say;
 use crate::terminal::TerminalSink;
 use dd_store::Watch;
-use expand_work::{AttemptEnd, Monitor, NoMonitor};
+use expand_work::{AttemptEnd, MergeRound, Monitor, NoMonitor};
 use net_bench::device::{Sink, read_text};
 use std::alloc::{AllocError, Global};
 use std::fmt;
@@ -116,6 +117,46 @@ impl fmt::Display for Ended {
     }
 }
 
+/// How many pairs patterns have shown to differ, and the name of the first of these.
+#[derive(Drop)]
+struct Shown {
+    different: usize,
+    pairs: usize,
+    first: String,
+}
+
+impl fmt::Display for Shown {
+    fn fmt<W: fmt::Write>(&self, f: &mut fmt::Formatter<W>) -> fmt::Result {
+        write!(
+            f,
+            "patterns show that {} of {} pairs differ",
+            self.different, self.pairs
+        )?;
+        if self.different == 0 {
+            return Ok(());
+        }
+        write!(f, ", the first is {}", self.first)
+    }
+}
+
+/// What a round of merging has come to.
+#[derive(Clone, Copy, Drop)]
+struct RoundStatus {
+    round: MergeRound,
+}
+
+impl fmt::Display for RoundStatus {
+    fn fmt<W: fmt::Write>(&self, f: &mut fmt::Formatter<W>) -> fmt::Result {
+        let round = self.round;
+        write!(
+            f,
+            "merging, budget {}: {} gates, {} merged by {} windows, {} candidates left",
+            round.budget, round.gates, round.merged, round.windows, round.candidates
+        )?;
+        write!(f, "; {} of {} pairs decided", round.decided, round.pairs)
+    }
+}
+
 /// What takes the line of a terminal away.
 const CLEAN: &[u8] = b"\r\x1b[K";
 
@@ -175,10 +216,22 @@ impl<E: Sink> ProgressDisplay<'_, E> {
         self.write(line.as_bytes());
         Ok(())
     }
+
+    /// Reports this by a line that stays.
+    fn announce<D: fmt::Display + Drop>(
+        &mut self,
+        alloc: Global,
+        update: D,
+    ) -> Result<(), AllocError> {
+        let line = format!(in alloc; "bddcheck: {update}\n")?;
+        self.clean();
+        self.write(line.as_bytes());
+        Ok(())
+    }
 }
 
-/// A monitor that holds nobody. It tells at which rank a build is, at most once a second: by lines, or by one line in place. What it writes
-/// is written under a lock, since builds of several threads may tell it.
+/// A monitor that waits for nothing. It reports at which rank a build is, at most once a second: by lines, or by one line in place. What it
+/// writes is written under a lock, since builds of several threads may report.
 #[derive(Drop)]
 pub struct Progress<'a, 'e, H, E> {
     rt: &'a H,
@@ -228,6 +281,16 @@ impl<'a, 'e, H: Clock + MemoryMeter + Wait, E: Sink> Progress<'a, 'e, H, E> {
     fn show<D: fmt::Display + Drop>(&self, update: D) {
         let _ = self.display.lock(self.rt).show(self.alloc, update);
     }
+
+    /// Reports this by a line that stays, if there is memory for it.
+    fn announce<D: fmt::Display + Drop>(&self, update: D) {
+        let _ = self.display.lock(self.rt).announce(self.alloc, update);
+    }
+
+    /// Whether more is asked for than a terminal shows by itself.
+    fn is_by_lines(&self) -> bool {
+        self.display.lock(self.rt).form == Form::Lines
+    }
 }
 
 impl<H: Clock + MemoryMeter + Wait + Sync, E: Sink + Send> Watch for Progress<'_, '_, H, E> {
@@ -265,9 +328,29 @@ impl<H: Clock + MemoryMeter + Wait + Sync, E: Sink + Send> Monitor for Progress<
 
     // The attempt that decides is told behind the report.
     fn at_attempt(&self, budget: u64, end: AttemptEnd) {
-        let is_shown = self.display.lock(self.rt).form == Form::Lines;
-        if is_shown && !matches!(end, AttemptEnd::Decided { .. }) {
+        if self.is_by_lines() && !matches!(end, AttemptEnd::Decided { .. }) {
             self.show(Ended { budget, end });
+        }
+    }
+
+    // A terminal by itself shows only that there are differences.
+    fn at_patterns(&self, different: usize, pairs: usize, first: &[u8]) {
+        if different == 0 && !self.is_by_lines() {
+            return;
+        }
+        let Ok(first) = excerpt(self.alloc, first) else {
+            return;
+        };
+        self.announce(Shown {
+            different,
+            pairs,
+            first,
+        });
+    }
+
+    fn at_merge(&self, round: MergeRound) {
+        if self.is_by_lines() {
+            self.announce(RoundStatus { round });
         }
     }
 }

@@ -89,7 +89,7 @@ fn shown(alloc: Global, bytes: &[u8]) -> Result<String, AllocError>
 }
 
 /// The bytes, as they are shown, at most so many, and whether they are cut.
-fn excerpt(alloc: Global, whole: &[u8]) -> Result<String, AllocError>
+pub(crate) fn excerpt(alloc: Global, whole: &[u8]) -> Result<String, AllocError>
     ensures { IfOk result (λ s. string_bytes s ≡ excerpt whole.now) }
 {
     let front = shown(alloc, front(whole, MOST_SHOWN))?;

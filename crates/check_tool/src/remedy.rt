@@ -63,7 +63,7 @@ fn help_by_order(choice: OrderChoice<'_>) -> &'static str
             "interleave, force, index, depth and declared were tried; a list by --order-file may need fewer nodes",
         OrderChoice::Auto =>
             "interleave, force, index, depth and declared were tried; another --memory, or a list by --order-file, may help",
-        OrderChoice::Cones =>
+        OrderChoice::Cones | OrderChoice::Merge =>
             "each pair was judged by its cones; another --memory, or fewer --workers, may help",
         _ => "another order may need fewer nodes: try --order auto",
     }

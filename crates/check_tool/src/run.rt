@@ -15,10 +15,11 @@ use crate::fault::{FileRole, ToolFault};
 use crate::files::open;
 use crate::folder::Folder;
 use crate::progress::{MemoryMeter, Progress, form_on};
+use crate::run_monitor::RunMonitor;
 use crate::split::split_input;
 use crate::terminal::TerminalSink;
 use command_line::{Options, Texts};
-use expand_work::{Monitor, NoMonitor};
+use expand_work::Monitor;
 use net_bench::device::{InMemory, Sink, Source, TextFault, read_text};
 use std::alloc::Global;
 use std::rt::Clock;
@@ -191,6 +192,7 @@ fn run_by<H: AllocGlobal + Threads + Wait + Sync, F: Folder, R: Source, W: Sink,
 /// and the order's are opened in this order; where the input is divided, the latter two are opened behind that.
 pub fn run_options<
     'a,
+    'e,
     H: AllocGlobal + Clock + MemoryMeter + Threads + Wait + Sync,
     F: Folder,
     R: Source,
@@ -202,7 +204,7 @@ pub fn run_options<
     folder: &mut F,
     input: &mut R,
     out: &mut W,
-    errors: &mut E,
+    errors: &'e mut E,
 ) -> Result<Done, ToolFault>
     // What was written is the report of the two texts where the condition holds, in the order that is asked for, or of each pair that is
     // picked by its cones, or this order, and nothing else.
@@ -236,30 +238,29 @@ pub fn run_options<
         (said_by E.contents E.has_failed E.has_stopped errors.old errors.new) }
 {
     let Some(form) = form_on(options.verbose, errors) else {
-        let monitor = &NoMonitor;
+        let monitor: RunMonitor<'a, 'e, H, E> = RunMonitor::Silent;
         return run_by(
             &Run {
                 rt,
                 options,
-                monitor,
+                monitor: &monitor,
             },
             folder,
             input,
             out,
         );
     };
-    let progress = Progress::new(rt, rt.alloc(), form, errors);
-    let monitor = &progress;
+    let monitor = RunMonitor::Shown(Progress::new(rt, rt.alloc(), form, errors));
     let ended = run_by(
         &Run {
             rt,
             options,
-            monitor,
+            monitor: &monitor,
         },
         folder,
         input,
         out,
     );
-    progress.end();
+    monitor.end();
     ended
 }

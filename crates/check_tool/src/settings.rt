@@ -2,23 +2,25 @@
 ghost use Rattle.std.specs.Prelude.{◌≡◌, ◌≤◌, ◌++◌, List, ℕ, IfOk, map, take};
 ghost use Rattle.compare_built.specs.declared.strategy.Strategy.{Strategy as StrategyValue};
 ghost use Rattle.command_line.specs.declared.options.OrderChoice.{OrderChoice as OrderValue};
-ghost use Rattle.check_tool.specs.Running.{AreSettings, AreTargetsOf, IsKindAndName, IsPickedOf, limit_of, limit_in};
+ghost use Rattle.check_tool.specs.Running.{AreSettings, AreTargetsOf, IsDifferenceOf, IsKindAndName, IsPickedOf, limit_of, limit_in};
 
-use check_report::{Name, PairFilter, PairKind, PairName, Settings, Strategy};
-use command_line::{Options, OrderChoice, Picks};
+use check_report::{Difference, Name, PairFilter, PairKind, PairName, Settings, Strategy};
+use command_line::{DifferenceChoice, Options, OrderChoice, Picks};
 use std::alloc::{AllocError, Global};
 
 /// The bytes of memory that are reckoned for each node of an attempt.
 pub(crate) const NODE_BYTES: u64 = 512;
 
-/// The most nodes that the options allow: of auto and of cones as many as the memory holds.
+/// The most nodes that the options allow: of auto, of cones and of merge as many as the memory holds.
 pub(crate) fn limit_of(options: &Options<'_>) -> u64
     ensures limit { result ≡ limit_of options.now }
     ensures some { 1 ≤ result }
     ensures few { result ≤ 4294967295 }
 {
     match options.order {
-        OrderChoice::Auto | OrderChoice::Cones => options.limit.min(options.memory / NODE_BYTES),
+        OrderChoice::Auto | OrderChoice::Cones | OrderChoice::Merge => {
+            options.limit.min(options.memory / NODE_BYTES)
+        }
         _ => options.limit,
     }
 }
@@ -78,6 +80,16 @@ pub(crate) fn targets_of(alloc: Global, words: &[&str]) -> Result<Vec<PairName>,
     Ok(targets)
 }
 
+/// Which difference is wanted.
+fn difference_of(choice: DifferenceChoice) -> Difference
+    ensures { IsDifferenceOf choice result }
+{
+    match choice {
+        DifferenceChoice::Least => Difference::Least,
+        DifferenceChoice::AnyOne => Difference::AnyOne,
+    }
+}
+
 /// The settings of a check in this order, of these pairs, with what is to be explained.
 pub(crate) fn settings_of(
     options: &Options<'_>,
@@ -87,6 +99,7 @@ pub(crate) fn settings_of(
 ) -> Settings
     requires auto { order ≡ StrategyValue.Auto → options.now.order ≡ OrderValue.Auto }
     requires cones { order ≡ StrategyValue.Cones → options.now.order ≡ OrderValue.Cones }
+    requires merge { order ≡ StrategyValue.Merge → options.now.order ≡ OrderValue.Merge }
     requires by_cones { options.now.order ≡ OrderValue.Cones → order ≡ StrategyValue.Cones }
     requires picked { IsPickedOf options.now.picks picked }
     requires explain { AreTargetsOf options.now.explain.items explain.items }
@@ -96,6 +109,7 @@ pub(crate) fn settings_of(
         matching: options.matching,
         order,
         picked,
+        difference: difference_of(options.difference),
         workers: options.workers,
         limit: limit_of(options),
         sizes: options.sizes,

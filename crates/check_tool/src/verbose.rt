@@ -40,7 +40,7 @@ fn say_method<E: Sink>(
     ensures { IsMethodSaid choice.entry tried (written E.contents E.has_failed E.has_stopped errors.old errors.new) }
 {
     match (choice, tried) {
-        (OrderChoice::Auto, None) | (OrderChoice::Cones, None) => {
+        (OrderChoice::Auto, None) | (OrderChoice::Cones, None) | (OrderChoice::Merge, None) => {
             say(errors, b"bddcheck: each pair was judged by its cones\n");
         }
         _ => say_attempt(alloc, tried, errors),

@@ -3,7 +3,7 @@ use Rattle.std.proofs.Common.{◌≡◌, ◌∙◌, ◌⊎◌, inl, inr, refl, s
 use Rattle.std.specs.Prelude.{◌↔◌, IsSomeAnd, codes}
 use Rattle.clap.specs.Words.{Row, Text, first_of}
 use Rattle.command_line.specs.declared.options.OrderChoice.{OrderChoice}
-use Rattle.command_line.specs.declared.options.OrderChoice.TheVariants.{Auto, Cones}
+use Rattle.command_line.specs.declared.options.OrderChoice.TheVariants.{Auto, Cones, Merge}
 use Rattle.command_line.specs.declared.options.Picks.{Picks}
 use Rattle.command_line.specs.declared.options.Picks.TheVariants.{All}
 use Rattle.command_line.specs.Words.{IsChoice, IsOrderIfPicked, IsOrderIn, IsSearchName, GiveTwoOrders, GiveTwoPicks, GiveSearch, GiveSearchWith, GivePicksWithFixedOrder, GiveUnusedMemory, GiveUnusedExtend, GiveExplainConflict, GiveUnusedVcd, GiveCausesConflict, HaveConflict, ArePicks, are_picked, flag_of, names_in, share_in, default_order_of}
@@ -37,26 +37,31 @@ no_conflict rows a b c d e f g h i j (inr (inr (inr (inr (inr (inr (inr (inr (in
 
 -- an order is to be found
 abbrev IsSearch : OrderChoice → Type 0
-IsSearch choice = (choice ≡ Auto) ⊎ (choice ≡ Cones)
+IsSearch choice = (choice ≡ Auto) ⊎ (choice ≡ Cones) ⊎ (choice ≡ Merge)
 
 -- the words ask for such an order, or it is that of words that name none
 where_found : (picked : Bool) (file word : Option Text) (extend : Bool) (default_order choice : OrderChoice) → IsOrderIfPicked picked file word extend default_order choice → IsSearch choice
     → (IsSomeAnd word IsSearchName ⊎ (picked ≡ true)) ⊎ (default_order ≡ choice)
 where_found true file word extend default_order choice is found = inl (inr refl)
 where_found false (Some file) word extend default_order choice is (inl auto) = absurd (subst (IsChoice (Some file) word extend default_order) auto is)
-where_found false (Some file) word extend default_order choice is (inr cones) = absurd (subst (IsChoice (Some file) word extend default_order) cones is)
+where_found false (Some file) word extend default_order choice is (inr (inl cones)) = absurd (subst (IsChoice (Some file) word extend default_order) cones is)
+where_found false (Some file) word extend default_order choice is (inr (inr merge)) = absurd (subst (IsChoice (Some file) word extend default_order) merge is)
 where_found false None (Some word) extend default_order choice is (inl auto) = inl (inl (inl (subst (IsChoice None (Some word) extend default_order) auto is)))
-where_found false None (Some word) extend default_order choice is (inr cones) = inl (inl (inr (subst (IsChoice None (Some word) extend default_order) cones is)))
+where_found false None (Some word) extend default_order choice is (inr (inl cones)) = inl (inl (inr (inl (subst (IsChoice None (Some word) extend default_order) cones is))))
+where_found false None (Some word) extend default_order choice is (inr (inr merge)) = inl (inl (inr (inr (subst (IsChoice None (Some word) extend default_order) merge is))))
 where_found false None None extend default_order choice is found = inr (sym is)
 
 -- words that name none ask for no sizes and no order in print then
 plain : (limit : Option Text) (sizes print_order : Bool) (choice : OrderChoice) → default_order_of limit sizes print_order ≡ choice → IsSearch choice → (sizes ≡ false) × (print_order ≡ false)
 plain (Some limit) sizes print_order choice is (inl auto) = cc
-plain (Some limit) sizes print_order choice is (inr cones) = cc
+plain (Some limit) sizes print_order choice is (inr (inl cones)) = cc
+plain (Some limit) sizes print_order choice is (inr (inr merge)) = cc
 plain None true print_order choice is (inl auto) = cc
-plain None true print_order choice is (inr cones) = cc
+plain None true print_order choice is (inr (inl cones)) = cc
+plain None true print_order choice is (inr (inr merge)) = cc
 plain None false true choice is (inl auto) = cc
-plain None false true choice is (inr cones) = cc
+plain None false true choice is (inr (inl cones)) = cc
+plain None false true choice is (inr (inr merge)) = cc
 plain None false false choice is found = (refl, refl)
 
 unset : (b : Bool) → (b ≡ true → ⊥) → b ≡ false
@@ -64,7 +69,7 @@ unset true never = absurd (never refl)
 unset false never = refl
 
 -- neither sizes nor an order in print are asked for where an order is to be found
-pub no_flags : (rows : List Row) (choice : OrderChoice) → IsOrderIn rows choice → (HaveConflict rows → ⊥) → (choice ≡ Auto) ⊎ (choice ≡ Cones)
+pub no_flags : (rows : List Row) (choice : OrderChoice) → IsOrderIn rows choice → (HaveConflict rows → ⊥) → (choice ≡ Auto) ⊎ (choice ≡ Cones) ⊎ (choice ≡ Merge)
     → (flag_of (first_of (codes "sizes") rows) ≡ false) × (flag_of (first_of (codes "print-order") rows) ≡ false)
 no_flags rows choice is without_conflict found =
     by (where_found (are_picked (names_in rows) (share_in rows)) (first_of (codes "order-file") rows) (first_of (codes "order") rows) (flag_of (first_of (codes "extend") rows)) _ choice is found)

@@ -20,21 +20,21 @@ use Rattle.command_line.specs.declared.reading.Refused.TheVariants.{Help, Mistak
 use Rattle.command_line.specs.declared.options.OrderChoice.{OrderChoice}
 use Rattle.command_line.specs.Words.{tool_app, IsTool, IsNumberIn, default_limit, IsLimit, AreMatches, IsReportedAs, IsRefusal}
 
-tool_is_simple : (matching order format assignment : Option ValueParser) → is_simple (tool_app matching order format assignment) ≡ true
+tool_is_simple : (matching order format assignment difference : Option ValueParser) → is_simple (tool_app matching order format assignment difference) ≡ true
 unfolding clap_on_literals
-tool_is_simple matching order format assignment = refl
+tool_is_simple matching order format assignment difference = refl
 
 -- no argument has a rule on another
-tool_is_free : (matching order format assignment : Option ValueParser) → is_simple_and_free (tool_app matching order format assignment) ≡ true
+tool_is_free : (matching order format assignment difference : Option ValueParser) → is_simple_and_free (tool_app matching order format assignment difference) ≡ true
 unfolding clap_on_literals
-tool_is_free matching order format assignment = refl
+tool_is_free matching order format assignment difference = refl
 
 pub is_free : (a : App) → IsTool a → is_simple_and_free a ≡ true
-is_free a t = ap is_simple_and_free t.8 ∙ tool_is_free t.0 t.1 t.2 t.3
+is_free a t = ap is_simple_and_free t.10 ∙ tool_is_free t.0 t.1 t.2 t.3 t.4
 
 pub found : (a : App) (words : List (List ℕ)) (m : ArgMatches) → IsTool a → fault_of a words ≡ [] → HasMatchesOf a words m → AreMatches words (rows_of (found_of m))
 found a words m t none h =
-    (t.0, t.1, t.2, t.3, t.4, t.5, t.6, t.7, ap (λ x. fault_of x words) (sym t.8) ∙ none, (h (ap is_simple t.8 ∙ tool_is_simple t.0 t.1 t.2 t.3)).0 ∙ ap (λ x. matches_of x words) t.8)
+    (t.0, t.1, t.2, t.3, t.4, t.5, t.6, t.7, t.8, t.9, ap (λ x. fault_of x words) (sym t.10) ∙ none, (h (ap is_simple t.10 ∙ tool_is_simple t.0 t.1 t.2 t.3 t.4)).0 ∙ ap (λ x. matches_of x words) t.10)
 
 -- want of memory is told as such
 starved : (kind : ErrorKind) (r : Refused) → kind ≡ NoMemory → IsReportedAs kind r → r ≡ OutOfMemory
@@ -45,7 +45,7 @@ starved kind OutOfMemory e t = refl
 
 pub refused : (a : App) (words : List (List ℕ)) (e : Error) (r : Refused) → IsTool a → HasKind (fault_of a words) e → IsReportedAs (kind_of e) r → IsRefusal words r
 refused a words e r t (inl none) reported = inr (inr (inr (starved (kind_of e) r none reported)))
-refused a words e r t (inr among) reported = inl (fault_of a words, kind_of e, (t.0, t.1, t.2, t.3, t.4, t.5, t.6, t.7, ap (λ x. fault_of x words) t.8), among, reported)
+refused a words e r t (inr among) reported = inl (fault_of a words, kind_of e, (t.0, t.1, t.2, t.3, t.4, t.5, t.6, t.7, t.8, t.9, ap (λ x. fault_of x words) t.10), among, reported)
 
 -- the number of a text is read, where it is in a range that fits
 pub number_read : {E : Type 0} (G : List ℕ → Result ℕ E → Type 0) (k low high : ℕ) (word : Option (List ℕ)) (r : Option ℕ) (d n : ℕ) → ((t : List ℕ) → word ≡ Some t → ReadsOne G t r) → ((u : List ℕ) (x : Result ℕ E) → G u x → ParsesUnsigned k 10 u x)

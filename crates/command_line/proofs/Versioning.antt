@@ -11,9 +11,9 @@ use Rattle.command_line.specs.declared.reading.Refused.{Refused}
 use Rattle.command_line.specs.declared.reading.Refused.TheVariants.{Help, Mistake, OutOfMemory}
 use Rattle.command_line.specs.Words.{tool_app, AskFor, IsRefusal, IsReportedAs, PrintsVersion}
 
-fault_found : (matching order format assignment : Option ValueParser) → fault_of (tool_app matching order format assignment) (codes "--version" ∷ []) ≡ DisplayVersion ∷ []
+fault_found : (matching order format assignment difference : Option ValueParser) → fault_of (tool_app matching order format assignment difference) (codes "--version" ∷ []) ≡ DisplayVersion ∷ []
 unfolding clap_on_literals
-fault_found matching order format assignment = refl
+fault_found matching order format assignment difference = refl
 
 one : (kind : ErrorKind) → IsAmong kind (DisplayVersion ∷ []) → kind ≡ DisplayVersion
 one kind (inl is) = is
@@ -33,10 +33,10 @@ found : (kinds : Kinds) → kinds ≡ DisplayVersion ∷ [] → kinds ≡ [] →
 found kinds some none = cc
 
 pub refused : (r : Refused) → IsRefusal (codes "--version" ∷ []) r → PrintsVersion r
-refused r (inl f) = reported f.1 r (of_kind f.0 f.1 (f.2.8 ∙ fault_found f.2.0 f.2.1 f.2.2 f.2.3) f.3) f.4
-refused r (inr (inl f)) = absurd (found (fault_of (tool_app f.1.0 f.1.1 f.1.2 f.1.3) (codes "--version" ∷ [])) (fault_found f.1.0 f.1.1 f.1.2 f.1.3) f.1.8)
-refused r (inr (inr (inl f))) = absurd (found (fault_of (tool_app f.1.0 f.1.1 f.1.2 f.1.3) (codes "--version" ∷ [])) (fault_found f.1.0 f.1.1 f.1.2 f.1.3) f.1.8)
+refused r (inl f) = reported f.1 r (of_kind f.0 f.1 (f.2.10 ∙ fault_found f.2.0 f.2.1 f.2.2 f.2.3 f.2.4) f.3) f.4
+refused r (inr (inl f)) = absurd (found (fault_of (tool_app f.1.0 f.1.1 f.1.2 f.1.3 f.1.4) (codes "--version" ∷ [])) (fault_found f.1.0 f.1.1 f.1.2 f.1.3 f.1.4) f.1.10)
+refused r (inr (inr (inl f))) = absurd (found (fault_of (tool_app f.1.0 f.1.1 f.1.2 f.1.3 f.1.4) (codes "--version" ∷ [])) (fault_found f.1.0 f.1.1 f.1.2 f.1.3 f.1.4) f.1.10)
 refused r (inr (inr (inr none))) = subst PrintsVersion (sym none) tt
 
 pub no_options : (o : Options) → AskFor (codes "--version" ∷ []) o → ⊥
-no_options o a = found (fault_of (tool_app a.1.0 a.1.1 a.1.2 a.1.3) (codes "--version" ∷ [])) (fault_found a.1.0 a.1.1 a.1.2 a.1.3) a.1.8
+no_options o a = found (fault_of (tool_app a.1.0 a.1.1 a.1.2 a.1.3 a.1.4) (codes "--version" ∷ [])) (fault_found a.1.0 a.1.1 a.1.2 a.1.3 a.1.4) a.1.10

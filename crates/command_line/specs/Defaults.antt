@@ -1,6 +1,7 @@
 -- What a command line asks for whose words name nothing.
 use Rattle.std.specs.Prelude.{◌≡◌, false, None, []}
 use Rattle.net_order.specs.declared.order.Match.TheVariants.{Name}
+use Rattle.command_line.specs.declared.options.DifferenceChoice.TheVariants.{Least}
 use Rattle.command_line.specs.declared.options.Options.{Options}
 use Rattle.command_line.specs.declared.options.OrderChoice.TheVariants.{Auto}
 use Rattle.command_line.specs.declared.options.Picks.TheVariants.{All}
@@ -8,7 +9,7 @@ use Rattle.command_line.specs.declared.options.Texts.TheVariants.{Input}
 
 -- by name, in an order that is found, all pairs, without a condition, by 4 workers, as many nodes as a store may have and 4 GiB of memory
 -- hold, without sizes, compared, silent, both texts on the input, no word of assignments, with nothing to explain, no file for the
--- values of a pair that differs, and no causes
+-- values of a pair that differs, no causes, and least differences
 pub record AreDefaults (o : Options) : Type 0 where
   pub matching : o.matching ≡ Name
   pub order : o.order ≡ Auto
@@ -26,3 +27,4 @@ pub record AreDefaults (o : Options) : Type 0 where
   pub assignment : o.assignment ≡ None
   pub vcd : o.vcd ≡ None
   pub causes : o.causes ≡ false
+  pub difference : o.difference ≡ Least

@@ -20,9 +20,11 @@ use Rattle.net_order.specs.declared.order.Match.TheVariants.{Name, Position}
 use Rattle.report_text.specs.declared.assignment.Assignment.{Assignment}
 use Rattle.report_text.specs.declared.assignment.Assignment.TheVariants.{All as AllVariables, Support, Ones}
 use Rattle.report_text.specs.declared.outcome.Share.{Share}
+use Rattle.command_line.specs.declared.options.DifferenceChoice.{DifferenceChoice}
+use Rattle.command_line.specs.declared.options.DifferenceChoice.TheVariants.{Least, AnyOne}
 use Rattle.command_line.specs.declared.options.Options.{Options}
 use Rattle.command_line.specs.declared.options.OrderChoice.{OrderChoice}
-use Rattle.command_line.specs.declared.options.OrderChoice.TheVariants.{Declared, Depth, Interleave, Index, Force, Best, Auto, Cones, File}
+use Rattle.command_line.specs.declared.options.OrderChoice.TheVariants.{Declared, Depth, Interleave, Index, Force, Best, Auto, Cones, Merge, File}
 use Rattle.command_line.specs.declared.options.OrderChoice.TheVariants.{Extended}
 use Rattle.command_line.specs.declared.options.Picks.{Picks}
 use Rattle.command_line.specs.declared.options.Picks.TheVariants.{All, Only, Share as InShare}
@@ -93,6 +95,9 @@ format_rule parser = value_rule (codes "format") (codes "text" ∷ []) parser
 abbrev pub assignment_rule : Option ValueParser → Rule
 assignment_rule parser = value_rule (codes "assignment") [] parser
 
+abbrev pub difference_rule : Option ValueParser → Rule
+difference_rule parser = value_rule (codes "difference") (codes "least" ∷ []) parser
+
 abbrev pub causes_rule : Rule
 causes_rule = record (new_rule (codes "causes")) { long = Some (codes "causes"); action = Some SetTrue }
 
@@ -111,7 +116,7 @@ abbrev pub TakesMatches : Option ValueParser → Type 0
 TakesMatches = TakesOnly (codes "name" ∷ codes "position" ∷ [])
 
 abbrev pub TakesOrders : Option ValueParser → Type 0
-TakesOrders = TakesOnly (codes "auto" ∷ codes "cones" ∷ codes "declared" ∷ codes "depth" ∷ codes "interleave" ∷ codes "index"
+TakesOrders = TakesOnly (codes "auto" ∷ codes "cones" ∷ codes "merge" ∷ codes "declared" ∷ codes "depth" ∷ codes "interleave" ∷ codes "index"
     ∷ codes "force" ∷ codes "best" ∷ [])
 
 abbrev pub TakesFormats : Option ValueParser → Type 0
@@ -120,11 +125,14 @@ TakesFormats = TakesOnly (codes "text" ∷ codes "json" ∷ [])
 abbrev pub TakesAssignments : Option ValueParser → Type 0
 TakesAssignments = TakesOnly (codes "all" ∷ codes "support" ∷ codes "ones" ∷ [])
 
--- The command with its arguments. The parsers of four lists of words are named apart.
-abbrev pub tool_app : (matching order format assignment : Option ValueParser) → App
-tool_app matching order format assignment =
+abbrev pub TakesDifferences : Option ValueParser → Type 0
+TakesDifferences = TakesOnly (codes "least" ∷ codes "any" ∷ [])
+
+-- The command with its arguments. The parsers of five lists of words are named apart.
+abbrev pub tool_app : (matching order format assignment difference : Option ValueParser) → App
+tool_app matching order format assignment difference =
     with_rule (with_rule
-    (with_rule (with_rule
+    (with_rule (with_rule (with_rule
     (with_rule (with_rule
     (with_rule (with_rule
     (with_rule (with_rule
@@ -133,12 +141,12 @@ tool_app matching order format assignment =
     (with_rule (with_rule
     (with_rule (with_rule (with_rule (with_rule bare_app (match_rule matching)) (order_rule order)) order_file_rule) extend_rule)
     given_rule) only_rule) share_rule) explain_rule) vcd_rule) workers_rule) limit_rule) memory_rule) sizes_rule) print_order_rule)
-    (format_rule format)) (assignment_rule assignment)) causes_rule) verbose_rule) (new_rule (codes "FIRST"))) (new_rule (codes "SECOND"))
+    (format_rule format)) (assignment_rule assignment)) causes_rule) (difference_rule difference)) verbose_rule) (new_rule (codes "FIRST"))) (new_rule (codes "SECOND"))
 
 -- the command has these arguments
 abbrev pub IsTool : App → Type 0
-IsTool a = (matching order format assignment : Option ValueParser) × TakesMatches matching × TakesOrders order × TakesFormats format
-    × TakesAssignments assignment × (a ≡ tool_app matching order format assignment)
+IsTool a = (matching order format assignment difference : Option ValueParser) × TakesMatches matching × TakesOrders order × TakesFormats format
+    × TakesAssignments assignment × TakesDifferences difference × (a ≡ tool_app matching order format assignment difference)
 
 -- by position where that word is given
 abbrev pub IsMatching : Option (List ℕ) → Match → Type 0
@@ -173,6 +181,7 @@ IsChoice (Some path) word extend default_order Force = ⊥
 IsChoice (Some path) word extend default_order Best = ⊥
 IsChoice (Some path) word extend default_order Auto = ⊥
 IsChoice (Some path) word extend default_order Cones = ⊥
+IsChoice (Some path) word extend default_order Merge = ⊥
 IsChoice None (Some word) extend default_order (File p) = ⊥
 IsChoice None (Some word) extend default_order (Extended p) = ⊥
 IsChoice None (Some word) extend default_order Depth = bytes_eq word (codes "depth") ≡ true
@@ -182,10 +191,11 @@ IsChoice None (Some word) extend default_order Force = bytes_eq word (codes "for
 IsChoice None (Some word) extend default_order Best = bytes_eq word (codes "best") ≡ true
 IsChoice None (Some word) extend default_order Auto = bytes_eq word (codes "auto") ≡ true
 IsChoice None (Some word) extend default_order Cones = bytes_eq word (codes "cones") ≡ true
+IsChoice None (Some word) extend default_order Merge = bytes_eq word (codes "merge") ≡ true
 IsChoice None (Some word) extend default_order Declared =
     (bytes_eq word (codes "depth") ≡ false) × (bytes_eq word (codes "interleave") ≡ false) × (bytes_eq word (codes "index") ≡ false)
     × (bytes_eq word (codes "force") ≡ false) × (bytes_eq word (codes "best") ≡ false) × (bytes_eq word (codes "auto") ≡ false)
-    × (bytes_eq word (codes "cones") ≡ false)
+    × (bytes_eq word (codes "cones") ≡ false) × (bytes_eq word (codes "merge") ≡ false)
 IsChoice None None extend default_order choice = choice ≡ default_order
 
 -- ---- pairs that are picked
@@ -288,14 +298,22 @@ IsAssignment (Some word) (Some AllVariables) = (bytes_eq word (codes "ones") ≡
 IsAssignment (Some word) None = ⊥
 IsAssignment None which = which ≡ None
 
+-- which difference of a pair is wanted: any if that word is given, and else the least
+abbrev pub IsDifference : Option (List ℕ) → DifferenceChoice → Type 0
+IsDifference (Some word) AnyOne = bytes_eq word (codes "any") ≡ true
+IsDifference (Some word) Least = bytes_eq word (codes "any") ≡ false
+IsDifference None AnyOne = ⊥
+IsDifference None Least = ⊤
+
 -- the number is that of the text, where this is a number of the range
 abbrev pub IsNumberIn : ℕ → ℕ → Option Text → ℕ → Type 0
 IsNumberIn low high word n = IfSome word (λ text. IsUnsignedIn low high text → n ≡ digits_value 10 (without_leading_plus text))
 
--- the limit of nodes where the words give none: of auto and cones what a store may have
+-- the limit of nodes where the words give none: of auto, cones and merge what a store may have
 abbrev pub default_limit : OrderChoice → ℕ
 default_limit Auto = 4294967295
 default_limit Cones = 4294967295
+default_limit Merge = 4294967295
 default_limit Declared = 67108864
 default_limit Depth = 67108864
 default_limit Interleave = 67108864
@@ -345,9 +363,13 @@ GiveTwoOrders rows = IsGiven (codes "order") rows × IsGiven (codes "order-file"
 abbrev pub GiveTwoPicks : List Row → Type 0
 GiveTwoPicks rows = IsGiven (codes "only") rows × IsGiven (codes "share") rows
 
--- a word names an order that is to be found, auto or cones
+-- a word names an order that is to be found, auto, cones or merge
 abbrev pub IsSearchName : Text → Type 0
-IsSearchName word = (bytes_eq word (codes "auto") ≡ true) ⊎ (bytes_eq word (codes "cones") ≡ true)
+IsSearchName word = (bytes_eq word (codes "auto") ≡ true) ⊎ (bytes_eq word (codes "cones") ≡ true) ⊎ (bytes_eq word (codes "merge") ≡ true)
+
+-- a word names an order in which some pairs can be picked, auto or cones
+abbrev pub IsPickingName : Text → Type 0
+IsPickingName word = (bytes_eq word (codes "auto") ≡ true) ⊎ (bytes_eq word (codes "cones") ≡ true)
 
 -- the words give such an order by its name, or pick pairs
 abbrev pub GiveSearch : List Row → Type 0
@@ -357,17 +379,17 @@ GiveSearch rows = IsSomeAnd (first_of (codes "order") rows) IsSearchName ⊎ (ar
 abbrev pub GiveSearchWith : Text → List Row → Type 0
 GiveSearchWith id rows = GiveSearch rows × (flag_of (first_of id rows) ≡ true)
 
--- the words give a file of an order, or another order by its name
+-- the words give a file of an order, or an order in which no pairs can be picked by its name
 abbrev pub GiveFixedOrder : List Row → Type 0
-GiveFixedOrder rows = IsSome (first_of (codes "order-file") rows) ⊎ IsSomeAnd (first_of (codes "order") rows) (λ word. IsSearchName word → ⊥)
+GiveFixedOrder rows = IsSome (first_of (codes "order-file") rows) ⊎ IsSomeAnd (first_of (codes "order") rows) (λ word. IsPickingName word → ⊥)
 
 -- the words pick pairs, and give such an order, in which all pairs are compared
 abbrev pub GivePicksWithFixedOrder : List Row → Type 0
 GivePicksWithFixedOrder rows = (are_picked (names_in rows) (share_in rows) ≡ true) × GiveFixedOrder rows
 
--- the words give memory to an order other than auto and cones, which would have no use for it
+-- the words give memory to an order other than auto, cones and merge, which would have no use for it
 abbrev pub GiveUnusedMemory : List Row → Type 0
-GiveUnusedMemory rows = IsGiven (codes "memory") rows × (IsOrderIn rows Auto → ⊥) × (IsOrderIn rows Cones → ⊥)
+GiveUnusedMemory rows = IsGiven (codes "memory") rows × (IsOrderIn rows Auto → ⊥) × (IsOrderIn rows Cones → ⊥) × (IsOrderIn rows Merge → ⊥)
 
 -- the words ask for the order of a file to be extended, and give no such file
 abbrev pub GiveUnusedExtend : List Row → Type 0
@@ -427,20 +449,22 @@ pub record AreOptions (rows : List Row) (o : Options) : Type 0 where
   pub assignment : IsAssignment (first_of (codes "assignment") rows) o.assignment
   pub vcd : IsFile (first_of (codes "vcd") rows) o.vcd
   pub causes : o.causes ≡ flag_of (first_of (codes "causes") rows)
+  pub difference : IsDifference (first_of (codes "difference") rows) o.difference
 
 -- the kinds of the first fault that clap finds in the words; none where it takes them
 abbrev pub AreFaults : List Text → Kinds → Type 0
 AreFaults words kinds =
-    (matching order format assignment : Option ValueParser) × TakesMatches matching × TakesOrders order × TakesFormats format
-    × TakesAssignments assignment × (kinds ≡ fault_of (tool_app matching order format assignment) words)
+    (matching order format assignment difference : Option ValueParser) × TakesMatches matching × TakesOrders order × TakesFormats format
+    × TakesAssignments assignment × TakesDifferences difference
+    × (kinds ≡ fault_of (tool_app matching order format assignment difference) words)
 
 -- clap takes the words, and the rows are its matches of the command
 abbrev pub AreMatches : List Text → List Row → Type 0
 AreMatches words rows =
-    (matching order format assignment : Option ValueParser) × TakesMatches matching × TakesOrders order × TakesFormats format
-    × TakesAssignments assignment
-    × (fault_of (tool_app matching order format assignment) words ≡ [])
-    × (rows ≡ matches_of (tool_app matching order format assignment) words)
+    (matching order format assignment difference : Option ValueParser) × TakesMatches matching × TakesOrders order × TakesFormats format
+    × TakesAssignments assignment × TakesDifferences difference
+    × (fault_of (tool_app matching order format assignment difference) words ≡ [])
+    × (rows ≡ matches_of (tool_app matching order format assignment difference) words)
 
 -- The words ask for these options, by clap's matches of the command. No two of them exclude each other.
 abbrev pub AskFor : List Text → Options → Type 0

@@ -4,16 +4,17 @@ ghost use Rattle.clap.specs.Words.{new_rule, rule_of};
 ghost use Rattle.command_line.specs.Words.{TakesMatches, TakesOrders, match_rule, order_rule, order_file_rule, extend_rule, given_rule};
 ghost use Rattle.command_line.specs.Words.{only_rule, share_rule, explain_rule, vcd_rule, workers_rule, limit_rule, memory_rule};
 ghost use Rattle.command_line.specs.Words.{sizes_rule, print_order_rule, TakesFormats, format_rule, TakesAssignments, assignment_rule};
-ghost use Rattle.command_line.specs.Words.{causes_rule, verbose_rule};
+ghost use Rattle.command_line.specs.Words.{causes_rule, TakesDifferences, difference_rule, verbose_rule};
 
 use clap::{Arg, ArgAction, value_parser};
 use std::alloc::Global;
 
 static MATCHES: [&str; 2] = ["name", "position"];
 
-static ORDERS: [&str; 8] = [
+static ORDERS: [&str; 9] = [
     "auto",
     "cones",
+    "merge",
     "declared",
     "depth",
     "interleave",
@@ -25,6 +26,8 @@ static ORDERS: [&str; 8] = [
 static FORMATS: [&str; 2] = ["text", "json"];
 
 static ASSIGNMENTS: [&str; 3] = ["all", "support", "ones"];
+
+static DIFFERENCES: [&str; 2] = ["least", "any"];
 
 /// `--match`: by what inputs, outputs and registers are paired.
 pub(crate) fn matching<'a>(alloc: Global) -> Arg<'a>
@@ -204,6 +207,19 @@ pub(crate) fn causes<'a>(alloc: Global) -> Arg<'a>
     Arg::new(alloc, "causes")
         .long("causes")
         .action(ArgAction::SetTrue)
+}
+
+/// `--difference`: which difference of a pair is wanted.
+pub(crate) fn difference<'a>(alloc: Global) -> Arg<'a>
+    ensures rule { rule_of result ≡ difference_rule result.value_parser }
+    ensures parser { TakesDifferences result.value_parser }
+    ensures local { result.global ≡ false }
+{
+    Arg::new(alloc, "difference")
+        .long("difference")
+        .value_name("WHICH")
+        .value_parser(DIFFERENCES.as_slice())
+        .default_value("least")
 }
 
 /// `--verbose`: whether more than faults is printed on standard error.

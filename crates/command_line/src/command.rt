@@ -4,8 +4,8 @@ ghost use Rattle.clap.specs.Words.{app_of};
 ghost use Rattle.command_line.specs.Words.{bare_app, IsTool};
 
 use crate::arguments::{
-    assignment, causes, explain, extend, first, format, given, limit, matching, memory, only,
-    order, order_file, print_order, second, share, sizes, vcd, verbose, workers,
+    assignment, causes, difference, explain, extend, first, format, given, limit, matching, memory,
+    only, order, order_file, print_order, second, share, sizes, vcd, verbose, workers,
 };
 use clap::Command;
 use std::alloc::{AllocError, Global};
@@ -43,6 +43,7 @@ pub fn command<'a>(alloc: Global) -> Result<Command<'a>, AllocError>
         .arg(format(alloc))?
         .arg(assignment(alloc))?
         .arg(causes(alloc))?
+        .arg(difference(alloc))?
         .arg(verbose(alloc))?
         .arg(first(alloc))?
         .arg(second(alloc))?;

@@ -2,7 +2,7 @@
 ghost use Rattle.std.specs.Prelude.{◌≡◌, ◌↔◌, ◌⊎◌, Bool, true, IsSomeAnd, IsTrue, MatchOption, bytes_eq, codes, option_map};
 ghost use Rattle.clap.specs.Words.{found_of, rows_of};
 ghost use Rattle.command_line.specs.declared.options.OrderChoice.{OrderChoice as ChoiceValue};
-ghost use Rattle.command_line.specs.Words.{IsOrderIn, IsChoice, IsSearchName, GiveTwoOrders, GiveTwoPicks, GiveSearch, GiveSearchWith};
+ghost use Rattle.command_line.specs.Words.{IsOrderIn, IsChoice, IsPickingName, IsSearchName, GiveTwoOrders, GiveTwoPicks, GiveSearch, GiveSearchWith};
 ghost use Rattle.command_line.specs.Words.{GiveFixedOrder, GivePicksWithFixedOrder, GiveUnusedMemory, GiveUnusedExtend, AskForJson, GiveExplainConflict};
 ghost use Rattle.command_line.specs.Words.{GiveUnusedVcd, GiveCausesConflict, HaveConflict};
 
@@ -39,13 +39,14 @@ fn is_search_name(word: Option<&str>) -> bool
     match word {
         Some("auto") => true,
         Some("cones") => true,
+        Some("merge") => true,
         _ => false,
     }
 }
 
-/// Whether a word names another order.
+/// Whether a word names an order in which all pairs are compared.
 fn is_fixed_name(word: Option<&str>) -> bool
-    ensures { IsTrue result ↔ IsSomeAnd (option_map (λ s. s.now) word.entry) (λ w. IsSearchName w → ⊥) }
+    ensures { IsTrue result ↔ IsSomeAnd (option_map (λ s. s.now) word.entry) (λ w. IsPickingName w → ⊥) }
 {
     match word {
         Some("auto") => false,
@@ -87,19 +88,22 @@ fn picks_with_fixed_order(matches: &ArgMatches<'_>) -> bool
 fn comes_to_search(path: Option<&str>, word: Option<&str>, default_order: OrderChoice<'_>) -> bool
     ensures { (extend : Bool) → let choice = IsChoice (option_map (λ s. s.now) path.entry)
         (option_map (λ s. s.now) word.entry) extend default_order.entry in
-        IsTrue result ↔ (choice ChoiceValue.Auto ⊎ choice ChoiceValue.Cones) }
+        IsTrue result ↔ (choice ChoiceValue.Auto ⊎ choice ChoiceValue.Cones ⊎ choice ChoiceValue.Merge) }
 {
     match (path, word) {
         (Some(_), _) => false,
         (None, Some(word)) => is_search_name(Some(word)),
-        (None, None) => matches!(default_order, OrderChoice::Auto | OrderChoice::Cones),
+        (None, None) => matches!(
+            default_order,
+            OrderChoice::Auto | OrderChoice::Cones | OrderChoice::Merge
+        ),
     }
 }
 
 /// Whether an order is to be found.
 fn searches_order(matches: &ArgMatches<'_>) -> bool
     ensures { let choice = IsOrderIn (rows_of (found_of matches.now)) in
-        IsTrue result ↔ (choice ChoiceValue.Auto ⊎ choice ChoiceValue.Cones) }
+        IsTrue result ↔ (choice ChoiceValue.Auto ⊎ choice ChoiceValue.Cones ⊎ choice ChoiceValue.Merge) }
 {
     has_picks(matches)
         || comes_to_search(
@@ -203,6 +207,7 @@ fn search_option(matches: &ArgMatches<'_>) -> &'static str {
     match word_of(matches, "order") {
         Some("auto") => "--order auto",
         Some("cones") => "--order cones",
+        Some("merge") => "--order merge",
         _ => picking_option(matches),
     }
 }
@@ -225,7 +230,10 @@ pub(crate) fn conflict_in(matches: &ArgMatches<'_>) -> Option<Conflict>
             "an order other than auto and cones",
         )
     } else if has_unused_memory(matches) {
-        ("--memory <SIZE>", "an order other than auto and cones")
+        (
+            "--memory <SIZE>",
+            "an order other than auto, cones and merge",
+        )
     } else if has_unused_extend(matches) {
         ("--extend", "an order other than that of '--order-file <F>'")
     } else if has_explain_conflict(matches) {

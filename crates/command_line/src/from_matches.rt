@@ -1,13 +1,13 @@
 //! What the matches of the parser ask for.
 ghost use Rattle.std.specs.Prelude.{◌≡◌, ◌≢◌, ◌≤◌, ℕ, List, [], Option, Some, None, Err, IfOk, IfSome, IsSomeAnd, codes, map, option_map};
 ghost use Rattle.clap.specs.Words.{first_of, found_of, one_of, rows_of};
-ghost use Rattle.command_line.specs.Words.{IsMatching, flag_of, default_order_of, IsChoice, IsOrderIn, IsForm, IsAssignment, IsNumberIn};
+ghost use Rattle.command_line.specs.Words.{IsDifference, IsMatching, flag_of, default_order_of, IsChoice, IsOrderIn, IsForm, IsAssignment, IsNumberIn};
 ghost use Rattle.command_line.specs.Words.{default_limit, IsLimit, IsMemory, GiveBadShare, IsShare, HaveConflict, ArePicks, AreTexts};
 ghost use Rattle.command_line.specs.Words.{AreOptions, are_picked, explained_in, names_in, share_in};
 ghost use Rattle.command_line.specs.declared.options.OrderChoice.{OrderChoice as ChoiceValue};
 ghost use Rattle.report_text.specs.declared.outcome.Share.{Share as ShareValue};
 
-use crate::options::{Options, OrderChoice, Picks, Texts};
+use crate::options::{DifferenceChoice, Options, OrderChoice, Picks, Texts};
 use crate::share::share_of;
 use crate::size::memory_of;
 use crate::values::{is_asked, names_of, word_of};
@@ -81,6 +81,7 @@ fn order_of<'a>(
         Some("best") => OrderChoice::Best,
         Some("auto") => OrderChoice::Auto,
         Some("cones") => OrderChoice::Cones,
+        Some("merge") => OrderChoice::Merge,
         Some(_) => OrderChoice::Declared,
         None => default_order,
     }
@@ -150,6 +151,16 @@ fn assignment_of(word: Option<&str>) -> Option<Assignment>
         Some("support") => Some(Assignment::Support),
         Some(_) => Some(Assignment::All),
         None => None,
+    }
+}
+
+/// Any difference where that word is given.
+fn difference_of(word: Option<&str>) -> DifferenceChoice
+    ensures { IsDifference (option_map (λ s. s.now) word.entry) result }
+{
+    match word {
+        Some("any") => DifferenceChoice::AnyOne,
+        _ => DifferenceChoice::Least,
     }
 }
 
@@ -230,7 +241,7 @@ fn default_limit(order: OrderChoice<'_>) -> u64
     ensures few { result ≤ 4294967295 }
 {
     match order {
-        OrderChoice::Auto | OrderChoice::Cones => 4_294_967_295,
+        OrderChoice::Auto | OrderChoice::Cones | OrderChoice::Merge => 4_294_967_295,
         _ => 67_108_864,
     }
 }
@@ -279,5 +290,6 @@ pub(crate) fn options_of<'a>(
         assignment: assignment_of(word_of(matches, "assignment")),
         vcd: word_of(matches, "vcd"),
         causes: is_asked(matches, "causes"),
+        difference: difference_of(word_of(matches, "difference")),
     }
 }

@@ -48,11 +48,14 @@ What is printed:
 How it is decided:
   --order ORDER        order the variables in a given way, or find an order:
     auto               try the five orders below on the whole netlists, and if
-                       none fits go on as by cones; the report is as by
+                       none fits go on as by merge; the report is as by
                        declared; the default
     cones              judge each pair by itself, by the gates below it, in the
                        five orders of its own variables; the report is as by
                        declared; the default with --only and --share
+    merge              first merge inner signals that are equal in both
+                       netlists, which decides pairs that are equal inside; the
+                       other pairs as by cones
     best               try the five orders, and report in the first that fits
     declared           as the netlists declare their inputs and registers; the
                        default with --limit, --sizes and --print-order
@@ -65,23 +68,28 @@ How it is decided:
   --extend             with --order-file, ignore names that are no variables or
                        are repeated, and append the variables that the file
                        lacks, as declared
+  --difference WHICH   by auto, cones and merge, find the `least` difference of
+                       each pair, which is the default, or report `any`
+                       difference that a pattern shows, without a diagram for
+                       the pair
   --workers N          use N threads, 1 to 16, by default 4: by auto, by best
                        and in a named order they share each wide wave, a set of
                        operations that is done at once for gates of one rank; by
                        cones several pairs are judged at once and share them
   --limit N            give up if the diagrams have more than N nodes, 1 to
-                       4294967295; by default 67108864, and for auto and cones
-                       what --memory holds
-  --memory SIZE        let auto and cones use no more nodes than so many bytes
-                       hold, 16M or more, by default 4G; K, M and G are powers
-                       of 1024
+                       4294967295; by default 67108864, and for auto, cones
+                       and merge what --memory holds
+  --memory SIZE        let auto, cones and merge use no more nodes than so many
+                       bytes hold, 16M or more, by default 4G; K, M and G are
+                       powers of 1024
 
   -h, --help           print this help
   -V, --version        print the version
 
 The report has a line EQUAL or DIFFER for each pair of outputs, and after DIFFER
-the least assignment on which the two differ; UNDECIDED if no attempt decided
-the pair. Lines of the next states of registers follow (NEXT), then lines ONLY
+the least assignment on which the two differ, or one `(may not be the least)`;
+UNDECIDED if no attempt decided the pair and no pattern shows that it differs.
+Lines of the next states of registers follow (NEXT), then lines ONLY
 for outputs and registers without a partner, and last the counts.
 
 Each fault has two lines on standard error: what was refused, and then where

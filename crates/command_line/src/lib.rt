@@ -24,5 +24,5 @@ mod share;
 mod size;
 mod values;
 
-pub use options::{Options, OrderChoice, Picks, Texts};
+pub use options::{DifferenceChoice, Options, OrderChoice, Picks, Texts};
 pub use reading::{Refused, read_options};

@@ -1,6 +1,6 @@
 //! What a command line asks for.
 ghost use Rattle.std.specs.Prelude.{◌≡◌, ◌≢◌, ◌≤◌, false};
-ghost use Rattle.command_line.specs.declared.options.OrderChoice.TheVariants.{Auto, Cones};
+ghost use Rattle.command_line.specs.declared.options.OrderChoice.TheVariants.{Auto, Cones, Merge};
 ghost use Rattle.command_line.specs.declared.options.Picks.TheVariants.{All};
 
 use net_order::order::Match;
@@ -20,6 +20,8 @@ pub enum OrderChoice<'a> {
     Auto,
     /// Orders are to be found for each pair; the report is as by declared order.
     Cones,
+    /// The same, after equal signals of both netlists were merged.
+    Merge,
     /// The path of a file with the names.
     File(&'a str),
     /// The path of a file with names, of which those are passed over that are no variables; the variables that it lacks follow.
@@ -34,6 +36,15 @@ pub enum Picks<'a> {
     Only(Vec<&'a str>),
     /// Those of one share of all.
     Share(Share),
+}
+
+/// Which difference is wanted of a pair that differs, if it is judged by its cones.
+#[derive(Clone, Copy, Drop, Debug, PartialEq, Eq)]
+pub enum DifferenceChoice {
+    /// The least.
+    Least,
+    /// Any that is known.
+    AnyOne,
 }
 
 /// Where the netlists come from.
@@ -62,11 +73,11 @@ pub struct Options<'a> {
     /// The path of the condition's file, where there is a condition.
     pub given: Option<&'a str>,
     pub workers: u32,
-    /// The most nodes, where the memory of the orders auto and cones does not hold fewer.
+    /// The most nodes, where the memory of the orders auto, cones and merge does not hold fewer.
     pub limit: u64,
-    /// How many bytes of memory the orders auto and cones may take.
+    /// How many bytes of memory the orders auto, cones and merge may take.
     pub memory: u64,
-    /// Whether the report says the sizes of the diagrams, which are no part of a report by auto or by cones.
+    /// Whether the report says the sizes of the diagrams, which are no part of a report by auto, by cones or by merge.
     pub sizes: bool,
     /// Whether the order of the variables is printed, and nothing compared.
     pub print_order: bool,
@@ -83,6 +94,8 @@ pub struct Options<'a> {
     pub vcd: Option<&'a str>,
     /// Whether the report, which is a JSON object then, tells the causes of the pairs that differ.
     pub causes: bool,
+    /// Which difference is wanted by the orders auto and cones.
+    pub difference: DifferenceChoice,
     ghost some_workers: { 1 ≤ workers },
     ghost few_workers: { workers ≤ 16 },
     ghost some_nodes: { 1 ≤ limit },
@@ -91,5 +104,7 @@ pub struct Options<'a> {
     ghost no_sizes: { order ≡ Auto → sizes ≡ false },
     ghost no_cones_sizes: { order ≡ Cones → sizes ≡ false },
     ghost no_cones_in_print: { order ≡ Cones → print_order ≡ false },
+    ghost no_merge_sizes: { order ≡ Merge → sizes ≡ false },
+    ghost no_merge_in_print: { order ≡ Merge → print_order ≡ false },
     ghost picks_by_cones: { picks ≢ All → order ≡ Cones },
 }

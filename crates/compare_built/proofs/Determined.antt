@@ -69,13 +69,14 @@ two_supports : (asked : Bool) (n : ℕ) (f g f' g' : List Bool → Bool) (shown 
 two_supports false n f g f' g' shown more same other s t = s ∙ sym t
 two_supports true n f g f' g' shown more same other s t = s.2 ∙ (ap (λ l. Some l) (one_levels n f' g' s.0 t.0 (levels_as n f g f' g' s.0 same other s.1) t.1) ∙ sym t.2)
 
-abbrev extras : Option (List Bool) → Option (ℕ × ℕ) → Extras
-extras support sizes = record { support = support; sizes = sizes }
+abbrev extras : Bool → Option (List Bool) → Option (ℕ × ℕ) → Extras
+extras least support sizes = record { least = least; support = support; sizes = sizes }
 
 two_extras : (asked : Details) (n : ℕ) (f g f' g' : List Bool → Bool) (shown more : Extras) → Agree n f f' → Agree n g g' → AreExtrasShown asked n f g shown → AreExtrasShown asked n f' g' more → shown ≡ more
 two_extras asked n f g f' g' shown more same other s t =
-    ap (λ z. extras z shown.sizes) (two_supports asked.support n f g f' g' shown.support more.support same other s.support t.support)
-    ∙ ap (λ z. extras more.support z) (two_sizes asked.sizes n f g f' g' shown.sizes more.sizes same other s.sizes t.sizes)
+    ap (λ z. extras z shown.support shown.sizes) (s.least ∙ sym t.least)
+    ∙ ap (λ z. extras more.least z shown.sizes) (two_supports asked.support n f g f' g' shown.support more.support same other s.support t.support)
+    ∙ ap (λ z. extras more.least more.support z) (two_sizes asked.sizes n f g f' g' shown.sizes more.sizes same other s.sizes t.sizes)
 
 -- ---- verdicts
 

@@ -32,6 +32,7 @@ support_as true n f g f' g' shown same other s = (s.0, levels_as n f g f' g' s.0
 
 extras_as : (asked : Details) (n : ℕ) (f g f' g' : List Bool → Bool) (shown : Extras) → Agree n f f' → Agree n g g' → AreExtrasShown asked n f g shown → AreExtrasShown asked n f' g' shown
 extras_as asked n f g f' g' shown same other s = record {
+  least = s.least;
   sizes = both_as asked.sizes n f g f' g' shown.sizes same other s.sizes;
   support = support_as asked.support n f g f' g' shown.support same other s.support;
 }

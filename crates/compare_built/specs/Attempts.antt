@@ -9,7 +9,7 @@ use Rattle.report_text.specs.declared.order_kind.OrderKind.TheVariants as kinds
 use Rattle.report_text.specs.Json.{kind_of}
 use Rattle.compare_built.specs.Devices.{DeviceTexts}
 use Rattle.compare_built.specs.declared.strategy.Strategy.{Strategy}
-use Rattle.compare_built.specs.declared.strategy.Strategy.TheVariants.{One, Best, Auto, Cones}
+use Rattle.compare_built.specs.declared.strategy.Strategy.TheVariants.{One, Best, Auto, Cones, Merge}
 use Rattle.compare_built.specs.declared.strategy.Candidate.{Candidate}
 use Rattle.compare_built.specs.declared.strategy.Candidate.TheVariants.{Interleave, Force, Index, Depth, Declared}
 use Rattle.compare_built.specs.declared.strategy.Attempt.{Attempt}
@@ -30,6 +30,7 @@ IsAllowed (One o) order = order ≡ o
 IsAllowed Best order = (c : Candidate) × (order ≡ order_of c)
 IsAllowed Auto order = (c : Candidate) × (order ≡ order_of c)
 IsAllowed Cones order = order ≡ orders.Declared
+IsAllowed Merge order = order ≡ orders.Declared
 
 -- the choice names one order: none is sought, and no cones are taken
 abbrev pub NamesOrder : Strategy → Type 0
@@ -37,6 +38,7 @@ NamesOrder (One o) = ⊤
 NamesOrder Best = ⊥
 NamesOrder Auto = ⊥
 NamesOrder Cones = ⊥
+NamesOrder Merge = ⊥
 
 -- orders are tried for a choice, and nothing else
 abbrev pub AreTried : Strategy → Type 0
@@ -44,6 +46,7 @@ AreTried (One o) = ⊥
 AreTried Best = ⊤
 AreTried Auto = ⊥
 AreTried Cones = ⊥
+AreTried Merge = ⊥
 
 -- pairs may be judged by their cones for a choice
 abbrev pub MayGoByCones : Strategy → Type 0
@@ -51,6 +54,7 @@ MayGoByCones (One o) = ⊥
 MayGoByCones Best = ⊥
 MayGoByCones Auto = ⊤
 MayGoByCones Cones = ⊤
+MayGoByCones Merge = ⊤
 
 -- this holds of all candidates that are tried before this one, within the first budget
 abbrev pub AllBefore : Candidate → (Candidate → Type 0) → Type 0
@@ -68,7 +72,11 @@ first_budget limit = min 16384 limit
 abbrev pub IsBudget : (limit budget : ℕ) → Type 0
 IsBudget limit budget = ((k : ℕ) × (budget ≡ 16384 * 16 ^ k) × (budget < limit)) ⊎ (budget ≡ limit)
 
--- Before the pairs are judged by their cones, the whole is tried within 2^22 nodes at most; after them, within the limit.
+-- Before equal signals are merged, the whole is tried within 2^18 nodes at most.
+abbrev pub first_whole_limit : (limit : ℕ) → ℕ
+first_whole_limit limit = min 262144 limit
+
+-- Then it is tried within 2^22 nodes at most, and after the pairs were judged by their cones, within the limit.
 abbrev pub whole_limit : (limit : ℕ) → ℕ
 whole_limit limit = min 4194304 limit
 
@@ -88,6 +96,7 @@ IsChosen input how Auto limit None order = ⊥
 IsChosen input how Auto limit (Some t) order = (order ≡ orders.Declared) × (IsBudget (whole_limit limit) t.budget ⊎ (t.budget ≡ limit))
     × AreWithin input how (order_of t.order) t.budget
 IsChosen input how Cones limit tried order = ⊥
+IsChosen input how Merge limit tried order = ⊥
 
 -- The attempts before this one were given up: those of all candidates within smaller budgets, and within the first budget those before
 -- it. Within a later one the candidates are tried by how far the budget before took them, which is told to nobody.
@@ -102,6 +111,7 @@ last_budget (One o) limit = limit
 last_budget Best limit = limit
 last_budget Auto limit = whole_limit limit
 last_budget Cones limit = limit
+last_budget Merge limit = limit
 
 -- where an order comes from, as a report tells it
 abbrev pub reported_kind : Strategy → Option Attempt → OrderKind
@@ -110,6 +120,7 @@ reported_kind Best (Some t) = kind_of (order_of t.order)
 reported_kind Best None = kinds.Declared
 reported_kind Auto tried = kinds.Auto
 reported_kind Cones tried = kinds.Cones
+reported_kind Merge tried = kinds.Merge
 
 -- The same as IsChosen where the order alone is wanted: nothing is built for an order that is given. Where an order would be found
 -- for a report as by declared order, that is the order.
@@ -118,6 +129,7 @@ IsFound input how (One o) limit tried order = (tried ≡ None) × (order ≡ o)
 IsFound input how Best limit tried order = IsChosen input how Best limit tried order
 IsFound input how Auto limit tried order = (tried ≡ None) × (order ≡ orders.Declared)
 IsFound input how Cones limit tried order = (tried ≡ None) × (order ≡ orders.Declared)
+IsFound input how Merge limit tried order = (tried ≡ None) × (order ≡ orders.Declared)
 
 -- what a candidate is called in print
 abbrev pub candidate_text : Candidate → List ℕ

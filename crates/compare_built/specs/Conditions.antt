@@ -39,6 +39,12 @@ pub record IsLeastWhere (n : ℕ) (holds f g : List Bool → Bool) (x : List Boo
   pub differ : f x ≢ g x
   pub least : (y : List Bool) → length y ≡ n → Before y x → IsTrue (holds y) → f y ≡ g y
 
+-- x satisfies the condition, and f and g differ at x
+pub record IsDifferenceWhere (n : ℕ) (holds f g : List Bool → Bool) (x : List Bool) : Type 0 where
+  pub bits : length x ≡ n
+  pub satisfies : IsTrue (holds x)
+  pub differ : f x ≢ g x
+
 -- that is a fact
 pub one_output-prop : (given : Option Circuit) → IsProp (IfSome given HasOneOutput)
 one_output-prop given = MatchOption-prop given ⊤ HasOneOutput (λ a b i. tt) (λ c. ℕ_set (length c.outputs) 1)

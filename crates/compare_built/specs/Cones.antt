@@ -8,12 +8,15 @@ use Rattle.net_cone.specs.Cones.{IsCone}
 use Rattle.net_order.specs.declared.order.Match.TheVariants.{Name}
 use Rattle.net_order.specs.Order.{NamingModel, IsPairing, max_variables, variables_in}
 use Rattle.report_text.specs.declared.verdict.Verdict.{Verdict}
-use Rattle.report_text.specs.declared.verdict.Verdict.TheVariants.{Undecided}
+use Rattle.report_text.specs.declared.verdict.Verdict.TheVariants.{Equal, Undecided}
 use Rattle.report_text.specs.Lines.{Found}
 use Rattle.compare_built.specs.declared.strategy.Candidate.{Candidate}
 use Rattle.compare_built.specs.declared.subject.Subject.{Subject}
 use Rattle.compare_built.specs.Attempts.{IsBudget, order_of}
-use Rattle.compare_built.specs.Conditions.{AgreeWhere, HoldsWhere, output_of}
+use Rattle.compare_built.specs.declared.settings.Difference.{Difference}
+use Rattle.compare_built.specs.declared.settings.Difference.TheVariants.{Least, AnyOne}
+use Rattle.compare_built.specs.Conditions.{AgreeWhere, HoldsWhere, everywhere, output_of}
+use Rattle.compare_built.specs.Facts.{IsShownDifference}
 use Rattle.compare_built.specs.Limits.{Exceeds, FitsWithin}
 use Rattle.compare_built.specs.declared.verdict_order.Details.{Details}
 use Rattle.compare_built.specs.Report.{AreFunctions, CallsEqual, Compared, IsVerdictOf}
@@ -88,27 +91,38 @@ pub record FitByCones (limit : ℕ) (a b : Circuit) (given : Option Circuit) (p 
 
 -- ---- verdicts
 
--- The verdict of a pair over the variables of the naming: that of its functions where the condition holds, where this says that its cones
--- are within their limit, or Undecided where that says that no attempt decides it.
-pub data IsVerdictOrUndecided (n : ℕ) (asked : Details) (within left : Type 0) (holds : List Bool → Bool) (c : Compared) : Verdict → Type 0 where
+-- a difference that may not be the least may be reported: each attempt was given up, or any difference is asked for
+abbrev pub MayShow : Difference → (left : Type 0) → Type 0
+MayShow Least left = left
+MayShow AnyOne left = ⊤
+
+-- The verdict of a pair over the variables of the naming. It is that of its functions where the condition holds, if this says that its cones
+-- are within their limit; Equal if the functions agree everywhere; an assignment at which they differ, which may not be the least; or
+-- Undecided, if no attempt decides the pair and no pattern shows that it differs.
+pub data IsVerdictOrUndecided (n : ℕ) (asked : Details) (difference : Difference) (within left unshown : Type 0) (holds : List Bool → Bool)
+    (c : Compared) : Verdict → Type 0 where
   decided : {v : Verdict} → within → IsVerdictOf n asked holds c v → (CallsEqual v ↔ AgreeWhere n holds c.first c.second)
-      → IsVerdictOrUndecided n asked within left holds c v
-  undecided : left → IsVerdictOrUndecided n asked within left holds c (Undecided c.role c.name)
+      → IsVerdictOrUndecided n asked difference within left unshown holds c v
+  merged : AgreeWhere n everywhere c.first c.second
+      → IsVerdictOrUndecided n asked difference within left unshown holds c (Equal c.role c.name None)
+  shown : {v : Verdict} → MayShow difference left → IsShownDifference n holds c v
+      → IsVerdictOrUndecided n asked difference within left unshown holds c v
+  undecided : left → unshown → IsVerdictOrUndecided n asked difference within left unshown holds c (Undecided c.role c.name)
 
 -- The same of the pair that is meant.
-pub record IsConeVerdict (asked : Details) (within left : Subject → Type 0) (a b : Circuit) (given : Option Circuit) (p : NamingModel) (s : Subject)
-    (v : Verdict) : Type 0 where
+pub record IsConeVerdict (asked : Details) (difference : Difference) (within left unshown : Subject → Type 0) (a b : Circuit)
+    (given : Option Circuit) (p : NamingModel) (s : Subject) (v : Verdict) : Type 0 where
   pub holds : List Bool → Bool
   pub condition : HoldsWhere given p holds
   pub compared : Compared
   pub functions : AreFunctions a b p s compared
-  pub verdict : IsVerdictOrUndecided (length p.names) asked (within s) (left s) holds compared v
+  pub verdict : IsVerdictOrUndecided (length p.names) asked difference (within s) (left s) (unshown s) holds compared v
 
--- What a comparison by cones finds: a verdict for each pair that is picked, then these lines of what has no partner. The variables stand by
--- level.
-pub record AreConeVerdicts (asked : Details) (within left : Subject → Type 0) (a b : Circuit) (given : Option Circuit) (p : NamingModel)
-    (pairs : List Subject) (unmatched_lines : List Verdict) (found : Found) : Type 0 where
+-- What a comparison by cones finds: a verdict for each pair that is picked, then these lines of what has no partner. The variables are in
+-- the order of their levels.
+pub record AreConeVerdicts (asked : Details) (difference : Difference) (within left unshown : Subject → Type 0) (a b : Circuit)
+    (given : Option Circuit) (p : NamingModel) (pairs : List Subject) (unmatched_lines : List Verdict) (found : Found) : Type 0 where
   pub variables : found.variables ≡ p.names
   pub of_pairs : List Verdict
-  pub verdicts : AllZip (IsConeVerdict asked within left a b given p) pairs of_pairs
+  pub verdicts : AllZip (IsConeVerdict asked difference within left unshown a b given p) pairs of_pairs
   pub all : found.verdicts ≡ of_pairs ++ unmatched_lines

@@ -4,6 +4,7 @@ pub mod Report
 pub mod Comparing
 pub mod Arrangement
 pub mod Check
+pub mod Facts
 pub mod Limits
 pub mod Widths
 pub mod Attempts

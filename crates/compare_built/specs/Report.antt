@@ -60,6 +60,7 @@ IsSupportShown true n f g shown = (levels : List Bool) × IsSupportOf n f g leve
 
 -- what is told of two different functions besides, where it is asked for
 pub record AreExtrasShown (asked : Details) (n : ℕ) (f g : List Bool → Bool) (shown : Extras) : Type 0 where
+  pub least : shown.least ≡ true
   pub sizes : AreSizesShown asked.sizes n f g shown.sizes
   pub support : IsSupportShown asked.support n f g shown.support
 

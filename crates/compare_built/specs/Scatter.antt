@@ -39,7 +39,7 @@ scatter_support n places (Some marks) = Some (scattered n places marks)
 abbrev pub widened_verdict : PairKind → (name : List ℕ) → (n : ℕ) → (places : List ℕ) → Verdict → Verdict
 widened_verdict role name n places (Equal own_role own_name size) = Equal role name None
 widened_verdict role name n places (Differs own_role own_name x first second extras) = Differs role name (scattered n places x) first second
-    (record { support = scatter_support n places extras.support; sizes = None })
+    (record { least = extras.least; support = scatter_support n places extras.support; sizes = None })
 widened_verdict role name n places (Unmatched side own_role own_name) = Unmatched side role name
 widened_verdict role name n places (Undecided own_role own_name) = Undecided role name
 

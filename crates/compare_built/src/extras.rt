@@ -75,7 +75,7 @@ fn support_in(
     }
 }
 
-/// What is told of two diagrams besides.
+/// What is reported of two diagrams besides their least difference.
 pub fn extras_of(
     alloc: Global,
     store: &Store,
@@ -89,7 +89,11 @@ pub fn extras_of(
 {
     let sizes = sizes_of(store, first, second, asked.sizes)?;
     let support = support_in(alloc, store, first, second, asked.support)?;
-    Ok(Extras { support, sizes })
+    Ok(Extras {
+        least: true,
+        support,
+        sizes,
+    })
 }
 
 /// The places of an order, in more bits each.
@@ -160,6 +164,7 @@ pub fn arranged_extras(
 {
     let support = arranged_support_in(alloc, store, of, order, asked)?;
     Ok(Extras {
+        least: true,
         support,
         sizes: None,
     })

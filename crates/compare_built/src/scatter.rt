@@ -75,6 +75,7 @@ pub fn widen_verdict(
                 first,
                 second,
                 extras: Extras {
+                    least: extras.least,
                     support,
                     sizes: None,
                 },

@@ -50,11 +50,13 @@ pub enum Strategy {
     One(Order),
     /// The first of the candidates whose diagrams stay within a budget that grows from attempt to attempt.
     Best,
-    /// The first of the candidates within small budgets, and where each was given up, each pair by its cones. The report is that of
-    /// declared order, whatever decides.
+    /// The first of the candidates within small budgets. If each was given up, pairs that are equal inside by merging equal signals, and
+    /// the others by their cones. The report is that of declared order, whatever decides.
     Auto,
     /// Each pair by its cones, in orders of their own. The report is that of declared order.
     Cones,
+    /// The same, after the equal signals of both netlists were merged, which decides pairs that are equal inside.
+    Merge,
 }
 
 impl Strategy {
@@ -68,6 +70,7 @@ impl Strategy {
             (Strategy::Best, None) => OrderKind::Declared,
             (Strategy::Auto, _) => OrderKind::Auto,
             (Strategy::Cones, _) => OrderKind::Cones,
+            (Strategy::Merge, _) => OrderKind::Merge,
         }
     }
 }

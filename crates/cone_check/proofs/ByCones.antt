@@ -11,7 +11,7 @@ use Rattle.net_order.specs.declared.order.Match.TheVariants.{Name}
 use Rattle.net_order.specs.declared.order.Order.{Order}
 use Rattle.net_order.specs.Order.{IsPairing, NamingModel, condition, max_variables, name_of, variables_in}
 use Rattle.report_text.specs.declared.verdict.Verdict.{Verdict}
-use Rattle.report_text.specs.declared.verdict.Verdict.TheVariants.{Undecided}
+use Rattle.report_text.specs.declared.verdict.Verdict.TheVariants.{Equal, Undecided}
 use Rattle.report_text.specs.Lines.{Found}
 use Rattle.report_text.specs.declared.assignment.Assignment.{Assignment}
 use Rattle.compare_built.specs.declared.verdict_order.Details.{Details}
@@ -21,8 +21,11 @@ use Rattle.compare_built.specs.declared.subject.Subject.{Subject}
 use Rattle.compare_built.specs.declared.task.Task.{Task}
 use Rattle.compare_built.specs.Attempts.{order_of}
 use Rattle.compare_built.specs.Conditions.{HoldsWhere, everywhere, output_of}
-use Rattle.compare_built.specs.Cones.{AreCones, FitByCones, IsUndecidedWithin, IsConeVerdict, IsVerdictOrUndecided}
-use Rattle.compare_built.specs.Cones.IsVerdictOrUndecided.{decided, undecided}
+use Rattle.compare_built.specs.declared.settings.Difference.{Difference}
+use Rattle.compare_built.specs.declared.settings.Difference.TheVariants.{Least, AnyOne}
+use Rattle.compare_built.specs.Facts.{IsEqualInside, IsShownVerdict}
+use Rattle.compare_built.specs.Cones.{AreCones, FitByCones, IsUndecidedWithin, IsConeVerdict, IsVerdictOrUndecided, MayShow}
+use Rattle.compare_built.specs.Cones.IsVerdictOrUndecided.{decided, merged, shown, undecided}
 use Rattle.compare_built.specs.declared.pair_filter.PairFilter.{PairFilter}
 use Rattle.cone_check.specs.ConeRounds.{IsKnown}
 use Rattle.compare_built.specs.Limits.{Exceeds, FitsWithin}
@@ -32,14 +35,24 @@ use Rattle.compare_built.specs.Report.{AreVerdicts, Compared, subjects}
 use Rattle.compare_built.specs.Scatter.{IsConePairing, IsOfNet, widened_verdict}
 use Rattle.order_search.specs.Trials.{HasTooManyVariables, IsDecidedWithin, IsCandidateGivenUp}
 use Rattle.compare_built.specs.Widths.{IsTooWide}
+use Rattle.pair_facts.proofs.Conditional.{some_holds}
 use Rattle.cone_check.proofs.ConeVerdicts.{reported_widened}
 
--- ---- what a pair is told
+-- ---- the verdict of a pair
 
--- what is told of a pair that is decided is told of it, whatever is left, and where more nodes are allowed
-pub reported_decided : (asked : Details) (within more other : Subject → Type 0) (a b : Circuit) (given : Option Circuit) (p : NamingModel) (s : Subject) (v : Verdict) → (within s → more s) → IsConeVerdict asked within (λ t. ⊥) a b given p s v →
-    IsConeVerdict asked more other a b given p s v
-reported_decided asked within more other a b given p s v wider t = record {
+-- a difference that may not be the least may be reported of a pair that is left
+pub shown_if_left : (difference : Difference) (left : Type 0) → left → MayShow difference left
+shown_if_left Least left is = is
+shown_if_left AnyOne left is = tt
+
+shown_before : (difference : Difference) (left : Type 0) → MayShow difference ⊥ → MayShow difference left
+shown_before Least left never = absurd never
+shown_before AnyOne left may = tt
+
+-- the verdict of a pair that is decided is its verdict, whatever is left, and if more nodes are allowed
+pub reported_decided : (asked : Details) (difference : Difference) (within more other unshown : Subject → Type 0) (a b : Circuit) (given : Option Circuit) (p : NamingModel) (s : Subject) (v : Verdict) → (within s → more s) →
+    IsConeVerdict asked difference within (λ t. ⊥) (λ t. ⊥) a b given p s v → IsConeVerdict asked difference more other unshown a b given p s v
+reported_decided asked difference within more other unshown a b given p s v wider t = record {
   holds = t.holds;
   condition = t.condition;
   compared = t.compared;
@@ -47,9 +60,11 @@ reported_decided asked within more other a b given p s v wider t = record {
   verdict = by (length p.names) t.holds t.compared v t.verdict;
 }
   where
-    by : (n : ℕ) (holds : List Bool → Bool) (c : Compared) (v : Verdict) → IsVerdictOrUndecided n asked (within s) ⊥ holds c v → IsVerdictOrUndecided n asked (more s) (other s) holds c v
+    by : (n : ℕ) (holds : List Bool → Bool) (c : Compared) (v : Verdict) → IsVerdictOrUndecided n asked difference (within s) ⊥ ⊥ holds c v → IsVerdictOrUndecided n asked difference (more s) (other s) (unshown s) holds c v
     by n holds c v (decided few is equal) = decided (wider few) is equal
-    by n holds c v (undecided never) = absurd never
+    by n holds c v (merged agree) = merged agree
+    by n holds c v (shown may is) = shown (shown_before difference (other s) may) is
+    by n holds c v (undecided never none) = absurd never
 
 -- where fewer nodes are enough, so are more
 pub more_nodes : (budget limit : ℕ) (a b : Circuit) (given : Option Circuit) (p : NamingModel) (s : Subject) → budget ≤ limit → FitByCones budget a b given p s → FitByCones limit a b given p s
@@ -71,16 +86,10 @@ more_nodes budget limit a b given p s le few = record {
   };
 }
 
-some_holds : (given : Option Circuit) (p : NamingModel) → IfSome given IsOfNet → (holds : List Bool → Bool) × HoldsWhere given p holds
-some_holds None p is = (everywhere, refl)
-some_holds (Some c) p is =
-    let f = function is.net is.sound (slice_index p.given) (length p.names) (output_of c) in
-    (f, subst (λ (d : Circuit). IsFunctionOf d (slice_index p.given) (length p.names) (output_of c) f) is.is_circuit (some_function is.net is.sound (slice_index p.given) (length p.names) (output_of c)))
-
--- a pair that is left is told as undecided
-pub reported_left : (asked : Details) (within left : Subject → Type 0) (n m : Net) (given : Option Circuit) (p : NamingModel) (s : Subject) → IsNet n → IsNet m → IfSome given IsOfNet → left s →
-    IsConeVerdict asked within left (circuit n) (circuit m) given p s (Undecided s.role (name_of (circuit n) s.named))
-reported_left asked within left n m given p s first second net is =
+-- a pair that is left, and that no pattern shows to differ, is undecided
+pub reported_left : (asked : Details) (difference : Difference) (within left unshown : Subject → Type 0) (n m : Net) (given : Option Circuit) (p : NamingModel) (s : Subject) → IsNet n → IsNet m → IfSome given IsOfNet → left s → unshown s →
+    IsConeVerdict asked difference within left unshown (circuit n) (circuit m) given p s (Undecided s.role (name_of (circuit n) s.named))
+reported_left asked difference within left unshown n m given p s first second net is none =
     let c : Compared = record {
       role = s.role;
       name = name_of (circuit n) s.named;
@@ -98,8 +107,35 @@ reported_left asked within left n m given p s first second net is =
         first = some_function n first (slice_index p.first) (length p.names) s.first;
         second = some_function m second (slice_index p.second) (length p.names) s.second;
       };
-      verdict = undecided is;
+      verdict = undecided is none;
     }
+
+-- a pair that is equal inside is equal
+pub reported_equal : (asked : Details) (difference : Difference) (within left unshown : Subject → Type 0) (a b : Circuit) (given : Option Circuit) (p : NamingModel) (s : Subject) → IfSome given IsOfNet → IsEqualInside a b p s →
+    IsConeVerdict asked difference within left unshown a b given p s (Equal s.role (name_of a s.named) None)
+reported_equal asked difference within left unshown a b given p s net is =
+    let holds = some_holds given p net in
+    let c = is.compared in
+    let reported : IsVerdictOrUndecided (length p.names) asked difference (within s) (left s) (unshown s) holds.0 c (Equal c.role c.name None) = merged is.agree in
+    record {
+      holds = holds.0;
+      condition = holds.1;
+      compared = c;
+      functions = is.functions;
+      verdict = subst (λ name. IsVerdictOrUndecided (length p.names) asked difference (within s) (left s) (unshown s) holds.0 c (Equal s.role name None)) is.functions.name
+          (subst (λ role. IsVerdictOrUndecided (length p.names) asked difference (within s) (left s) (unshown s) holds.0 c (Equal role c.name None)) is.functions.role reported);
+    }
+
+-- a difference that a pattern shows is one
+pub reported_shown : (asked : Details) (difference : Difference) (within left unshown : Subject → Type 0) (a b : Circuit) (given : Option Circuit) (p : NamingModel) (s : Subject) (v : Verdict) → MayShow difference (left s) → IsShownVerdict a b given p s v →
+    IsConeVerdict asked difference within left unshown a b given p s v
+reported_shown asked difference within left unshown a b given p s v may is = record {
+  holds = is.holds;
+  condition = is.condition;
+  compared = is.compared;
+  functions = is.functions;
+  verdict = shown may is.difference;
+}
 
 -- ---- a comparison of cones
 
@@ -141,29 +177,10 @@ module _ {H : Type 0} (task : Task H) (k m : Circuit) (w : Option Circuit) (by_n
 
 -- a verdict by cones, or none, over all variables
 pub known_by_cones : (which : Option Assignment) (a b : Circuit) (given : Option Circuit) (p : NamingModel) (s : Subject) (k m : Circuit) (w : Option Circuit) (places : List ℕ) (q : NamingModel) →
-    IsConePairing a b given p s k m w places q → (within left : Subject → Type 0) (found reported : Option Verdict) →
+    IsConePairing a b given p s k m w places q → (difference : Difference) (within left : Subject → Type 0) (found reported : Option Verdict) →
     reported ≡ option_map (widened_verdict s.role (name_of a s.named) (length p.names) places) found →
     IfSome found (λ v. AreVerdicts (unsized which) k m w q (record { variables = q.names; verdicts = v ∷ [] })) → IfSome found (λ v. within s) → (found ≡ None → left s) →
-    IsKnown (IsConeVerdict (unsized which) within (λ t. ⊥) a b given p) left s reported
-known_by_cones which a b given p s k m w places q is within left None reported e are few none = subst (IsKnown (IsConeVerdict (unsized which) within (λ t. ⊥) a b given p) left s) (sym e) (none refl)
-known_by_cones which a b given p s k m w places q is within left (Some v) reported e are few none =
-    subst (IsKnown (IsConeVerdict (unsized which) within (λ t. ⊥) a b given p) left s) (sym e) (reported_widened a b given p s k m w places q is which within (λ t. ⊥) v few are)
-
--- ---- picks
-
-pair_inside : (P : Subject → Type 0) (k : ℕ) (ss : List Subject) (shares : List ℕ) → All P ss → All P (of_share k (zip ss shares))
-pair_inside P k [] shares h = h
-pair_inside P k (s ∷ ss) [] h = All-nil P
-pair_inside P k (s ∷ ss) (n ∷ shares) h = by (pair_inside P k ss shares (All-tail P s ss h)) (n == k)
-  where
-    by : All P (of_share k (zip ss shares)) → (b : Bool) →
-        All P (map (λ (x : Subject × ℕ). x.0) (cond b ((s, n) ∷ filter (λ (x : Subject × ℕ). x.1 == k) (zip ss shares)) (filter (λ (x : Subject × ℕ). x.1 == k) (zip ss shares))))
-    by rest true = All-cons P s (of_share k (zip ss shares)) (All-head P s ss h) rest
-    by rest false = rest
-
--- the pairs that are picked are some of all
-pub picked_inside : (P : Subject → Type 0) (a b : Circuit) (p : NamingModel) {picked : PairFilter} {pairs : List Subject} {unmatched_lines : List Verdict} →
-    ArePicked a b p picked pairs unmatched_lines → All P (subjects a b p) → All P pairs
-picked_inside P a b p all h = h
-picked_inside P a b p (named {names = names} of) h = All-filter (is_pair_of a names.items) P (subjects a b p) h
-picked_inside P a b p (shared {share = share} {shares = shares} of) h = pair_inside P share.number (subjects a b p) shares h
+    IsKnown (IsConeVerdict (unsized which) difference within (λ t. ⊥) (λ t. ⊥) a b given p) left s reported
+known_by_cones which a b given p s k m w places q is difference within left None reported e are few none = subst (IsKnown (IsConeVerdict (unsized which) difference within (λ t. ⊥) (λ t. ⊥) a b given p) left s) (sym e) (none refl)
+known_by_cones which a b given p s k m w places q is difference within left (Some v) reported e are few none =
+    subst (IsKnown (IsConeVerdict (unsized which) difference within (λ t. ⊥) (λ t. ⊥) a b given p) left s) (sym e) (reported_widened a b given p s k m w places q is which difference within (λ t. ⊥) (λ t. ⊥) v few are)

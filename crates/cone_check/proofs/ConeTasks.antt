@@ -95,6 +95,6 @@ module _ {H : Type 0} (context : ConeContext H) (s : Subject) (cones : Cones) (t
         IfSome found (λ v. IsDecidedWithin task budget) → (found ≡ None → (c : Candidate) → IsCandidateGivenUp task budget bound c) → IsWidened context s places found reported → IsJudgedIn context budget bound s reported
     judged_pair budget bound found reported decided few left widen_verdict =
         known_by_cones context.task.now.settings.now.assignment (circuit context.task.now.first.now) (circuit context.task.now.second.now) (condition context.task.now.given) context.naming.now s (circuit cones.first.net) (circuit cones.second.net) (circuit_in context.given.now) places q
-        cone_pair (FitIn context budget) (IsUndecidedIn context budget bound) found reported widen_verdict (as_decided found decided) (as_within budget found few)
+        cone_pair context.task.now.settings.now.difference (FitIn context budget) (IsUndecidedIn context budget bound) found reported widen_verdict (as_decided found decided) (as_within budget found few)
         (λ e. left_by_cones task (circuit cones.first.net) (circuit cones.second.net) (circuit_in context.given.now) by_name first_is second_is of.given (circuit context.task.now.first.now) (circuit context.task.now.second.now)
         (condition context.task.now.given) context.naming.now s are budget bound (left e))

@@ -20,6 +20,7 @@ use Rattle.report_text.specs.declared.assignment.Assignment.{Assignment}
 use Rattle.compare_built.specs.Details.{wants_support, unsized}
 use Rattle.compare_built.specs.declared.subject.Subject.{Subject}
 use Rattle.compare_built.specs.Conditions.{HoldsWhere, output_of, restricted}
+use Rattle.compare_built.specs.declared.settings.Difference.{Difference}
 use Rattle.compare_built.specs.Cones.{IsConditionCone, IsConeVerdict}
 use Rattle.compare_built.specs.Cones.IsVerdictOrUndecided.{decided}
 use Rattle.compare_built.specs.Report.{AreFunctions, AreVerdicts, Compared, IsSupportShown, IsVerdictOf, unmatched_verdicts, output_subject, subjects}
@@ -62,9 +63,9 @@ pub verdict_widened : (which : Option Assignment) (n : ℕ) (places : List ℕ) 
     IsVerdictOf (length places) (unsized which) holds c v → IsVerdictOf n (unsized which) (λ x. holds (bits_at places x)) (picked_of places role name c) (widened_verdict role name n places v)
 verdict_widened which n places are holds c role name v (where_equal agree size) = where_equal ((agree_where_picked n places are holds c.first c.second).0 agree) refl
 verdict_widened which n places are holds c role name v (where_different {x = x} {shown = shown} least more) =
-    subst (λ y. IsVerdictOf n (unsized which) (λ x. holds (bits_at places x)) (picked_of places role name c) (Differs role name (scattered n places x) (c.first y) (c.second y) (record { support = scatter_support n places shown.support; sizes = None })))
+    subst (λ y. IsVerdictOf n (unsized which) (λ x. holds (bits_at places x)) (picked_of places role name c) (Differs role name (scattered n places x) (c.first y) (c.second y) (record { least = shown.least; support = scatter_support n places shown.support; sizes = None })))
     (bits_at-scattered n places are x least.bits) (where_different (least_where_picked n places are holds c.first c.second x least)
-    (record { sizes = refl; support = support_widened (wants_support which) n places are (restricted holds c.first) (restricted holds c.second) shown.support more.support }))
+    (record { least = more.least; sizes = refl; support = support_widened (wants_support which) n places are (restricted holds c.first) (restricted holds c.second) shown.support more.support }))
 
 -- the one pair that is compared, and its verdict
 record IsOne (which : Option Assignment) (k m : Circuit) (q : NamingModel) (s : Subject) (holds : List Bool → Bool) (v : Verdict) : Type 0 where
@@ -166,9 +167,9 @@ module _ (a b : Circuit) (given : Option Circuit) (p : NamingModel) (s : Subject
 
   -- ---- the verdict, over all variables
 
-  pub reported_widened : (which : Option Assignment) (within left : Subject → Type 0) (v : Verdict) → within s → AreVerdicts (unsized which) k m w q (record { variables = q.names; verdicts = v ∷ [] }) →
-      IsConeVerdict (unsized which) within left a b given p s (widened_verdict s.role (name_of a s.named) (length p.names) places v)
-  reported_widened which within left v few are =
+  pub reported_widened : (which : Option Assignment) (difference : Difference) (within left unshown : Subject → Type 0) (v : Verdict) → within s → AreVerdicts (unsized which) k m w q (record { variables = q.names; verdicts = v ∷ [] }) →
+      IsConeVerdict (unsized which) difference within left unshown a b given p s (widened_verdict s.role (name_of a s.named) (length p.names) places v)
+  reported_widened which difference within left unshown v few are =
       let n = length p.names in
       let fs : AllZip (AreFunctions k m q) (own_subject ∷ []) are.compared = subst (λ of. AllZip (AreFunctions k m q) of are.compared) one_compared are.functions in
       let one : IsOne which k m q own_subject are.holds v = one_of which k m q own_subject are.holds v are.compared are.of_pairs (unmatched_verdicts k m q) fs are.are_verdicts are.all in
@@ -190,10 +191,10 @@ module _ (a b : Circuit) (given : Option Circuit) (p : NamingModel) (s : Subject
       }
 
   -- so the last verdict of what a comparison finds is the one that is meant
-  pub reported_last : (which : Option Assignment) (within left : Subject → Type 0) (front : List Verdict) (v : Verdict) → within s → AreVerdicts (unsized which) k m w q (record { variables = q.names; verdicts = front ++ v ∷ [] }) →
-      IsConeVerdict (unsized which) within left a b given p s (widened_verdict s.role (name_of a s.named) (length p.names) places v)
-  reported_last which within left front v few are =
+  pub reported_last : (which : Option Assignment) (difference : Difference) (within left unshown : Subject → Type 0) (front : List Verdict) (v : Verdict) → within s → AreVerdicts (unsized which) k m w q (record { variables = q.names; verdicts = front ++ v ∷ [] }) →
+      IsConeVerdict (unsized which) difference within left unshown a b given p s (widened_verdict s.role (name_of a s.named) (length p.names) places v)
+  reported_last which difference within left unshown front v few are =
       let size : length (front ++ v ∷ []) ≡ length front + 1 = length-append front (v ∷ []) in
       let one : length (front ++ v ∷ []) ≡ 1 = one_verdict which (record { variables = q.names; verdicts = front ++ v ∷ [] }) are in
       let none : front ≡ [] = nil_from_length front (omega (arith, size, one)) in
-      reported_widened which within left v few (subst (λ vs. AreVerdicts (unsized which) k m w q (record { variables = q.names; verdicts = vs ++ v ∷ [] })) none are)
+      reported_widened which difference within left unshown v few (subst (λ vs. AreVerdicts (unsized which) k m w q (record { variables = q.names; verdicts = vs ++ v ∷ [] })) none are)

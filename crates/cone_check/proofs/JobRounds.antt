@@ -1,5 +1,6 @@
 -- Verdicts of pairs, and rounds of budgets.
 use Rattle.std.proofs.Common.{◌≡◌, ◌∙◌, ap, sym, refl, subst, arith, ℕ, zero, suc, ◌+◌, ◌<◌, ◌≤◌, ◌*◌, ◌^◌, List, [], ◌∷◌, ◌++◌, length, get_or, drop, All, Option, Some, None, append_assoc}
+use Rattle.std.specs.Prelude.{⊤}
 use Rattle.std.specs.List.{AllZip}
 use Rattle.std.proofs.lemmas.List.{drop_more}
 use Rattle.report_text.specs.declared.verdict.Verdict.{Verdict}
@@ -12,7 +13,7 @@ use Rattle.compare_built.specs.Details.{unsized}
 use Rattle.cone_check.specs.ConeRounds.{FitIn, IsJudgedIn, IsKnown, IsUndecidedIn, IsPlaceOfRound, IsRoundOf, IsDecidedIn, all_or_undecided, or_undecided}
 use Rattle.cone_check.proofs.ByCones.{more_nodes, reported_decided}
 use Rattle.order_search.proofs.Budgets.{each_budget, tried_next}
-use Rattle.cone_check.proofs.Filling.{IsKept, kept_known}
+use Rattle.cone_check.proofs.Filling.{IsKept, kept_known, known_weaker}
 
 -- ---- lists that are gone through
 
@@ -46,7 +47,7 @@ module _ {H : Type 0} (whole : ConeContext H) (limit : ℕ) (bound : Option ℕ)
   wider_one : (budget : ℕ) → budget ≤ limit → (s : Subject) (o : Option Verdict) → IsJudgedIn whole budget bound s o → IsKnown (IsDecidedIn whole limit) (IsUndecidedIn whole budget bound) s o
   wider_one budget le s None h = h
   wider_one budget le s (Some v) h =
-      reported_decided (unsized whole.task.now.settings.now.assignment) (FitIn whole budget) (FitIn whole limit) (λ t. ⊥) (circuit whole.task.now.first.now) (circuit whole.task.now.second.now) (condition whole.task.now.given) whole.naming.now s v
+      reported_decided (unsized whole.task.now.settings.now.assignment) whole.task.now.settings.now.difference (FitIn whole budget) (FitIn whole limit) (λ t. ⊥) (λ t. ⊥) (circuit whole.task.now.first.now) (circuit whole.task.now.second.now) (condition whole.task.now.given) whole.naming.now s v
       (more_nodes budget limit (circuit whole.task.now.first.now) (circuit whole.task.now.second.now) (condition whole.task.now.given) whole.naming.now s le) h
 
   wider : (budget : ℕ) → budget ≤ limit → (s : Subject) (known new : Option Verdict) → IsPlaceOfRound whole budget bound s known new → IsKept (IsDecidedIn whole limit) (IsUndecidedIn whole budget bound) s known new
@@ -54,17 +55,8 @@ module _ {H : Type 0} (whole : ConeContext H) (limit : ℕ) (bound : Option ℕ)
   wider budget le s None new h = wider_one budget le s new h
 
   -- before the first round
-  pub none_yet : (known : List (Option Verdict)) → length known ≡ length ss → All (λ o. o ≡ None) known → AllZip (IsKnown (IsDecidedIn whole limit) (λ s. (j : ℕ) → j < 0 → IsUndecidedIn whole (16384 * 16 ^ j) bound s)) ss known
-  none_yet known long none = each ss known (sym long) none
-    where
-      each : (ts : List Subject) (os : List (Option Verdict)) → length ts ≡ length os → All (λ o. o ≡ None) os → AllZip (IsKnown (IsDecidedIn whole limit) (λ s. (j : ℕ) → j < 0 → IsUndecidedIn whole (16384 * 16 ^ j) bound s)) ts os
-      each [] [] e h = tt
-      each [] (o ∷ os) e h = absurd (omega arith)
-      each (t ∷ ts) [] e h = absurd (omega arith)
-      each (t ∷ ts) (o ∷ os) e h = (
-        subst (IsKnown (IsDecidedIn whole limit) (λ s. (j : ℕ) → j < 0 → IsUndecidedIn whole (16384 * 16 ^ j) bound s) t) (sym (h 0 o (omega arith))) (λ j lt. absurd (omega (arith, lt))),
-        each ts os (omega (arith, e)) (λ i d lt. h (suc i) d (omega (arith, lt))),
-      )
+  pub none_yet : (known : List (Option Verdict)) → AllZip (IsKnown (IsDecidedIn whole limit) (λ s. ⊤)) ss known → AllZip (IsKnown (IsDecidedIn whole limit) (λ s. (j : ℕ) → j < 0 → IsUndecidedIn whole (16384 * 16 ^ j) bound s)) ss known
+  none_yet known h = known_weaker (IsDecidedIn whole limit) (λ s. ⊤) (λ s. (j : ℕ) → j < 0 → IsUndecidedIn whole (16384 * 16 ^ j) bound s) (λ s _ j lt. absurd (omega (arith, lt))) ss known h
 
   -- after one more
   pub round_more : (k budget : ℕ) (known new : List (Option Verdict)) → budget ≡ 16384 * 16 ^ k → budget ≤ limit → AllZip (IsKnown (IsDecidedIn whole limit) (λ s. (j : ℕ) → j < k → IsUndecidedIn whole (16384 * 16 ^ j) bound s)) ss known →

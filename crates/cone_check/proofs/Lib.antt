@@ -3,9 +3,9 @@ pub mod ConeVerdicts
 pub mod Called
 pub mod Filling
 pub mod ByCones
-pub mod SerpentineOrder
 pub mod JobRounds
 pub mod Batching
 pub mod Sharing
 pub mod Written
 pub mod ConeTasks
+pub mod AtOnce

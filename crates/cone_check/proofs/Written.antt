@@ -14,7 +14,7 @@ use Rattle.cone_check.specs.declared.batches.PairJob.{PairJob}
 use Rattle.cone_check.specs.ConeRounds.{EndsPairs, IsJobResult, IsJudgedIn, IsPlaceOfRound, IsRoundOf}
 use Rattle.cone_check.specs.Batches.{AreJobsDone, after, is_left, written}
 use Rattle.cone_check.proofs.Batching.{all_unmap}
-use Rattle.cone_check.proofs.SerpentineOrder.{number_at, numbers_inside, numbers_long}
+use Rattle.pair_facts.proofs.SerpentineOrder.{number_at, numbers_inside, numbers_long}
 
 -- ---- lists
 

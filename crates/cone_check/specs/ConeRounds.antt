@@ -1,6 +1,6 @@
 -- How pairs are judged by their cones, step by step.
 use Rattle.std.specs.Prelude.{◌≡◌, ◌⊎◌, ◌<◌, ℕ, false, List, [], ◌∷◌, map, length, slice_index, slice_index_or, Option, Some, None, Result, Ok, Err}
-use Rattle.std.specs.Prelude.{IfSome, option_map}
+use Rattle.std.specs.Prelude.{Bool, true, ⊤, IfSome, IsSomeAnd, IsTrue, option_map}
 use Rattle.std.specs.List.{AllZip}
 use Rattle.std.specs.List.Sorted.{IsPermutation}
 use Rattle.std.specs.declared.alloc.Global.{Global}
@@ -13,7 +13,7 @@ use Rattle.net_order.specs.declared.order.Order.TheVariants.{Declared}
 use Rattle.net_order.specs.Force.{numbers_below}
 use Rattle.net_order.specs.Order.{NamingModel, condition, name_of}
 use Rattle.report_text.specs.declared.verdict.Verdict.{Verdict}
-use Rattle.report_text.specs.declared.verdict.Verdict.TheVariants.{Undecided}
+use Rattle.report_text.specs.declared.verdict.Verdict.TheVariants.{Equal, Undecided}
 use Rattle.report_text.specs.Lines.{Found}
 use Rattle.cone_check.specs.declared.pair_cones.Cones.{Cones}
 use Rattle.cone_check.specs.declared.pair_cones.ConeContext.{ConeContext}
@@ -28,7 +28,8 @@ use Rattle.compare_built.specs.Details.{unsized}
 use Rattle.compare_built.specs.Check.{IsComparisonFault}
 use Rattle.compare_built.specs.Comparing.{IsInside}
 use Rattle.compare_built.specs.Cones.{AreCones, AreNamed, AreConeVerdicts, FitByCones, IsConditionCone, IsUndecided, IsUndecidedWithin, IsConeVerdict, cone_limit}
-use Rattle.compare_built.specs.PairSelection.{ArePicked, ComesBefore, HasWeight}
+use Rattle.compare_built.specs.Facts.{IsEqualInside, IsShownVerdict, IsUnshown}
+use Rattle.compare_built.specs.PairSelection.{ArePicked}
 use Rattle.compare_built.specs.Scatter.{IsOfNet, widened_verdict}
 use Rattle.order_search.specs.Trials.{EndsAtOnce, IsNamingIn}
 
@@ -93,9 +94,10 @@ abbrev pub FitIn : {H : Type 0} → ConeContext H → (budget : ℕ) → Subject
 FitIn context budget s = FitByCones budget (circuit context.task.now.first.now) (circuit context.task.now.second.now)
     (condition context.task.now.given) context.naming.now s
 
--- the pair is decided within so many nodes, and this is its verdict
+-- the pair is decided at once or within so many nodes, and this is its verdict
 abbrev pub IsDecidedIn : {H : Type 0} → ConeContext H → (budget : ℕ) → Subject → Verdict → Type 0
-IsDecidedIn context budget s v = IsConeVerdict (unsized context.task.now.settings.now.assignment) (FitIn context budget) (λ t. ⊥)
+IsDecidedIn context budget s v = IsConeVerdict (unsized context.task.now.settings.now.assignment) context.task.now.settings.now.difference
+    (FitIn context budget) (λ t. ⊥) (λ t. ⊥)
     (circuit context.task.now.first.now) (circuit context.task.now.second.now) (condition context.task.now.given) context.naming.now s v
 
 -- the pair is left within so many nodes
@@ -124,13 +126,6 @@ EndsPairs fault = IsComparisonFault fault × EndsAtOnce fault
 
 -- ---- rounds
 
--- These are the places of pairs by falling weight.
-pub record IsWeightOrder (a b : Circuit) (pairs : List Subject) (order : List ℕ) : Type 0 where
-  pub weights : List ℕ
-  pub weighed : AllZip (HasWeight a b) pairs weights
-  pub places : IsPermutation (numbers_below (length weights)) order
-  pub falls : (t u : ℕ) → t < u → u < length order → ComesBefore weights (slice_index order t) (slice_index order u)
-
 -- what a pair has come to in a round
 abbrev pub IsJobResult : {H : Type 0} → ConeContext H → (budget : ℕ) → (bound : Option ℕ) → Subject → Result (Option Verdict) CheckFault → Type 0
 IsJobResult context budget bound s (Ok o) = IsJudgedIn context budget bound s o
@@ -148,6 +143,28 @@ pub record IsRoundOf {H : Type 0} (context : ConeContext H) (budget : ℕ) (boun
   pub places : (i : ℕ) (s : Subject) → i < length subjects →
       IsPlaceOfRound context budget bound (slice_index_or subjects i s) (slice_index_or known i None) (slice_index_or new i None)
 
+-- ---- what is known of pairs without an attempt
+
+-- a pair has this flag only if it is equal inside
+abbrev pub IsEqualIf : Circuit → Circuit → NamingModel → Subject → (equal : Bool) → Type 0
+IsEqualIf a b p s equal = IsTrue equal → IsEqualInside a b p s
+
+-- the verdict of a pair that is equal inside, else what was known of it
+abbrev pub or_equal : Circuit → Subject → (equal : Bool) → Option Verdict → Option Verdict
+or_equal a s true known = Some (Equal s.role (name_of a s.named) None)
+or_equal a s false known = known
+
+-- what was known of a pair, else a difference that a pattern shows, if this is the number of one that does
+abbrev pub IsShownElse : Circuit → Circuit → Option Circuit → NamingModel → Subject → (shown : Option ℕ) → (known new : Option Verdict) → Type 0
+IsShownElse a b given p s shown (Some v) new = new ≡ Some v
+IsShownElse a b given p s None None new = new ≡ None
+IsShownElse a b given p s (Some number) None new = IsSomeAnd new (IsShownVerdict a b given p s)
+
+-- What is known of pairs before an attempt is made.
+abbrev pub AreKnownAtOnce : {H : Type 0} → ConeContext H → List Subject → List (Option Verdict) → Type 0
+AreKnownAtOnce context subjects known =
+    AllZip (IsKnown (IsDecidedIn context (cone_limit context.task.now.settings.now.limit)) (λ s. ⊤)) subjects known
+
 -- ---- all pairs
 
 -- a pair that no budget up to the cones' limit decides
@@ -156,14 +173,24 @@ StaysUndecided context bound s =
     IsUndecided context.task.now.settings.now.limit bound (circuit context.task.now.first.now) (circuit context.task.now.second.now)
     (condition context.task.now.given) context.naming.now s
 
--- the same, and its verdict
-abbrev pub IsFinalVerdict : {H : Type 0} → ConeContext H → (bound : Option ℕ) → Subject → Verdict → Type 0
-IsFinalVerdict context bound s v =
-    IsConeVerdict (unsized context.task.now.settings.now.assignment) (FitIn context (cone_limit context.task.now.settings.now.limit))
-    (StaysUndecided context bound) (circuit context.task.now.first.now) (circuit context.task.now.second.now)
-    (condition context.task.now.given) context.naming.now s v
+-- no pattern shows that a pair differs
+abbrev pub IsUnshownIn : {H : Type 0} → ConeContext H → Subject → Type 0
+IsUnshownIn context s =
+    IsUnshown (circuit context.task.now.first.now) (circuit context.task.now.second.now) (condition context.task.now.given) context.naming.now s
 
--- the verdict of a pair: Undecided, where there is none
+-- the verdict of a pair over the variables of a naming
+abbrev pub IsPairVerdict : {H : Type 0} → Task H → (bound : Option ℕ) → NamingModel → Subject → Verdict → Type 0
+IsPairVerdict task bound p s v = IsConeVerdict (unsized task.settings.now.assignment) task.settings.now.difference
+    (FitByCones (cone_limit task.settings.now.limit) (circuit task.first.now) (circuit task.second.now) (condition task.given) p)
+    (IsUndecided task.settings.now.limit bound (circuit task.first.now) (circuit task.second.now) (condition task.given) p)
+    (IsUnshown (circuit task.first.now) (circuit task.second.now) (condition task.given) p)
+    (circuit task.first.now) (circuit task.second.now) (condition task.given) p s v
+
+-- the verdict that a pair has at the end
+abbrev pub IsFinalVerdict : {H : Type 0} → ConeContext H → (bound : Option ℕ) → Subject → Verdict → Type 0
+IsFinalVerdict context bound s v = IsPairVerdict context.task.now bound context.naming.now s v
+
+-- the verdict of a pair: Undecided, if there is none
 abbrev pub or_undecided : Circuit → Subject → Option Verdict → Verdict
 or_undecided a s None = Undecided s.role (name_of a s.named)
 or_undecided a s (Some v) = v
@@ -179,15 +206,12 @@ pub record IsFoundByCones {H : Type 0} (task : Task H) (bound : Option ℕ) (p :
   pub pairs : List Subject
   pub unmatched_lines : List Verdict
   pub picked : ArePicked (circuit task.first.now) (circuit task.second.now) p task.settings.now.picked pairs unmatched_lines
-  pub verdicts : AreConeVerdicts (unsized task.settings.now.assignment)
+  pub verdicts : AreConeVerdicts (unsized task.settings.now.assignment) task.settings.now.difference
       (FitByCones (cone_limit task.settings.now.limit) (circuit task.first.now) (circuit task.second.now) (condition task.given) p)
       (IsUndecided task.settings.now.limit bound (circuit task.first.now) (circuit task.second.now) (condition task.given) p)
+      (IsUnshown (circuit task.first.now) (circuit task.second.now) (condition task.given) p)
       (circuit task.first.now) (circuit task.second.now) (condition task.given) p pairs unmatched_lines found
 
--- a fault of a comparison by cones: a name that is picked is unknown, or what ends the judging of pairs
-abbrev pub EndsCones : CheckFault → Type 0
-EndsCones fault = (fault ≡ Only) ⊎ EndsPairs fault
-
--- the same, where the whole may have been tried before
+-- a fault of a comparison that may judge pairs by their cones: a name that is picked is unknown, or what ends attempts
 abbrev pub EndsAuto : CheckFault → Type 0
 EndsAuto fault = (fault ≡ Only) ⊎ EndsAtOnce fault

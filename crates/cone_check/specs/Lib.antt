@@ -1,2 +1,3 @@
 pub mod ConeRounds
 pub mod Batches
+pub mod KnownPairs

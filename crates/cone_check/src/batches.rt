@@ -5,10 +5,10 @@ ghost use Rattle.compare_built.specs.PairSelection.{serpentine_share};
 ghost use Rattle.cone_check.specs.declared.batches.PairJob.{PairJob as PairJobValue};
 ghost use Rattle.cone_check.specs.Batches.{AreJobsFor, ShareWorkers, batch_workers, jobs_in, jobs_of, put_at, workers_of};
 
-use crate::shares::serpentine_share;
 use compare_built::fault::CheckFault;
 use compare_built::subject::Subject;
 use expand_work::Workers;
+use pair_facts::serpentine_share;
 use report_text::Verdict;
 use std::alloc::{AllocError, Global};
 

@@ -1,20 +1,21 @@
 //! A comparison by cones, pair by pair.
-ghost use Rattle.std.specs.Prelude.{◌≡◌, ◌<◌, ◌++◌, length, Err, All, IfOk, IfErr, IfSome};
+ghost use Rattle.std.specs.Prelude.{◌≡◌, ◌<◌, ◌++◌, length, All, IfOk, IfErr, IfSome};
 ghost use Rattle.std.specs.List.{AllZip};
 ghost use Rattle.net_bench.specs.Circuit.{circuit};
 ghost use Rattle.net_order.specs.declared.order.Order.TheVariants.{Declared};
 ghost use Rattle.net_order.specs.Order.{condition};
-ghost use Rattle.compare_built.specs.Details.{unsized};
 ghost use Rattle.compare_built.specs.Comparing.{IsInside};
-ghost use Rattle.compare_built.specs.Cones.{FitByCones, IsConditionCone, IsUndecided, IsConeVerdict, cone_limit};
-ghost use Rattle.cone_check.specs.ConeRounds.{EndsCones, EndsPairs, IsInContext, IsConeContext, IsFoundByCones, IsFinalVerdict, all_or_undecided, circuit_in, or_undecided};
-ghost use Rattle.compare_built.specs.PairSelection.{HasUnknown};
+ghost use Rattle.compare_built.specs.Cones.{IsConditionCone};
+ghost use Rattle.cone_check.specs.ConeRounds.{EndsPairs, IsEqualIf, IsInContext, IsConeContext, IsFoundByCones, IsFinalVerdict, IsPairVerdict};
+ghost use Rattle.cone_check.specs.ConeRounds.{all_or_undecided, circuit_in, or_undecided};
+ghost use Rattle.pair_facts.specs.PairFacts.{IsFirstShown};
+ghost use Rattle.compare_built.specs.PairSelection.{ArePicked};
 ghost use Rattle.compare_built.specs.Scatter.{IsOfNet};
 ghost use Rattle.order_search.specs.Trials.{IsNamingIn};
 ghost use Rattle.report_text.specs.Findings.{found_of};
 
+use crate::at_once::{known_at_once, put_all_shown};
 use crate::pair_cones::ConeContext;
-use crate::pair_selection::{Selection, select_pairs};
 use crate::rounds::judge_all;
 use crate::variable_names::{NetlistRole, names_in};
 use compare_built::fault::CheckFault;
@@ -24,6 +25,7 @@ use expand_work::Monitor;
 use net_bench::netlist::Netlist;
 use net_cone::{Cone, cone_of, gate_signals};
 use net_order::naming::Naming;
+use pair_facts::PairFacts;
 use report_text::{Name, Verdict, Verdicts};
 use std::alloc::{AllocError, Global};
 use std::sync::Wait;
@@ -47,7 +49,7 @@ fn given_cone<H>(task: &Task<'_, H>, naming: &Naming) -> Result<Option<Cone>, Al
     Ok(Some(cone))
 }
 
-/// The verdict of a pair: Undecided, where there is none.
+/// The verdict of a pair: Undecided, if there is none.
 fn or_undecided(
     alloc: Global,
     first: &Netlist,
@@ -87,26 +89,35 @@ fn verdicts_or_undecided(
     Ok(all)
 }
 
-/// The verdicts of these pairs by their cones.
+/// The verdicts of these pairs: at once, by their cones, or by patterns if they are left.
 fn judged<H: Threads + Wait + Sync, G: Monitor>(
     context: &ConeContext<'_, H>,
     subjects: &[Subject],
+    equal: &[bool],
+    shown: &[Option<usize>],
     monitor: &G,
 ) -> Result<Vec<Verdict>, CheckFault>
     requires ready { IsConeContext context.now }
     requires in_range { All (IsInContext context.now) subjects.now }
+    requires equal { let task = context.now.task.now in
+        AllZip (IsEqualIf (circuit task.first.now) (circuit task.second.now) context.now.naming.now) subjects.now equal.now }
+    requires shown { let task = context.now.task.now in
+        AllZip (IsFirstShown (circuit task.first.now) (circuit task.second.now) (condition task.given) context.now.naming.now)
+        subjects.now shown.now }
     ensures verdicts { IfOk result (λ v. AllZip (IsFinalVerdict context.now (G.bound monitor.now)) subjects.now v.items) }
     ensures ends { IfErr result EndsPairs }
 {
     let task = context.task;
     let _ = task.first.inputs();
     let _ = task.second.inputs();
-    let known = judge_all(context, subjects, monitor)?;
+    let known = known_at_once(context, subjects, equal, shown)?;
+    let mut known = judge_all(context, subjects, known, monitor)?;
+    put_all_shown(task, context.naming, subjects, shown, &mut known)?;
     let verdicts = verdicts_or_undecided(task.alloc, task.first, subjects, known)?;
     Ok(verdicts)
 }
 
-/// Puts lines behind others.
+/// Puts lines after others.
 fn and_unmatched(
     mut verdicts: Vec<Verdict>,
     mut unmatched_lines: Vec<Verdict>,
@@ -117,20 +128,21 @@ fn and_unmatched(
     Ok(verdicts)
 }
 
-/// What is told of these pairs by their cones.
+/// The verdicts of these pairs, with what their cones have in common.
 fn judge_selected<H: Threads + Wait + Sync, G: Monitor>(
     task: &Task<'_, H>,
     naming: &Naming,
     subjects: &[Subject],
+    equal: &[bool],
+    shown: &[Option<usize>],
     monitor: &G,
 ) -> Result<Vec<Verdict>, CheckFault>
     requires naming { IsNamingIn task.now Declared naming.now }
     requires in_range { All (IsInside (circuit task.now.first.now) (circuit task.now.second.now)) subjects.now }
-    ensures verdicts { IfOk result (λ v. AllZip (IsConeVerdict (unsized task.now.settings.now.assignment)
-        (FitByCones (cone_limit task.now.settings.now.limit) (circuit task.now.first.now) (circuit task.now.second.now)
-        (condition task.now.given) naming.now) (IsUndecided task.now.settings.now.limit (G.bound monitor.now) (circuit task.now.first.now)
-        (circuit task.now.second.now) (condition task.now.given) naming.now)
-        (circuit task.now.first.now) (circuit task.now.second.now) (condition task.now.given) naming.now) subjects.now v.items) }
+    requires equal { AllZip (IsEqualIf (circuit task.now.first.now) (circuit task.now.second.now) naming.now) subjects.now equal.now }
+    requires shown { AllZip (IsFirstShown (circuit task.now.first.now) (circuit task.now.second.now) (condition task.now.given) naming.now)
+        subjects.now shown.now }
+    ensures verdicts { IfOk result (λ v. AllZip (IsPairVerdict task.now (G.bound monitor.now) naming.now) subjects.now v.items) }
     ensures ends { IfErr result EndsPairs }
 {
     let _ = task.first.inputs();
@@ -149,28 +161,43 @@ fn judge_selected<H: Threads + Wait + Sync, G: Monitor>(
         second_gates: second_gates.as_slice(),
         given: &given,
     };
-    judged(&context, subjects, monitor)
+    judged(&context, subjects, equal, shown, monitor)
 }
 
-/// Judges each pair that is picked by its cones, and tells what is found over the variables of the naming in declared order.
+/// Judges each pair that is picked, and reports what is found over the variables of the naming in declared order. Of a pair that is equal
+/// inside, and if any difference is asked for, of one that a pattern shows to differ, the verdict is known at once. The others are judged by
+/// their cones. One that is left has the difference that a pattern shows, or is undecided.
 pub fn verdicts_by_cones<H: Threads + Wait + Sync, G: Monitor>(
     task: &Task<'_, H>,
     naming: Naming,
+    facts: PairFacts,
+    equal: &[bool],
     monitor: &G,
 ) -> Result<Verdicts, CheckFault>
-    requires { IsNamingIn task.now Declared naming }
+    requires naming { IsNamingIn task.now Declared naming }
+    requires picked { ArePicked (circuit task.now.first.now) (circuit task.now.second.now) naming task.now.settings.now.picked
+        facts.subjects.items facts.unmatched_lines.items }
+    requires in_range { All (IsInside (circuit task.now.first.now) (circuit task.now.second.now)) facts.subjects.items }
+    requires equal { AllZip (IsEqualIf (circuit task.now.first.now) (circuit task.now.second.now) naming) facts.subjects.items equal.now }
+    requires shown { AllZip (IsFirstShown (circuit task.now.first.now) (circuit task.now.second.now) (condition task.now.given) naming)
+        facts.subjects.items facts.shown.items }
     ensures verdicts { IfOk result (λ v. IsFoundByCones task.now (G.bound monitor.now) naming (found_of v)) }
     ensures named { IfOk result (λ v. v.naming ≡ naming) }
-    ensures unknown { result ≡ Err CheckFault.Only → HasUnknown (circuit task.now.first.now) task.now.settings.now.picked }
-    ensures ends { IfErr result EndsCones }
+    ensures ends { IfErr result EndsPairs }
 {
-    let _ = task.first.inputs();
-    let _ = task.second.inputs();
-    let Selection {
+    let PairFacts {
         subjects,
         unmatched_lines,
-    } = select_pairs(task, &naming)?;
-    let verdicts = judge_selected(task, &naming, subjects.as_slice(), monitor)?;
+        shown,
+    } = facts;
+    let verdicts = judge_selected(
+        task,
+        &naming,
+        subjects.as_slice(),
+        equal,
+        shown.as_slice(),
+        monitor,
+    )?;
     let verdicts = and_unmatched(verdicts, unmatched_lines)?;
     Ok(Verdicts::of(naming, verdicts))
 }

@@ -17,7 +17,7 @@ use crate::pair_monitor::PairMonitor;
 use compare_built::fault::CheckFault;
 use compare_built::pair_filter::PairFilter;
 use compare_built::scatter::widen_verdict;
-use compare_built::settings::Settings;
+use compare_built::settings::{Difference, Settings};
 use compare_built::strategy::Strategy;
 use compare_built::subject::Subject;
 use compare_built::task::Task;
@@ -30,7 +30,7 @@ use std::alloc::AllocError;
 use std::sync::Wait;
 use std::thread::Threads;
 
-/// How the cones of a pair are compared: by name, in the candidates' orders, by so many workers and without sizes.
+/// How the cones of a pair are compared: by name, in the candidates' orders, for the least difference, by so many workers and without sizes.
 pub fn pair_settings<H>(context: &ConeContext<'_, H>, workers: Workers) -> Settings
     ensures settings { IsPairSettings context.now result }
     ensures workers { result.workers ≡ workers.count }
@@ -40,6 +40,7 @@ pub fn pair_settings<H>(context: &ConeContext<'_, H>, workers: Workers) -> Setti
         matching: Match::Name,
         order: Strategy::Best,
         picked: PairFilter::All,
+        difference: Difference::Least,
         workers: workers.count(),
         limit: settings.limit,
         sizes: false,

@@ -4,19 +4,19 @@ ghost use Rattle.std.specs.List.{AllZip};
 ghost use Rattle.net_order.specs.Force.{numbers_below};
 ghost use Rattle.compare_built.specs.Cones.{cone_limit};
 ghost use Rattle.cone_check.specs.declared.batches.PairJob.{PairJob as PairJobValue};
-ghost use Rattle.cone_check.specs.ConeRounds.{EndsPairs, IsJobResult, IsKnown, IsPairSettings, IsRoundOf, StaysUndecided, IsInContext, IsConeContext, IsDecidedIn};
+ghost use Rattle.cone_check.specs.ConeRounds.{AreKnownAtOnce, EndsPairs, IsJobResult, IsKnown, IsPairSettings, IsRoundOf, StaysUndecided, IsInContext, IsConeContext, IsDecidedIn};
 ghost use Rattle.cone_check.specs.Batches.{AreAtOnce, AreJobsDone, IsJobDone, jobs_of, pairs_at_once};
 
 use crate::batches::{Batch, PairJob, dealt, gathered};
 use crate::pair_cones::ConeContext;
 use crate::pairs::{judge_pair, pair_settings};
-use crate::remaining::{count_left, left_in, no_verdicts, written};
-use crate::shares::weight_order;
+use crate::remaining::{count_left, left_in, written};
 use compare_built::fault::CheckFault;
 use compare_built::settings::Settings;
 use compare_built::subject::Subject;
 use expand_work::{AttemptEnd, Monitor};
 use order_search::budget_search::{FIRST_BUDGET, GROWTH};
+use pair_facts::weight_order;
 use reduce_up::fork_each;
 use report_text::Verdict;
 use std::alloc::AllocError;
@@ -183,14 +183,17 @@ pub fn cone_limit(limit: u64) -> u64
     (limit / 4).max(1)
 }
 
-/// Judges pairs by their cones within budgets that grow up to a quarter of the limit, each time those that are left.
+/// Judges pairs by their cones within budgets that grow up to a quarter of the limit, each time those that are left. Before the first, what
+/// is known at once is known.
 pub(crate) fn judge_all<H: Threads + Wait + Sync, G: Monitor>(
     context: &ConeContext<'_, H>,
     subjects: &[Subject],
+    known: Vec<Option<Verdict>>,
     monitor: &G,
 ) -> Result<Vec<Option<Verdict>>, CheckFault>
     requires ready { IsConeContext context.now }
     requires in_range { All (IsInContext context.now) subjects.now }
+    requires at_once { AreKnownAtOnce context.now subjects.now known.items }
     ensures known { IfOk result (λ known. AllZip (IsKnown (IsDecidedIn context.now (cone_limit context.now.task.now.settings.now.limit))
         (StaysUndecided context.now (G.bound monitor.now))) subjects.now known.items) }
     ensures ends { IfErr result EndsPairs }
@@ -198,7 +201,7 @@ pub(crate) fn judge_all<H: Threads + Wait + Sync, G: Monitor>(
     let task = context.task;
     let limit = cone_limit(task.settings.limit);
     let order = weight_order(task.alloc, task.first, task.second, subjects)?;
-    let mut known = no_verdicts(task.alloc, subjects.len())?;
+    let mut known = known;
     let mut budget = FIRST_BUDGET;
     while budget < limit {
         known = judge_round(context, subjects, order.as_slice(), known, budget, monitor)?;

@@ -9,7 +9,7 @@ abbrev pub wave_fault_text : WaveFault → List ℕ
 wave_fault_text OutOfMemory = codes "out of memory"
 wave_fault_text NoWorker = codes "a worker could not be started"
 wave_fault_text Full = codes "more nodes than the limit"
-wave_fault_text TooManyRequests = codes "more requests than the gate allows"
+wave_fault_text TooManyRequests = codes "more requests than the bound allows"
 
 -- what a wave answers where its store refuses a node
 abbrev pub wave_fault : StoreFault → WaveFault

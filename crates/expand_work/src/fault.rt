@@ -30,7 +30,7 @@ impl fmt::Display for WaveFault {
             WaveFault::OutOfMemory => write!(f, "out of memory"),
             WaveFault::NoWorker => write!(f, "a worker could not be started"),
             WaveFault::Full => write!(f, "more nodes than the limit"),
-            WaveFault::TooManyRequests => write!(f, "more requests than the gate allows"),
+            WaveFault::TooManyRequests => write!(f, "more requests than the bound allows"),
         }
     }
 }

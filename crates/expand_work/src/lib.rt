@@ -41,7 +41,7 @@ pub use crew::{Crew, Workers};
 pub use expand::{ChildSink, expand_row};
 pub use fault::{WaveFault, WorkFault};
 pub use lists::PlacesBySender;
-pub use monitor::{AttemptEnd, Monitor, NoMonitor};
+pub use monitor::{AttemptEnd, MergeRound, Monitor, NoMonitor};
 pub use part::Part;
 pub use parts::{Parts, WorkerNotes, expand_parts};
 pub use space::{MemoryPool, WorkerMemory};

@@ -17,6 +17,24 @@ pub enum AttemptEnd {
     Left { left: usize, pairs: usize },
 }
 
+/// What a round of merging equal signals has come to.
+#[derive(Clone, Copy, Drop, Debug, PartialEq, Eq)]
+pub struct MergeRound {
+    /// The most nodes that the diagrams of a window may have.
+    pub budget: u64,
+    /// The gates of the graph of both netlists.
+    pub gates: usize,
+    /// How many gates were merged with older ones, by all rounds so far.
+    pub merged: usize,
+    /// How many windows were judged, by all rounds so far.
+    pub windows: usize,
+    /// How many gates have an older one that no assignment tells apart from them, but that no window shows equal.
+    pub candidates: usize,
+    /// How many of the pairs are equal by their signals' literals.
+    pub decided: usize,
+    pub pairs: usize,
+}
+
 /// Is told when a worker has closed a level and is about to expand it, and what a `Watch` is told.
 pub trait Monitor: Watch + Sync {
     // The most requests that a wave of an engine may have, where they are bounded.
@@ -31,8 +49,9 @@ pub trait Monitor: Watch + Sync {
         0
     }
 
-    /// The most requests that a wave of an engine may have; the greatest number bounds nothing. No request beyond the bound is expanded, so
-    /// no more than three times as many are ever held. Which waves are refused depends neither on the workers nor on their number.
+    /// The most requests that a wave of an engine may have; the greatest number bounds nothing. No more requests than these are expanded,
+    /// and each that is expanded asks for two others at most: so a wave never has more requests than those of its entries and twice the
+    /// bound. Which waves are refused depends neither on the workers nor on their number.
     fn most_requests(&self) -> usize
         ensures bound { result ≡ most_of (bound self.now) };
 
@@ -46,6 +65,13 @@ pub trait Monitor: Watch + Sync {
 
     /// Is told by the caller's thread how an attempt within so many nodes has ended, or a round of pairs that were tried by their cones.
     fn at_attempt(&self, _budget: u64, _end: AttemptEnd) {}
+
+    /// Is notified that patterns have shown so many of the pairs to differ, and of the name of the first of these, which is empty if there
+    /// is none.
+    fn at_patterns(&self, _different: usize, _pairs: usize, _first: &[u8]) {}
+
+    /// Is notified how a round of merging equal signals has ended.
+    fn at_merge(&self, _round: MergeRound) {}
 }
 
 /// A wave of more requests is large. This and the numbers below are a choice between what was measured, which docs/PERFORMANCE.md has.

@@ -8,7 +8,7 @@ use Rattle.net_order.specs.declared.order.Order.{Order}
 use Rattle.net_order.specs.declared.order.Order.TheVariants as orders
 use Rattle.compare_built.specs.declared.strategy.Candidate.TheVariants.{Interleave, Declared}
 use Rattle.compare_built.specs.declared.strategy.Strategy.{Strategy}
-use Rattle.compare_built.specs.declared.strategy.Strategy.TheVariants.{One, Best, Auto, Cones}
+use Rattle.compare_built.specs.declared.strategy.Strategy.TheVariants.{One, Best, Auto, Cones, Merge}
 use Rattle.compare_built.specs.declared.fault.CheckFault.{CheckFault}
 use Rattle.compare_built.specs.declared.fault.CheckFault.TheVariants.{First, Second, Given, GivenOutputs, Order as OrderRefused, Only, Explain, Wave, GivenUp, Write, OutOfMemory}
 use Rattle.compare_built.specs.declared.strategy.Attempt.{Attempt}
@@ -36,6 +36,7 @@ some_order (One o) = (o, refl)
 some_order Best = (orders.Interleave, (Interleave, refl))
 some_order Auto = (orders.Interleave, (Interleave, refl))
 some_order Cones = (orders.Declared, refl)
+some_order Merge = (orders.Declared, refl)
 
 -- a fault for which no device had to fail
 unread : (input : Option (List ℕ)) (failed : Type 0) (fault : BenchFault) → IsUnread input ⊥ fault → IsUnread input failed fault
@@ -114,6 +115,7 @@ chosen_allowed input how Best limit (Some t) order c = (t.order, c.0)
 chosen_allowed input how Auto limit None order c = absurd c
 chosen_allowed input how Auto limit (Some t) order c = (Declared, c.0)
 chosen_allowed input how Cones limit tried order c = absurd c
+chosen_allowed input how Merge limit tried order c = absurd c
 
 -- what has a pairing is accepted, for any choice
 pub accepted_in : (choice : Strategy) (input : DeviceTexts) (how : Match) (order : Order) (a b : Circuit) (c : Option Circuit) (p : NamingModel) → ArePaired input how order a b c p → AreAccepted input choice how order
@@ -131,9 +133,11 @@ found_accepted input s bound found None (by_cones cause j last) = (orders.Declar
     declared_allowed Best cause = absurd cause
     declared_allowed Auto cause = (Declared, refl)
     declared_allowed Cones cause = refl
+    declared_allowed Merge cause = refl
 
     may_go : (choice : Strategy) → MayTakeCones input s bound choice → MayGoByCones choice
     may_go (One o) cause = absurd cause
     may_go Best cause = absurd cause
     may_go Auto cause = tt
     may_go Cones cause = tt
+    may_go Merge cause = tt

@@ -1,27 +1,32 @@
 -- How a comparison is decided: the whole in one order, or each pair by its cones.
-use Rattle.std.specs.Prelude.{◌≡◌, ◌⊎◌, ◌++◌, ◌<◌, ℕ, List, Option, None, is_some, ⊤}
+use Rattle.std.specs.Prelude.{◌≡◌, ◌⊎◌, ◌++◌, ℕ, Bool, true, false, not, List, Option, None, is_some, ⊤}
+use Rattle.std.specs.List.{list_any}
 use Rattle.net_bench.specs.Circuit.{Circuit}
 use Rattle.net_order.specs.declared.order.Order.{Order}
 use Rattle.net_order.specs.declared.order.Order.TheVariants as orders
 use Rattle.net_order.specs.Order.{NamingModel}
 use Rattle.report_text.specs.declared.outcome.Outcome.{Outcome}
 use Rattle.report_text.specs.declared.verdict.Verdict.{Verdict}
+use Rattle.report_text.specs.declared.verdict.Verdict.TheVariants.{Equal, Differs, Unmatched, Undecided}
 use Rattle.report_text.specs.Causes.{Caused}
 use Rattle.report_text.specs.Json.{form_text}
 use Rattle.report_text.specs.Lines.{Found, counted}
 use Rattle.compare_built.specs.declared.strategy.Attempt.{Attempt}
 use Rattle.compare_built.specs.declared.strategy.Candidate.{Candidate}
 use Rattle.compare_built.specs.declared.strategy.Strategy.{Strategy}
-use Rattle.compare_built.specs.declared.strategy.Strategy.TheVariants.{One, Best, Auto, Cones}
+use Rattle.compare_built.specs.declared.strategy.Strategy.TheVariants.{One, Best, Auto, Cones, Merge}
 use Rattle.compare_built.specs.declared.pair_filter.PairFilter.{PairFilter}
+use Rattle.compare_built.specs.declared.settings.Difference.{Difference}
+use Rattle.compare_built.specs.declared.settings.Difference.TheVariants.{Least, AnyOne}
 use Rattle.compare_built.specs.declared.settings.Settings.{Settings}
 use Rattle.compare_built.specs.declared.subject.Subject.{Subject}
 use Rattle.compare_built.specs.Details.{details_in, unsized}
-use Rattle.compare_built.specs.Attempts.{IsBudget, IsChosen, IsGivenUpWithin, order_of, reported_kind, whole_limit}
+use Rattle.compare_built.specs.Attempts.{IsBudget, IsChosen, IsGivenUpWithin, first_whole_limit, order_of, reported_kind}
 use Rattle.explain_report.specs.Causing.{AreCauses}
 use Rattle.compare_built.specs.Check.{Gives, HaveTooManyVariables, HaveNaming, IsJudged}
 use Rattle.compare_built.specs.Cones.{AreConeVerdicts, FitByCones, IsUndecided, cone_limit}
 use Rattle.compare_built.specs.Devices.{DeviceTexts}
+use Rattle.compare_built.specs.Facts.{IsUnshown}
 use Rattle.explain_report.specs.Explaining.{IsAppended}
 use Rattle.compare_built.specs.PairSelection.{ArePicked, HasUnknown, share_of}
 
@@ -35,26 +40,37 @@ pub record IsJudgedByCones (input : DeviceTexts) (s : Settings) (bound : Option 
   pub pairs : List Subject
   pub unmatched_lines : List Verdict
   pub picked : ArePicked a b p s.picked pairs unmatched_lines
-  pub verdicts : AreConeVerdicts (unsized s.assignment) (FitByCones (cone_limit s.limit) a b c p)
-      (IsUndecided s.limit bound a b c p) a b c p pairs unmatched_lines found
+  pub verdicts : AreConeVerdicts (unsized s.assignment) s.difference (FitByCones (cone_limit s.limit) a b c p)
+      (IsUndecided s.limit bound a b c p) (IsUnshown a b c p) a b c p pairs unmatched_lines found
 
--- Cones may be taken: they are asked for, or each attempt of the whole was given up, or it has more variables than a pairing has.
+-- Pairs may be judged one by one: that is asked for, or each attempt of the whole within the first limit was given up, or it has more
+-- variables than a pairing has, or any difference is asked for.
 abbrev pub MayTakeCones : DeviceTexts → Settings → (bound : Option ℕ) → Strategy → Type 0
 MayTakeCones input s bound (One o) = ⊥
 MayTakeCones input s bound Best = ⊥
 MayTakeCones input s bound Auto =
-    ((budget : ℕ) → IsBudget (whole_limit s.limit) budget → (c : Candidate) → IsGivenUpWithin input s.matching budget bound (order_of c))
-    ⊎ HaveTooManyVariables input s.matching
+    ((budget : ℕ) → IsBudget (first_whole_limit s.limit) budget → (c : Candidate) → IsGivenUpWithin input s.matching budget bound (order_of c))
+    ⊎ HaveTooManyVariables input s.matching ⊎ (s.difference ≡ AnyOne)
 MayTakeCones input s bound Cones = ⊤
+MayTakeCones input s bound Merge = ⊤
 
--- By auto a pair is left undecided only if the last attempt of the whole was given up in declared order as well, within the whole limit, or
--- if the whole has more variables than a pairing has.
+-- Another attempt could say more of a pair: it is undecided, or it has a difference that may not be the least, and the least is asked for.
+abbrev pub is_open : Difference → Verdict → Bool
+is_open difference (Undecided role name) = true
+is_open difference (Equal role name size) = false
+is_open difference (Unmatched side role name) = false
+is_open Least (Differs role name at first second extras) = not extras.least
+is_open AnyOne (Differs role name at first second extras) = false
+
+-- By auto a pair is left undecided, or with a difference that may not be the least though the least is asked for, only if the last attempt of
+-- the whole was given up in declared order as well, within the whole limit, or if the whole has more variables than a pairing has.
 abbrev pub HasLastAttempt : DeviceTexts → Settings → (bound : Option ℕ) → Strategy → Found → Type 0
 HasLastAttempt input s bound (One o) found = ⊤
 HasLastAttempt input s bound Best found = ⊤
-HasLastAttempt input s bound Auto found = 0 < (counted found.verdicts).undecided →
+HasLastAttempt input s bound Auto found = list_any (is_open s.difference) found.verdicts ≡ true →
     IsGivenUpWithin input s.matching s.limit bound orders.Declared ⊎ HaveTooManyVariables input s.matching
 HasLastAttempt input s bound Cones found = ⊤
+HasLastAttempt input s bound Merge found = ⊤
 
 -- What a comparison finds by its settings, and the attempt that it is told with.
 pub data IsFoundBy (input : DeviceTexts) (s : Settings) (bound : Option ℕ) (found : Found) : Option Attempt → Type 0 where

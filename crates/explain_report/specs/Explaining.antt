@@ -16,7 +16,7 @@ use Rattle.report_text.specs.Findings.{VerdictsModel}
 use Rattle.report_text.specs.Lines.{Found, subject_text}
 use Rattle.compare_built.specs.declared.strategy.Attempt.{Attempt}
 use Rattle.compare_built.specs.declared.strategy.Strategy.{Strategy}
-use Rattle.compare_built.specs.declared.strategy.Strategy.TheVariants.{One, Best, Auto, Cones}
+use Rattle.compare_built.specs.declared.strategy.Strategy.TheVariants.{One, Best, Auto, Cones, Merge}
 use Rattle.compare_built.specs.declared.fault.CheckFault.{CheckFault}
 use Rattle.compare_built.specs.declared.fault.CheckFault.TheVariants.{Explain}
 use Rattle.compare_built.specs.declared.settings.Settings.{Settings}
@@ -115,6 +115,7 @@ reported_order Best (Some t) = order_of t.order
 reported_order Best None = orders.Declared
 reported_order Auto tried = orders.Declared
 reported_order Cones tried = orders.Declared
+reported_order Merge tried = orders.Declared
 
 -- the naming of these verdicts is that of the task's netlists, in the order in which the report of this attempt has the variables
 abbrev pub HaveReportNaming : {H : Type 0} → Task H → Option Attempt → VerdictsModel → Type 0

@@ -31,9 +31,9 @@ fn found<R: Threads + Wait + Sync>(
     let engine = Engine::new(&crew)?;
     let mut judge = WaveJudge::new(engine, nodes);
     for _ in 1..tries {
-        let _ = judge.judge(graph, window, first, second)?;
+        let _ = judge.judge(nodes, graph, window, first, second)?;
     }
-    let last = judge.judge(graph, window, first, second)?;
+    let last = judge.judge(nodes, graph, window, first, second)?;
     Ok((last, judge.work()))
 }
 

@@ -12,3 +12,5 @@ mod graphs;
 mod judging;
 #[cfg(test)]
 mod merging;
+#[cfg(test)]
+mod rounds;

@@ -1,7 +1,7 @@
 // Of merging: signals of a multiplier and of one that is built of other adders get the same literals, and of a wrong one they do not.
 use net_bench::netlist::{Netlist, Signal};
 use net_bench::reader::parse_bench;
-use net_merge::{LevelledNetlist, MergedNetlists, merge_netlists};
+use net_merge::{Learned, LevelledNetlist, MergeTask, MergedNetlists, merge_netlists};
 use std::alloc::{AllocError, Global};
 use std::sync::Wait;
 use std::test::Fail;
@@ -12,7 +12,7 @@ const BITS: usize = 4;
 
 /// Gates of which an adder is made: its sum and its carry from x, y and c.
 #[derive(Clone, Copy, Drop)]
-enum Adder {
+pub(crate) enum Adder {
     /// Two Xors, two Ands and an Or.
     Xors,
     /// Nine Nands.
@@ -62,7 +62,7 @@ fn from_above(alloc: Global, row: usize, column: usize) -> Result<String, AllocE
 }
 
 /// The text of an array multiplier; `last` is the adder at the end of the last row.
-fn multiplier(alloc: Global, adder: Adder, last: Adder) -> Result<String, Fail> {
+pub(crate) fn multiplier(alloc: Global, adder: Adder, last: Adder) -> Result<String, Fail> {
     let mut text = String::new(alloc);
     for place in 0..BITS {
         text.push_str(&format!(in alloc;
@@ -106,7 +106,7 @@ fn multiplier(alloc: Global, adder: Adder, last: Adder) -> Result<String, Fail> 
 }
 
 /// By signal the level of a variable: its place among the variables.
-fn levels_of(alloc: Global, net: &Netlist) -> Result<Vec<u32>, AllocError> {
+pub(crate) fn levels_of(alloc: Global, net: &Netlist) -> Result<Vec<u32>, AllocError> {
     let mut levels = Vec::from_elem(alloc, 0u32, net.count())?;
     let mut level = 0u32;
     for variable in net.variables() {
@@ -119,7 +119,7 @@ fn levels_of(alloc: Global, net: &Netlist) -> Result<Vec<u32>, AllocError> {
     Ok(levels)
 }
 
-/// The two netlists in one graph.
+/// The two netlists in one graph, by one round; their outputs are wanted equal.
 fn merged<R: Threads + Wait + Sync>(
     rt: &R,
     alloc: Global,
@@ -136,7 +136,16 @@ fn merged<R: Threads + Wait + Sync>(
         net: second,
         levels: second_levels.as_slice(),
     };
-    let both = merge_netlists(rt, alloc, &one, &two, 4000)?;
+    let mut wanted = Vec::new(alloc);
+    for pair in first.outputs().iter().zip(second.outputs()) {
+        wanted.push((*pair.0, *pair.1))?;
+    }
+    let task = MergeTask {
+        first: one,
+        second: two,
+        wanted: wanted.as_slice(),
+    };
+    let both = merge_netlists(rt, alloc, &task, 4000, &mut Learned::new(alloc))?;
     Ok(both)
 }
 

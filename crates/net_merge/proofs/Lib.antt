@@ -3,3 +3,4 @@ pub mod Past
 pub mod Representing
 pub mod SignalValues
 pub mod Stepping
+pub mod Zipping

@@ -6,7 +6,7 @@ use Rattle.net_bench.specs.Labels.{IsFunctionOf}
 use Rattle.net_bench.proofs.Built.{has_labelling}
 use Rattle.pair_graph.specs.declared.node.Node.{Node}
 use Rattle.pair_graph.specs.Literals.{Parts, negated}
-use Rattle.pair_graph.specs.Graphs.{HasNode, IsGraph, KeepsNodes, value}
+use Rattle.pair_graph.specs.Graphs.{AreEquivalent, HasNode, IsGraph, KeepsNodes, value}
 use Rattle.pair_graph.proofs.Values.{KeepsNodes-has, value-keeps, value-negated}
 use Rattle.net_merge.specs.SignalLiterals.{AreSignalLiterals, HaveNodes, IsLiteralOf, literal_at}
 
@@ -22,12 +22,19 @@ functions net sound level g ls are n s low x size =
     let (bits, label) = has_labelling net sound level x in
     (bits, label, sym (are.values s low x bits label))
 
+-- literals that have the same values are of equal functions
+pub equivalent_functions : (c d : Circuit) (level inner : ℕ → ℕ) (g : List Node) (ls ms : List Parts) → AreSignalLiterals c level g ls
+    → AreSignalLiterals d inner g ms → (s t : ℕ) → s < length c.names → t < length d.names → AreEquivalent g (literal_at ls s) (literal_at ms t)
+    → (n : ℕ) (f h : List Bool → Bool) → IsFunctionOf c level n s f → IsFunctionOf d inner n t h → Agree n f h
+equivalent_functions c d level inner g ls ms one two s t low_s low_t same n f h is_f is_h x size =
+    sym (has_function c level g s (literal_at ls s) (one.values s low_s) n f is_f x size) ∙ same x ∙
+    has_function d inner g t (literal_at ms t) (two.values t low_t) n h is_h x size
+
 pub equal_functions : (c d : Circuit) (level inner : ℕ → ℕ) (g : List Node) (ls ms : List Parts) → AreSignalLiterals c level g ls
     → AreSignalLiterals d inner g ms → (s t : ℕ) → s < length c.names → t < length d.names → literal_at ls s ≡ literal_at ms t
     → (n : ℕ) (f h : List Bool → Bool) → IsFunctionOf c level n s f → IsFunctionOf d inner n t h → Agree n f h
-equal_functions c d level inner g ls ms one two s t low_s low_t same n f h is_f is_h x size =
-    sym (has_function c level g s (literal_at ls s) (one.values s low_s) n f is_f x size) ∙ ap (value g x) same ∙
-    has_function d inner g t (literal_at ms t) (two.values t low_t) n h is_h x size
+equal_functions c d level inner g ls ms one two s t low_s low_t same n f h is_f is_h =
+    equivalent_functions c d level inner g ls ms one two s t low_s low_t (λ x. ap (value g x) same) n f h is_f is_h
 
 pub complementary_functions : (c d : Circuit) (level inner : ℕ → ℕ) (g : List Node) (ls ms : List Parts) → AreSignalLiterals c level g ls
     → AreSignalLiterals d inner g ms → (s t : ℕ) → s < length c.names → t < length d.names → literal_at ls s ≡ negated (literal_at ms t)

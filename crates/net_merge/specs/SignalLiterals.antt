@@ -1,11 +1,11 @@
 -- Signals of netlists as literals of one graph.
-use Rattle.std.specs.Prelude.{◌≡◌, ℕ, ◌<◌, Bool, List, Contains, length, slice_get, slice_index, slice_index_or, Some}
+use Rattle.std.specs.Prelude.{◌≡◌, ℕ, ◌<◌, Bool, List, Contains, IsTrue, length, slice_get, slice_index, slice_index_or, Some}
 use Rattle.net_bench.specs.Circuit.{Circuit, Net, circuit, variables_of}
 use Rattle.net_bench.specs.Labels.{IsLabelling, bit_of}
 use Rattle.net_simulate.specs.Schedules.{Equation}
 use Rattle.pair_graph.specs.declared.node.Node.{Node}
 use Rattle.pair_graph.specs.Literals.{Parts, false_literal}
-use Rattle.pair_graph.specs.Graphs.{HasNode, value}
+use Rattle.pair_graph.specs.Graphs.{AreEquivalent, HasNode, value}
 
 -- a literal has the values of a signal: in each labelling the signal's bit
 abbrev pub IsLiteralOf : Circuit → (ℕ → ℕ) → List Node → ℕ → Parts → Type 0
@@ -21,11 +21,19 @@ pub record AreSignalLiterals (c : Circuit) (level : ℕ → ℕ) (g : List Node)
   pub has : (s : ℕ) → HasNode g (literal_at literals s)
   pub values : (s : ℕ) → s < length c.names → IsLiteralOf c level g s (literal_at literals s)
 
--- two netlists as one graph: its nodes, and by signal the literals of the first netlist and of the second
+-- Two netlists as one graph: its nodes, by signal the literals of the first netlist and of the second, and for each pair that is wanted
+-- equal whether it is found so.
 pub record MergedModel : Type 0 where
   pub graph : List Node
   pub first : List Parts
   pub second : List Parts
+  pub equal : List Bool
+
+-- What is found of a pair of signals: that they are equal only if their literals have the same value at every assignment, and always if
+-- they have the same literal.
+pub record IsPairFinding (g : List Node) (firsts seconds : List Parts) (pair : ℕ × ℕ) (found : Bool) : Type 0 where
+  pub equal : IsTrue found → AreEquivalent g (literal_at firsts pair.0) (literal_at seconds pair.1)
+  pub same : literal_at firsts pair.0 ≡ literal_at seconds pair.1 → IsTrue found
 
 -- ---- what is done so far
 

@@ -16,6 +16,7 @@
 mod gate;
 mod guess;
 mod laws;
+mod learned;
 mod merged;
 mod merged_graph;
 mod merger;
@@ -23,8 +24,11 @@ mod random;
 mod representatives;
 mod signals;
 mod signatures;
+mod window_values;
 mod words;
 
-pub use laws::{same_literal, signal_functions};
-pub use merged::{MergedNetlists, merge_netlists};
+pub use laws::{equivalent_literals, same_literal, signal_functions};
+pub use learned::Learned;
+pub use merged::{MergeTask, MergedNetlists, merge_netlists};
+pub use merger::MergeCounts;
 pub use signals::LevelledNetlist;

@@ -1,9 +1,10 @@
 //! A graph whose new nodes are merged with older ones that are found equal.
-ghost use Rattle.std.specs.Prelude.{◌≡◌, ◌<◌, ◌∷◌, ◌&&◌, [], Bool, List, IfOk, length};
+ghost use Rattle.std.specs.Prelude.{◌≡◌, ◌<◌, ◌∷◌, ◌&&◌, [], Bool, List, IfOk, IsTrue, length};
 ghost use Rattle.pair_graph.specs.Graphs.{AreEquivalent, HasNode, IsGraph, KeepsNodes, bit, exclusive_or, value};
 ghost use Rattle.net_merge.specs.Merging.{AreRepresentatives};
 
-use crate::merger::Merger;
+use crate::learned::Learned;
+use crate::merger::{MergeCounts, Merger};
 use crate::representatives::Representatives;
 use pair_graph::{Graph, GraphFault, Literal, Node};
 use std::alloc::{AllocError, Global};
@@ -77,6 +78,24 @@ impl<'a, R: Threads + Wait + Sync> MergedGraph<'a, R> {
         ensures sound { IsGraph self.now }
     {
         self.graph.len()
+    }
+
+    /// Whether two literals are found equal by windows below them.
+    pub(crate) fn are_equal(&mut self, first: Literal, second: Literal) -> Result<bool, AllocError>
+        ensures equal { IfOk result (λ b. IsTrue b → AreEquivalent self.old first second) }
+        ensures unchanged { self.new ≡ self.old }
+    {
+        self.merger.are_equal(&self.graph, first, second)
+    }
+
+    /// What its search has done.
+    pub(crate) fn counts(&self) -> MergeCounts {
+        self.merger.counts()
+    }
+
+    /// Adds what its search has learned.
+    pub(crate) fn save(&self, learned: &mut Learned) -> Result<(), AllocError> {
+        self.merger.save(&self.graph, learned)
     }
 
     /// The graph, without what it was made by.

@@ -1,4 +1,5 @@
 //! Signatures: the values of nodes at random assignments, by which candidates are found. They are hints: nothing is promised of them.
+use crate::learned::Learned;
 use crate::random::Random;
 use crate::words::{gate_of, variable_of, word_at, word_if};
 use cut_window::NodeTable;
@@ -6,8 +7,11 @@ use pair_graph::{Graph, Literal};
 use std::alloc::{AllocError, Global};
 use std::collections::HashMap;
 
-/// How many words of random values a node has.
+/// How many words of random values a node has, besides those that earlier rounds have learned.
 const WORDS: usize = 64;
+
+/// A node is rarely 1 if it is at no more of its assignments.
+const RARE: u32 = 8;
 
 /// The most nodes of a class that are candidates.
 const MOST_IN_CLASS: u32 = 256;
@@ -28,7 +32,9 @@ struct Class {
 pub(crate) struct Signatures {
     alloc: Global,
     random: Random,
-    /// By node, `WORDS` words.
+    /// What earlier rounds have learned: words of the variables by level.
+    kept: Vec<Vec<u64>>,
+    /// By node, `WORDS` words and one for each that is kept.
     words: Vec<u64>,
     /// By node, a number that is the same for equal and for complementary words.
     keys: Vec<u64>,
@@ -48,11 +54,12 @@ fn fold_key(key: u64, word: u64) -> u64 {
 }
 
 impl Signatures {
-    /// Signatures of no nodes.
-    pub(crate) fn new(alloc: Global) -> Result<Signatures, AllocError> {
+    /// Signatures of no nodes, over random assignments and those that are learned.
+    pub(crate) fn new(alloc: Global, learned: &Learned) -> Result<Signatures, AllocError> {
         Ok(Signatures {
             alloc,
             random: Random::new(1),
+            kept: learned.words()?,
             words: Vec::new(alloc),
             keys: Vec::new(alloc),
             learned: Vec::new(alloc),
@@ -84,8 +91,8 @@ impl Signatures {
     fn add_words(&mut self, graph: &Graph, node: u32) -> Result<(), AllocError> {
         let mut key = 0;
         let mut is_flipped = false;
-        for place in 0..WORDS {
-            let word = self.random_word(graph, node, place);
+        for place in 0..self.width() {
+            let word = self.first_word(graph, node, place);
             if place == 0 {
                 is_flipped = word % 2 == 1;
             }
@@ -96,16 +103,35 @@ impl Signatures {
         Ok(())
     }
 
-    /// The random word of a node at a place. Half of a variable's words are even, the others are mostly 0 or mostly 1.
-    fn random_word(&mut self, graph: &Graph, node: u32, place: usize) -> u64 {
+    /// How many words a node has, without those that this round learns.
+    fn width(&self) -> usize {
+        WORDS.saturating_add(self.kept.len())
+    }
+
+    /// The word of a node at a place, of the random ones or of those that are kept.
+    fn first_word(&mut self, graph: &Graph, node: u32, place: usize) -> u64 {
         if let Some(gate) = gate_of(graph, node) {
             let first = self.word(gate.first.node(), place);
             let second = self.word(gate.second.node(), place);
             return gate.word(first, second);
         }
-        if node == 0 {
-            return 0;
+        match variable_of(graph, node) {
+            Some(level) if place >= WORDS => self.kept_word(level, place.wrapping_sub(WORDS)),
+            Some(_) => self.random_word(place),
+            None => 0,
         }
+    }
+
+    /// The word of the variable of a level at a place of those that are kept.
+    fn kept_word(&self, level: u32, place: usize) -> u64 {
+        match self.kept.get(place) {
+            Some(word) => word_at(word.as_slice(), level as usize),
+            None => 0,
+        }
+    }
+
+    /// A random word of a variable. Half of its words are even, the others are mostly 0 or mostly 1.
+    fn random_word(&mut self, place: usize) -> u64 {
         let word = self.random.word();
         match place % 4 {
             2 => word & self.random.word() & self.random.word(),
@@ -114,9 +140,11 @@ impl Signatures {
         }
     }
 
-    /// The random word of a node at a place.
+    /// The word of a node at a place.
     fn word(&self, node: u32, place: usize) -> u64 {
-        let at = (node as usize).wrapping_mul(WORDS).wrapping_add(place);
+        let at = (node as usize)
+            .wrapping_mul(self.width())
+            .wrapping_add(place);
         word_at(self.words.as_slice(), at)
     }
 
@@ -179,6 +207,51 @@ impl Signatures {
             let two = word_at(words.as_slice(), other as usize);
             one == word_if(two, flip)
         })
+    }
+
+    /// Whether a node, or its complement, is 1 at few of its assignments.
+    pub(crate) fn is_rare(&self, node: u32) -> bool {
+        let mut ones = 0u32;
+        let mut zeros = 0u32;
+        for place in 0..self.width() {
+            let word = self.word(node, place);
+            ones = ones.saturating_add(word.count_ones());
+            zeros = zeros.saturating_add(word.count_zeros());
+        }
+        ones.min(zeros) <= RARE
+    }
+
+    /// Whether the values of two literals differ, as far as they are known.
+    pub(crate) fn tell_apart(&self, first: Literal, second: Literal) -> bool {
+        let (one, two) = (first.node(), second.node());
+        let flip = self.is_flipped(one) != self.is_flipped(two);
+        let opposite = first.is_complemented() != second.is_complemented();
+        let key = word_at(self.keys.as_slice(), one as usize);
+        key != word_at(self.keys.as_slice(), two as usize)
+            || flip != opposite
+            || !self.agree(one, two)
+    }
+
+    /// Adds what this round has learned.
+    pub(crate) fn save(&self, graph: &Graph, learned: &mut Learned) -> Result<(), AllocError> {
+        let mut levels = 0usize;
+        for node in 0..graph.len() {
+            if let Some(level) = variable_of(graph, node as u32) {
+                levels = levels.max((level as usize).saturating_add(1));
+            }
+        }
+        for words in &self.learned {
+            let mut word = Vec::from_elem(self.alloc, 0u64, levels)?;
+            for node in 0..graph.len() {
+                if let Some(level) = variable_of(graph, node as u32)
+                    && (level as usize) < word.len()
+                {
+                    word[level as usize] = word_at(words.as_slice(), node);
+                }
+            }
+            learned.add(word)?;
+        }
+        Ok(())
     }
 
     /// A literal that has the values of this one as far as they are known: of the first node of the class that nothing tells apart.

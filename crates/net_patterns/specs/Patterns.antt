@@ -1,6 +1,7 @@
 -- Assignments by number, a function of the number of variables and of how many blocks there are.
 use Rattle.std.specs.Prelude.{ℕ, ◌+◌, ◌*◌, ◌/◌, ◌%◌, Bool, if◌then◌else◌, nat_lt, min, max, List, map}
 use Rattle.std.specs.List.{range_with_len}
+use Rattle.std.proofs.Math.Nat.{min-le_left}
 use Rattle.net_simulate.specs.Columns.{bit_in}
 use Rattle.net_patterns.specs.declared.patterns.Patterns.{Patterns}
 use Rattle.net_patterns.specs.Drawing.{drawn_word, single_bit}
@@ -8,6 +9,14 @@ use Rattle.net_patterns.specs.Drawing.{drawn_word, single_bit}
 -- the blocks for so many gates: 4,096 assignments for a million, up to 32,768 for few
 abbrev pub blocks_for : ℕ → ℕ
 blocks_for gates = min 64 (max 8 (4000000 / max gates 1))
+
+-- the assignments for so many variables and gates
+abbrev pub patterns_for : (variables gates : ℕ) → Patterns
+patterns_for variables gates = record {
+  variables = variables;
+  blocks = blocks_for gates;
+  few = min-le_left 64 (max 8 (4000000 / max gates 1));
+}
 
 -- the number of assignments
 abbrev pub pattern_count : Patterns → ℕ

@@ -15,9 +15,6 @@ use net_bench::netlist::Signal;
 use net_simulate::{Block, no_bits};
 use std::alloc::{AllocError, Global};
 
-/// The gates that are evaluated for the windows of one size, unless 16 windows have more.
-const GATE_WINDOWS: usize = 4_000_000;
-
 /// Whether an assignment comes before another one.
 fn is_before(one: &[bool], two: &[bool]) -> bool
     requires { length one.now ≡ length two.now }
@@ -139,19 +136,15 @@ fn by_windows(
     Ok(small)
 }
 
-/// How many windows of each size are tried.
-fn windows_for(gates: usize) -> usize {
-    (GATE_WINDOWS / gates.max(1)).max(16)
-}
-
 /// Another difference of a pair, if one is found that comes before this one in the order in which the least difference is the first. In
 /// windows of nine groups, from the first level on, those groups become 0 without which the pair still differs and the condition holds;
 /// groups have 729 levels, then 81, 9 and 1, and single levels take the least of all their combinations. One block of candidates is
-/// evaluated for each window in which there is a 1, and for each size only so many windows that it stays cheap.
+/// evaluated for each window in which there is a 1, and only the first windows of each size are tried, of which the caller says how many.
 pub fn make_small(
     alloc: Global,
     netlists: &Netlists<'_, '_>,
     pair: (Signal, Signal),
+    windows: usize,
     at: Vec<bool>,
 ) -> Result<Vec<bool>, AllocError>
     requires pair { IsPairOf (circuit netlists.now.first.now) (circuit netlists.now.second.now) pair }
@@ -162,12 +155,6 @@ pub fn make_small(
         (condition netlists.now.given) netlists.now.naming.now pair at.items y.items) }
 {
     let mut sides = sides_of(alloc, netlists)?;
-    let gates = netlists
-        .first
-        .gates()
-        .len()
-        .max(netlists.second.gates().len());
-    let windows = windows_for(gates);
     let rough = by_windows(alloc, &mut sides, &pair, 729, windows, at)?;
     let finer = by_windows(alloc, &mut sides, &pair, 81, windows, rough)?;
     let fine = by_windows(alloc, &mut sides, &pair, 9, windows, finer)?;

@@ -173,7 +173,7 @@ pub fn try_first<H: Threads + Wait + Sync, G: Monitor>(
 }
 
 /// Tries the orders again within a larger budget, those first that came furthest.
-pub(crate) fn try_again<H: Threads + Wait + Sync, G: Monitor>(
+pub fn try_again<H: Threads + Wait + Sync, G: Monitor>(
     task: &Task<'_, H>,
     declared: Option<&Pairing>,
     trials: &mut Vec<Trial>,

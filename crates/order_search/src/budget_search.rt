@@ -1,7 +1,7 @@
 //! The search for the attempt that decides: within budgets of nodes that grow up to the limit.
 ghost use Rattle.std.specs.Prelude.{◌≡◌, ◌<◌, ◌^◌, [], IfOk, IfErr};
 ghost use Rattle.compare_built.specs.declared.strategy.Candidate.{Candidate as CandidateValue};
-ghost use Rattle.order_search.specs.Trials.{AreTrials, IsCandidateGivenUp, IsFoundWithin, IsReportedIn, IsSearchFault};
+ghost use Rattle.order_search.specs.Trials.{AreTrials, IsCandidateGivenUp, IsFoundWithin, IsGivingUp, IsReportedIn, IsSearchFault};
 
 use crate::attempt_end::fault_of;
 use crate::attempts::{Decided, Round, try_again, try_first};
@@ -34,6 +34,7 @@ fn find_later<H: Threads + Wait + Sync, G: Monitor>(
     requires first { (c : CandidateValue) → IsCandidateGivenUp task.now FIRST_BUDGET (G.bound monitor.now) c }
     ensures found { IfOk result (IsFoundWithin task.now declared.entry limit (G.bound monitor.now)) }
     ensures fault { IfErr result (IsSearchFault task.now limit (G.bound monitor.now)) }
+    ensures trials { IfErr result (λ fault. IsGivingUp fault → AreTrials task.now trials.new.items) }
 {
     let mut budget = FIRST_BUDGET * GROWTH;
     while budget < limit {
@@ -49,8 +50,9 @@ fn find_later<H: Threads + Wait + Sync, G: Monitor>(
     }
 }
 
-/// Tries the candidates within budgets that grow up to the limit, and leaves a trial of each order that was given up in an empty list. The
-/// verdicts are reported over the variables of the order that decides, or over those of a pairing that is given.
+/// Tries the candidates within budgets that grow up to the limit, and leaves a trial of each order that was given up in an empty list: if
+/// each attempt was given up, of all orders, so that a caller can go on within a larger budget. The verdicts are reported over the variables
+/// of the order that decides, or over those of a pairing that is given.
 pub fn search<H: Threads + Wait + Sync, G: Monitor>(
     task: &Task<'_, H>,
     declared: Option<&Pairing>,
@@ -63,6 +65,7 @@ pub fn search<H: Threads + Wait + Sync, G: Monitor>(
     requires none { trials.old.items ≡ [] }
     ensures found { IfOk result (IsFoundWithin task.now declared.entry limit (G.bound monitor.now)) }
     ensures fault { IfErr result (IsSearchFault task.now limit (G.bound monitor.now)) }
+    ensures trials { IfErr result (λ fault. IsGivingUp fault → AreTrials task.now trials.new.items) }
 {
     let budget = FIRST_BUDGET.min(limit);
     match try_first(task, declared, trials, budget, monitor)? {

@@ -3,7 +3,8 @@
 //! **Promises.** `budget_search::find_attempt` answers the verdicts of the first attempt that succeeds, and each attempt
 //! before it was given up, for its nodes or for a wave's requests (`found`). It fails with Full only if each candidate
 //! needs more nodes than the limit, and gives up only if each attempt was given up (`fault`). Which attempt succeeds
-//! depends on the texts, the matching and the limit, never on the workers. `last_attempts::try_last` gives up only if the
+//! depends on the texts, the matching and the limit, never on the workers. If `search` gives up, it leaves a trial of each order
+//! (`trials`), with which `attempts::try_again` goes on within a larger budget. `last_attempts::try_last` gives up only if the
 //! two orders that it is for were given up (`last`).
 //!
 //! **Only tests show** what a monitor is notified of about attempts (`report_tests`).

@@ -99,7 +99,7 @@ fn shown(alloc: Global, texts: &Texts, name: &str) -> Result<Option<(usize, Vec<
         return Ok(None);
     };
     let at = patterns.assignment(alloc, number)?;
-    let small = make_small(alloc, &netlists, pair, at)?;
+    let small = make_small(alloc, &netlists, pair, 16, at)?;
     Ok(Some((number, small)))
 }
 

@@ -1,11 +1,13 @@
 //! Tests of evaluation at many assignments at once, and of the differences that patterns show, by public calls. They
 //! stand apart, since a crate with tests is proved twice.
 //!
-//! They show what no contract of `net_simulate` and `net_patterns` can: that calls with ample memory succeed, truth
+//! They show what no contract of `net_simulate`, `net_patterns` and `pair_facts` can: that calls with ample memory succeed, truth
 //! tables of each kind of gate, and how small a difference becomes. **Begin** with `tables`.
 #![tactic(auto)]
 
 #[cfg(test)]
 mod differences;
+#[cfg(test)]
+mod facts;
 #[cfg(test)]
 mod tables;

@@ -1,7 +1,7 @@
 //! Reports by an order that is found, and what is told where none is.
 use crate::devices::{End, new_writer};
 use crate::failing::AMPLE;
-use check_report::{CheckFault, Context, PairFilter, Settings, Strategy, check};
+use check_report::{CheckFault, Context, Difference, PairFilter, Settings, Strategy, check};
 use expand_work::{NoMonitor, WaveFault};
 use net_bench::device::StdDevice;
 use net_order::order::{Match, Order};
@@ -21,7 +21,9 @@ static AS_DECLARED: &str =
 static INTERLEAVED: &str =
     "DIFFER o at b=0 c=0 a=1 first=1 second=0\n0 equal, 1 different, 0 unmatched\n";
 
-static UNDECIDED: &str = "UNDECIDED o\n0 equal, 0 different, 0 unmatched, 1 undecided\n";
+/// A pattern shows a difference, which is made small.
+static NOT_THE_LEAST: &str =
+    "DIFFER o at a=0 b=1 c=0 first=1 second=0 (may not be the least)\n0 equal, 1 different, 0 unmatched\n";
 
 /// The report of the two netlists within so many nodes, or why there is none.
 fn reported<R: AllocGlobal + Threads + Wait + Sync>(
@@ -33,6 +35,7 @@ fn reported<R: AllocGlobal + Threads + Wait + Sync>(
         matching: Match::Name,
         order,
         picked: PairFilter::All,
+        difference: Difference::Least,
         workers: 1,
         limit: u64::from(limit.max(1)),
         sizes: false,
@@ -65,6 +68,7 @@ fn found_order_and_declared_report(rt: HostRuntime) -> Result<(), Fail> {
         (Strategy::One(Order::Declared), AS_DECLARED),
         (Strategy::Auto, AS_DECLARED),
         (Strategy::Cones, AS_DECLARED),
+        (Strategy::Merge, AS_DECLARED),
     ] {
         let report = reported(&rt, order, 1_000)?;
         assert!(rt; report.as_slice() == wanted.as_bytes());
@@ -76,9 +80,9 @@ fn found_order_and_declared_report(rt: HostRuntime) -> Result<(), Fail> {
 #[test]
 fn no_order_is_found(rt: HostRuntime) -> Result<(), Fail> {
     assert!(rt; reported(&rt, Strategy::Best, 1).err() == Some(CheckFault::Wave(WaveFault::Full)));
-    for order in [Strategy::Auto, Strategy::Cones] {
+    for order in [Strategy::Auto, Strategy::Cones, Strategy::Merge] {
         let report = reported(&rt, order, 1)?;
-        assert!(rt; report.as_slice() == UNDECIDED.as_bytes());
+        assert!(rt; report.as_slice() == NOT_THE_LEAST.as_bytes());
     }
     Ok(())
 }

@@ -1,6 +1,6 @@
 //! Checks over devices that fail at each place.
 use crate::devices::{BoundedWriter, ByteReader, End, Endless, byte_reader, new_writer};
-use check_report::{CheckFault, Context, PairFilter, Settings, Strategy, check};
+use check_report::{CheckFault, Context, Difference, PairFilter, Settings, Strategy, check};
 use expand_work::{Monitor, NoMonitor};
 use net_bench::device::Source;
 use net_bench::fault::BenchFault;
@@ -40,6 +40,7 @@ pub(crate) fn checked<R: AllocGlobal + Threads + Wait + Sync, R1: Source, R2: So
         matching: Match::Name,
         order: Strategy::One(Order::Declared),
         picked: PairFilter::All,
+        difference: Difference::Least,
         workers: 2,
         limit: 67_108_864,
         sizes: false,

@@ -3,7 +3,7 @@
 //! in tests/.
 //!
 //! **Begin** with `runs`, over a folder in memory (`memory_folder`), and `failing`, readers and writers that fail at each byte; `monitoring`,
-//! `auto` and `picks` have what attempts tell, `rendezvous` the threads, `progress` and `quotations` what standard error has.
+//! `auto`, `picks` and `known_pairs` have what attempts, patterns and merging decide, `rendezvous` the threads, `progress` and `quotations` what standard error has.
 #![tactic(auto)]
 
 #[cfg(test)]
@@ -12,6 +12,8 @@ mod auto;
 mod devices;
 #[cfg(test)]
 mod failing;
+#[cfg(test)]
+mod known_pairs;
 #[cfg(test)]
 mod memory_folder;
 #[cfg(test)]

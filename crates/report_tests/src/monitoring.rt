@@ -2,7 +2,7 @@
 ghost use Rattle.std.specs.Prelude.{◌<◌, ◌≤◌};
 
 use crate::failing::C17;
-use check_report::{CheckFault, Context, PairFilter, Settings, Strategy, judge};
+use check_report::{CheckFault, Context, Difference, PairFilter, Settings, Strategy, judge};
 use dd_store::Watch;
 use expand_work::{AttemptEnd, Monitor};
 use net_bench::device::StdDevice;
@@ -126,6 +126,7 @@ fn counts_of<R: Threads + Wait + Sync>(
         matching: Match::Name,
         order,
         picked: PairFilter::All,
+        difference: Difference::Least,
         workers: called.workers,
         limit: u64::from(limit.max(1)),
         sizes: false,

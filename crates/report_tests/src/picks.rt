@@ -1,7 +1,9 @@
 //! Reports of a few pairs.
 use crate::devices::{End, new_writer};
 use crate::failing::AMPLE;
-use check_report::{CheckFault, Context, Name, PairFilter, Settings, Share, Strategy, check};
+use check_report::{
+    CheckFault, Context, Difference, Name, PairFilter, Settings, Share, Strategy, check,
+};
 use expand_work::NoMonitor;
 use net_bench::device::StdDevice;
 use net_order::order::Match;
@@ -34,6 +36,7 @@ fn reported<R: AllocGlobal + Threads + Wait + Sync>(
         matching: Match::Name,
         order: Strategy::Cones,
         picked,
+        difference: Difference::Least,
         workers: 2,
         limit: 1_000,
         sizes: false,

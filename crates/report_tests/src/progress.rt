@@ -4,7 +4,7 @@ use crate::failing::AMPLE;
 use crate::memory_folder::MemoryFolder;
 use crate::runs::ran;
 use check_tool::progress::{Form, MemoryMeter, Progress};
-use expand_work::{Monitor, NoMonitor};
+use expand_work::{MergeRound, Monitor, NoMonitor};
 use std::alloc::{Alloc, Global};
 use std::io;
 use std::rt::Clock;
@@ -151,6 +151,45 @@ fn line_in_place(rt: HostRuntime) -> Result<(), Fail> {
         "\rbddcheck: attempt 2 is building rank 2 of 7: 90 nodes and 12 requests so far in 41 MB\u{1b}[K\r\u{1b}[K";
     for ends in [true, false] {
         let output = bytes_in_place(&rt, ends);
+        assert!(rt; output.as_slice() == wanted.as_bytes());
+    }
+    Ok(())
+}
+
+/// What is reported in this form of patterns, some of which show differences, and of a round of merging.
+fn patterns_and_round<R: AllocGlobal + Wait + Sync>(rt: &R, form: Form) -> Vec<u8> {
+    let mut errors = new_writer(rt.alloc(), AMPLE, End::Fails, true);
+    let ticks = Ticks::new(rt, 400, None);
+    let progress = Progress::new(&ticks, rt.alloc(), form, &mut errors);
+    progress.at_patterns(0, 2, b"");
+    progress.at_patterns(3, 40, b"out\x1b7");
+    progress.at_merge(MergeRound {
+        budget: 4_000,
+        gates: 15_023,
+        merged: 331,
+        windows: 2_077,
+        candidates: 272,
+        decided: 256,
+        pairs: 256,
+    });
+    progress.end();
+    errors.written
+}
+
+// A terminal by itself shows only that there are differences. A name is written without control characters.
+#[test]
+fn lines_of_patterns_and_merging(rt: HostRuntime) -> Result<(), Fail> {
+    for (form, wanted) in [
+        (
+            Form::Lines,
+            "bddcheck: patterns show that 0 of 2 pairs differ\nbddcheck: patterns show that 3 of 40 pairs differ, the first is out?7\nbddcheck: merging, budget 4000: 15023 gates, 331 merged by 2077 windows, 272 candidates left; 256 of 256 pairs decided\n",
+        ),
+        (
+            Form::InPlace,
+            "bddcheck: patterns show that 3 of 40 pairs differ, the first is out?7\n",
+        ),
+    ] {
+        let output = patterns_and_round(&rt, form);
         assert!(rt; output.as_slice() == wanted.as_bytes());
     }
     Ok(())

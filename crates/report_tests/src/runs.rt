@@ -227,7 +227,7 @@ fn check_faults() -> [(CheckFault, &'static str, u8); 5] {
         ),
         (
             CheckFault::Wave(WaveFault::TooManyRequests),
-            "build: more requests than the gate allows",
+            "build: more requests than the bound allows",
             3,
         ),
     ]

@@ -10,7 +10,7 @@ use Rattle.net_order.specs.declared.order.Match.TheVariants.{Name, Position}
 use Rattle.net_order.specs.declared.order.Order.{Order}
 use Rattle.net_order.specs.declared.order.Order.TheVariants as orders
 use Rattle.report_text.specs.declared.order_kind.OrderKind.{OrderKind}
-use Rattle.report_text.specs.declared.order_kind.OrderKind.TheVariants.{Declared, Depth, Interleave, Index, Force, File, Auto, Cones}
+use Rattle.report_text.specs.declared.order_kind.OrderKind.TheVariants.{Declared, Depth, Interleave, Index, Force, File, Auto, Cones, Merge}
 use Rattle.report_text.specs.declared.outcome.Outcome.{Outcome}
 use Rattle.report_text.specs.declared.outcome.PairKind.{PairKind}
 use Rattle.report_text.specs.declared.outcome.PairKind.TheVariants.{Output, NextState}
@@ -51,6 +51,7 @@ order_word Force = codes "force"
 order_word File = codes "file"
 order_word Auto = codes "auto"
 order_word Cones = codes "cones"
+order_word Merge = codes "merge"
 
 -- A name as a text. The names of a netlist are ASCII, so each of them is its own text; bytes that are none have the empty one.
 abbrev pub shown : List ℕ → List ℕ
@@ -81,6 +82,11 @@ size_tokens (Some n) = key (codes "size") ∷ number (decimal n) ∷ []
 abbrev pub sizes_tokens : Option (ℕ × ℕ) → List Token
 sizes_tokens None = []
 sizes_tokens (Some p) = key (codes "sizes") ∷ begin_array ∷ number (decimal p.0) ∷ number (decimal p.1) ∷ end_array ∷ []
+
+-- a member of a difference of which it is not known that it is the least
+abbrev pub least_tokens : (least : Bool) → List Token
+least_tokens true = []
+least_tokens false = key (codes "least") ∷ boolean false ∷ []
 
 -- a variable with its bit, where it is told
 abbrev pub variable_tokens : Option Assignment → List ℕ → (bit in_support : Bool) → List Token
@@ -118,7 +124,7 @@ verdict_members which variables (Equal role name size) = key (codes "verdict") �
 verdict_members which variables (Differs role name at first second extras) =
     key (codes "verdict") ∷ string (codes "DIFFER") ∷ (subject_tokens role name
     ++ (key (codes "at") ∷ begin_object ∷ (assignment_tokens which variables at (support_bits_of extras.support)
-    ++ (end_object ∷ (buses_tokens which (buses_in which variables) at ++ (values_tokens first second ++ sizes_tokens extras.sizes))))))
+    ++ (end_object ∷ (buses_tokens which (buses_in which variables) at ++ (values_tokens first second ++ (sizes_tokens extras.sizes ++ least_tokens extras.least)))))))
 verdict_members which variables (Unmatched side role name) = key (codes "verdict") ∷ string (codes "ONLY") ∷ key (codes "side")
     ∷ string (side_word side) ∷ subject_tokens role name
 verdict_members which variables (Undecided role name) = key (codes "verdict") ∷ string (codes "UNDECIDED") ∷ subject_tokens role name

@@ -44,6 +44,11 @@ is_reported (Some Ones) b m = b
 abbrev pub variable_text : Option Assignment → List ℕ → (bit in_support : Bool) → List ℕ
 variable_text which v b m = if is_reported which b m then codes " " ++ (v ++ (codes "=" ++ bit_text b)) else []
 
+-- what follows a difference of which it is not known that it is the least
+abbrev pub least_text : (least : Bool) → List ℕ
+least_text true = []
+least_text false = codes " (may not be the least)"
+
 -- each variable that is told with its bit, a space before each; a variable without a mark has 1
 abbrev pub assignment_text : Option Assignment → List (List ℕ) → (bits support_bits : List Bool) → List ℕ
 assignment_text which (v ∷ vs) (b ∷ bs) ms = variable_text which v b (slice_index_or ms 0 true) ++ assignment_text which vs bs (drop 1 ms)
@@ -65,7 +70,7 @@ line_text which variables (Equal role name size) = codes "EQUAL " ++ (subject_te
 line_text which variables (Differs role name at first second extras) =
     codes "DIFFER " ++ (subject_text role name ++ (codes " at"
     ++ (assignment_text which variables at (support_bits_of extras.support)
-    ++ (codes " first=" ++ (bit_text first ++ (codes " second=" ++ (bit_text second ++ sizes_text extras.sizes)))))))
+    ++ (codes " first=" ++ (bit_text first ++ (codes " second=" ++ (bit_text second ++ (sizes_text extras.sizes ++ least_text extras.least))))))))
 line_text which variables (Unmatched side role name) = codes "ONLY " ++ (side_text side ++ (codes " " ++ subject_text role name))
 line_text which variables (Undecided role name) = codes "UNDECIDED " ++ subject_text role name
 

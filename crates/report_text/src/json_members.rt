@@ -1,7 +1,7 @@
 //! Members of an object.
 ghost use Rattle.std.specs.Prelude.{◌≡◌, ◌∷◌, [], decimal};
 ghost use Rattle.json.specs.Token.{key, string, number};
-ghost use Rattle.report_text.specs.Json.{Adds, bit_token, subject_tokens, size_tokens, sizes_tokens, values_tokens};
+ghost use Rattle.report_text.specs.Json.{Adds, bit_token, least_tokens, subject_tokens, size_tokens, sizes_tokens, values_tokens};
 
 use crate::json_words::{role_name, text_of};
 use crate::outcome::PairKind;
@@ -62,6 +62,17 @@ pub(crate) fn add_sizes(out: &mut Writer, sizes: Option<(u64, u64)>) -> Result<(
     out.u64(first)?;
     out.u64(second)?;
     out.end_array()
+}
+
+/// Adds that it is not known whether a difference is the least, if so.
+pub(crate) fn add_least(out: &mut Writer, least: bool) -> Result<(), AllocError>
+    ensures { Adds result out.old out.new (least_tokens least) }
+{
+    if least {
+        return Ok(());
+    }
+    out.key("least")?;
+    out.boolean(false)
 }
 
 /// Adds the values of two functions.

@@ -6,7 +6,9 @@ ghost use Rattle.report_text.specs.Json.{verdicts_tokens, array_tokens};
 
 use crate::assignment::{Assignment, is_reported, is_supported_at};
 use crate::buses::{Bus, buses_of, hex_of};
-use crate::json_members::{add_bit, add_size, add_sizes, add_subject, add_text, add_values};
+use crate::json_members::{
+    add_bit, add_least, add_size, add_sizes, add_subject, add_text, add_values,
+};
 use crate::json_words::{side_name, text_of};
 use crate::verdict::Verdict;
 use crate::verdicts::Verdicts;
@@ -164,7 +166,8 @@ fn add_members(
             add_difference(out, layout, at.as_slice(), extras.support_bits())?;
             add_buses(alloc, out, layout, at.as_slice())?;
             add_values(out, *first, *second)?;
-            add_sizes(out, extras.sizes)
+            add_sizes(out, extras.sizes)?;
+            add_least(out, extras.least)
         }
         Verdict::Unmatched { side, role, name } => {
             add_text(out, "verdict", "ONLY")?;

@@ -39,6 +39,7 @@ pub(crate) fn order_word(kind: OrderKind) -> &'static str
         OrderKind::File => "file",
         OrderKind::Auto => "auto",
         OrderKind::Cones => "cones",
+        OrderKind::Merge => "merge",
     }
 }
 

@@ -1,7 +1,7 @@
 //! The lines of a report as bytes.
 ghost use Rattle.std.specs.Prelude.{◌≡◌, ◌++◌, ℕ, List, [], ◌∷◌, None, OnOk, codes};
 ghost use Rattle.report_text.specs.Lines.{line_text, variable_text, assignment_text, bit_text, side_text, sizes_text, subject_text};
-ghost use Rattle.report_text.specs.Lines.{undecided_text, share_text, counts_text};
+ghost use Rattle.report_text.specs.Lines.{least_text, undecided_text, share_text, counts_text};
 
 use crate::assignment::{Assignment, is_reported, is_supported_at};
 use crate::outcome::{Outcome, PairKind, Share, Side};
@@ -139,6 +139,17 @@ fn add_sizes(alloc: Global, text: &mut Vec<u8>, sizes: Option<(u64, u64)>) -> Re
     Ok(())
 }
 
+/// The words that follow a difference of which it is not known that it is the least.
+fn least_words(least: bool) -> &'static [u8]
+    ensures { result.now ≡ least_text least }
+{
+    if least {
+        b""
+    } else {
+        b" (may not be the least)"
+    }
+}
+
 /// Where two functions differ: an assignment by level, which of its variables are told, the value of each there, and what is told besides.
 #[derive(Clone, Copy, Drop)]
 struct Difference<'a> {
@@ -167,6 +178,7 @@ fn add_different(
     add_assignment(text, at.which, names, at.bits, at.extras.support_bits())?;
     add_values(text, at.first, at.second)?;
     add_sizes(alloc, text, at.extras.sizes)?;
+    text.extend_from_slice(least_words(at.extras.least))?;
     text.extend_from_slice(b"\n")?;
     Ok(())
 }

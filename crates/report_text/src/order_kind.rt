@@ -4,8 +4,8 @@ ghost use Rattle.report_text.specs.Json.{kind_of};
 
 use net_order::order::Order;
 
-/// Where the order of the variables comes from: one of the orders, a file, that the attempt that ended is told to no one, or that each
-/// pair has orders of its own.
+/// Where the order of the variables comes from: one of the orders, a file, a search that does not report the order that decided, or orders
+/// of each pair's own, with or without a merging of equal signals before them.
 #[derive(Clone, Copy, Drop, Debug, PartialEq, Eq)]
 pub enum OrderKind {
     Declared,
@@ -16,6 +16,7 @@ pub enum OrderKind {
     File,
     Auto,
     Cones,
+    Merge,
 }
 
 impl OrderKind {

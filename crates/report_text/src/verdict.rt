@@ -67,9 +67,11 @@ impl Bits {
     }
 }
 
-/// What is told of two different functions where it is asked for.
+/// What is reported of two different functions besides the assignment and their values.
 #[derive(Debug, Drop)]
 pub struct Extras {
+    /// Whether the assignment is known to be the least at which they differ.
+    pub least: bool,
     /// A mark for each variable, by level: those on which one of the two functions depends.
     pub support: Option<Bits>,
     /// The sizes of both.
@@ -97,7 +99,7 @@ pub enum Verdict {
         name: Name,
         size: Option<u64>,
     },
-    /// The two functions differ first at this assignment, where they have these values.
+    /// The two functions differ at this assignment, and have these values there. Unless `extras.least` is false it is the least.
     Differs {
         role: PairKind,
         name: Name,

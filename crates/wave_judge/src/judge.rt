@@ -129,9 +129,18 @@ impl<'a, R: Threads + Wait + Sync> WaveJudge<'a, R> {
         self.work
     }
 
-    /// What a window shows of two literals. Any window will do: if it lacks a node, or needs more than its budget, it shows nothing.
+    /// How many nodes the diagrams of one window may have.
+    pub fn nodes(&self) -> u32
+        ensures { result ≡ self.now }
+    {
+        self.nodes
+    }
+
+    /// What a window shows of two literals, by diagrams of at most so many nodes, and not more than the budget. Any window will do: if it
+    /// lacks a node, or needs more, it shows nothing.
     pub fn judge(
         &mut self,
+        nodes: u32,
         graph: &Graph,
         window: &Window,
         first: Literal,
@@ -144,7 +153,7 @@ impl<'a, R: Threads + Wait + Sync> WaveJudge<'a, R> {
         let pair = (first, second);
         match judge_window(
             &mut self.engine,
-            self.nodes,
+            nodes.min(self.nodes),
             &mut self.work,
             graph,
             window,

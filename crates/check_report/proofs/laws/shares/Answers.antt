@@ -1,4 +1,4 @@
-use Rattle.cone_check.proofs.SerpentineOrder.{shares_long}
+use Rattle.pair_facts.proofs.SerpentineOrder.{shares_long}
 use Rattle.check_report.proofs.Shares.{one_dealing, shares_within}
 use Rattle.check_report.proofs.laws.shares.Goals as goal
 

@@ -1,4 +1,4 @@
-use Rattle.std.proofs.Common.{◌≡◌, ◌≢◌, ◌∙◌, ◌++◌, ℕ, zero, suc, List, [], refl, ap, subst}
+use Rattle.std.proofs.Common.{◌≢◌, ◌∙◌, ◌++◌, ℕ, zero, suc, List, [], refl, ap, subst}
 use Rattle.std.specs.Prelude.{codes, decimal}
 use Rattle.compare_built.specs.Cones.{cone_limit}
 use Rattle.command_line.specs.declared.options.Options.{Options}

@@ -21,7 +21,8 @@ returns c =
     let fifteen = c.in_ok-arg-13.ensures.shape c.format.ensures.local ∙ ap₂ with_rule fourteen c.format.ensures.rule in
     let sixteen = c.in_ok-arg-14.ensures.shape c.assignment.ensures.local ∙ ap₂ with_rule fifteen c.assignment.ensures.rule in
     let seventeen = c.in_ok-arg-15.ensures.shape c.causes.ensures.local ∙ ap₂ with_rule sixteen c.causes.ensures.rule in
-    let eighteen = c.in_ok-arg-16.ensures.shape c.verbose.ensures.local ∙ ap₂ with_rule seventeen c.verbose.ensures.rule in
-    let nineteen = c.in_ok-arg-17.ensures.shape c.first.ensures.local ∙ ap₂ with_rule eighteen c.first.ensures.rule in
-    let twenty = c.in_ok-command-3.ensures.shape c.second.ensures.local ∙ ap₂ with_rule nineteen c.second.ensures.rule in
-    (c.matching.result.value_parser, c.order.result.value_parser, c.format.result.value_parser, c.assignment.result.value_parser, c.matching.ensures.parser, c.order.ensures.parser, c.format.ensures.parser, c.assignment.ensures.parser, twenty)
+    let eighteen = c.in_ok-arg-16.ensures.shape c.difference.ensures.local ∙ ap₂ with_rule seventeen c.difference.ensures.rule in
+    let nineteen = c.in_ok-arg-17.ensures.shape c.verbose.ensures.local ∙ ap₂ with_rule eighteen c.verbose.ensures.rule in
+    let twenty = c.in_ok-arg-18.ensures.shape c.first.ensures.local ∙ ap₂ with_rule nineteen c.first.ensures.rule in
+    let twenty_one = c.in_ok-command-3.ensures.shape c.second.ensures.local ∙ ap₂ with_rule twenty c.second.ensures.rule in
+    (c.matching.result.value_parser, c.order.result.value_parser, c.format.result.value_parser, c.assignment.result.value_parser, c.difference.result.value_parser, c.matching.ensures.parser, c.order.ensures.parser, c.format.ensures.parser, c.assignment.ensures.parser, c.difference.ensures.parser, twenty_one)

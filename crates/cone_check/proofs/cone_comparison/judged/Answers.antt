@@ -4,14 +4,22 @@ use Rattle.net_bench.specs.Circuit.{circuit}
 use Rattle.net_order.specs.Order.{condition}
 use Rattle.compare_built.specs.Details.{unsized}
 use Rattle.compare_built.specs.Cones.{cone_limit}
-use Rattle.cone_check.specs.ConeRounds.{FitIn, StaysUndecided, IsDecidedIn, IsFinalVerdict}
-use Rattle.cone_check.proofs.ByCones.{reported_left, reported_decided}
+use Rattle.cone_check.specs.ConeRounds.{FitIn, StaysUndecided, IsDecidedIn, IsFinalVerdict, IsUnshownIn}
+use Rattle.cone_check.proofs.AtOnce.{shown_last}
+use Rattle.cone_check.proofs.ByCones.{reported_left}
 use Rattle.cone_check.proofs.Filling.{length_known, reported_known}
 use Rattle.cone_check.proofs.cone_comparison.judged.Goals as goal
 
+pub put_all_shown-requires-clause-one_for_each : goal.put_all_shown-requires-clause-one_for_each
+put_all_shown-requires-clause-one_for_each g c =
+    length_known (IsDecidedIn c.args.context.now (cone_limit c.args.context.now.task.now.settings.now.limit)) (StaysUndecided c.args.context.now (g.G.Monitor.bound c.args.monitor.now)) c.args.subjects.now c.in_ok-known-2.known.items c.in_ok-known-2.ensures.known
+
 pub verdicts_or_undecided-requires-clause-one_for_each : goal.verdicts_or_undecided-requires-clause-one_for_each
 verdicts_or_undecided-requires-clause-one_for_each g c =
-    length_known (IsDecidedIn c.args.context.now (cone_limit c.args.context.now.task.now.settings.now.limit)) (StaysUndecided c.args.context.now (g.G.Monitor.bound c.args.monitor.now)) c.args.subjects.now c.in_ok-known.known.items c.in_ok-known.ensures.known
+    let w = c.args.context.now in
+    let bound = g.G.Monitor.bound c.args.monitor.now in
+    length_known (IsFinalVerdict w bound) (λ s. StaysUndecided w bound s × IsUnshownIn w s) c.args.subjects.now c.put_all_shown.new.known.items
+    (shown_last w bound c.args.subjects.now c.args.shown.now c.in_ok-known-2.known.items c.put_all_shown.new.known.items c.requires.shown c.in_ok-known-2.ensures.known c.in_ok-put_all_shown.ensures)
 
 pub returns-clause-verdicts : goal.returns-clause-verdicts
 returns-clause-verdicts g c =
@@ -20,7 +28,8 @@ returns-clause-verdicts g c =
     let bound = g.G.Monitor.bound c.args.monitor.now in
     let within = FitIn w (cone_limit task.settings.now.limit) in
     subst (AllZip (IsFinalVerdict w bound) c.args.subjects.now) (sym c.in_ok-verdicts.ensures)
-    (reported_known (circuit task.first.now) (IsDecidedIn w (cone_limit task.settings.now.limit)) (StaysUndecided w bound) (IsFinalVerdict w bound)
-    (λ s v t. reported_decided (unsized task.settings.now.assignment) within within (StaysUndecided w bound) (circuit task.first.now) (circuit task.second.now) (condition task.given) w.naming.now s v (λ few. few) t)
-    (λ s left. reported_left (unsized task.settings.now.assignment) within (StaysUndecided w bound) task.first.now task.second.now (condition task.given) w.naming.now s c.inputs.ensures.sound c.inputs-2.ensures.sound c.requires.ready.conditional_net left)
-    c.args.subjects.now c.in_ok-known.known.items c.in_ok-known.ensures.known)
+    (reported_known (circuit task.first.now) (IsFinalVerdict w bound) (λ s. StaysUndecided w bound s × IsUnshownIn w s) (IsFinalVerdict w bound)
+    (λ s v t. t)
+    (λ s left. reported_left (unsized task.settings.now.assignment) task.settings.now.difference within (StaysUndecided w bound) (IsUnshownIn w) task.first.now task.second.now (condition task.given) w.naming.now s c.inputs.ensures.sound c.inputs-2.ensures.sound c.requires.ready.conditional_net left.0 left.1)
+    c.args.subjects.now c.put_all_shown.new.known.items
+    (shown_last w bound c.args.subjects.now c.args.shown.now c.in_ok-known-2.known.items c.put_all_shown.new.known.items c.requires.shown c.in_ok-known-2.ensures.known c.in_ok-put_all_shown.ensures))

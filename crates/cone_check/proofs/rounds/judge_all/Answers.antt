@@ -1,8 +1,8 @@
-use Rattle.std.specs.Prelude.{IsPermutation}
+use Rattle.std.specs.Prelude.{IsPermutation, ⊤}
 use Rattle.net_bench.specs.Circuit.{circuit}
 use Rattle.net_order.specs.Force.{numbers_below}
 use Rattle.compare_built.specs.PairSelection.{HasWeight}
-use Rattle.cone_check.proofs.SerpentineOrder.{zip_long}
+use Rattle.pair_facts.proofs.SerpentineOrder.{zip_long}
 use Rattle.std.proofs.Common.{length, sym, ◌<◌, ◌≤◌, ◌*◌, ◌^◌, ℕ, IfOk, refl, subst, suc, arith, lit<}
 use Rattle.order_search.proofs.Budgets.{next_budget}
 use Rattle.cone_check.proofs.Filling.{length_known}
@@ -15,7 +15,12 @@ use Rattle.cone_check.proofs.rounds.judge_all.Goals as goal
 
 pub loop-budget-init : goal.loop-budget-init
 loop-budget-init g c = record {
-  power = (0, refl, none_yet c.args.context.now c.cone_limit-limit.result (g.G.Monitor.bound c.args.monitor.now) c.args.subjects.now c.in_ok-known.known.items c.in_ok-known.ensures.one_for_each c.in_ok-known.ensures.none);
+  power = (
+    0,
+    refl,
+    none_yet c.args.context.now c.cone_limit-limit.result (g.G.Monitor.bound c.args.monitor.now) c.args.subjects.now c.args.known.items
+        (subst (λ n. AllZip (IsKnown (IsDecidedIn c.args.context.now n) (λ s. ⊤)) c.args.subjects.now c.args.known.items) (sym c.cone_limit-limit.ensures) c.requires.at_once),
+  );
   some = lit< tt;
 }
 
@@ -51,7 +56,7 @@ loop-budget-preserved g c =
       power = (
         suc p.0,
         next_budget p.0 c.loop-budget.budget p.1,
-        round_more c.args.context.now c.cone_limit-limit.result (g.G.Monitor.bound c.args.monitor.now) c.args.subjects.now p.0 c.loop-budget.budget c.loop-budget.known.items c.in_ok-known-2.known.items p.1 (let low = c.loop-budget-test.true in omega (arith, low)) p.2 c.in_ok-known-2.ensures.round,
+        round_more c.args.context.now c.cone_limit-limit.result (g.G.Monitor.bound c.args.monitor.now) c.args.subjects.now p.0 c.loop-budget.budget c.loop-budget.known.items c.in_ok-known.known.items p.1 (let low = c.loop-budget-test.true in omega (arith, low)) p.2 c.in_ok-known.ensures.round,
       );
       some = omega (arith, some);
     }

@@ -4,7 +4,7 @@ use Rattle.std.proofs.lemmas.List.Sorted.{All-permutation}
 use Rattle.std.proofs.lemmas.Result.{err_from_is_err_and}
 use Rattle.net_order.specs.Force.{numbers_below}
 use Rattle.cone_check.specs.Batches.{AreJobsDone, is_left}
-use Rattle.cone_check.proofs.SerpentineOrder.{numbers_inside}
+use Rattle.pair_facts.proofs.SerpentineOrder.{numbers_inside}
 use Rattle.cone_check.proofs.Written.{fault_of, left_low, low_places, round_none, round_of}
 use Rattle.cone_check.proofs.rounds.judge_round.Goals as goal
 

@@ -3,7 +3,7 @@ use Rattle.std.proofs.lemmas.Result.{err_from_is_err_and}
 use Rattle.compare_built.specs.declared.strategy.Candidate.{Candidate}
 use Rattle.order_search.specs.Trials.{AreCandidatesGivenUp, Decides, IsCandidateGivenUp, IsRound}
 use Rattle.order_search.proofs.Budgets.{each_budget, next_budget, tried_next}
-use Rattle.order_search.proofs.Searching.{all_given_up, ended_at_once, found_later}
+use Rattle.order_search.proofs.Searching.{all_given_up, ended_at_once, found_later, never_gives_up}
 use Rattle.order_search.proofs.budget_search.find_later.Goals as goal
 
 pub loop-budget-init : goal.loop-budget-init
@@ -37,6 +37,11 @@ returns-in_err-decided-clause-fault g c =
     let e = err_from_is_err_and c.from_residual.result c.from_residual.ensures.1 in
     rw (e.1, e.2) (ended_at_once c.args.task.now c.args.declared c.args.limit (g.G.Monitor.bound c.args.monitor.now) c.in_err-decided.field-0.0 c.in_err-decided.ensures.fault c.in_err-decided.ensures.ends)
 
+pub returns-in_err-decided-clause-trials : goal.returns-in_err-decided-clause-trials
+returns-in_err-decided-clause-trials g c =
+    let e = err_from_is_err_and c.from_residual.result c.from_residual.ensures.1 in
+    rw (e.1, e.2) (λ given_up. absurd (never_gives_up c.in_err-decided.field-0.0 c.in_err-decided.ensures.ends given_up))
+
 pub returns-in-Decided-clause-found : goal.returns-in-Decided-clause-found
 returns-in-Decided-clause-found g c =
     let p = c.loop-budget.invariant.power in
@@ -53,6 +58,11 @@ pub returns-in_err-decided-2-clause-fault : goal.returns-in_err-decided-2-clause
 returns-in_err-decided-2-clause-fault g c =
     let e = err_from_is_err_and c.from_residual-in_err-decided-2.result c.from_residual-in_err-decided-2.ensures.1 in
     rw (e.1, e.2) (ended_at_once c.args.task.now c.args.declared c.args.limit (g.G.Monitor.bound c.args.monitor.now) c.in_err-decided-2.field-0.0 c.in_err-decided-2.ensures.fault c.in_err-decided-2.ensures.ends)
+
+pub returns-in_err-decided-2-clause-trials : goal.returns-in_err-decided-2-clause-trials
+returns-in_err-decided-2-clause-trials g c =
+    let e = err_from_is_err_and c.from_residual-in_err-decided-2.result c.from_residual-in_err-decided-2.ensures.1 in
+    rw (e.1, e.2) (λ given_up. absurd (never_gives_up c.in_err-decided-2.field-0.0 c.in_err-decided-2.ensures.ends given_up))
 
 pub returns-in-Decided-2-clause-found : goal.returns-in-Decided-2-clause-found
 returns-in-Decided-2-clause-found g c =
@@ -75,3 +85,11 @@ returns-in-GivenUp-2-clause-fault g c =
     let most : limit ≤ 16384 * 16 ^ p.0 = (let e = p.1 in omega arith) in
     all_given_up c.args.task.now c.args.declared limit bound full trials c.fault_of.result last
     (each_budget (λ n. (k : Candidate) → IsCandidateGivenUp c.args.task.now n bound k) limit p.0 p.2 most last.each) c.fault_of.ensures.which c.fault_of.ensures.full
+
+pub returns-in-GivenUp-2-clause-trials : goal.returns-in-GivenUp-2-clause-trials
+returns-in-GivenUp-2-clause-trials g c =
+    let bound = g.G.Monitor.bound c.args.monitor.now in
+    let trials = c.try_again-2.new.trials.items in
+    let last : AreCandidatesGivenUp c.args.task.now c.args.limit bound c.in-GivenUp-2.full trials =
+    subst (IsRound c.args.task.now c.args.declared c.args.limit bound trials) c.in-GivenUp-2.is c.in_ok-decided-2.ensures.round in
+    λ given_up. last.trials_of

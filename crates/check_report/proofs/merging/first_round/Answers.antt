@@ -1,0 +1,9 @@
+use Rattle.std.proofs.Common.{sym, subst}
+use Rattle.std.specs.List.{AllZip}
+use Rattle.net_bench.specs.Circuit.{circuit}
+use Rattle.cone_check.specs.ConeRounds.{IsEqualIf}
+use Rattle.check_report.proofs.Flags.{no_flags}
+use Rattle.check_report.proofs.merging.first_round.Goals as goal
+
+pub returns-then-are_all_shown : goal.returns-then-are_all_shown
+returns-then-are_all_shown g c = no_flags c.args.task.now c.args.naming.now c.args.facts.now c.in_ok-equal.equal.items c.in_ok-equal.ensures.each c.in_ok-equal.ensures.none

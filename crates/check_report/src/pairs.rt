@@ -1,0 +1,314 @@
+//! Comparisons that judge pairs one by one: by cones, by merging, and auto, which tries the whole as well.
+ghost use Rattle.std.specs.Prelude.{◌≡◌, IfOk, IfErr};
+ghost use Rattle.std.specs.List.{list_any};
+ghost use Rattle.net_bench.specs.Circuit.{circuit};
+ghost use Rattle.net_order.specs.declared.order.Order.TheVariants as orders;
+ghost use Rattle.report_text.specs.Findings.{found_of};
+ghost use Rattle.compare_built.specs.declared.strategy.Strategy.{Strategy as StrategyValue};
+ghost use Rattle.compare_built.specs.Attempts.{first_whole_limit};
+ghost use Rattle.compare_built.specs.Comparing.{AreSignals};
+ghost use Rattle.explain_report.specs.Deciding.{is_open};
+ghost use Rattle.explain_report.specs.Explaining.{HaveReportNaming};
+ghost use Rattle.order_search.specs.Tasks.{OfTask};
+ghost use Rattle.order_search.specs.Trials.{AreAllGivenUp, AreTrials, IsNamingIn, IsPairingIn};
+ghost use Rattle.cone_check.specs.ConeRounds.{EndsPairs, IsFoundByCones};
+ghost use Rattle.check_report.specs.Decisions.{IsDecision, IsNoDecision};
+ghost use Rattle.check_report.specs.Pairs.{AreEqualIf, AreFacts, EndsComparison};
+ghost use Rattle.check_report.specs.Wholes.{AreTriedBefore};
+
+use crate::merging::{Merged, equal_pairs, first_round, is_enough, none_equal, second_round};
+use crate::whole::{
+    FIRST_WHOLE_LIMIT, TriedBefore, WholeEnd, search_again, search_within, try_rest, whole_verdicts,
+};
+use compare_built::fault::CheckFault;
+use compare_built::settings::Difference;
+use compare_built::strategy::Attempt;
+use compare_built::task::Task;
+use cone_check::cone_comparison::verdicts_by_cones;
+use cone_check::pair_cones::as_comparison_fault;
+use expand_work::Monitor;
+use net_order::naming::Naming;
+use net_order::pairing::Pairing;
+use order_search::trials::{Trial, named};
+use pair_facts::{PairFacts, facts_of};
+use report_text::{Verdict, Verdicts};
+use std::sync::Wait;
+use std::thread::Threads;
+
+/// Says that what a naming compares are signals of the netlists.
+fn note_signals<H>(task: &Task<'_, H>, naming: &Naming)
+    requires { IsNamingIn task.now orders.Declared naming.now }
+    ensures { AreSignals (circuit task.now.first.now) (circuit task.now.second.now) naming.now }
+{
+    let _ = task.first.inputs();
+    let _ = task.second.inputs();
+    let _ = naming;
+}
+
+/// The naming of a pairing in declared order.
+fn naming_in<'a, H>(task: &Task<'_, H>, declared: &'a Pairing) -> &'a Naming
+    requires { IsPairingIn task.now orders.Declared declared.now }
+    ensures same { result.now ≡ declared.entry.now }
+    ensures naming { IsNamingIn task.now orders.Declared result.now }
+{
+    let _ = task;
+    declared.naming()
+}
+
+/// What is known of the pairs that are picked before an attempt is made.
+fn facts_in<H, G: Monitor>(
+    task: &Task<'_, H>,
+    naming: &Naming,
+    monitor: &G,
+) -> Result<PairFacts, CheckFault>
+    requires { IsNamingIn task.now orders.Declared naming.now }
+    ensures facts { IfOk result (AreFacts task.now naming.now) }
+    ensures ends { IfErr result (EndsComparison task.now) }
+{
+    note_signals(task, naming);
+    let facts = facts_of(task, naming, monitor)?;
+    Ok(facts)
+}
+
+/// Whether another attempt could say more of a pair.
+fn is_open(difference: Difference, verdict: &Verdict) -> bool
+    ensures { result ≡ is_open difference verdict.now }
+{
+    match verdict {
+        Verdict::Undecided { .. } => true,
+        Verdict::Differs { extras, .. } => match difference {
+            Difference::Least => !extras.least,
+            Difference::AnyOne => false,
+        },
+        Verdict::Equal { .. } => false,
+        Verdict::Unmatched { .. } => false,
+    }
+}
+
+/// Whether another attempt could say more of one of the pairs.
+fn is_any_open(difference: Difference, verdicts: &[Verdict]) -> bool
+    ensures { result ≡ list_any (is_open difference) verdicts.now }
+{
+    for verdict in verdicts {
+        if is_open(difference, verdict) {
+            return true;
+        }
+    }
+    false
+}
+
+/// The verdicts of pairs, after the attempts of the whole that are left if another attempt could say more of a pair.
+fn with_last_attempts<H: Threads + Wait + Sync, G: Monitor>(
+    task: &Task<'_, H>,
+    verdicts: Verdicts,
+    before: TriedBefore,
+    monitor: &G,
+) -> Result<(Verdicts, Option<Attempt>), CheckFault>
+    requires auto { task.now.settings.now.order ≡ StrategyValue.Auto }
+    requires naming { IsNamingIn task.now orders.Declared verdicts.naming }
+    requires found { IsFoundByCones task.now (G.bound monitor.now) verdicts.naming (found_of verdicts) }
+    requires before { AreTriedBefore task.now (G.bound monitor.now) before }
+    ensures decision { OfTask task.now (λ input s. IfOk result (λ r. IsDecision input s (G.bound monitor.now) (found_of r.0) r.1)) }
+    ensures named { IfOk result (λ r. HaveReportNaming task.now r.1 r.0) }
+    ensures ends { IfErr result EndsPairs }
+{
+    if !is_any_open(task.settings.difference, verdicts.as_slice()) {
+        return Ok((verdicts, None));
+    }
+    let naming = match named(task) {
+        Ok(naming) => naming,
+        Err(fault) => return Err(as_comparison_fault(fault)),
+    };
+    let declared = match Pairing::of(naming) {
+        Ok(pairing) => pairing,
+        Err(_) => return Ok((verdicts, None)),
+    };
+    match try_rest(task, &declared, before, monitor) {
+        Ok(Some(decided)) => Ok(whole_verdicts(declared, decided)),
+        Ok(None) => Ok((verdicts, None)),
+        Err(fault) => Err(as_comparison_fault(fault)),
+    }
+}
+
+/// Merges in the second round, judges the pairs that are left by their cones, and makes the last attempts.
+fn compare_pairs<H: Threads + Wait + Sync, G: Monitor>(
+    task: &Task<'_, H>,
+    naming: Naming,
+    facts: PairFacts,
+    merged: Merged,
+    before: TriedBefore,
+    monitor: &G,
+) -> Result<(Verdicts, Option<Attempt>), CheckFault>
+    requires auto { task.now.settings.now.order ≡ StrategyValue.Auto }
+    requires naming { IsNamingIn task.now orders.Declared naming }
+    requires facts { AreFacts task.now naming facts }
+    requires merged { AreEqualIf task.now naming facts merged.equal.items }
+    requires before { AreTriedBefore task.now (G.bound monitor.now) before }
+    ensures decision { OfTask task.now (λ input s. IfOk result (λ r. IsDecision input s (G.bound monitor.now) (found_of r.0) r.1)) }
+    ensures named { IfOk result (λ r. HaveReportNaming task.now r.1 r.0) }
+    ensures ends { IfErr result EndsPairs }
+{
+    let equal = second_round(task, &naming, &facts, merged, monitor)?;
+    let verdicts = verdicts_by_cones(task, naming, facts, equal.as_slice(), monitor)?;
+    with_last_attempts(task, verdicts, before, monitor)
+}
+
+/// Goes on after each attempt of the whole within the first limit was given up: by patterns and a first round of merging, then by attempts
+/// within the second limit if that round has not decided enough, then pair by pair.
+fn compare_after_search<H: Threads + Wait + Sync, G: Monitor>(
+    task: &Task<'_, H>,
+    declared: Pairing,
+    trials: Vec<Trial>,
+    monitor: &G,
+) -> Result<(Verdicts, Option<Attempt>), CheckFault>
+    requires auto { task.now.settings.now.order ≡ StrategyValue.Auto }
+    requires pairing { IsPairingIn task.now orders.Declared declared }
+    requires trials { AreTrials task.now trials.items }
+    requires given_up { AreAllGivenUp task.now (first_whole_limit task.now.settings.now.limit) (G.bound monitor.now) }
+    ensures decision { OfTask task.now (λ input s. IfOk result (λ r. IsDecision input s (G.bound monitor.now) (found_of r.0) r.1)) }
+    ensures named { IfOk result (λ r. HaveReportNaming task.now r.1 r.0) }
+    ensures ends { IfErr result (EndsComparison task.now) }
+{
+    let naming = naming_in(task, &declared);
+    let facts = facts_in(task, naming, monitor)?;
+    let merged = first_round(task, naming, &facts, monitor)?;
+    if is_enough(&facts, merged.equal.as_slice()) {
+        let before = TriedBefore::First(trials);
+        return compare_pairs(task, declared.into_naming(), facts, merged, before, monitor);
+    }
+    match search_again(task, &declared, trials, monitor) {
+        Ok(WholeEnd::Decided(decided)) => Ok(whole_verdicts(declared, decided)),
+        Ok(WholeEnd::GivenUp(trials)) => {
+            let before = TriedBefore::Second(trials);
+            compare_pairs(task, declared.into_naming(), facts, merged, before, monitor)
+        }
+        Err(fault) => Err(as_comparison_fault(fault)),
+    }
+}
+
+/// Tries the whole within the first limit, and then goes on. Whatever patterns show, the least difference is sought.
+fn compare_whole_first<H: Threads + Wait + Sync, G: Monitor>(
+    task: &Task<'_, H>,
+    declared: Pairing,
+    monitor: &G,
+) -> Result<(Verdicts, Option<Attempt>), CheckFault>
+    requires auto { task.now.settings.now.order ≡ StrategyValue.Auto }
+    requires pairing { IsPairingIn task.now orders.Declared declared }
+    ensures decision { OfTask task.now (λ input s. IfOk result (λ r. IsDecision input s (G.bound monitor.now) (found_of r.0) r.1)) }
+    ensures named { IfOk result (λ r. HaveReportNaming task.now r.1 r.0) }
+    ensures ends { IfErr result (EndsComparison task.now) }
+{
+    match search_within(task, &declared, FIRST_WHOLE_LIMIT, monitor) {
+        Ok(WholeEnd::Decided(decided)) => Ok(whole_verdicts(declared, decided)),
+        Ok(WholeEnd::GivenUp(trials)) => compare_after_search(task, declared, trials, monitor),
+        Err(fault) => Err(as_comparison_fault(fault)),
+    }
+}
+
+/// Judges the pairs before any attempt of the whole, since any difference is enough.
+fn compare_pairs_first<H: Threads + Wait + Sync, G: Monitor>(
+    task: &Task<'_, H>,
+    naming: Naming,
+    monitor: &G,
+) -> Result<(Verdicts, Option<Attempt>), CheckFault>
+    requires auto { task.now.settings.now.order ≡ StrategyValue.Auto }
+    requires any { task.now.settings.now.difference ≡ Difference.AnyOne }
+    requires naming { IsNamingIn task.now orders.Declared naming }
+    ensures decision { OfTask task.now (λ input s. IfOk result (λ r. IsDecision input s (G.bound monitor.now) (found_of r.0) r.1)) }
+    ensures named { IfOk result (λ r. HaveReportNaming task.now r.1 r.0) }
+    ensures ends { IfErr result (EndsComparison task.now) }
+{
+    let facts = facts_in(task, &naming, monitor)?;
+    let merged = first_round(task, &naming, &facts, monitor)?;
+    compare_pairs(task, naming, facts, merged, TriedBefore::Nothing, monitor)
+}
+
+/// Merges in both rounds, and judges the pairs that are left by their cones.
+fn merged_verdicts<H: Threads + Wait + Sync, G: Monitor>(
+    task: &Task<'_, H>,
+    naming: Naming,
+    monitor: &G,
+) -> Result<Verdicts, CheckFault>
+    requires naming { IsNamingIn task.now orders.Declared naming }
+    ensures verdicts { IfOk result (λ v. IsFoundByCones task.now (G.bound monitor.now) naming (found_of v)) }
+    ensures named { IfOk result (λ v. v.naming ≡ naming) }
+    ensures ends { IfErr result (EndsComparison task.now) }
+{
+    let facts = facts_in(task, &naming, monitor)?;
+    let equal = equal_pairs(task, &naming, &facts, monitor)?;
+    let verdicts = verdicts_by_cones(task, naming, facts, equal.as_slice(), monitor)?;
+    Ok(verdicts)
+}
+
+/// Judges pairs by their cones, without merging.
+fn cone_verdicts<H: Threads + Wait + Sync, G: Monitor>(
+    task: &Task<'_, H>,
+    naming: Naming,
+    monitor: &G,
+) -> Result<Verdicts, CheckFault>
+    requires naming { IsNamingIn task.now orders.Declared naming }
+    ensures verdicts { IfOk result (λ v. IsFoundByCones task.now (G.bound monitor.now) naming (found_of v)) }
+    ensures named { IfOk result (λ v. v.naming ≡ naming) }
+    ensures ends { IfErr result (EndsComparison task.now) }
+{
+    let facts = facts_in(task, &naming, monitor)?;
+    let equal = none_equal(task.alloc, &facts)?;
+    let verdicts = verdicts_by_cones(task, naming, facts, equal.as_slice(), monitor)?;
+    Ok(verdicts)
+}
+
+/// Compares two netlists by the whole within budgets that grow, by what patterns show, by what merging shows to be equal inside, and each
+/// pair that is left by its cones. If there are more variables than a pairing has, nothing of the whole is tried. The verdicts are reported
+/// in declared order.
+pub(crate) fn compare_auto<H: Threads + Wait + Sync, G: Monitor>(
+    task: &Task<'_, H>,
+    monitor: &G,
+) -> Result<(Verdicts, Option<Attempt>), CheckFault>
+    requires auto { task.now.settings.now.order ≡ StrategyValue.Auto }
+    ensures decision { OfTask task.now (λ input s. IfOk result (λ r. IsDecision input s (G.bound monitor.now) (found_of r.0) r.1)) }
+    ensures no_decision { OfTask task.now (λ input s. IfErr result (IsNoDecision input ⊥ ⊥ ⊥ s (G.bound monitor.now))) }
+    ensures named { IfOk result (λ r. HaveReportNaming task.now r.1 r.0) }
+{
+    let naming = named(task)?;
+    let declared = match Pairing::of(naming) {
+        Ok(pairing) => pairing,
+        Err(naming) => {
+            let verdicts = merged_verdicts(task, naming, monitor)?;
+            return Ok((verdicts, None));
+        }
+    };
+    match task.settings.difference {
+        Difference::AnyOne => compare_pairs_first(task, declared.into_naming(), monitor),
+        Difference::Least => compare_whole_first(task, declared, monitor),
+    }
+}
+
+/// Compares each pair that is picked by its cones.
+pub(crate) fn compare_by_cones<H: Threads + Wait + Sync, G: Monitor>(
+    task: &Task<'_, H>,
+    monitor: &G,
+) -> Result<(Verdicts, Option<Attempt>), CheckFault>
+    requires cones { task.now.settings.now.order ≡ StrategyValue.Cones }
+    ensures decision { OfTask task.now (λ input s. IfOk result (λ r. IsDecision input s (G.bound monitor.now) (found_of r.0) r.1)) }
+    ensures no_decision { OfTask task.now (λ input s. IfErr result (IsNoDecision input ⊥ ⊥ ⊥ s (G.bound monitor.now))) }
+    ensures named { IfOk result (λ r. HaveReportNaming task.now r.1 r.0) }
+{
+    let naming = named(task)?;
+    let verdicts = cone_verdicts(task, naming, monitor)?;
+    Ok((verdicts, None))
+}
+
+/// Compares each pair by its cones, after equal signals were merged.
+pub(crate) fn compare_by_merging<H: Threads + Wait + Sync, G: Monitor>(
+    task: &Task<'_, H>,
+    monitor: &G,
+) -> Result<(Verdicts, Option<Attempt>), CheckFault>
+    requires merge { task.now.settings.now.order ≡ StrategyValue.Merge }
+    ensures decision { OfTask task.now (λ input s. IfOk result (λ r. IsDecision input s (G.bound monitor.now) (found_of r.0) r.1)) }
+    ensures no_decision { OfTask task.now (λ input s. IfErr result (IsNoDecision input ⊥ ⊥ ⊥ s (G.bound monitor.now))) }
+    ensures named { IfOk result (λ r. HaveReportNaming task.now r.1 r.0) }
+{
+    let naming = named(task)?;
+    let verdicts = merged_verdicts(task, naming, monitor)?;
+    Ok((verdicts, None))
+}

@@ -1,0 +1,161 @@
+//! What is known of pairs without an attempt: that they are equal inside, or that a pattern shows a difference.
+ghost use Rattle.std.specs.Prelude.{◌≡◌, ◌<◌, All, IfOk, OnOk, length};
+ghost use Rattle.std.specs.List.{AllZip};
+ghost use Rattle.net_bench.specs.Circuit.{circuit};
+ghost use Rattle.net_order.specs.Order.{condition};
+ghost use Rattle.compare_built.specs.Comparing.{IsInside};
+ghost use Rattle.pair_facts.specs.PairFacts.{IsFirstShown};
+ghost use Rattle.cone_check.specs.ConeRounds.{AreKnownAtOnce, IsConeContext, IsEqualIf, IsInContext, IsShownElse, or_equal};
+ghost use Rattle.cone_check.specs.KnownPairs.{AreOrEqual, AreShownElse};
+
+use crate::pair_cones::ConeContext;
+use crate::remaining::no_verdicts;
+use compare_built::settings::Difference;
+use compare_built::subject::Subject;
+use compare_built::task::Task;
+use net_bench::netlist::Netlist;
+use net_order::naming::Naming;
+use pair_facts::shown_verdict;
+use report_text::{Name, Verdict};
+use std::alloc::{AllocError, Global};
+
+/// Writes the verdict of a pair that is equal inside.
+fn put_equal(
+    alloc: Global,
+    first: &Netlist,
+    subject: &Subject,
+    equal: bool,
+    known: &mut Option<Verdict>,
+) -> Result<(), AllocError>
+    requires { subject.now.named < length first.now.names }
+    ensures { OnOk result (known.new ≡ or_equal (circuit first.now) subject.now equal known.old) }
+{
+    if equal {
+        *known = Some(Verdict::Equal {
+            role: subject.role,
+            name: Name::copied(alloc, first.name(subject.named))?,
+            size: None,
+        });
+    }
+    Ok(())
+}
+
+/// The verdicts of the pairs that are equal inside.
+fn equal_verdicts(
+    alloc: Global,
+    first: &Netlist,
+    subjects: &[Subject],
+    equal: &[bool],
+) -> Result<Vec<Option<Verdict>>, AllocError>
+    requires one_for_each { length equal.now ≡ length subjects.now }
+    requires named { All (λ s. s.named < length first.now.names) subjects.now }
+    ensures { IfOk result (λ known. AreOrEqual (circuit first.now) subjects.now equal.now known.items) }
+{
+    let mut known = no_verdicts(alloc, subjects.len())?;
+    for place in 0..subjects.len() {
+        put_equal(
+            alloc,
+            first,
+            &subjects[place],
+            equal[place],
+            &mut known[place],
+        )?;
+    }
+    Ok(known)
+}
+
+/// Writes a difference of a pair that has no verdict yet, if this is the number of a pattern that shows one.
+fn put_shown<H>(
+    task: &Task<'_, H>,
+    naming: &Naming,
+    subject: &Subject,
+    shown: Option<usize>,
+    known: &mut Option<Verdict>,
+) -> Result<(), AllocError>
+    requires in_range { IsInside (circuit task.now.first.now) (circuit task.now.second.now) subject.now }
+    requires shown { IsFirstShown (circuit task.now.first.now) (circuit task.now.second.now) (condition task.now.given) naming.now subject.now shown }
+    ensures { OnOk result (IsShownElse (circuit task.now.first.now) (circuit task.now.second.now) (condition task.now.given)
+        naming.now subject.now shown known.old known.new) }
+{
+    if known.is_some() {
+        return Ok(());
+    }
+    let Some(number) = shown else {
+        return Ok(());
+    };
+    *known = Some(shown_verdict(task, naming, subject, number)?);
+    Ok(())
+}
+
+/// Writes a difference of each pair that has no verdict yet and that a pattern shows to differ.
+pub fn put_all_shown<H>(
+    task: &Task<'_, H>,
+    naming: &Naming,
+    subjects: &[Subject],
+    shown: &[Option<usize>],
+    known: &mut Vec<Option<Verdict>>,
+) -> Result<(), AllocError>
+    requires one_for_each { length known.old.items ≡ length subjects.now }
+    requires in_range { All (IsInside (circuit task.now.first.now) (circuit task.now.second.now)) subjects.now }
+    requires shown { AllZip (IsFirstShown (circuit task.now.first.now) (circuit task.now.second.now) (condition task.now.given) naming.now)
+        subjects.now shown.now }
+    ensures { OnOk result (AreShownElse (circuit task.now.first.now) (circuit task.now.second.now) (condition task.now.given)
+        naming.now subjects.now shown.now known.old.items known.new.items) }
+{
+    for place in 0..subjects.len() {
+        put_shown(
+            task,
+            naming,
+            &subjects[place],
+            shown[place],
+            &mut known[place],
+        )?;
+    }
+    Ok(())
+}
+
+/// What is known of the pairs before an attempt is made: those that are equal inside are equal, and if any difference is asked for, those
+/// that a pattern shows to differ have it.
+pub fn known_at_once<H>(
+    context: &ConeContext<'_, H>,
+    subjects: &[Subject],
+    equal: &[bool],
+    shown: &[Option<usize>],
+) -> Result<Vec<Option<Verdict>>, AllocError>
+    requires ready { IsConeContext context.now }
+    requires in_range { All (IsInContext context.now) subjects.now }
+    requires equal { let task = context.now.task.now in
+        AllZip (IsEqualIf (circuit task.first.now) (circuit task.second.now) context.now.naming.now) subjects.now equal.now }
+    requires shown { let task = context.now.task.now in
+        AllZip (IsFirstShown (circuit task.first.now) (circuit task.second.now) (condition task.given) context.now.naming.now)
+        subjects.now shown.now }
+    ensures { IfOk result (λ known. AreKnownAtOnce context.now subjects.now known.items) }
+{
+    let task = context.task;
+    let known = equal_verdicts(task.alloc, task.first, subjects, equal)?;
+    match task.settings.difference {
+        Difference::Least => Ok(known),
+        Difference::AnyOne => with_shown(context, subjects, shown, known),
+    }
+}
+
+/// What is known at once with the differences that patterns show.
+fn with_shown<H>(
+    context: &ConeContext<'_, H>,
+    subjects: &[Subject],
+    shown: &[Option<usize>],
+    known: Vec<Option<Verdict>>,
+) -> Result<Vec<Option<Verdict>>, AllocError>
+    requires ready { IsConeContext context.now }
+    requires any { context.now.task.now.settings.now.difference ≡ Difference.AnyOne }
+    requires in_range { All (IsInContext context.now) subjects.now }
+    requires shown { let task = context.now.task.now in
+        AllZip (IsFirstShown (circuit task.first.now) (circuit task.second.now) (condition task.given) context.now.naming.now)
+        subjects.now shown.now }
+    requires known { AreKnownAtOnce context.now subjects.now known.items }
+    ensures { IfOk result (λ all. AreKnownAtOnce context.now subjects.now all.items) }
+{
+    let mut all = known;
+    put_all_shown(context.task, context.naming, subjects, shown, &mut all)?;
+    Ok(all)
+}

@@ -1,0 +1,4 @@
+pub mod SerpentineOrder
+pub mod Picked
+pub mod Conditional
+pub mod Showing

@@ -1,0 +1,8 @@
+use Rattle.std.proofs.Common.{◌≡◌, take}
+use Rattle.std.specs.Prelude.{filter}
+use Rattle.net_bench.specs.Circuit.{circuit}
+use Rattle.compare_built.specs.PairSelection.{is_pair_of}
+use Rattle.pair_facts.proofs.pair_selection.named_subjects.Given as goal
+
+abbrev pub invariant-loop-place : goal.invariant-loop-place
+invariant-loop-place l = l.picked.items ≡ filter (is_pair_of (circuit l.net) l.names) (take l.place l.subjects)

@@ -1,0 +1,131 @@
+//! The verdict of a pair that a pattern shows to differ.
+ghost use Rattle.std.specs.Prelude.{◌≡◌, ◌<◌, Bool, List, length, IfOk, IfSome};
+ghost use Rattle.net_bench.specs.Circuit.{circuit};
+ghost use Rattle.net_bench.specs.Labels.{IsFunctionOf};
+ghost use Rattle.net_order.specs.Order.{condition, first_level};
+ghost use Rattle.net_patterns.specs.Differences.{HasOutput, IsDifferenceAt, IsPairOf};
+ghost use Rattle.net_patterns.specs.Patterns.{pattern_count};
+ghost use Rattle.compare_built.specs.Comparing.{IsInside};
+ghost use Rattle.compare_built.specs.Facts.{IsShownAt, IsShownVerdict, patterns_of, signals_of};
+ghost use Rattle.compare_built.specs.Scatter.{IsOfNet};
+
+use crate::facts::patterns_of;
+use compare_built::subject::Subject;
+use compare_built::task::Task;
+use net_bench::netlist::{Netlist, Signal};
+use net_explain::{WhichNetlist, values};
+use net_order::naming::Naming;
+use net_patterns::{Netlists, make_small};
+use report_text::{Bits, Extras, Name, Verdict};
+use std::alloc::{AllocError, Global};
+
+/// The gates of both netlists that are evaluated for the windows of one size, for all pairs together. This is a choice: the assignments
+/// of all pairs are made small in less than a second.
+const GATE_WINDOWS: usize = 2_000_000;
+
+/// How many windows of each size are tried for a pair of two netlists with so many gates and pairs.
+fn windows_for(gates: usize, pairs: usize) -> usize {
+    GATE_WINDOWS / gates.max(1) / pairs.max(1)
+}
+
+/// The same for the pairs of a naming.
+fn windows_of(netlists: &Netlists<'_, '_>) -> usize {
+    let naming = netlists.naming;
+    let gates = netlists
+        .first
+        .gates()
+        .len()
+        .max(netlists.second.gates().len());
+    let pairs = naming.output_pairs().len().max(naming.next_pairs().len());
+    windows_for(gates, pairs)
+}
+
+/// Another difference of a pair, or the same one, made small as far as that is cheap.
+fn made_small(
+    alloc: Global,
+    netlists: &Netlists<'_, '_>,
+    pair: (Signal, Signal),
+    at: Vec<bool>,
+) -> Result<Vec<bool>, AllocError>
+    requires pair { IsPairOf (circuit netlists.now.first.now) (circuit netlists.now.second.now) pair }
+    requires condition { IfSome (condition netlists.now.given) HasOutput }
+    requires difference { IsDifferenceAt (circuit netlists.now.first.now) (circuit netlists.now.second.now)
+        (condition netlists.now.given) netlists.now.naming.now pair at.items }
+    ensures { IfOk result (λ y. IsDifferenceAt (circuit netlists.now.first.now) (circuit netlists.now.second.now)
+        (condition netlists.now.given) netlists.now.naming.now pair y.items) }
+{
+    let windows = windows_of(netlists);
+    if windows == 0 {
+        return Ok(at);
+    }
+    let small = make_small(alloc, netlists, pair, windows, at)?;
+    Ok(small)
+}
+
+/// The value of the first netlist's signal at an assignment.
+fn first_value<H>(
+    task: &Task<'_, H>,
+    naming: &Naming,
+    signal: Signal,
+    at: &[bool],
+) -> Result<bool, AllocError>
+    requires { signal < length task.now.first.now.names }
+    ensures { IfOk result (λ v. (f : List Bool → Bool)
+        → IsFunctionOf (circuit task.now.first.now) (first_level naming.now) (length at.now) signal f → v ≡ f at.now) }
+{
+    let bits = values(task.alloc, task.first, naming, WhichNetlist::First, at)?;
+    Ok(bits[signal.number() as usize])
+}
+
+/// Says that a condition is a netlist.
+fn note_condition(given: Option<&Netlist>)
+    ensures { IfSome (condition given.entry) IsOfNet }
+{
+    let Some(net) = given else {
+        return;
+    };
+    let _ = net.outputs();
+}
+
+/// The verdict of a pair that the pattern of this number shows to differ: an assignment at which it differs, made small as far as that is
+/// cheap. It may not be the least. Time is linear in the netlists.
+pub fn shown_verdict<H>(
+    task: &Task<'_, H>,
+    naming: &Naming,
+    subject: &Subject,
+    number: usize,
+) -> Result<Verdict, AllocError>
+    requires inside { IsInside (circuit task.now.first.now) (circuit task.now.second.now) subject.now }
+    requires number { number < pattern_count (patterns_of (circuit task.now.first.now) (circuit task.now.second.now) naming.now) }
+    requires shown { IsShownAt (circuit task.now.first.now) (circuit task.now.second.now) (condition task.now.given) naming.now subject.now number }
+    ensures { IfOk result (IsShownVerdict (circuit task.now.first.now) (circuit task.now.second.now) (condition task.now.given)
+        naming.now subject.now) }
+{
+    let alloc = task.alloc;
+    let _ = task.first.inputs();
+    let _ = task.second.inputs();
+    note_condition(task.given);
+    let netlists = Netlists {
+        first: task.first,
+        second: task.second,
+        given: task.given,
+        naming,
+    };
+    let patterns = patterns_of(task.first, task.second, naming);
+    let pattern = patterns.assignment(alloc, number)?;
+    let at = made_small(alloc, &netlists, (subject.first, subject.second), pattern)?;
+    let first = first_value(task, naming, subject.first, at.as_slice())?;
+    let name = Name::copied(alloc, task.first.name(subject.named))?;
+    Ok(Verdict::Differs {
+        role: subject.role,
+        name,
+        at: Bits::of(at),
+        first,
+        second: !first,
+        extras: Extras {
+            least: false,
+            support: None,
+            sizes: None,
+        },
+    })
+}

@@ -1,0 +1,127 @@
+// What is known of pairs before an attempt, by the public calls of pair_facts. The expected numbers are counted by hand: the first patterns
+// are all 0, all 1, one 1 among 0s and one 0 among 1s, for each variable as it is declared.
+ghost use Rattle.std.specs.Prelude.{All};
+ghost use Rattle.std.specs.List.{AllZip};
+ghost use Rattle.net_bench.specs.Circuit.{circuit};
+ghost use Rattle.net_order.specs.Order.{condition};
+ghost use Rattle.compare_built.specs.Comparing.{IsInside};
+ghost use Rattle.pair_facts.specs.PairFacts.{IsFirstShown};
+
+use compare_built::pair_filter::PairFilter;
+use compare_built::settings::{Difference, Settings};
+use compare_built::strategy::Strategy;
+use compare_built::task::Task;
+use expand_work::NoMonitor;
+use net_bench::reader::parse_bench;
+use net_order::naming::{Naming, naming_of};
+use net_order::order::Match;
+use pair_facts::{PairFacts, facts_of, shown_verdict};
+use report_text::Verdict;
+use std::alloc::{AllocError, Global};
+use std::test::Fail;
+
+/// The first output differs if a and b differ, the second never.
+static BOTH: &str = "INPUT(a)\nINPUT(b)\nOUTPUT(y)\nOUTPUT(z)\ny = AND(a, b)\nz = XOR(a, b)\n";
+
+static EITHER: &str =
+    "INPUT(a)\nINPUT(b)\nOUTPUT(y)\nOUTPUT(z)\ny = OR(a, b)\nnz = XNOR(a, b)\nz = NOT(nz)\n";
+
+/// How pairs are compared by their cones.
+fn settings_of(alloc: Global) -> Settings {
+    Settings {
+        matching: Match::Name,
+        order: Strategy::Cones,
+        picked: PairFilter::All,
+        difference: Difference::Least,
+        workers: 1,
+        limit: 1_000,
+        sizes: false,
+        json: false,
+        explain: Vec::new(alloc),
+        assignment: None,
+        vcd: false,
+        causes: false,
+    }
+}
+
+/// The verdict of the pair at this place, if a pattern shows that it differs.
+fn verdict_at<H>(
+    task: &Task<'_, H>,
+    naming: &Naming,
+    facts: &PairFacts,
+    place: usize,
+) -> Result<Option<Verdict>, AllocError>
+    requires inside { All (IsInside (circuit task.now.first.now) (circuit task.now.second.now)) facts.now.subjects.items }
+    requires shown { AllZip (IsFirstShown (circuit task.now.first.now) (circuit task.now.second.now) (condition task.now.given)
+        naming.now) facts.now.subjects.items facts.now.shown.items }
+{
+    if place >= facts.subjects.len() || place >= facts.shown.len() {
+        return Ok(None);
+    }
+    let subject = facts.subjects[place];
+    let Some(number) = facts.shown[place] else {
+        return Ok(None);
+    };
+    let verdict = shown_verdict(task, naming, &subject, number)?;
+    Ok(Some(verdict))
+}
+
+/// What patterns show of the pairs of two netlists, and the verdict of the first pair.
+fn judged<R: AllocGlobal>(
+    rt: &R,
+    first: &str,
+    second: &str,
+) -> Result<(Vec<Option<usize>>, Option<Verdict>), Fail> {
+    let alloc = rt.alloc();
+    let first = parse_bench(alloc, first.as_bytes())?;
+    let second = parse_bench(alloc, second.as_bytes())?;
+    let naming = naming_of(alloc, &first, &second, None, Match::Name)?;
+    let settings = settings_of(alloc);
+    let task = Task {
+        rt,
+        alloc,
+        first: &first,
+        second: &second,
+        given: None,
+        settings: &settings,
+    };
+    let _ = first.inputs();
+    let _ = second.inputs();
+    let facts = facts_of(&task, &naming, &NoMonitor)?;
+    let verdict = verdict_at(&task, &naming, &facts, 0)?;
+    Ok((facts.shown, verdict))
+}
+
+/// Whether a verdict has this assignment, at which the first function has this value and the second the other one, and which may not be
+/// the least.
+fn is_difference(verdict: &Option<Verdict>, at: &[bool], value: bool) -> bool {
+    match verdict {
+        Some(
+            Verdict::Differs {
+                at: bits,
+                first,
+                second,
+                extras,
+                ..
+            },
+        ) => !extras.least && bits.as_slice() == at && *first == value && *second != value,
+        _ => false,
+    }
+}
+
+// Pattern 2 is a = 1, b = 0, and the least difference is a = 0, b = 1.
+#[test]
+fn a_pair_that_differs(rt: HostRuntime) -> Result<(), Fail> {
+    let (shown, verdict) = judged(&rt, BOTH, EITHER)?;
+    assert!(rt; shown.as_slice() == [Some(2), None].as_slice());
+    assert!(rt; is_difference(&verdict, &[false, true], false));
+    Ok(())
+}
+
+#[test]
+fn pairs_that_are_equal(rt: HostRuntime) -> Result<(), Fail> {
+    let (shown, verdict) = judged(&rt, BOTH, BOTH)?;
+    assert!(rt; shown.as_slice() == [None, None].as_slice());
+    assert!(rt; verdict.is_none());
+    Ok(())
+}
