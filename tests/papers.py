@@ -110,6 +110,36 @@ def check_orders(tally, program):
         tally.check(f"{name} has the orders of the parser", not missing, missing)
 
 
+def completed(words):
+    """What bash completes the last of these words to."""
+    script = TOP / "tools" / "completions" / "bddcheck.bash"
+    steps = [
+        f"source {shlex.quote(str(script))}",
+        f"COMP_WORDS=({shlex.join(['bddcheck', *words])})",
+        f"COMP_CWORD={len(words)}",
+        "_bddcheck",
+        "printf '%s ' \"${COMPREPLY[@]}\"",
+    ]
+    return run(["bash", "-c", "; ".join(steps)]).out.split()
+
+
+def check_completions(tally):
+    """A value is completed after `--order ` as after `--order=`, of which bash makes two words and zsh one."""
+    if shutil.which("bash"):
+        orders = completed(["--order", ""])
+        tally.check("bash completes the values of --order", b"auto" in orders and b"declared" in orders, orders)
+        for words in (["--order", "="], ["--order", "=", ""]):
+            found = completed(words)
+            tally.check(f"bash completes {''.join(words)}", found == orders, found)
+        found = completed(["--order", "=", "de"])
+        tally.check("bash completes --order=de", found and all(order.startswith(b"de") for order in found), found)
+    else:
+        tally.skip("there is no `bash`, so its completion was not tried")
+    text = (TOP / "tools" / "completions" / "_bddcheck").read_text()
+    valued = re.findall(r"--[a-z-]+(=?)\[[^]]*\]:", text)
+    tally.check("zsh completes values after =", valued and all(valued), text)
+
+
 def check_kit(tally, readme):
     named = LOGIC_NAMED.findall(readme)
     tally.check("the README has one line that names kits and their logic", len(named) == 1, named)
@@ -244,6 +274,7 @@ def main():
     texts = {page: page.read_text() for page in pages.all_pages()}
     check_options(tally, sys.argv[1], readme)
     check_orders(tally, sys.argv[1])
+    check_completions(tally)
     compared = run([sys.executable, TOP / "tools" / "definitions.py"], seconds=600)
     tally.check("docs/DEFINITIONS.md has what public contracts cite", compared.status == 0, compared)
     cited = run([sys.executable, TOP / "tools" / "proved.py"], seconds=600)

@@ -2,6 +2,12 @@
 _bddcheck() {
     local word=${COMP_WORDS[COMP_CWORD]} before=${COMP_WORDS[COMP_CWORD-1]}
     local IFS=$' \t\n'
+    # Bash makes three words of --order=auto.
+    if [ "$word" = = ]; then
+        word=
+    elif [ "$before" = = ] && [ "$COMP_CWORD" -ge 2 ]; then
+        before=${COMP_WORDS[COMP_CWORD-2]}
+    fi
     case $before in
     --match) mapfile -t COMPREPLY < <(compgen -W 'name position' -- "$word") ;;
     --order) mapfile -t COMPREPLY < <(compgen -W 'auto cones merge declared depth interleave index force best' -- "$word") ;;
