@@ -16,7 +16,7 @@ use Rattle.req_table.specs.TerminalCase.{terminal_of}
 use Rattle.req_table.specs.ComputedTables.{ComputedView, IsRight}
 use Rattle.reduce_up.specs.CacheProbe.{unknown, IsKeptWave}
 use Rattle.reduce_up.specs.Waves.{Entry, HasRequest, IsWithinLimit}
-use Rattle.reduce_up.proofs.Probing.{request_unknown, kept_none, unknown_is}
+use Rattle.reduce_up.proofs.Probing.{request_unknown, kept_none}
 use Rattle.wave_engine.specs.Bounds.{ArePast}
 use Rattle.gate_plan.specs.declared.steps.Step.{Step}
 use Rattle.gate_plan.specs.Plans.{operand_at, folds_of, step_of, step_at, plan_steps, plan_folds, IsPlan}
@@ -99,18 +99,34 @@ module _ (net : Net) (h : IsNet net) (level : ℕ → ℕ) where
         }),
       )
 
+  -- and each step of a gate is asked for
+  pub entry_of_step : (S : Nodes) (refs : List Ref) (r j : ℕ) → AreFolded net level S refs r j → (g : GateLine) → Contains net.gates g → rank_of net g ≡ r → j < folds_of g →
+      (e : Entry) × Contains (map (entry_of refs) (plan_steps net net.gates r j)) e × IsEntryOf (circuit net) level S g j e
+  entry_of_step S refs r j w g among rank lt = (
+    entry_of refs (step_at g j),
+    image (entry_of refs) (plan_steps net net.gates r j) (step_at g j) (has_pick net r (λ g. step_of g j) net.gates g (step_at g j) among rank (has_step_of g j lt)),
+    record {
+      step = lt;
+      op = refl;
+      has_first = w.right.known (first_operand (step_at g j));
+      has_second = w.right.known (step_at g j).second;
+      takes_first = takes_first S refs r j w g among rank lt;
+      takes_second = takes_second S refs r j w g among rank lt;
+    },
+  )
+
 -- a wave of the steps of all netlists that reaches more requests than the bound
 pub wave_past : (sides : List PlannedNet) → ((one : PlannedNet) → Contains sides one → IsPlan one.net one.plan) → (S : Nodes) → IsSound S → (built : List (List Ref)) (r j : ℕ) (entries : List Entry) →
-    AllFolded sides S built r j → entries ≡ asked sides built r j → (m : ComputedView) (o : Option ℕ) → ArePast o S (unknown m entries) → IsPast o S.levels (map levelled_of sides)
-wave_past sides plans S sound built r j entries h e m None past = past
-wave_past sides plans S sound built r j entries h e m (Some n) past = record {
+    AllFolded sides S built r j → entries ≡ asked sides built r j → (o : Option ℕ) → ArePast o S entries → IsPast o S.levels (map levelled_of sides)
+wave_past sides plans S sound built r j entries h e None past = past
+wave_past sides plans S sound built r j entries h e (Some n) past = record {
   store = S;
   sound = sound;
   levels = refl;
   rank = r;
   step = j;
-  entries = unknown m entries;
-  asked = λ x c. by x (subst (λ xs. Contains xs x) e (unknown_is m entries x c).0);
+  entries = entries;
+  asked = λ x c. by x (subst (λ xs. Contains xs x) e c);
   more = past;
 }
   where

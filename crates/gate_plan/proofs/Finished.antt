@@ -6,12 +6,13 @@ use Rattle.dd_store.specs.Nodes.{Nodes, IsSound, count_of}
 use Rattle.expand_work.specs.declared.fault.WaveFault.{WaveFault}
 use Rattle.net_bench.specs.Circuit.{greatest, rank_of}
 use Rattle.reduce_up.specs.Reducing.{AddsDescribed}
-use Rattle.gate_plan.specs.Asking.{AnyAsks, AnyAsksBelow, IsWithinOrUnasked, IsPast}
+use Rattle.gate_plan.specs.Asking.{AnyAsks, AnyAsksBelow, IsWithinOrUnasked, IsPast, IsNarrow, AreNarrowBelow}
 use Rattle.gate_plan.specs.Building.{PairedCircuits, PlannedNet, Levelled, levelled, levelled_of, ranks_of, AllRight, AreDiagrams, IsBuildStart}
 use Rattle.gate_plan.specs.Folds.{IsVariable}
 use Rattle.gate_plan.specs.Need.{IsCounted}
 use Rattle.gate_plan.specs.Needing.{IsNeeded, IsNeededValue, IsPlannedValue, HasNeed, IsBuildFault, IsStillWithin}
 use Rattle.gate_plan.proofs.Asked.{all_unasked, later_unasked, still_within}
+use Rattle.gate_plan.proofs.Narrow.{all_narrow}
 use Rattle.gate_plan.proofs.Counted.{adds_more, adds_next, fault_next}
 use Rattle.gate_plan.proofs.Needed.{needed_adds, needed_fault, need_left, diagrams_at}
 use Rattle.gate_plan.proofs.Ranks.{below_greatest}
@@ -44,6 +45,11 @@ module _ (c : PairedCircuits) (S T U : Nodes) (levels : S.levels ≡ length c.pa
   pub ranks_within : IsStillWithin S T → IsWithinOrUnasked (AnyAsksBelow sides U (greatest (map ranks_of sides))) T U →
       IsWithinOrUnasked (AnyAsks c.first c.second c.given c.pairing U) S U
   ranks_within still within = all_unasked c.first c.second c.given c.pairing sides begun.placed S U (greatest (map ranks_of sides)) done (later_unasked S T U _ still within)
+
+  pub ranks_narrow : (n : ℕ) → AreNarrowBelow n T.levels sides (greatest (map ranks_of sides)) → IsNarrow n (length c.pairing.names) (levelled c.first c.second c.given c.pairing)
+  ranks_narrow n narrow =
+      all_narrow c.first c.second c.given c.pairing sides begun.placed n (length c.pairing.names) (greatest (map ranks_of sides)) done
+      (subst (λ d. AreNarrowBelow n d sides (greatest (map ranks_of sides))) (variables.keeps.levels ∙ levels) narrow)
 
   module _ (after : List (List Ref)) (right : AllRight sides U after (greatest (map ranks_of sides) + 1)) where
     past_done : (one : PlannedNet) → Contains sides one → greatest (map (rank_of one.net) one.net.gates) < greatest (map ranks_of sides) + 1

@@ -4,8 +4,10 @@ pub mod Counted
 pub mod Finished
 pub mod Folding
 pub mod Lists
+pub mod Narrow
 pub mod Needed
 pub mod Needs
+pub mod OneBound
 pub mod Pairs
 pub mod Picking
 pub mod Planning

@@ -1,17 +1,17 @@
 -- Whether the steps of gates ask for anything, which they do where a step has no terminal case; and whether they ask for more than a bound.
-use Rattle.std.specs.Prelude.{◌≡◌, ℕ, ◌+◌, ◌<◌, ◌≤◌, ◌==◌, ◌⊎◌, Bool, cond, List, [], Option, None, Some, Contains, slice_index}
+use Rattle.std.specs.Prelude.{◌≡◌, ℕ, ◌+◌, ◌<◌, ◌≤◌, ◌==◌, ◌⊎◌, Bool, cond, List, [], Option, None, Some, Contains, map, slice_index}
 use Rattle.dd_store.specs.declared.reference.Ref.{Ref}
 use Rattle.dd_store.specs.Nodes.{Nodes, IsSound, count_of}
 use Rattle.dd_store.specs.View.{Has}
 use Rattle.net_bench.specs.declared.netlist.GateLine.{GateLine}
-use Rattle.net_bench.specs.Circuit.{Circuit, circuit, AreRanks, rank_of}
+use Rattle.net_bench.specs.Circuit.{Circuit, circuit, greatest, AreRanks, rank_of}
 use Rattle.net_bench.specs.Labels.{bit_of}
 use Rattle.net_order.specs.Order.{NamingModel}
 use Rattle.req_table.specs.ComputedTables.{ComputedView, IsRight}
 use Rattle.req_table.specs.TerminalCase.{terminal_of}
 use Rattle.reduce_up.specs.Waves.{Entry}
-use Rattle.wave_engine.specs.Bounds.{AreMoreThan}
-use Rattle.gate_plan.specs.Building.{PlannedNet, Levelled, levelled, input_level, Denotes, value_after}
+use Rattle.wave_engine.specs.Bounds.{AreMoreThan, AreAtMost}
+use Rattle.gate_plan.specs.Building.{PlannedNet, Levelled, levelled, levelled_of, folds_at, input_level, Denotes, value_after}
 use Rattle.gate_plan.specs.Plans.{folds_of, step_at, operand_at}
 
 -- what step j of a gate's fold takes in first, by the labels: the first operand, or the value so far
@@ -103,3 +103,33 @@ pub record IsWide (n depth : ℕ) (netlists : List Levelled) : Type 0 where
 abbrev pub IsPast : Option ℕ → (depth : ℕ) → List Levelled → Type 0
 IsPast None depth netlists = ⊥
 IsPast (Some n) depth netlists = IsWide n depth netlists
+
+-- ---- within a bound
+
+-- the gate has this rank in each ranking, of which there is only one
+abbrev pub IsOfRank : Circuit → GateLine → ℕ → Type 0
+IsOfRank c g r = (ranks : List ℕ) → AreRanks c ranks → slice_index ranks g.out ≡ r
+
+-- In some store over so many levels, one wave of the netlists' building has an entry for step j of each gate of rank r, and all of them
+-- together reach at most n requests.
+pub record IsNarrowAt (n depth : ℕ) (netlists : List Levelled) (r j : ℕ) : Type 0 where
+  pub store : Nodes
+  pub sound : IsSound store
+  pub levels : store.levels ≡ depth
+  pub entries : List Entry
+  pub asked : (one : Levelled) (g : GateLine) → Contains netlists one → Contains one.netlist.gates g → IsOfRank one.netlist g r → j < folds_of g
+      → (e : Entry) × Contains entries e × IsEntryOf one.netlist one.level store g j e
+  pub few : AreAtMost n store entries
+
+-- each wave of the building reaches at most n requests: whichever gate and step of it one asks for
+abbrev pub IsNarrow : (n depth : ℕ) → List Levelled → Type 0
+IsNarrow n depth netlists = (one : Levelled) (g : GateLine) (r j : ℕ) → Contains netlists one → Contains one.netlist.gates g → IsOfRank one.netlist g r
+    → j < folds_of g → IsNarrowAt n depth netlists r j
+
+-- so do the waves of the first f steps of rank r
+abbrev pub AreNarrowTo : (n depth : ℕ) → List PlannedNet → (r f : ℕ) → Type 0
+AreNarrowTo n depth sides r f = (j : ℕ) → j < f → IsNarrowAt n depth (map levelled_of sides) r j
+
+-- those of all steps of the first m ranks
+abbrev pub AreNarrowBelow : (n depth : ℕ) → List PlannedNet → (m : ℕ) → Type 0
+AreNarrowBelow n depth sides m = (k : ℕ) → k < m → AreNarrowTo n depth sides (k + 1) (greatest (map (folds_at (k + 1)) sides))

@@ -11,9 +11,11 @@ ghost use Rattle.gate_plan.specs.Folds.{IsVariable};
 ghost use Rattle.gate_plan.specs.Need.{IsCounted};
 ghost use Rattle.gate_plan.specs.Needing.{IsNeeded, IsNeededValue, HasNeed, IsBuildFault, IsPlannedValue, IsStillWithin};
 ghost use Rattle.gate_plan.specs.Asking.{AnyAsks, AnyAsksAt, AnyAsksIn, AnyAsksBelow, IsWithinOrUnasked, IsRightAndWithinLimit, IsPast};
+ghost use Rattle.gate_plan.specs.Asking.{IsNarrow, IsNarrowAt, AreNarrowTo, AreNarrowBelow};
+ghost use Rattle.wave_engine.specs.EngineView.{CountsAll};
 ghost use Rattle.gate_plan.specs.Plans.{IsPlan};
 ghost use Rattle.gate_plan.specs.Building.{PlannedNet, IsPaired, AreDiagrams, AllRight, AllFolded, IsBuildStart, circuits_of, levelled};
-ghost use Rattle.gate_plan.specs.Building.{levelled_of, ranks_of};
+ghost use Rattle.gate_plan.specs.Building.{levelled_of, folds_at, ranks_of};
 
 use crate::circuits::Circuits;
 use crate::inputs::make_variables;
@@ -96,15 +98,19 @@ fn build_fold<R: Threads + Wait + Sync, G: Monitor>(
     requires rank { 1 ≤ rank }
     requires plans { (one : PlannedNet) → Contains sides.now one → IsPlan one.net one.plan }
     requires held { IsRightAndWithinLimit store.old engine.old.held }
+    requires counts_all { CountsAll store.old engine.old }
     requires folded { AllFolded sides.now store.old built.old rank fold }
     ensures sound { IsSound store.new }
     ensures adds { AddsDescribed store.old store.new (IsCounted store.old.levels (IsPlannedValue store.old.levels sides.now)) }
     ensures held { OnOk result (IsRightAndWithinLimit store.new engine.new.held) }
+    ensures counts_all { OnOk result (CountsAll store.new engine.new) }
     ensures bound { engine.new.bound ≡ engine.old.bound }
     ensures next { OnOk result (AllFolded sides.now store.new built.new rank (fold + 1)) }
     ensures within { OnOk result (IsWithinOrUnasked (AnyAsksAt sides.now store.new rank fold) store.old store.new) }
     ensures fault { IfErr result (IsBuildFault store.old.levels (IsPlannedValue store.old.levels sides.now) store.new) }
     ensures past { result ≡ Err WaveFault.TooManyRequests → IsPast engine.old.bound store.old.levels (map levelled_of sides.now) }
+    ensures within_bound { most_of engine.old.bound < 2 ^ 64 - 1
+        → OnOk result (IsNarrowAt (most_of engine.old.bound) store.old.levels (map levelled_of sides.now) rank fold) }
     ensures bounded_needs_no_worker { most_of engine.old.bound < 2 ^ 64 - 1 → result ≢ Err WaveFault.NoWorker }
     ensures memory { count_of store.old ≤ store.old.limit → result ≡ Err WaveFault.OutOfMemory → count_of store.new ≤ store.new.limit }
 {
@@ -113,7 +119,7 @@ fn build_fold<R: Threads + Wait + Sync, G: Monitor>(
         Ok(entries) => entries,
         Err(_) => return Err(WaveFault::OutOfMemory),
     };
-    let answers = engine.wave(store, entries.as_slice())?;
+    let answers = engine.wave_counting_all(store, entries.as_slice())?;
     let mut rest = answers.as_slice();
     for i in 0..sides.len() {
         let side = &sides[i];
@@ -137,15 +143,19 @@ fn build_rank<R: Threads + Wait + Sync, G: Monitor>(
     requires rank { 1 ≤ rank }
     requires plans { (one : PlannedNet) → Contains sides.now one → IsPlan one.net one.plan }
     requires held { IsRightAndWithinLimit store.old engine.old.held }
+    requires counts_all { CountsAll store.old engine.old }
     requires right { AllRight sides.now store.old built.old rank }
     ensures sound { IsSound store.new }
     ensures adds { AddsDescribed store.old store.new (IsCounted store.old.levels (IsPlannedValue store.old.levels sides.now)) }
     ensures held { OnOk result (IsRightAndWithinLimit store.new engine.new.held) }
+    ensures counts_all { OnOk result (CountsAll store.new engine.new) }
     ensures bound { engine.new.bound ≡ engine.old.bound }
     ensures next { OnOk result (AllRight sides.now store.new built.new (rank + 1)) }
     ensures within { OnOk result (IsWithinOrUnasked (AnyAsksIn sides.now store.new rank) store.old store.new) }
     ensures fault { IfErr result (IsBuildFault store.old.levels (IsPlannedValue store.old.levels sides.now) store.new) }
     ensures past { result ≡ Err WaveFault.TooManyRequests → IsPast engine.old.bound store.old.levels (map levelled_of sides.now) }
+    ensures within_bound { most_of engine.old.bound < 2 ^ 64 - 1
+        → OnOk result (AreNarrowTo (most_of engine.old.bound) store.old.levels sides.now rank (greatest (map (folds_at rank) sides.now))) }
     ensures bounded_needs_no_worker { most_of engine.old.bound < 2 ^ 64 - 1 → result ≢ Err WaveFault.NoWorker }
     ensures memory { count_of store.old ≤ store.old.limit → result ≡ Err WaveFault.OutOfMemory → count_of store.new ≤ store.new.limit }
 {
@@ -174,6 +184,7 @@ fn build_ranks<R: Threads + Wait + Sync, G: Monitor>(
 ) -> Result<(), WaveFault>
     requires plans { (one : PlannedNet) → Contains sides.now one → IsPlan one.net one.plan }
     requires held { IsRightAndWithinLimit store.old engine.old.held }
+    requires counts_all { CountsAll store.old engine.old }
     requires right { AllRight sides.now store.old built.old 1 }
     ensures sound { IsSound store.new }
     ensures adds { AddsDescribed store.old store.new (IsCounted store.old.levels (IsPlannedValue store.old.levels sides.now)) }
@@ -182,6 +193,8 @@ fn build_ranks<R: Threads + Wait + Sync, G: Monitor>(
         (greatest (map ranks_of sides.now))) store.old store.new) }
     ensures fault { IfErr result (IsBuildFault store.old.levels (IsPlannedValue store.old.levels sides.now) store.new) }
     ensures past { result ≡ Err WaveFault.TooManyRequests → IsPast engine.old.bound store.old.levels (map levelled_of sides.now) }
+    ensures within_bound { most_of engine.old.bound < 2 ^ 64 - 1
+        → OnOk result (AreNarrowBelow (most_of engine.old.bound) store.old.levels sides.now (greatest (map ranks_of sides.now))) }
     ensures bounded_needs_no_worker { most_of engine.old.bound < 2 ^ 64 - 1 → result ≢ Err WaveFault.NoWorker }
     ensures memory { count_of store.old ≤ store.old.limit → result ≡ Err WaveFault.OutOfMemory → count_of store.new ≤ store.new.limit }
 {
@@ -211,6 +224,8 @@ fn build_all<R: Threads + Wait + Sync, G: Monitor>(
     ensures fault { IfErr result (IsBuildFault store.old.levels (IsPlannedValue store.old.levels sides.now) store.new) }
     ensures past { result ≡ Err WaveFault.TooManyRequests → IsPast (G.bound crew.now.monitor.now) store.old.levels
         (map levelled_of sides.now) }
+    ensures within_bound { most_of (G.bound crew.now.monitor.now) < 2 ^ 64 - 1 → OnOk result
+        (AreNarrowBelow (most_of (G.bound crew.now.monitor.now)) store.old.levels sides.now (greatest (map ranks_of sides.now))) }
     ensures bounded_needs_no_worker { most_of (G.bound crew.now.monitor.now) < 2 ^ 64 - 1 → result ≢ Err WaveFault.NoWorker }
     ensures memory { count_of store.old ≤ store.old.limit → result ≡ Err WaveFault.OutOfMemory → count_of store.new ≤ store.new.limit }
 {
@@ -250,8 +265,9 @@ fn begin<'a>(
 
 /// Builds the diagrams of all signals of two netlists, and of a condition where there is one, over the variables of their pairing: all
 /// variables in level order, then per rank the copies and one wave for each fold number, of all netlists together. What an earlier wave of
-/// the build was asked for is answered at once while it is held. A wave's requests are expanded by as many threads as there are workers;
-/// NoWorker is answered only if the monitor sets no bound, and one could not be started.
+/// the build was asked for is answered at once while it is held. A bound counts the requests of all that a wave is asked for, held or not:
+/// so whether TooManyRequests is answered depends on the netlists, their pairing and the bound only. A wave's requests are expanded by as
+/// many threads as there are workers; NoWorker is answered only if the monitor sets no bound, and one could not be started.
 pub fn build<R: Threads + Wait + Sync, G: Monitor>(
     crew: &Crew<'_, R, G>,
     store: &mut Store,
@@ -278,9 +294,12 @@ pub fn build<R: Threads + Wait + Sync, G: Monitor>(
     // Full is answered only where the store has more nodes than its limit, or as many and lacks one that is needed.
     ensures fault { let c = circuits_of circuits.now in IfErr result
         (IsBuildFault (length c.pairing.names) (IsNeededValue c.first c.second c.given c.pairing) store.new) }
-    // The build is refused for its requests only where one of its waves reaches more than the monitor allows.
+    // The build is refused for its requests only if one of its waves reaches more than the monitor allows.
     ensures past { let c = circuits_of circuits.now in result ≡ Err WaveFault.TooManyRequests
         → IsPast (G.bound crew.now.monitor.now) (length c.pairing.names) (levelled c.first c.second c.given c.pairing) }
+    // A build that was done had no wave that reaches more than the monitor allows, whatever was held.
+    ensures within_bound { let c = circuits_of circuits.now in most_of (G.bound crew.now.monitor.now) < 2 ^ 64 - 1 → OnOk result
+        (IsNarrow (most_of (G.bound crew.now.monitor.now)) (length c.pairing.names) (levelled c.first c.second c.given c.pairing)) }
     // Where the monitor sets a bound, no worker is wanted.
     ensures bounded_needs_no_worker { most_of (G.bound crew.now.monitor.now) < 2 ^ 64 - 1 → result ≢ Err WaveFault.NoWorker }
     // Where memory is wanted, a store that was within its limit is so still: Full comes first.

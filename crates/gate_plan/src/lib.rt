@@ -3,8 +3,9 @@
 //! **Promises.** A `Plan` has exactly the steps and copies of each gate by rank. `build` gives each signal of both
 //! netlists and of a condition the diagram of its function (`first`, `second`, `given`), adds needed nodes alone
 //! (`adds`), leaves an empty store with exactly these, within its limit (`need`, `within`), and is Full only where it
-//! is over or lacks one (`fault`); its requests are too many only where one wave is past the monitor's bound (`past`,
-//! `bounded_needs_no_worker`), and OutOfMemory leaves a store within its limit that was so (`memory`). `conjoin` takes references
+//! is over or lacks one (`fault`); its requests are too many only if one wave is past the monitor's bound (`past`,
+//! `bounded_needs_no_worker`), and a build that was done had no such wave (`within_bound`), of which two never both are so
+//! (`past_or_within`); OutOfMemory leaves a store within its limit that was so (`memory`). `conjoin` takes references
 //! together with a condition's (`conjoined`, `adds`, `within_bound`).
 //!
 //! **Only tests show** that ample memory suffices, and that what two netlists have at other ranks makes no request
@@ -19,10 +20,12 @@ mod circuits;
 mod conjoining;
 mod folds;
 mod inputs;
+mod laws;
 mod sides;
 mod steps;
 
 pub use building::{CircuitDiagrams, build};
 pub use circuits::Circuits;
 pub use conjoining::conjoin;
+pub use laws::past_or_within;
 pub use steps::{CopyStep, Plan, Step};

@@ -22,7 +22,7 @@ use Rattle.wave_engine.specs.Bounds.{AreAtMost, AreMoreThan, ArePast}
 use Rattle.wave_engine.specs.ExpansionPhase.{HaveSplit}
 use Rattle.wave_engine.specs.Front.{keys_from}
 use Rattle.req_table.specs.Places.{IsAtPlace}
-use Rattle.wave_engine.specs.EngineView.{EngineView, HaveReduced}
+use Rattle.wave_engine.specs.EngineView.{EngineView, HaveReduced, HaveShared, AreDivided}
 use Rattle.reduce_up.specs.ReductionPhase.{AreCounted}
 use Rattle.wave_engine.proofs.Counting.{reached_sorted}
 use Rattle.wave_engine.proofs.Fronting.{key_before, key_from, front_keys}
@@ -102,6 +102,21 @@ module _ (S : Nodes) (w : IsSound S) (entries : List Entry) (good : All (IsEntry
     count = m.count;
   }
 
+  -- and what was handed over was expanded by the workers: these are the requests from that level on
+  pub have_shared : (before after : ℕ) → HaveExpanded S n (keys_from v T) before after → HaveShared S (requests_of entries) v before after
+  have_shared before after h = record {
+    requests = h.requests;
+    once = h.once;
+    reached = λ k i. over_reached k (h.reached k i);
+    below = λ k i. over_below k (h.reached k i);
+    all = λ k r le.
+        elim (reached_sorted S entries roots T rows v x Over stands_over (λ k y b l m o e. child_from b l m o e) k r) [
+          | inl a ↦ absurd (let at : level_of S k ≡ a.0 = (x.admitted.keys a.0 a.1 k a.3).level in let lt : a.0 < v = a.2 in omega (arith, at, lt, le))
+          | inr o ↦ h.all k o
+        ];
+    count = h.count;
+  }
+
 -- A count that grows by as much as another one has grown.
 module _ (before after told told' more old new : ℕ) (a : told ≡ before % 2 ^ 64) (b : told' ≡ after % 2 ^ 64) (d : more ≡ (told' + (2 ^ 64 - told)) % 2 ^ 64) (e : new ≡ (old + more) % 2 ^ 64) where
   count_on : (n : ℕ) → after % 2 ^ 64 ≡ (before + n) % 2 ^ 64 → new % 2 ^ 64 ≡ (old + n) % 2 ^ 64
@@ -126,13 +141,23 @@ module _ (before after told told' more old new : ℕ) (a : told ≡ before % 2 ^
     count = count_on (length h.requests) h.count;
   }
 
+  pub shared_on : (S : Nodes) (roots : List Key) (v : ℕ) → HaveShared S roots v before after → HaveShared S roots v old new
+  shared_on S roots v h = record {
+    requests = h.requests;
+    once = h.once;
+    reached = h.reached;
+    below = h.below;
+    all = h.all;
+    count = count_on (length h.requests) h.count;
+  }
+
 -- The same, of an engine that is seen in two ways.
 module _ (S : Nodes) (entries : List Entry) (new : ℕ) (v w : EngineView) (e : v ≡ w) where
   pub counted_view : HaveExpanded S 1 (requests_of (unknown v.held entries)) v.expanded new → HaveExpanded S 1 (requests_of (unknown w.held entries)) w.expanded new
   counted_view h = subst (λ (z : EngineView). HaveExpanded S 1 (requests_of (unknown z.held entries)) z.expanded new) e h
 
-  pub reduced_view : (from : ℕ) → HaveReduced S (requests_of (unknown v.held entries)) from v.reduced new → HaveReduced S (requests_of (unknown w.held entries)) from w.reduced new
-  reduced_view from h = subst (λ (z : EngineView). HaveReduced S (requests_of (unknown z.held entries)) from z.reduced new) e h
+  pub divided_view : (shared : ℕ) → AreDivided S (requests_of (unknown v.held entries)) v.reduced new v.by_workers shared → AreDivided S (requests_of (unknown w.held entries)) w.reduced new w.by_workers shared
+  divided_view shared h = subst (λ (z : EngineView). AreDivided S (requests_of (unknown z.held entries)) z.reduced new z.by_workers shared) e h
 
 -- requests that are more than the number of a bound are past the bound
 pub past_bound : (S : Nodes) (entries : List Entry) (o : Option ℕ) (n : ℕ) → n ≡ most_of o → n < 2 ^ 64 - 1 → AreMoreThan n S entries → ArePast o S entries

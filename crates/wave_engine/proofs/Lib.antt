@@ -5,3 +5,5 @@ pub mod Fronting
 pub mod WholeWave
 pub mod Counting
 pub mod Both
+pub mod Held
+pub mod TwoStores

@@ -68,7 +68,7 @@ module _ (S : Nodes) (w : IsSound S) (entries : List Entry) (good : All (IsEntry
       by None = ap (λ n. child.Ask (level_at n (normal_of op f g).0) (normal_of op f g).0 (normal_of op f g).1) K.levels
       by (Some r) = refl
 
-  child_kept : (k : Key) (b : Bool) → IsKey S k → child_of U k b ≡ child_of S k b
+  pub child_kept : (k : Key) (b : Bool) → IsKey S k → child_of U k b ≡ child_of S k b
   child_kept k b i =
       let v : level_of U k ≡ level_of S k = ap (λ n. level_at n k) K.levels in
       child_same k.op (cofactor_of U k.f (level_of U k) b) (cofactor_of U k.g (level_of U k) b)

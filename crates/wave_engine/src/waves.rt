@@ -35,5 +35,6 @@ pub fn wave<R: Threads + Wait + Sync, G: Monitor>(
     ensures refused { OnErr result (computed.new ≡ computed.old) }
     ensures right { IsRight store.new computed.new }
 {
-    Runner::new(crew).wave(store, computed, entries)
+    let most = crew.monitor.most_requests();
+    Runner::new(crew).wave(store, computed, entries, most)
 }

@@ -4,11 +4,10 @@ ghost use Rattle.std.specs.List.{AllZip};
 ghost use Rattle.dd_store.specs.declared.reference.Ref.{Ref as RefValue};
 ghost use Rattle.dd_store.specs.Nodes.{IsSound, count_of};
 ghost use Rattle.reduce_up.specs.Waves.{IsEntry, AnswersWave, requests_of};
-ghost use Rattle.expand_work.specs.Bounds.{most_of};
 ghost use Rattle.expand_work.specs.WaveParts.{HaveExpanded};
-ghost use Rattle.wave_engine.specs.Bounds.{AreMoreThan, AreAtMost, ArePast};
+ghost use Rattle.wave_engine.specs.Bounds.{AreMoreThan, AreAtMost};
 ghost use Rattle.wave_engine.specs.ExpansionPhase.{IsExpandedTo, IsExpandedWithin};
-ghost use Rattle.wave_engine.specs.EngineView.{HaveReduced};
+ghost use Rattle.wave_engine.specs.EngineView.{AreDivided};
 ghost use Rattle.reduce_up.specs.ReductionPhase.{ResolvesTo};
 
 use crate::down::{Limits, expand, place_roots};
@@ -118,6 +117,13 @@ impl<'a, R: Threads + Wait + Sync, G: Monitor> Workspace<'a, R, G> {
             .wrapping_add(self.down.splits.count() as u64)
     }
 
+    /// How many requests the workers have expanded in all its waves, modulo 2^64.
+    pub(crate) fn by_workers(&self) -> u64
+        ensures { result ≡ self.now.wave_memory % 2 ^ 64 }
+    {
+        self.wave_memory.expanded()
+    }
+
     /// How many requests the caller's thread has reduced in all its waves, modulo 2^64.
     pub(crate) fn reduced(&self) -> u64
         ensures { result ≡ self.now.up.reductions % 2 ^ 64 }
@@ -141,12 +147,13 @@ impl<'a, R: Threads + Wait + Sync, G: Monitor> Workspace<'a, R, G> {
         ensures within_bound { limits.wave < 2 ^ 64 - 1 → OnOk result (AreAtMost limits.wave store.old entries.now) }
         ensures unlimited_level_needs_no_worker { limits.level ≡ 2 ^ 64 - 1 → result ≢ Err WaveFault.NoWorker }
         ensures untouched { result ≡ Err WaveFault.NoWorker → store.new ≡ store.old }
+        ensures unreduced { result ≡ Err WaveFault.TooManyRequests → store.new ≡ store.old }
         ensures wave_memory { result ≡ Err WaveFault.NoWorker → self.new.wave_memory ≡ self.old.wave_memory }
         ensures up { result ≡ Err WaveFault.NoWorker → self.new.up.reductions ≡ self.old.up.reductions }
         ensures expanded { OnOk result (HaveExpanded store.old 1 (requests_of entries.now) (self.old.down.splits + self.old.wave_memory)
             (self.new.down.splits + self.new.wave_memory)) }
-        ensures reduced { OnOk result ((v : ℕ) × HaveReduced store.old
-            (requests_of entries.now) v self.old.up.reductions self.new.up.reductions) }
+        ensures divided { OnOk result (AreDivided store.old (requests_of entries.now) self.old.up.reductions self.new.up.reductions
+            self.old.wave_memory self.new.wave_memory) }
         ensures memory { count_of store.old ≤ store.old.limit → result ≡ Err WaveFault.OutOfMemory → count_of store.new ≤ store.new.limit }
         ensures monitor { self.new.crew.now.monitor ≡ self.old.crew.now.monitor }
     {
@@ -180,31 +187,33 @@ impl<'a, R: Threads + Wait + Sync, G: Monitor> Workspace<'a, R, G> {
         }
     }
 
-    /// The diagram of each operation on its two operands.
+    /// The diagram of each operation on its two operands, by at most so many requests; the greatest number bounds nothing.
     ///
     /// The requests of all operations together are expanded on the caller's thread, down to the first level that has more of them
     /// than the monitor lets the caller have; from there on the workers expand them, in threads. They are reduced from the last level
     /// up.
     ///
-    /// If the monitor bounds the requests and the workers have not done their part, since a thread could not be started or since they
+    /// If the requests are bounded and the workers have not done their part, since a thread could not be started or since they
     /// found more requests than were left of the bound, the caller's thread does the whole wave again without them. So TooManyRequests
-    /// is always the answer of the caller's own count: there are more requests than the monitor allows, and none of them were reduced.
+    /// is always the answer of the caller's own count: there are more requests than the bound, and none of them were reduced.
     /// Without a bound NoWorker is answered if a worker's thread could not be started; entries that all have terminal cases start none.
     pub(crate) fn wave(
         &mut self,
         store: &mut Store,
         entries: &[(Op, Ref, Ref)],
+        most: usize,
     ) -> Result<Vec<Ref>, WaveFault>
         requires operands { All (IsEntry store.old) entries.now }
         ensures wave { AnswersWave store.old entries.now entries.now result store.new }
-        ensures past { result ≡ Err WaveFault.TooManyRequests → ArePast (G.bound self.old.crew.now.monitor.now) store.old entries.now }
-        ensures within_bound { most_of (G.bound self.old.crew.now.monitor.now) < 2 ^ 64 - 1
-            → OnOk result (AreAtMost (most_of (G.bound self.old.crew.now.monitor.now)) store.old entries.now) }
-        ensures bounded_needs_no_worker { most_of (G.bound self.old.crew.now.monitor.now) < 2 ^ 64 - 1 → result ≢ Err WaveFault.NoWorker }
+        ensures bounded { result ≡ Err WaveFault.TooManyRequests → most < 2 ^ 64 - 1 }
+        ensures past { result ≡ Err WaveFault.TooManyRequests → AreMoreThan most store.old entries.now }
+        ensures unreduced { result ≡ Err WaveFault.TooManyRequests → store.new ≡ store.old }
+        ensures within_bound { most < 2 ^ 64 - 1 → OnOk result (AreAtMost most store.old entries.now) }
+        ensures bounded_needs_no_worker { most < 2 ^ 64 - 1 → result ≢ Err WaveFault.NoWorker }
         ensures expanded { OnOk result (HaveExpanded store.old 1 (requests_of entries.now) (self.old.down.splits + self.old.wave_memory)
             (self.new.down.splits + self.new.wave_memory)) }
-        ensures reduced { OnOk result ((v : ℕ) × HaveReduced store.old
-            (requests_of entries.now) v self.old.up.reductions self.new.up.reductions) }
+        ensures divided { OnOk result (AreDivided store.old (requests_of entries.now) self.old.up.reductions self.new.up.reductions
+            self.old.wave_memory self.new.wave_memory) }
         ensures memory { count_of store.old ≤ store.old.limit → result ≡ Err WaveFault.OutOfMemory → count_of store.new ≤ store.new.limit }
         ensures monitor { self.new.crew.now.monitor ≡ self.old.crew.now.monitor }
     {
@@ -213,17 +222,17 @@ impl<'a, R: Threads + Wait + Sync, G: Monitor> Workspace<'a, R, G> {
             level: self
                 .crew
                 .caller_level_limit(self.sizes.expected_over(levels)),
-            wave: self.crew.monitor.most_requests(),
+            wave: most,
         };
         let before = self.down.splits.count();
         let result = self.attempt(store, entries, limits);
-        if limits.wave == usize::MAX || !matches!(result, Err(WaveFault::NoWorker)) {
+        if most == usize::MAX || !matches!(result, Err(WaveFault::NoWorker)) {
             return result;
         }
         self.down.splits.reset_to(before);
         let caller_limits = Limits {
             level: usize::MAX,
-            wave: limits.wave,
+            wave: most,
         };
         self.attempt(store, entries, caller_limits)
     }

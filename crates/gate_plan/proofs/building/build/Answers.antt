@@ -6,7 +6,7 @@ use Rattle.gate_plan.specs.Building.{AreDiagrams, circuits_of}
 use Rattle.dd_store.specs.Nodes.{Nodes, count_of}
 use Rattle.expand_work.specs.declared.fault.WaveFault.TheVariants.{OutOfMemory}
 use Rattle.gate_plan.proofs.Asked.{within_kept}
-use Rattle.gate_plan.proofs.Finished.{begun_lent, ranks_needed, ranks_fault, ranks_within, ranks_diagrams, ranks_need}
+use Rattle.gate_plan.proofs.Finished.{begun_lent, ranks_needed, ranks_fault, ranks_within, ranks_narrow, ranks_diagrams, ranks_need}
 use Rattle.gate_plan.proofs.Needed.{variables_needed, variables_fault}
 use Rattle.gate_plan.proofs.Pairs.{given_diagrams}
 use Rattle.gate_plan.proofs.Together.{lent}
@@ -85,6 +85,17 @@ returns-clause-within g c =
     let built = c.as_mut_slice.result.now in
     let begun = begun_lent p T c.in_ok-begun.begun.sides.items sides c.in_ok-begun.begun.built.items built c.as_slice.ensures.value c.as_mut_slice.ensures.value c.in_ok-begun.ensures.begun in
     ranks_within p S T U c.requires.levels c.begin.ensures.sound c.begin.ensures.adds sides built begun c.build_all.ensures.adds c.begin.ensures.within c.in_ok-build_all.ensures.within
+
+pub returns-clause-within_bound : goal.returns-clause-within_bound
+returns-clause-within_bound g c = λ bounded.
+    let p = circuits_of c.args.circuits.now in
+    let S = c.args.store.now in
+    let T = c.begin.new.store in
+    let U = c.build_all.new.store in
+    let sides = c.as_slice.result.now in
+    let built = c.as_mut_slice.result.now in
+    let begun = begun_lent p T c.in_ok-begun.begun.sides.items sides c.in_ok-begun.begun.built.items built c.as_slice.ensures.value c.as_mut_slice.ensures.value c.in_ok-begun.ensures.begun in
+    ranks_narrow p S T U c.requires.levels c.begin.ensures.sound c.begin.ensures.adds sides built begun c.build_all.ensures.adds _ (c.in_ok-build_all.ensures.within_bound bounded)
 
 pub returns-clause-need : goal.returns-clause-need
 returns-clause-need g c =

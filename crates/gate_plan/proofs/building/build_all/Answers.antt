@@ -10,3 +10,6 @@ returns-in_err-engine-clause-adds g c =
 
 pub build_ranks-requires-clause-held : goal.build_ranks-requires-clause-held
 build_ranks-requires-clause-held g c κs within = record { right = c.in_ok-engine.ensures.right c.args.store.now; within = inl c.in_ok-engine.ensures.empty }
+
+pub build_ranks-requires-clause-counts_all : goal.build_ranks-requires-clause-counts_all
+build_ranks-requires-clause-counts_all g c κs within = c.in_ok-engine.ensures.counts_all c.args.store.now

@@ -1,38 +1,14 @@
-use Rattle.std.proofs.Common.{◌<◌, ◌-◌, ◌^◌, refl, sym, subst}
-use Rattle.std.specs.Prelude.{Ok, Err}
-use Rattle.req_table.specs.ComputedTables.{IsRight}
+use Rattle.std.proofs.Common.{ℕ, OnOk, subst, arith}
 use Rattle.reduce_up.specs.CacheProbe.{unknown}
-use Rattle.reduce_up.specs.Waves.{AnswersWave}
-use Rattle.expand_work.specs.Bounds.{most_of}
 use Rattle.wave_engine.specs.Bounds.{AreAtMost}
-use Rattle.wave_engine.specs.EngineView.{EngineView}
-use Rattle.wave_engine.proofs.Both.{counted_on, counted_view, reduced_on, reduced_view}
+use Rattle.wave_engine.proofs.Both.{past_bound}
 use Rattle.wave_engine.proofs.engine.Engine.wave.Goals as goal
 
-pub wave-requires-clause-right : goal.wave-requires-clause-right
-wave-requires-clause-right g c κs within = subst (λ (e : EngineView). IsRight c.args.store.now e.held) (sym c.self.view_is) c.requires.right
+pub returns-clause-past : goal.returns-clause-past
+returns-clause-past g c = λ refused.
+    past_bound c.args.store.now (unknown c.args.self.now.held c.args.entries.now) c.args.self.now.bound c.most_requests-most.result c.most_requests-most.ensures (c.wave_within.ensures.bounded refused) (c.wave_within.ensures.past refused)
 
-pub returns-in-Ok-clause-wave : goal.returns-in-Ok-clause-wave
-returns-in-Ok-clause-wave g c =
-    subst (λ (e : EngineView). AnswersWave c.args.store.now c.args.entries.now (unknown e.held c.args.entries.now) (Ok c.in-Ok.answers) c.wave.new.store) c.self.view_is c.in-Ok.ensures.wave
-
-pub returns-in-Err-clause-wave : goal.returns-in-Err-clause-wave
-returns-in-Err-clause-wave g c =
-    subst (λ (e : EngineView). AnswersWave c.args.store.now c.args.entries.now (unknown e.held c.args.entries.now) (Err c.in-Err.fault) c.wave.new.store) c.self.view_is c.in-Err.ensures.wave
-
-pub returns-in-Ok-clause-within_bound : goal.returns-in-Ok-clause-within_bound
-returns-in-Ok-clause-within_bound g c =
-    subst (λ (e : EngineView). most_of e.bound < 2 ^ 64 - 1 → AreAtMost (most_of e.bound) c.args.store.now (unknown e.held c.args.entries.now)) c.self.view_is c.in-Ok.ensures.within_bound
-
-pub returns-in-Ok-clause-expanded : goal.returns-in-Ok-clause-expanded
-returns-in-Ok-clause-expanded g c =
-    counted_view c.args.store.now c.args.entries.now _ _ _ c.self.view_is
-    (counted_on _ _ c.expanded-before.result c.expanded.result _ _ _ c.expanded-before.ensures c.expanded.ensures refl refl c.args.store.now 1 _ c.in-Ok.ensures.expanded)
-
-pub returns-in-Ok-clause-reduced : goal.returns-in-Ok-clause-reduced
-returns-in-Ok-clause-reduced g c =
-    let made = c.in-Ok.ensures.reduced in (
-      made.0,
-      reduced_view c.args.store.now c.args.entries.now _ _ _ c.self.view_is made.0
-          (reduced_on _ _ c.reduced-made.result c.reduced.result _ _ _ c.reduced-made.ensures c.reduced.ensures refl refl c.args.store.now _ made.0 made.1),
-    )
+pub returns-clause-within_bound : goal.returns-clause-within_bound
+returns-clause-within_bound g c = λ bounded.
+    let is = c.most_requests-most.ensures in
+    subst (λ (n : ℕ). OnOk c.wave_within.result (AreAtMost n c.args.store.now (unknown c.args.self.now.held c.args.entries.now))) is (c.wave_within.ensures.within_bound (omega (arith, is, bounded)))

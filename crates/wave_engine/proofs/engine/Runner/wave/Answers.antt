@@ -4,7 +4,7 @@ use Rattle.req_table.specs.ComputedTables.{IsRight}
 use Rattle.expand_work.specs.WaveParts.{HaveExpanded}
 use Rattle.reduce_up.specs.Waves.{Entry, requests_of}
 use Rattle.reduce_up.proofs.Probing.{probe_good, probe_long, probe_count, probe_right, found_each, waved, probe_refused, probe_done, probe_given_up}
-use Rattle.wave_engine.specs.EngineView.{HaveReduced}
+use Rattle.wave_engine.specs.EngineView.{AreDivided}
 use Rattle.wave_engine.proofs.engine.Runner.wave.Goals as goal
 
 pub wave-requires-clause-operands : goal.wave-requires-clause-operands
@@ -66,7 +66,7 @@ returns-in-Ok-complete_answers-clause-expanded g c =
     subst (λ (es : List Entry). HaveExpanded c.args.store.now 1 (requests_of es) (c.args.self.now.workspace.down.splits + c.args.self.now.workspace.wave_memory) (c.wave.new.self.down.splits + c.wave.new.self.wave_memory))
     (c.requests.ensures ∙ c.in-Ok.ensures.requests) c.in_ok-found.ensures.expanded
 
-pub returns-in-Ok-complete_answers-clause-reduced : goal.returns-in-Ok-complete_answers-clause-reduced
-returns-in-Ok-complete_answers-clause-reduced g c =
-    let made = c.in_ok-found.ensures.reduced in
-    (made.0, subst (λ (es : List Entry). HaveReduced c.args.store.now (requests_of es) made.0 c.args.self.now.workspace.up.reductions c.wave.new.self.up.reductions) (c.requests.ensures ∙ c.in-Ok.ensures.requests) made.1)
+pub returns-in-Ok-complete_answers-clause-divided : goal.returns-in-Ok-complete_answers-clause-divided
+returns-in-Ok-complete_answers-clause-divided g c =
+    subst (λ (es : List Entry). AreDivided c.args.store.now (requests_of es) c.args.self.now.workspace.up.reductions c.wave.new.self.up.reductions c.args.self.now.workspace.wave_memory c.wave.new.self.wave_memory)
+    (c.requests.ensures ∙ c.in-Ok.ensures.requests) c.in_ok-found.ensures.divided

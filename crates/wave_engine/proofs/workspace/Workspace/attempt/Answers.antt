@@ -11,7 +11,7 @@ use Rattle.expand_work.specs.Bounds.{AreFew}
 use Rattle.expand_work.specs.WaveParts.{HaveExpanded}
 use Rattle.wave_engine.specs.ExpansionPhase.{IsExpandedTo, IsExpandedWithin}
 use Rattle.reduce_up.specs.ReductionPhase.{AreCounted, ResolvesTo, AreReducedBelow, IsWithinBelow, AreReady}
-use Rattle.wave_engine.proofs.Both.{have_both, have_reduced, at_most_both}
+use Rattle.wave_engine.proofs.Both.{have_both, have_reduced, have_shared, at_most_both}
 use Rattle.wave_engine.proofs.WholeWave.{entries_kept, down_ready, adds_both, fault_back}
 use Rattle.reduce_up.proofs.Answering.{roots_come, roots_answered, within_both}
 use Rattle.wave_engine.proofs.Waiting.{waiting_admitted, waiting_within, waiting_keys}
@@ -155,8 +155,8 @@ returns-in-Err-clause-memory g c = λ old _.
     within_still c.args.store.now c.args.entries.now c.reduce.new.store
     (within_both c.args.store.now c.levels.ensures.sound c.args.entries.now c.requires.operands T ps D.expanded.rooted c.in_ok-from.from c.hand_over.new.store c.reduce.new.store first R.within) old
 
-pub returns-in-Ok-clause-reduced : goal.returns-in-Ok-clause-reduced
-returns-in-Ok-clause-reduced g c =
+pub returns-in-Ok-clause-divided : goal.returns-in-Ok-clause-divided
+returns-in-Ok-clause-divided g c =
     let rows : List (List (PackedChild × PackedChild)) = c.place_and_expand.new.down.rows in
     let ps : List PackedChild = c.place_and_expand.new.down.roots.items in
     let D : IsExpandedTo c.args.store.now c.args.entries.now c.in_ok-from.from c.place_and_expand.new.down.requests rows ps c.args.self.now.down.splits c.place_and_expand.new.down.splits = c.in_ok-from.ensures.down in
@@ -167,7 +167,12 @@ returns-in-Ok-clause-reduced g c =
     let M : MayReduce c.hand_over.new.store c.args.entries.now c.in_ok-from.from (over_parts c.hand_over.new.store.levels c.from_mut-parts.result.now) c.hand_over.new.answers.items T =
     one_part c.hand_over.new.store c.args.entries.now c.in_ok-from.from rows c.hand_over.new.answers.items T c.from_mut-parts.result.now c.from_mut-parts.ensures.value
     (entries_kept c.args.store.now c.levels.ensures.sound c.args.entries.now c.requires.operands c.hand_over.new.store c.hand_over.ensures.adds.keeps) Y in
-    (c.in_ok-from.from, have_reduced c.args.store.now c.levels.ensures.sound c.args.entries.now c.requires.operands T rows ps c.in_ok-from.from D.expanded 1 c.args.self.now.up.reductions c.reduce.new.up.reductions (subst (λ z. AreCounted T 0 c.in_ok-from.from z c.reduce.new.up.reductions) c.place_and_expand.ensures.counted (c.in_ok-reduce.ensures.counted c.args.entries.now T M)))
+    record {
+      level = c.in_ok-from.from;
+      above = have_reduced c.args.store.now c.levels.ensures.sound c.args.entries.now c.requires.operands T rows ps c.in_ok-from.from D.expanded 1 c.args.self.now.up.reductions c.reduce.new.up.reductions (subst (λ z. AreCounted T 0 c.in_ok-from.from z c.reduce.new.up.reductions) c.place_and_expand.ensures.counted (c.in_ok-reduce.ensures.counted c.args.entries.now T M));
+      below = have_shared c.args.store.now c.levels.ensures.sound c.args.entries.now c.requires.operands T rows ps c.in_ok-from.from D.expanded c.args.self.now.crew.now.workers.count c.args.self.now.wave_memory c.hand_over.new.wave_memory
+          (subst (λ z. HaveExpanded c.args.store.now c.args.self.now.crew.now.workers.count z c.args.self.now.wave_memory c.hand_over.new.wave_memory) (waiting_keys T c.in_ok-from.from c.place_and_expand.new.down.requests D.waits) c.in_ok-shared.ensures.expanded);
+    }
 
 pub returns-in-Ok-clause-within_bound : goal.returns-in-Ok-clause-within_bound
 returns-in-Ok-clause-within_bound g c = λ bounded.
