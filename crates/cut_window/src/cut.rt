@@ -3,15 +3,20 @@ use crate::force::force;
 use crate::leaf_order::{Below, LeafOrder, walk};
 use crate::node_table::NodeTable;
 use crate::ranks::{NodeRanks, operands_of};
+use crate::users::Users;
 use crate::window::Window;
 use pair_graph::Graph;
 use std::alloc::{AllocError, Global};
+use std::collections::BinaryHeap;
 
 /// The most nodes that a window has above its leaves.
 const MAX_ABOVE: usize = 8192;
 
 /// Up to so many nodes may be above the leaves while leaves are expanded that only one of the two nodes reaches.
 const UNSHARED: usize = 256;
+
+/// More turns than a window can have.
+const MAX_TURNS: usize = 1 << 24;
 
 /// Bits of what is known of a node: that the first of the two nodes reaches it, that the second does, and that it is above the leaves.
 const FIRST: u64 = 1;
@@ -32,14 +37,21 @@ pub enum CutKind {
     Rank,
 }
 
+/// How soon a leaf is expanded, the greatest first: its class, its rank, and its number.
+type Turn = (u32, u32, u32);
+
 /// The window below two nodes, as far as it has grown. Nothing is promised of it: a window is judged whatever it has.
 #[derive(Drop)]
 pub struct Cut {
     kind: CutKind,
     leaves: Vec<u32>,
+    /// Of each leaf its place among the leaves.
+    places: NodeTable,
     above: Vec<u32>,
     known: NodeTable,
-    uses: NodeTable,
+    users: Users,
+    /// Each leaf that may be expanded has its turn here, and older turns that were sooner.
+    queue: BinaryHeap<Turn>,
     scratch: NodeTable,
 }
 
@@ -49,9 +61,11 @@ impl Cut {
         Cut {
             kind: CutKind::Shared,
             leaves: Vec::new(alloc),
+            places: NodeTable::new(alloc),
             above: Vec::new(alloc),
             known: NodeTable::new(alloc),
-            uses: NodeTable::new(alloc),
+            users: Users::new(alloc),
+            queue: BinaryHeap::new(alloc),
             scratch: NodeTable::new(alloc),
         }
     }
@@ -67,10 +81,13 @@ impl Cut {
         self.kind = kind;
         self.leaves.clear();
         self.above.clear();
+        self.queue.clear();
+        self.places.clear(graph.len())?;
         self.known.clear(graph.len())?;
-        self.uses.clear(graph.len())?;
+        self.users.clear(graph.len())?;
         self.reach(graph, first, FIRST)?;
-        self.reach(graph, second, SECOND)
+        self.reach(graph, second, SECOND)?;
+        Ok(())
     }
 
     /// How many nodes are above the leaves.
@@ -98,14 +115,15 @@ impl Cut {
         size: usize,
     ) -> Result<bool, AllocError> {
         let before = self.above.len();
+        self.queue_leaves(graph, ranks, size)?;
         for _ in 0..MAX_ABOVE {
             if self.above.len() >= MAX_ABOVE {
                 break;
             }
-            let Some(place) = self.next(graph, ranks, size) else {
+            let Some(node) = self.next(graph, ranks, size)? else {
                 break;
             };
-            self.expand(graph, place)?;
+            self.expand(graph, ranks, node, size)?;
         }
         Ok(self.above.len() > before)
     }
@@ -139,70 +157,169 @@ impl Cut {
         Window::new(alloc, forced.as_slice(), nodes)
     }
 
-    /// Notes that a node is reached from one of the two nodes, or from both.
-    fn reach(&mut self, graph: &Graph, node: u32, side: u64) -> Result<(), AllocError> {
+    /// Notes that a node is reached from one of the two nodes, or from both. Whether it is a new leaf.
+    fn reach(&mut self, graph: &Graph, node: u32, side: u64) -> Result<bool, AllocError> {
         if node == 0 {
-            return Ok(());
+            return Ok(false);
         }
         if let Some(known) = self.known.get(node) {
             self.known.set(node, known | side);
-            return Ok(());
+            return Ok(false);
         }
         self.known.set(node, side);
+        self.places.set(node, self.leaves.len() as u64);
         self.leaves.push(node)?;
         if let Some((first, second)) = operands_of(graph, node) {
-            self.use_more(first);
-            self.use_more(second);
+            self.users.add(first, node)?;
+            self.users.add(second, node)?;
         }
-        Ok(())
+        Ok(true)
     }
 
-    /// One more leaf has this node as an operand.
-    fn use_more(&mut self, node: u32) {
-        let uses = self.uses.get(node).unwrap_or(0);
-        self.uses.set(node, uses.saturating_add(1));
+    /// Whether a node is a leaf now.
+    fn is_leaf(&self, node: u32) -> bool {
+        match self.known.get(node) {
+            Some(known) => known & ABOVE == 0,
+            None => false,
+        }
     }
 
-    /// One leaf less has this node as an operand.
-    fn use_less(&mut self, node: u32) {
-        let uses = self.uses.get(node).unwrap_or(0);
-        self.uses.set(node, uses.saturating_sub(1));
-    }
-
-    /// Takes the leaf at a place into the window, with its operands as leaves.
-    fn expand(&mut self, graph: &Graph, place: usize) -> Result<(), AllocError> {
+    /// Removes a leaf from the list of leaves.
+    fn remove_leaf(&mut self, node: u32) {
+        let Some(place) = self.places.get(node) else {
+            return;
+        };
+        let place = place as usize;
         if place >= self.leaves.len() {
-            return Ok(());
+            return;
         }
-        let node = self.leaves.swap_remove(place);
+        self.leaves.swap_remove(place);
+        if let Some(moved) = self.leaves.get(place) {
+            self.places.set(*moved, place as u64);
+        }
+    }
+
+    /// Takes a leaf into the window, with its operands as leaves.
+    fn expand(
+        &mut self,
+        graph: &Graph,
+        ranks: &NodeRanks,
+        node: u32,
+        size: usize,
+    ) -> Result<(), AllocError> {
+        self.remove_leaf(node);
         let side = self.known.get(node).unwrap_or(0) & BOTH;
         self.known.set(node, side | ABOVE);
         self.above.push(node)?;
         let Some((first, second)) = operands_of(graph, node) else {
             return Ok(());
         };
-        self.use_less(first);
-        self.use_less(second);
-        self.reach(graph, first, side)?;
-        self.reach(graph, second, side)
-    }
-
-    /// The place of the leaf to be expanded next, or none if the window is large enough or has only variables as leaves.
-    fn next(&self, graph: &Graph, ranks: &NodeRanks, size: usize) -> Option<usize> {
-        let mut best = None;
-        let mut best_key = (0, 0, 0);
-        for place in 0..self.leaves.len() {
-            let node = self.leaves[place];
-            let Some(class) = self.class_of(graph, node, size) else {
-                continue;
-            };
-            let key = (class, ranks.at(node), node);
-            if best.is_none() || key > best_key {
-                best = Some(place);
-                best_key = key;
+        self.users.remove(first);
+        self.users.remove(second);
+        for operand in [first, second] {
+            if self.reach(graph, operand, side)? {
+                self.queue_near(graph, ranks, operand, size)?;
+            } else if self.is_leaf(operand) {
+                self.queue_leaf(graph, ranks, operand, size)?;
             }
         }
-        best
+        Ok(())
+    }
+
+    /// Gives each leaf its turn.
+    fn queue_leaves(
+        &mut self,
+        graph: &Graph,
+        ranks: &NodeRanks,
+        size: usize,
+    ) -> Result<(), AllocError> {
+        self.queue.clear();
+        for place in 0..self.leaves.len() {
+            if let Some(leaf) = self.leaves.get(place) {
+                let leaf = *leaf;
+                self.queue_leaf(graph, ranks, leaf, size)?;
+            }
+        }
+        Ok(())
+    }
+
+    /// Gives a leaf its turn, if it may be expanded.
+    fn queue_leaf(
+        &mut self,
+        graph: &Graph,
+        ranks: &NodeRanks,
+        node: u32,
+        size: usize,
+    ) -> Result<(), AllocError> {
+        if let Some(class) = self.class_of(graph, node, size) {
+            self.queue.push((class, ranks.at(node), node))?;
+        }
+        Ok(())
+    }
+
+    /// Gives turns to a new leaf and to those leaves that may have a sooner turn because of it: those that share an operand with it, and
+    /// those that have it as an operand.
+    fn queue_near(
+        &mut self,
+        graph: &Graph,
+        ranks: &NodeRanks,
+        node: u32,
+        size: usize,
+    ) -> Result<(), AllocError> {
+        self.queue_leaf(graph, ranks, node, size)?;
+        self.queue_users(graph, ranks, node, size)?;
+        if let Some((first, second)) = operands_of(graph, node) {
+            for operand in [first, second] {
+                if self.users.count(operand) == 2 {
+                    self.queue_users(graph, ranks, operand, size)?;
+                }
+            }
+        }
+        Ok(())
+    }
+
+    /// Gives each leaf that has this node as an operand its turn.
+    fn queue_users(
+        &mut self,
+        graph: &Graph,
+        ranks: &NodeRanks,
+        node: u32,
+        size: usize,
+    ) -> Result<(), AllocError> {
+        let mut at = self.users.first(node);
+        for _ in 0..self.users.len() {
+            let Some((user, next)) = self.users.at(at) else {
+                break;
+            };
+            if self.is_leaf(user) {
+                self.queue_leaf(graph, ranks, user, size)?;
+            }
+            at = next;
+        }
+        Ok(())
+    }
+
+    /// The leaf to be expanded next, or none if the window is large enough or has only variables as leaves. A turn whose leaf has a later
+    /// one by now is given anew.
+    fn next(
+        &mut self,
+        graph: &Graph,
+        ranks: &NodeRanks,
+        size: usize,
+    ) -> Result<Option<u32>, AllocError> {
+        for _ in 0..MAX_TURNS {
+            let Some((class, _, node)) = self.queue.pop() else {
+                break;
+            };
+            if !self.is_leaf(node) {
+                continue;
+            }
+            if self.class_of(graph, node, size) == Some(class) {
+                return Ok(Some(node));
+            }
+            self.queue_leaf(graph, ranks, node, size)?;
+        }
+        Ok(None)
     }
 
     /// How soon a leaf is expanded, the greatest number first, or none if it is not.
@@ -225,6 +342,6 @@ impl Cut {
 
     /// Whether an operand of a leaf is in the window, or an operand of another leaf.
     fn is_near(&self, node: u32) -> bool {
-        self.known.has(node) || self.uses.get(node).unwrap_or(0) > 1
+        self.known.has(node) || self.users.count(node) > 1
     }
 }

@@ -17,6 +17,7 @@ mod laws;
 mod leaf_order;
 mod node_table;
 mod ranks;
+mod users;
 mod window;
 
 pub use cut::{Cut, CutKind};
