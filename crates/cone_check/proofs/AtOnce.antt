@@ -6,6 +6,7 @@ use Rattle.std.proofs.lemmas.Bool.{cases_eq}
 use Rattle.std.proofs.lemmas.List.{get_or-set_other, get_or-set_same, get_or_default}
 use Rattle.net_bench.specs.Circuit.{Circuit, circuit}
 use Rattle.net_order.specs.Order.{NamingModel, condition, name_of}
+use Rattle.net_patterns.specs.declared.counterexample.ShownPattern.{ShownPattern}
 use Rattle.report_text.specs.declared.verdict.Verdict.{Verdict}
 use Rattle.report_text.specs.declared.verdict.Verdict.TheVariants.{Equal}
 use Rattle.compare_built.specs.Cones.{MayShow, cone_limit}
@@ -26,9 +27,9 @@ use Rattle.cone_check.proofs.Filling.{each_known}
 
 module _ (a b : Circuit) (given : Option Circuit) (p : NamingModel) (s : Subject) where
   -- what was known stays
-  pub stays_known : (number : Option ℕ) (known : Option Verdict) → is_some known ≡ true → IsShownElse a b given p s number known known
-  stays_known number (Some v) is = refl
-  stays_known number None is = absurd (let never : false ≡ true = is in cc)
+  pub stays_known : (pattern : Option ShownPattern) (known : Option Verdict) → is_some known ≡ true → IsShownElse a b given p s pattern known known
+  stays_known pattern (Some v) is = refl
+  stays_known pattern None is = absurd (let never : false ≡ true = is in cc)
 
   -- nothing is known without a pattern
   pub stays_unknown : (known : Option Verdict) → is_some known ≡ false → IsShownElse a b given p s None known known
@@ -36,26 +37,26 @@ module _ (a b : Circuit) (given : Option Circuit) (p : NamingModel) (s : Subject
   stays_unknown None is = refl
 
   -- and with one its difference is
-  pub becomes_known : (number : ℕ) (known : Option Verdict) (v : Verdict) → is_some known ≡ false → IsShownVerdict a b given p s v → IsShownElse a b given p s (Some number) known (Some v)
-  becomes_known number (Some w) v is shown = absurd (let never : true ≡ false = is in cc)
-  becomes_known number None v is shown = shown
+  pub becomes_known : (pattern : ShownPattern) (known : Option Verdict) (v : Verdict) → is_some known ≡ false → IsShownVerdict a b given p s v → IsShownElse a b given p s (Some pattern) known (Some v)
+  becomes_known pattern (Some w) v is shown = absurd (let never : true ≡ false = is in cc)
+  becomes_known pattern None v is shown = shown
 
 -- one place more
-pub shown_more : (a b : Circuit) (given : Option Circuit) (p : NamingModel) (ss : List Subject) (shown : List (Option ℕ)) (before known : List (Option Verdict)) (k : ℕ) (s : Subject) (old new : Option Verdict) →
+pub shown_more : (a b : Circuit) (given : Option Circuit) (p : NamingModel) (ss : List Subject) (shown : List (Option ShownPattern)) (before known : List (Option Verdict)) (k : ℕ) (s : Subject) (old new : Option Verdict) →
     k < length ss → length shown ≡ length ss → k < length known → s ≡ get_or ss k s → old ≡ get_or before k None → IsShownElse a b given p s (get_or shown k None) old new →
-    ((i : ℕ) (t : Subject) (number : Option ℕ) → i < k → IsShownElse a b given p (get_or ss i t) (get_or shown i number) (get_or before i None) (get_or known i None)) →
-    (i : ℕ) (t : Subject) (number : Option ℕ) → i < k + 1 → IsShownElse a b given p (get_or ss i t) (get_or shown i number) (get_or before i None) (get_or (set known k new) i None)
-shown_more a b given p ss shown before known k s old new low long lower at was step made i t number lt = elim (cases_eq i k) [
+    ((i : ℕ) (t : Subject) (pattern : Option ShownPattern) → i < k → IsShownElse a b given p (get_or ss i t) (get_or shown i pattern) (get_or before i None) (get_or known i None)) →
+    (i : ℕ) (t : Subject) (pattern : Option ShownPattern) → i < k + 1 → IsShownElse a b given p (get_or ss i t) (get_or shown i pattern) (get_or before i None) (get_or (set known k new) i None)
+shown_more a b given p ss shown before known k s old new low long lower at was step made i t pattern lt = elim (cases_eq i k) [
   | inl same ↦
       let here : k < length shown = omega (arith, low, long) in
-      subst (λ j. IsShownElse a b given p (get_or ss j t) (get_or shown j number) (get_or before j None) (get_or (set known k new) j None)) (sym same)
-      (subst (IsShownElse a b given p (get_or ss k t) (get_or shown k number) (get_or before k None)) (sym (get_or-set_same known k new None lower))
-      (subst (λ o. IsShownElse a b given p (get_or ss k t) (get_or shown k number) o new) was
-      (subst (λ n. IsShownElse a b given p (get_or ss k t) n old new) (get_or_default shown k None number here)
+      subst (λ j. IsShownElse a b given p (get_or ss j t) (get_or shown j pattern) (get_or before j None) (get_or (set known k new) j None)) (sym same)
+      (subst (IsShownElse a b given p (get_or ss k t) (get_or shown k pattern) (get_or before k None)) (sym (get_or-set_same known k new None lower))
+      (subst (λ o. IsShownElse a b given p (get_or ss k t) (get_or shown k pattern) o new) was
+      (subst (λ n. IsShownElse a b given p (get_or ss k t) n old new) (get_or_default shown k None pattern here)
       (subst (λ u. IsShownElse a b given p u (get_or shown k None) old new) (at ∙ get_or_default ss k s t low) step))))
   | inr other ↦
-      subst (IsShownElse a b given p (get_or ss i t) (get_or shown i number) (get_or before i None)) (sym (get_or-set_other known k i new None other))
-      (made i t number (omega (arith, lt, other)))
+      subst (IsShownElse a b given p (get_or ss i t) (get_or shown i pattern) (get_or before i None)) (sym (get_or-set_other known k i new None other))
+      (made i t pattern (omega (arith, lt, other)))
 ]
 
 -- ---- all pairs
@@ -64,10 +65,10 @@ module _ {H : Type 0} (context : ConeContext H) where
   abbrev pub known_limit : ℕ
   known_limit = cone_limit context.task.now.settings.now.limit
 
-  abbrev pub ShownFact : Subject → Option ℕ → Type 0
+  abbrev pub ShownFact : Subject → Option ShownPattern → Type 0
   ShownFact = IsFirstShown (circuit context.task.now.first.now) (circuit context.task.now.second.now) (condition context.task.now.given) context.naming.now
 
-  abbrev pub ShownStep : Subject → Option ℕ → (known new : Option Verdict) → Type 0
+  abbrev pub ShownStep : Subject → Option ShownPattern → (known new : Option Verdict) → Type 0
   ShownStep = IsShownElse (circuit context.task.now.first.now) (circuit context.task.now.second.now) (condition context.task.now.given) context.naming.now
 
   -- pairs that are equal inside are equal, and of the others nothing is known
@@ -93,37 +94,37 @@ module _ {H : Type 0} (context : ConeContext H) where
       any (t ∷ ts) (o ∷ os) long = (tt, any ts os (omega (arith, long)))
 
   -- the differences that patterns show, if any difference is asked for
-  any_step : context.task.now.settings.now.difference ≡ AnyOne → (s : Subject) (number : Option ℕ) (o n : Option Verdict) → ShownFact s number → IsKnown (IsDecidedIn context known_limit) (λ t. ⊤) s o → ShownStep s number o n →
+  any_step : context.task.now.settings.now.difference ≡ AnyOne → (s : Subject) (pattern : Option ShownPattern) (o n : Option Verdict) → ShownFact s pattern → IsKnown (IsDecidedIn context known_limit) (λ t. ⊤) s o → ShownStep s pattern o n →
       IsKnown (IsDecidedIn context known_limit) (λ t. ⊤) s n
-  any_step is s number (Some v) n fact known made = subst (IsKnown (IsDecidedIn context known_limit) (λ t. ⊤) s) (sym made) known
+  any_step is s pattern (Some v) n fact known made = subst (IsKnown (IsDecidedIn context known_limit) (λ t. ⊤) s) (sym made) known
   any_step is s None None n fact known made = subst (IsKnown (IsDecidedIn context known_limit) (λ t. ⊤) s) (sym made) tt
-  any_step is s (Some number) None None fact known made = absurd made
-  any_step is s (Some number) None (Some v) fact known made =
+  any_step is s (Some pattern) None None fact known made = absurd made
+  any_step is s (Some pattern) None (Some v) fact known made =
       reported_shown (unsized context.task.now.settings.now.assignment) context.task.now.settings.now.difference (FitIn context known_limit) (λ t. ⊥) (λ t. ⊥) (circuit context.task.now.first.now) (circuit context.task.now.second.now)
       (condition context.task.now.given) context.naming.now s v (subst (λ (d : Difference). MayShow d ⊥) (sym is) tt) made
 
-  pub any_at_once : context.task.now.settings.now.difference ≡ AnyOne → (ss : List Subject) (shown : List (Option ℕ)) (known new : List (Option Verdict)) → AllZip ShownFact ss shown → AreKnownAtOnce context ss known →
+  pub any_at_once : context.task.now.settings.now.difference ≡ AnyOne → (ss : List Subject) (shown : List (Option ShownPattern)) (known new : List (Option Verdict)) → AllZip ShownFact ss shown → AreKnownAtOnce context ss known →
       AreShownElse (circuit context.task.now.first.now) (circuit context.task.now.second.now) (condition context.task.now.given) context.naming.now ss shown known new → AreKnownAtOnce context ss new
   any_at_once is ss shown known new facts before are =
-      each_known {F = Option ℕ} ShownFact ShownStep (IsKnown (IsDecidedIn context known_limit) (λ t. ⊤)) (IsKnown (IsDecidedIn context known_limit) (λ t. ⊤)) (any_step is) ss shown known new facts before are.each are.places
+      each_known {F = Option ShownPattern} ShownFact ShownStep (IsKnown (IsDecidedIn context known_limit) (λ t. ⊤)) (IsKnown (IsDecidedIn context known_limit) (λ t. ⊤)) (any_step is) ss shown known new facts before are.each are.places
 
   -- the differences that patterns show of pairs that are left
-  last_step : (bound : Option ℕ) (s : Subject) (number : Option ℕ) (o n : Option Verdict) → ShownFact s number → IsKnown (IsDecidedIn context known_limit) (StaysUndecided context bound) s o → ShownStep s number o n →
+  last_step : (bound : Option ℕ) (s : Subject) (pattern : Option ShownPattern) (o n : Option Verdict) → ShownFact s pattern → IsKnown (IsDecidedIn context known_limit) (StaysUndecided context bound) s o → ShownStep s pattern o n →
       IsKnown (IsFinalVerdict context bound) (λ t. StaysUndecided context bound t × IsUnshownIn context t) s n
-  last_step bound s number (Some v) n fact known made =
+  last_step bound s pattern (Some v) n fact known made =
       subst (IsKnown (IsFinalVerdict context bound) (λ t. StaysUndecided context bound t × IsUnshownIn context t) s) (sym made)
       (reported_decided (unsized context.task.now.settings.now.assignment) context.task.now.settings.now.difference (FitIn context known_limit) (FitIn context known_limit) (StaysUndecided context bound) (IsUnshownIn context) (circuit context.task.now.first.now)
       (circuit context.task.now.second.now) (condition context.task.now.given) context.naming.now s v (λ few. few) known)
   last_step bound s None None n fact known made = subst (IsKnown (IsFinalVerdict context bound) (λ t. StaysUndecided context bound t × IsUnshownIn context t) s) (sym made) (known, fact)
-  last_step bound s (Some number) None None fact known made = absurd made
-  last_step bound s (Some number) None (Some v) fact known made =
+  last_step bound s (Some pattern) None None fact known made = absurd made
+  last_step bound s (Some pattern) None (Some v) fact known made =
       reported_shown (unsized context.task.now.settings.now.assignment) context.task.now.settings.now.difference (FitIn context known_limit) (StaysUndecided context bound) (IsUnshownIn context) (circuit context.task.now.first.now)
       (circuit context.task.now.second.now) (condition context.task.now.given) context.naming.now s v (shown_if_left context.task.now.settings.now.difference (StaysUndecided context bound s) known) made
 
-  pub shown_last : (bound : Option ℕ) (ss : List Subject) (shown : List (Option ℕ)) (known new : List (Option Verdict)) → AllZip ShownFact ss shown →
+  pub shown_last : (bound : Option ℕ) (ss : List Subject) (shown : List (Option ShownPattern)) (known new : List (Option Verdict)) → AllZip ShownFact ss shown →
       AllZip (IsKnown (IsDecidedIn context known_limit) (StaysUndecided context bound)) ss known →
       AreShownElse (circuit context.task.now.first.now) (circuit context.task.now.second.now) (condition context.task.now.given) context.naming.now ss shown known new →
       AllZip (IsKnown (IsFinalVerdict context bound) (λ t. StaysUndecided context bound t × IsUnshownIn context t)) ss new
   shown_last bound ss shown known new facts before are =
-      each_known {F = Option ℕ} ShownFact ShownStep (IsKnown (IsDecidedIn context known_limit) (StaysUndecided context bound)) (IsKnown (IsFinalVerdict context bound) (λ t. StaysUndecided context bound t × IsUnshownIn context t)) (last_step bound) ss shown
+      each_known {F = Option ShownPattern} ShownFact ShownStep (IsKnown (IsDecidedIn context known_limit) (StaysUndecided context bound)) (IsKnown (IsFinalVerdict context bound) (λ t. StaysUndecided context bound t × IsUnshownIn context t)) (last_step bound) ss shown
       known new facts before are.each are.places

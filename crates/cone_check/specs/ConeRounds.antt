@@ -12,6 +12,7 @@ use Rattle.net_order.specs.declared.order.Match.TheVariants.{Name}
 use Rattle.net_order.specs.declared.order.Order.TheVariants.{Declared}
 use Rattle.net_order.specs.Force.{numbers_below}
 use Rattle.net_order.specs.Order.{NamingModel, condition, name_of}
+use Rattle.net_patterns.specs.declared.counterexample.ShownPattern.{ShownPattern}
 use Rattle.report_text.specs.declared.verdict.Verdict.{Verdict}
 use Rattle.report_text.specs.declared.verdict.Verdict.TheVariants.{Equal, Undecided}
 use Rattle.report_text.specs.Lines.{Found}
@@ -154,11 +155,11 @@ abbrev pub or_equal : Circuit → Subject → (equal : Bool) → Option Verdict 
 or_equal a s true known = Some (Equal s.role (name_of a s.named) None)
 or_equal a s false known = known
 
--- what was known of a pair, else a difference that a pattern shows, if this is the number of one that does
-abbrev pub IsShownElse : Circuit → Circuit → Option Circuit → NamingModel → Subject → (shown : Option ℕ) → (known new : Option Verdict) → Type 0
+-- what was known of a pair, else a difference that a pattern shows, if there is such a pattern
+abbrev pub IsShownElse : Circuit → Circuit → Option Circuit → NamingModel → Subject → (shown : Option ShownPattern) → (known new : Option Verdict) → Type 0
 IsShownElse a b given p s shown (Some v) new = new ≡ Some v
 IsShownElse a b given p s None None new = new ≡ None
-IsShownElse a b given p s (Some number) None new = IsSomeAnd new (IsShownVerdict a b given p s)
+IsShownElse a b given p s (Some pattern) None new = IsSomeAnd new (IsShownVerdict a b given p s)
 
 -- What is known of pairs before an attempt is made.
 abbrev pub AreKnownAtOnce : {H : Type 0} → ConeContext H → List Subject → List (Option Verdict) → Type 0

@@ -15,6 +15,7 @@ use compare_built::subject::Subject;
 use compare_built::task::Task;
 use net_bench::netlist::Netlist;
 use net_order::naming::Naming;
+use net_patterns::ShownPattern;
 use pair_facts::shown_verdict;
 use report_text::{Name, Verdict};
 use std::alloc::{AllocError, Global};
@@ -64,12 +65,12 @@ fn equal_verdicts(
     Ok(known)
 }
 
-/// Writes a difference of a pair that has no verdict yet, if this is the number of a pattern that shows one.
+/// Writes a difference of a pair that has no verdict yet, if a pattern shows one.
 fn put_shown<H>(
     task: &Task<'_, H>,
     naming: &Naming,
     subject: &Subject,
-    shown: Option<usize>,
+    shown: Option<ShownPattern>,
     known: &mut Option<Verdict>,
 ) -> Result<(), AllocError>
     requires in_range { IsInside (circuit task.now.first.now) (circuit task.now.second.now) subject.now }
@@ -80,10 +81,10 @@ fn put_shown<H>(
     if known.is_some() {
         return Ok(());
     }
-    let Some(number) = shown else {
+    let Some(pattern) = shown else {
         return Ok(());
     };
-    *known = Some(shown_verdict(task, naming, subject, number)?);
+    *known = Some(shown_verdict(task, naming, subject, pattern)?);
     Ok(())
 }
 
@@ -92,7 +93,7 @@ pub fn put_all_shown<H>(
     task: &Task<'_, H>,
     naming: &Naming,
     subjects: &[Subject],
-    shown: &[Option<usize>],
+    shown: &[Option<ShownPattern>],
     known: &mut Vec<Option<Verdict>>,
 ) -> Result<(), AllocError>
     requires one_for_each { length known.old.items ≡ length subjects.now }
@@ -120,7 +121,7 @@ pub fn known_at_once<H>(
     context: &ConeContext<'_, H>,
     subjects: &[Subject],
     equal: &[bool],
-    shown: &[Option<usize>],
+    shown: &[Option<ShownPattern>],
 ) -> Result<Vec<Option<Verdict>>, AllocError>
     requires ready { IsConeContext context.now }
     requires in_range { All (IsInContext context.now) subjects.now }
@@ -143,7 +144,7 @@ pub fn known_at_once<H>(
 fn with_shown<H>(
     context: &ConeContext<'_, H>,
     subjects: &[Subject],
-    shown: &[Option<usize>],
+    shown: &[Option<ShownPattern>],
     known: Vec<Option<Verdict>>,
 ) -> Result<Vec<Option<Verdict>>, AllocError>
     requires ready { IsConeContext context.now }

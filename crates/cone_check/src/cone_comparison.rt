@@ -25,6 +25,7 @@ use expand_work::Monitor;
 use net_bench::netlist::Netlist;
 use net_cone::{Cone, cone_of, gate_signals};
 use net_order::naming::Naming;
+use net_patterns::ShownPattern;
 use pair_facts::PairFacts;
 use report_text::{Name, Verdict, Verdicts};
 use std::alloc::{AllocError, Global};
@@ -94,7 +95,7 @@ fn judged<H: Threads + Wait + Sync, G: Monitor>(
     context: &ConeContext<'_, H>,
     subjects: &[Subject],
     equal: &[bool],
-    shown: &[Option<usize>],
+    shown: &[Option<ShownPattern>],
     monitor: &G,
 ) -> Result<Vec<Verdict>, CheckFault>
     requires ready { IsConeContext context.now }
@@ -134,7 +135,7 @@ fn judge_selected<H: Threads + Wait + Sync, G: Monitor>(
     naming: &Naming,
     subjects: &[Subject],
     equal: &[bool],
-    shown: &[Option<usize>],
+    shown: &[Option<ShownPattern>],
     monitor: &G,
 ) -> Result<Vec<Verdict>, CheckFault>
     requires naming { IsNamingIn task.now Declared naming.now }

@@ -15,9 +15,9 @@ use Rattle.net_cone.proofs.Numbered.{one_name}
 use Rattle.net_cone.proofs.Walking.{gate_found}
 use Rattle.net_explain.specs.declared.differing.InnerSignal.{InnerSignal}
 use Rattle.net_explain.specs.Explaining.{IsInner, SimulationModel, differ, differing, gate_line, inner_at, inner_on, inner_to, inner_with, is_inner, line_of}
-use Rattle.net_explain.specs.RankRows.{rank_row}
-use Rattle.net_explain.proofs.Lists.{same_or}
-use Rattle.net_explain.proofs.Rows.{in_row, rank_low, rank_top}
+use Rattle.net_simulate.specs.RankRows.{rank_row}
+use Rattle.net_simulate.proofs.Lists.{same_or}
+use Rattle.net_simulate.proofs.Rows.{in_row, rank_low, rank_top}
 
 -- ---- lists
 

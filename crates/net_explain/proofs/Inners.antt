@@ -6,10 +6,10 @@ use Rattle.net_bench.specs.Circuit.{Net, IsNet, find}
 use Rattle.net_bench.proofs.Found.{found_low}
 use Rattle.net_explain.specs.declared.differing.InnerSignal.{InnerSignal}
 use Rattle.net_explain.specs.Explaining.{SimulationModel, inner_at, inner_on, inner_to, inner_with, is_inner, line_of}
-use Rattle.net_explain.specs.RankRows.{rank_row}
+use Rattle.net_simulate.specs.RankRows.{rank_row}
 use Rattle.net_bench.specs.Labels.{bit_of}
-use Rattle.net_explain.proofs.Lists.{taken_more}
-use Rattle.net_explain.proofs.Rows.{signal_low}
+use Rattle.net_simulate.proofs.Lists.{taken_more}
+use Rattle.net_simulate.proofs.Rows.{signal_low}
 
 on_facts : (s t : ℕ) (value : Bool) (x y : Option ℕ) (i : InnerSignal) → inner_on s t value x y ≡ Some i → (i.first ≡ s) × (i.second ≡ t)
 on_facts s t value None y i e = cc

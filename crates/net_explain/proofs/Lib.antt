@@ -1,8 +1,5 @@
 pub mod Names
 pub mod Lists
-pub mod Folding
-pub mod Rows
-pub mod Setting
 pub mod Visiting
 pub mod Inners
 pub mod Counting

@@ -10,7 +10,7 @@ use Rattle.net_bench.proofs.OneLabelling.{at_contained}
 use Rattle.net_cone.specs.Cones.{IsBelow, IsCone, here, deeper}
 use Rattle.net_cone.proofs.Closed.{in_cone}
 use Rattle.net_explain.specs.Explaining.{AreBelowFlags}
-use Rattle.net_explain.proofs.Lists.{all_of, same_or}
+use Rattle.net_simulate.proofs.Lists.{all_of, same_or}
 
 pub visited_here : (visited : List Bool) (i : ℕ) → i < length visited → bit_of (set visited i true) i ≡ true
 visited_here visited i low = get_or-set_same visited i true false low

@@ -6,7 +6,7 @@ use Rattle.net_explain.specs.declared.differing.InnerSignal.{InnerSignal}
 use Rattle.net_explain.specs.declared.explanation.GateCount.{GateCount}
 use Rattle.net_explain.specs.Text.{outside_text, inner_text, inners_text, last_line_text}
 use Rattle.net_explain.specs.Vcd.{change_text, changes_text, var_text, vars_text}
-use Rattle.net_explain.proofs.Lists.{drop_all, drop_here}
+use Rattle.net_simulate.proofs.Lists.{drop_all, drop_here}
 
 pub inners_next : (names : List (List ℕ)) (is : List InnerSignal) (p : ℕ) (i : InnerSignal) → p < length is → i ≡ get_or is p i →
     inners_text names (drop p is) ≡ inner_text names i ++ inners_text names (drop (p + 1) is)

@@ -10,7 +10,7 @@ use Rattle.net_explain.specs.declared.evaluate.WhichNetlist.{WhichNetlist}
 use Rattle.net_explain.specs.declared.evaluate.WhichNetlist.TheVariants.{First, Second}
 use Rattle.net_explain.specs.declared.differing.InnerSignal.{InnerSignal}
 use Rattle.net_explain.specs.declared.explanation.GateCount.{GateCount}
-use Rattle.net_explain.specs.RankRows.{rank_row}
+use Rattle.net_simulate.specs.RankRows.{rank_row}
 use Rattle.net_explain.specs.Values.{level_in}
 
 -- by signal, whether it is below the root

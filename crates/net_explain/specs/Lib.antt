@@ -1,4 +1,3 @@
-pub mod RankRows
 pub mod Values
 pub mod Explaining
 pub mod Text

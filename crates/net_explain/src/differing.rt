@@ -3,9 +3,9 @@ ghost use Rattle.std.specs.Prelude.{◌≡◌, ◌<◌, ◌++◌, [], length, fi
 ghost use Rattle.net_bench.specs.Circuit.{IsNet};
 ghost use Rattle.net_explain.specs.Explaining.{differ, differing, inner_at, is_inner, line_of};
 
-use crate::rank_rows::gates_by_rank;
 use crate::simulation::Simulation;
 use net_bench::netlist::{Netlist, Role, Signal};
+use net_simulate::gates_by_rank;
 use std::alloc::{AllocError, Global};
 
 /// A signal of the first netlist and the one of its name in the second. Each is the signal of a gate, whose line is told.

@@ -3,9 +3,9 @@ ghost use Rattle.std.specs.Prelude.{◌≡◌, ◌<◌, length, All, IfOk};
 ghost use Rattle.net_explain.specs.Explaining.{AreGateCounts, IsExplanation, IsGateCount};
 
 use crate::below::visited_below;
+use crate::bits::bit_at;
 use crate::differing::{InnerSignal, differing};
 use crate::evaluate::WhichNetlist;
-use crate::gates::bit_at;
 use crate::simulation::Simulation;
 use net_bench::netlist::{Netlist, Signal};
 use net_order::naming::Naming;

@@ -10,16 +10,16 @@
 //! values which a test finds for itself are the same (`tests/vcd.py`, `tests/explained.py`). That time and memory are
 //! linear in the netlists no clause says.
 //!
-//! **Begin** with `specs/Explaining`; then `explanation`, over `simulation` (what is seen of one netlist) and `differing`.
+//! **Begin** with `specs/Explaining`; then `explanation`, over `simulation` (what is seen of one netlist) and `differing`. The
+//! gates are evaluated, and ranked, by `net_simulate`.
 #![tactic(auto)]
 
 mod below;
+mod bits;
 mod differing;
 mod evaluate;
 mod explanation;
-mod gates;
 pub mod laws;
-mod rank_rows;
 mod simulation;
 mod text;
 mod vcd;

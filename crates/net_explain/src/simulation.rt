@@ -5,8 +5,8 @@ ghost use Rattle.net_bench.specs.Labels.{bit_of};
 ghost use Rattle.net_explain.specs.Explaining.{IsSimulation};
 
 use crate::below::visited_below;
+use crate::bits::bit_at;
 use crate::evaluate::{WhichNetlist, values};
-use crate::gates::bit_at;
 use net_bench::netlist::{Netlist, Signal};
 use net_order::naming::Naming;
 use std::alloc::{AllocError, Global};

@@ -9,7 +9,7 @@ use Rattle.net_order.specs.Order.{NamingModel, first_level, second_level, given_
 use Rattle.net_simulate.specs.Columns.{AreLabellings, bit_in_block, column}
 use Rattle.net_patterns.specs.Differences.{HasOutput, HoldsAt, IsDifferenceAt, IsPairOf}
 use Rattle.net_patterns.specs.Prepared.{SimulatorModel}
-use Rattle.net_patterns.specs.Simulated.{AreApart, AreKept, AreOf, HaveOutput, IsKept, IsKeptCondition, IsOf, IsOfCondition, IsPairIn}
+use Rattle.net_patterns.specs.Simulated.{AreApart, AreKept, AreOf, HaveOutput, IsKept, IsKeptCondition, IsOf, IsOfCondition, IsPairIn, first_bit}
 use Rattle.net_patterns.specs.declared.sides.Sides.{Sides}
 
 -- ---- one netlist
@@ -172,6 +172,13 @@ shown a b given p old new at holds of kept sound fine firsts seconds condition p
           (length-map at (bit_in_block i) ∙ each) ((condition i low).0 apart.0) apart.1,
     )
 
+-- in each bit the first signal's value is that of its function
+pub first_shown : (a b : Circuit) (given : Option Circuit) (p : NamingModel) (old new : Sides) (at : List (List ℕ)) → AreOf a b given p old →
+    ((l : ℕ → ℕ) → map l (variables_of (circuit old.first.net)) ≡ old.first.levels → AreLabellings bit_in_block 512 old.first.net l at new.first.values) →
+    (pair : ℕ × ℕ) (i : ℕ) → i < 512 → Computes a (first_level p) pair.0 (column bit_in_block i at) (first_bit new pair i)
+first_shown a b given p old new at of firsts pair i low =
+    (column bit_in_block i new.first.values, labelled a (first_level p) old.first new.first at of.first firsts i low, refl)
+
 -- the condition's block says where it holds
 pub condition_shown : (given : Option Circuit) (p : NamingModel) (old new : SimulatorModel) (at : List (List ℕ)) (holds : List ℕ) → IsOfCondition given (given_level p) (Some old) → IsKept old new → IsNet new.net →
     0 < length new.net.outputs → ((l : ℕ → ℕ) → map l (variables_of (circuit old.net)) ≡ old.levels → AreLabellings bit_in_block 512 old.net l at new.values) →
@@ -186,6 +193,13 @@ condition_shown (Some c) p old new at holds of kept sound some values output i l
     (λ e. holds_from new.net sound c is p x bits some labels (sym (output i low) ∙ e), λ h. output i low ∙ holds_to new.net sound c is p x bits some labels h)
 
 -- ---- functions
+
+-- the value that a signal has is its function's
+pub function_is : (n : Net) → IsNet n → (level : ℕ → ℕ) (x : List Bool) (s : ℕ) → s < length n.names → (v : Bool) → Computes (circuit n) level s x v →
+    (f : List Bool → Bool) → IsFunctionOf (circuit n) level (length x) s f → v ≡ f x
+function_is n sound level x s low v has f is =
+    let (bits, labels, e) = is x refl in
+    sym (value_is n sound (circuit n) refl level x bits labels s low v has) ∙ e
 
 pub functions_differ : (n m : Net) → IsNet n → IsNet m → (given : Option Circuit) (p : NamingModel) (pair : ℕ × ℕ) (x : List Bool) → IsPairOf (circuit n) (circuit m) pair →
     IsDifferenceAt (circuit n) (circuit m) given p pair x → (f g : List Bool → Bool) → IsFunctionOf (circuit n) (first_level p) (length p.names) pair.0 f →

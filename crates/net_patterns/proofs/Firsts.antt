@@ -6,7 +6,8 @@ use Rattle.std.proofs.lemmas.Bool.{cases_lt}
 use Rattle.std.proofs.lemmas.Nat.Bits.{bit_at-trailing_zeros}
 use Rattle.net_simulate.specs.Columns.{bit_in}
 use Rattle.net_simulate.proofs.Bits.{in_and, in_none, in_xor}
-use Rattle.net_patterns.specs.Choices.{IsFirst, IsNext}
+use Rattle.net_patterns.specs.declared.counterexample.ShownPattern.{ShownPattern}
+use Rattle.net_patterns.specs.Choices.{IsFirst, IsFirstWith, IsNext}
 
 pub map_first : (D E : ℕ → Type 0) (count : ℕ) (o : Option ℕ) → ((k : ℕ) → k < count → D k → E k) → ((k : ℕ) → k < count → E k → D k) → IsFirst D count o → IsFirst E count o
 map_first D E count None to from none = λ k low e. none k low (from k low e)
@@ -85,21 +86,25 @@ words_some W place r small before (low, here, none) =
 
 -- ---- one block more
 
-module _ (D A : ℕ → Type 0) (block : ℕ) (to : (i : ℕ) → i < 512 → D (512 * block + i) → A i) (from : (i : ℕ) → i < 512 → A i → D (512 * block + i)) where
+module _ (D A : ℕ → Type 0) (W : ℕ → Bool → Type 0) (V : ℕ → Bool) (block : ℕ) (to : (i : ℕ) → i < 512 → D (512 * block + i) → A i) (from : (i : ℕ) → i < 512 → A i → D (512 * block + i))
+    (value : (i : ℕ) → i < 512 → W (512 * block + i) (V i)) where
   later : (i : ℕ) → 512 * block ≤ i → i < 512 * (block + 1) → D i → A (i - 512 * block)
   later i most low d = let e : i ≡ 512 * block + (i - 512 * block) = omega arith in to (i - 512 * block) (omega arith) (subst D e d)
 
-  pub next_first : (e o : Option ℕ) → IsFirst D (512 * block) e → IsNext A block e o → IsFirst D (512 * (block + 1)) o
-  next_first (Some n) o (low, here, before) next = subst (IsFirst D (512 * (block + 1))) (sym next) (omega arith, here, before)
+  pub next_first : (e o : Option ShownPattern) → IsFirstWith D W (512 * block) e → IsNext A V block e o → IsFirstWith D W (512 * (block + 1)) o
+  next_first (Some s) o ((low, here, before), first) next = subst (IsFirstWith D W (512 * (block + 1))) (sym next) ((omega arith, here, before), first)
   next_first None None none next = λ k low d. elim (cases_lt k (512 * block)) [
     | inl early ↦ none k early d
     | inr late ↦ next (k - 512 * block) (omega arith) (later k late low d)
   ]
-  next_first None (Some n) none next = (
-    omega (arith, next.number, next.within),
-    subst D (sym next.number) (from next.bit next.within next.holds),
-    λ k less d. elim (cases_lt k (512 * block)) [
-      | inl early ↦ none k early d
-      | inr late ↦ next.before (k - 512 * block) (omega (arith, next.number)) (later k late (omega (arith, next.number, next.within)) d)
-    ],
+  next_first None (Some s) none next = (
+    (
+      omega (arith, next.number, next.within),
+      subst D (sym next.number) (from next.bit next.within next.holds),
+      λ k less d. elim (cases_lt k (512 * block)) [
+        | inl early ↦ none k early d
+        | inr late ↦ next.before (k - 512 * block) (omega (arith, next.number)) (later k late (omega (arith, next.number, next.within)) d)
+      ],
+    ),
+    subst (λ n. W n s.first) (sym next.number) (subst (W (512 * block + next.bit)) (sym next.value) (value next.bit next.within)),
   )

@@ -4,8 +4,10 @@ use Rattle.net_bench.specs.Circuit.{Circuit}
 use Rattle.net_bench.specs.Labels.{Computes}
 use Rattle.net_order.specs.Order.{NamingModel, first_level, second_level, given_level}
 use Rattle.dd_store.specs.Functions.{Before}
+use Rattle.net_patterns.specs.declared.counterexample.Counterexample.{Counterexample}
+use Rattle.net_patterns.specs.declared.counterexample.ShownPattern.{ShownPattern}
 use Rattle.net_patterns.specs.declared.patterns.Patterns.{Patterns}
-use Rattle.net_patterns.specs.Choices.{IsFirst}
+use Rattle.net_patterns.specs.Choices.{IsFirstWith}
 use Rattle.net_patterns.specs.Patterns.{pattern}
 
 -- the condition holds at an assignment: its output is 1 there. No condition holds everywhere.
@@ -21,6 +23,14 @@ pub record IsDifferenceAt (a b : Circuit) (given : Option Circuit) (p : NamingMo
   pub first : Computes a (first_level p) pair.0 x value
   pub second : Computes b (second_level p) pair.1 x (not value)
 
+-- the same with the value that the first signal's function has there; the second's has the other value
+abbrev pub IsDifferenceWith : Circuit → Circuit → Option Circuit → NamingModel → ℕ × ℕ → List Bool → (first : Bool) → Type 0
+IsDifferenceWith a b given p pair x first = IsDifferenceAt a b given p pair x × Computes a (first_level p) pair.0 x first
+
+-- A counterexample of a pair: an assignment at which it differs, with the value of its first signal.
+abbrev pub IsCounterexample : Circuit → Circuit → Option Circuit → NamingModel → ℕ × ℕ → Counterexample → Type 0
+IsCounterexample a b given p pair e = IsDifferenceWith a b given p pair e.at.items e.first
+
 -- the condition has an output
 abbrev pub HasOutput : Circuit → Type 0
 HasOutput c = 0 < length c.outputs
@@ -33,21 +43,27 @@ IsPairOf a b pair = (pair.0 < length a.names) × (pair.1 < length b.names)
 abbrev pub IsShownBy : Circuit → Circuit → Option Circuit → NamingModel → Patterns → ℕ × ℕ → ℕ → Type 0
 IsShownBy a b given p patterns pair n = IsDifferenceAt a b given p pair (pattern patterns n)
 
--- For each pair the first of so many patterns that is a difference of it, and None only if none of them is.
+-- the first signal of the pair has this value at pattern number n
+abbrev pub HasFirstValue : Circuit → NamingModel → Patterns → ℕ × ℕ → ℕ → Bool → Type 0
+HasFirstValue a p patterns pair n first = Computes a (first_level p) pair.0 (pattern patterns n) first
+
+-- For each pair the first of so many patterns that is a difference of it, with the value of its first signal there, and None only if none
+-- of them is.
 pub record AreFirst (a b : Circuit) (given : Option Circuit) (p : NamingModel) (patterns : Patterns) (count : ℕ) (pairs : List (ℕ × ℕ))
-    (found : List (Option ℕ)) : Type 0 where
+    (found : List (Option ShownPattern)) : Type 0 where
   pub each : length found ≡ length pairs
-  pub first : (k : ℕ) (d : ℕ × ℕ) → k < length pairs → IsFirst (IsShownBy a b given p patterns (slice_index_or pairs k d)) count (slice_index_or found k None)
+  pub first : (k : ℕ) (d : ℕ × ℕ) → k < length pairs →
+      IsFirstWith (IsShownBy a b given p patterns (slice_index_or pairs k d)) (HasFirstValue a p patterns (slice_index_or pairs k d)) count (slice_index_or found k None)
 
 -- y is x, or comes before it in the order in which the least difference is the first
 abbrev pub IsNotAfter : List Bool → List Bool → Type 0
 IsNotAfter y x = (y ≡ x) ⊎ Before y x
 
--- y is a difference too, and does not come after x
-pub record MakesSmaller (a b : Circuit) (given : Option Circuit) (p : NamingModel) (pair : ℕ × ℕ) (x y : List Bool) : Type 0 where
-  pub difference : IsDifferenceAt a b given p pair y
-  pub order : IsNotAfter y x
+-- y is a counterexample too, and does not come after x
+pub record MakesSmaller (a b : Circuit) (given : Option Circuit) (p : NamingModel) (pair : ℕ × ℕ) (x y : Counterexample) : Type 0 where
+  pub difference : IsCounterexample a b given p pair y
+  pub order : IsNotAfter y.at.items x.at.items
 
 -- y is x, or the candidate c, which then comes before x
-abbrev pub IsLesser : (x c y : List Bool) → Type 0
-IsLesser x c y = (y ≡ x) ⊎ ((y ≡ c) × Before y x)
+abbrev pub IsLesser : (x c y : Counterexample) → Type 0
+IsLesser x c y = (y ≡ x) ⊎ ((y ≡ c) × Before y.at.items x.at.items)

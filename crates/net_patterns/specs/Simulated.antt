@@ -1,5 +1,5 @@
 -- Netlists of a naming that are evaluated at blocks of assignments.
-use Rattle.std.specs.Prelude.{◌≡◌, ◌≢◌, ◌<◌, ℕ, true, List, map, length, Option, Some, None, ⊤}
+use Rattle.std.specs.Prelude.{◌≡◌, ◌≢◌, ◌<◌, ℕ, Bool, true, List, map, length, Option, Some, None, ⊤}
 use Rattle.net_bench.specs.Circuit.{Circuit, circuit, variables_of}
 use Rattle.net_bench.specs.Labels.{bit_of}
 use Rattle.net_order.specs.Order.{NamingModel, first_level, second_level, given_level}
@@ -64,3 +64,7 @@ IsPairIn sides pair = (pair.0 < length sides.first.net.names) × (pair.1 < lengt
 abbrev pub AreApart : Sides → (holds : List ℕ) → ℕ × ℕ → ℕ → Type 0
 AreApart sides holds pair i =
     (bit_in_block i holds ≡ true) × (bit_of (column bit_in_block i sides.first.values) pair.0 ≢ bit_of (column bit_in_block i sides.second.values) pair.1)
+
+-- the value of a pair's first signal in bit i
+abbrev pub first_bit : Sides → ℕ × ℕ → ℕ → Bool
+first_bit sides pair i = bit_of (column bit_in_block i sides.first.values) pair.0

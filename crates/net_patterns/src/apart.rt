@@ -2,8 +2,10 @@
 ghost use Rattle.std.specs.Prelude.{◌≡◌, ◌≢◌, ◌<◌, true};
 ghost use Rattle.net_simulate.specs.Columns.{bit_in, bit_in_block};
 ghost use Rattle.net_patterns.specs.Choices.{IsFirst, IsNext};
-ghost use Rattle.net_patterns.specs.Simulated.{AreApart, IsPairIn};
+ghost use Rattle.net_patterns.specs.Simulated.{AreApart, IsPairIn, first_bit};
 
+use crate::counterexample::ShownPattern;
+use crate::drawing::has_bit;
 use crate::sides::Sides;
 use net_bench::netlist::Signal;
 use net_simulate::Block;
@@ -53,23 +55,37 @@ pub(crate) fn first_apart(
     first_in_block(&first, &second, holds)
 }
 
-/// What was found earlier, else the number of the first pattern of this block at which the values of a pair differ.
+/// The value of a pair's first signal in a bit of the block that was evaluated last.
+pub(crate) fn first_value(sides: &Sides<'_>, pair: &(Signal, Signal), bit: usize) -> bool
+    requires pair { IsPairIn sides.now pair.now }
+    requires bit { bit < 512 }
+    ensures { result ≡ first_bit sides.now pair.now bit }
+{
+    let (one, _) = *pair;
+    let block = sides.first.value(one);
+    has_bit(block[bit / 64], bit % 64)
+}
+
+/// What was found earlier, else the first pattern of this block at which the values of a pair differ.
 pub(crate) fn next_apart(
-    earlier: Option<usize>,
+    earlier: Option<ShownPattern>,
     sides: &Sides<'_>,
     pair: &(Signal, Signal),
     holds: &Block,
     block: usize,
-) -> Option<usize>
+) -> Option<ShownPattern>
     requires pair { IsPairIn sides.now pair.now }
     requires block { block < 64 }
-    ensures { IsNext (AreApart sides.now holds.now pair.now) block earlier result }
+    ensures { IsNext (AreApart sides.now holds.now pair.now) (first_bit sides.now pair.now) block earlier result }
 {
-    if let Some(number) = earlier {
-        return Some(number);
+    if let Some(shown) = earlier {
+        return Some(shown);
     }
     match first_apart(sides, pair, holds) {
-        Some(bit) => Some(512 * block + bit),
+        Some(bit) => Some(ShownPattern {
+            number: 512 * block + bit,
+            first: first_value(sides, pair, bit),
+        }),
         None => None,
     }
 }

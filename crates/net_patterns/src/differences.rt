@@ -5,9 +5,10 @@ ghost use Rattle.net_order.specs.Order.{condition};
 ghost use Rattle.net_patterns.specs.Choices.{IsNext};
 ghost use Rattle.net_patterns.specs.Differences.{AreFirst, HasOutput, IsPairOf};
 ghost use Rattle.net_patterns.specs.Patterns.{pattern_count};
-ghost use Rattle.net_patterns.specs.Simulated.{AreApart, IsPairIn};
+ghost use Rattle.net_patterns.specs.Simulated.{AreApart, IsPairIn, first_bit};
 
 use crate::apart::next_apart;
+use crate::counterexample::ShownPattern;
 use crate::patterns::Patterns;
 use crate::sides::{Netlists, Sides, evaluate, sides_of};
 use net_bench::netlist::Signal;
@@ -15,7 +16,7 @@ use net_simulate::{Block, no_bits};
 use std::alloc::{AllocError, Global};
 
 /// No pattern yet for so many pairs.
-fn none_found(alloc: Global, count: usize) -> Result<Vec<Option<usize>>, AllocError>
+fn none_found(alloc: Global, count: usize) -> Result<Vec<Option<ShownPattern>>, AllocError>
     ensures { IfOk result (λ v. v.items ≡ replicate count None) }
 {
     let mut found = Vec::new(alloc);
@@ -31,30 +32,30 @@ fn add_block(
     pairs: &[(Signal, Signal)],
     holds: &Block,
     block: usize,
-    found: &mut [Option<usize>],
+    found: &mut [Option<ShownPattern>],
 )
     requires pairs { All (IsPairIn sides.now) pairs.now }
     requires each { length found.old ≡ length pairs.now }
     requires block { block < 64 }
     ensures { (k : ℕ) (d : ℕ × ℕ) → k < length pairs.now
-        → IsNext (AreApart sides.now holds.now (slice_index_or pairs.now k d)) block
+        → IsNext (AreApart sides.now holds.now (slice_index_or pairs.now k d)) (first_bit sides.now (slice_index_or pairs.now k d)) block
         (slice_index_or found.old k None) (slice_index_or found.new k None) }
 {
     for place in 0..pairs.len() {
-        let number = next_apart(found[place], sides, &pairs[place], holds, block);
-        found[place] = number;
+        let shown = next_apart(found[place], sides, &pairs[place], holds, block);
+        found[place] = shown;
     }
 }
 
-/// For each pair of a signal of the first netlist and one of the second, the number of the first pattern at which the condition holds and
-/// the functions of the two differ, over the variables of the naming. Time is linear in the gates for each block of patterns, and no
+/// For each pair of a signal of the first netlist and one of the second, the first pattern at which the condition holds and the functions
+/// of the two differ, over the variables of the naming, and the first signal's value there. Time is linear in the gates for each block of patterns, and no
 /// evaluation allocates.
 pub fn first_differences(
     alloc: Global,
     netlists: &Netlists<'_, '_>,
     pairs: &[(Signal, Signal)],
     patterns: &Patterns,
-) -> Result<Vec<Option<usize>>, AllocError>
+) -> Result<Vec<Option<ShownPattern>>, AllocError>
     requires pairs { All (IsPairOf (circuit netlists.now.first.now) (circuit netlists.now.second.now)) pairs.now }
     requires condition { IfSome (condition netlists.now.given) HasOutput }
     requires variables { patterns.now.variables ≡ length netlists.now.naming.now.names }

@@ -2,9 +2,9 @@
 //!
 //! **Promises.** `Patterns` are assignments by number, a function of how many variables and gates there are (`pattern`).
 //! `first_differences` answers for each pair the first pattern at which the condition holds and the two functions
-//! differ, and `None` only if there is none (`AreFirst`). `make_small` answers a difference again, and none that comes
-//! after the one that it is given (`MakesSmaller`). What a difference says of functions are the laws `functions` and
-//! `condition`.
+//! differ, with the first function's value there, and `None` only if there is none (`AreFirst`). `make_small` answers a
+//! counterexample again, and none that comes after the one that it is given (`MakesSmaller`). What a difference says of
+//! functions are the laws `functions` and `condition`.
 //!
 //! **Only tests show** that ample memory suffices, and that a difference becomes smaller where it can. That time is linear
 //! in the netlists for each block no clause says.
@@ -15,6 +15,7 @@
 
 mod apart;
 mod candidates;
+mod counterexample;
 mod differences;
 mod drawing;
 pub mod laws;
@@ -23,6 +24,7 @@ mod sides;
 mod simulator;
 mod small;
 
+pub use counterexample::{Counterexample, ShownPattern};
 pub use differences::first_differences;
 pub use patterns::Patterns;
 pub use sides::Netlists;

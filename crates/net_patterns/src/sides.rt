@@ -1,10 +1,11 @@
 //! What is compared, ready to be evaluated.
 ghost use Rattle.std.specs.Prelude.{◌≡◌, ◌<◌, ◌↔◌, ℕ, true, Option, length, IfOk, IfSome};
 ghost use Rattle.net_bench.specs.Circuit.{Circuit, circuit};
-ghost use Rattle.net_order.specs.Order.{NamingModel, condition, given_level};
+ghost use Rattle.net_bench.specs.Labels.{Computes};
+ghost use Rattle.net_order.specs.Order.{NamingModel, condition, first_level, given_level};
 ghost use Rattle.net_simulate.specs.Columns.{bit_in_block, column};
 ghost use Rattle.net_patterns.specs.Differences.{HoldsAt, IsDifferenceAt, IsPairOf};
-ghost use Rattle.net_patterns.specs.Simulated.{AreApart, AreKept, AreOf, HaveOutput, IsKeptCondition, IsOfCondition};
+ghost use Rattle.net_patterns.specs.Simulated.{AreApart, AreKept, AreOf, HaveOutput, IsKeptCondition, IsOfCondition, first_bit};
 
 use crate::simulator::{Part, Simulator};
 use net_bench::netlist::Netlist;
@@ -85,6 +86,10 @@ pub(crate) fn evaluate(sides: &mut Sides<'_>, at: &[Block]) -> Block
     ensures shown { (a b : Circuit) (given : Option Circuit) (p : NamingModel) → AreOf a b given p sides.old
         → (pair : ℕ × ℕ) → IsPairOf a b pair → length at.now ≡ length p.names → (i : ℕ) → i < 512
         → IsDifferenceAt a b given p pair (column bit_in_block i at.now) ↔ AreApart sides.new result pair i }
+    // In that bit its first signal has the value of its function.
+    ensures first { (a b : Circuit) (given : Option Circuit) (p : NamingModel) → AreOf a b given p sides.old
+        → (pair : ℕ × ℕ) (i : ℕ) → i < 512
+        → Computes a (first_level p) pair.0 (column bit_in_block i at.now) (first_bit sides.new pair i) }
 {
     sides.first.evaluate(at);
     sides.second.evaluate(at);

@@ -4,11 +4,12 @@ ghost use Rattle.dd_store.specs.Functions.{Before};
 ghost use Rattle.net_bench.specs.Circuit.{Circuit, circuit};
 ghost use Rattle.net_order.specs.Order.{NamingModel, condition};
 ghost use Rattle.net_simulate.specs.Columns.{bit_in_block, column};
-ghost use Rattle.net_patterns.specs.Differences.{HasOutput, IsDifferenceAt, IsNotAfter, IsLesser, IsPairOf, MakesSmaller};
+ghost use Rattle.net_patterns.specs.Differences.{HasOutput, IsCounterexample, IsLesser, IsPairOf, MakesSmaller};
 ghost use Rattle.net_patterns.specs.Simulated.{AreKept, AreOf, HaveOutput, IsPairIn};
 
-use crate::apart::first_apart;
+use crate::apart::{first_apart, first_value};
 use crate::candidates::Window;
+use crate::counterexample::Counterexample;
 use crate::drawing::has_bit;
 use crate::sides::{Netlists, Sides, evaluate, sides_of};
 use net_bench::netlist::Signal;
@@ -47,80 +48,84 @@ fn first_candidate(
     sides: &mut Sides<'_>,
     pair: &(Signal, Signal),
     at: &[Block],
-) -> Result<Option<Vec<bool>>, AllocError>
+) -> Result<Option<Counterexample>, AllocError>
     requires output { HaveOutput sides.old.given }
     requires pair { IsPairIn sides.old pair.now }
     ensures kept { AreKept sides.old sides.new }
     ensures found { (a b : Circuit) (given : Option Circuit) (p : NamingModel) → AreOf a b given p sides.old
         → length at.now ≡ length p.names
-        → IfOk result (λ o. IfSome o (λ y. IsDifferenceAt a b given p pair.now y.items)) }
+        → IfOk result (λ o. IfSome o (IsCounterexample a b given p pair.now)) }
 {
     let holds = evaluate(sides, at);
     match first_apart(sides, pair, &holds) {
-        Some(bit) => Ok(Some(column_at(alloc, at, bit)?)),
+        Some(bit) => {
+            let first = first_value(sides, pair, bit);
+            let bits = column_at(alloc, at, bit)?;
+            Ok(Some(Counterexample { at: bits, first }))
+        }
         None => Ok(None),
     }
 }
 
-/// The candidate if it comes before the assignment, else the assignment.
-fn lesser(small: Vec<bool>, candidate: Option<Vec<bool>>) -> Vec<bool>
-    ensures each { vec_len result ≡ vec_len small }
-    ensures lesser { MatchOption candidate (result.items ≡ small.items) (λ c. IsLesser small.items c.items result.items) }
+/// The candidate if its assignment comes before the other one, else that one.
+fn lesser(small: Counterexample, candidate: Option<Counterexample>) -> Counterexample
+    ensures each { vec_len result.at ≡ vec_len small.at }
+    ensures lesser { MatchOption candidate (result ≡ small) (λ c. IsLesser small c result) }
 {
     let Some(less) = candidate else {
         return small;
     };
-    if less.len() == small.len() && is_before(less.as_slice(), small.as_slice()) {
+    if less.at.len() == small.at.len() && is_before(less.at.as_slice(), small.at.as_slice()) {
         less
     } else {
         small
     }
 }
 
-/// The least of the candidates of a window that is a difference of the pair, if it comes before the assignment.
+/// The least of the candidates of a window that is a difference of the pair, if it comes before the counterexample.
 fn try_window(
     alloc: Global,
     sides: &mut Sides<'_>,
     pair: &(Signal, Signal),
     window: &Window,
     candidates: &mut [Block],
-    small: Vec<bool>,
-) -> Result<Vec<bool>, AllocError>
+    small: Counterexample,
+) -> Result<Counterexample, AllocError>
     requires output { HaveOutput sides.old.given }
     requires pair { IsPairIn sides.old pair.now }
-    requires each { vec_len small ≡ length candidates.old }
-    requires window { window.now.from ≤ vec_len small }
+    requires each { vec_len small.at ≡ length candidates.old }
+    requires window { window.now.from ≤ vec_len small.at }
     ensures kept { AreKept sides.old sides.new }
-    ensures each { IfOk result (λ y. vec_len y ≡ vec_len small) }
+    ensures each { IfOk result (λ y. vec_len y.at ≡ vec_len small.at) }
     ensures smaller { (a b : Circuit) (given : Option Circuit) (p : NamingModel) → AreOf a b given p sides.old
-        → IsDifferenceAt a b given p pair.now small.items → IfOk result (λ y. MakesSmaller a b given p pair.now small.items y.items) }
+        → IsCounterexample a b given p pair.now small → IfOk result (MakesSmaller a b given p pair.now small) }
 {
-    if !window.is_tried(small.as_slice()) {
+    if !window.is_tried(small.at.as_slice()) {
         return Ok(small);
     }
-    window.set_candidates(small.as_slice(), candidates);
+    window.set_candidates(small.at.as_slice(), candidates);
     let candidate = first_candidate(alloc, sides, pair, candidates)?;
     Ok(lesser(small, candidate))
 }
 
-/// The assignment made small by the first of the windows whose groups have so many levels.
+/// The counterexample made small by the first of the windows whose groups have so many levels.
 fn by_windows(
     alloc: Global,
     sides: &mut Sides<'_>,
     pair: &(Signal, Signal),
     size: usize,
     tried: usize,
-    small: Vec<bool>,
-) -> Result<Vec<bool>, AllocError>
+    small: Counterexample,
+) -> Result<Counterexample, AllocError>
     requires output { HaveOutput sides.old.given }
     requires pair { IsPairIn sides.old pair.now }
     requires some { 0 < size }
     requires few { size ≤ 1000 }
     ensures kept { AreKept sides.old sides.new }
     ensures smaller { (a b : Circuit) (given : Option Circuit) (p : NamingModel) → AreOf a b given p sides.old
-        → IsDifferenceAt a b given p pair.now small.items → IfOk result (λ y. MakesSmaller a b given p pair.now small.items y.items) }
+        → IsCounterexample a b given p pair.now small → IfOk result (MakesSmaller a b given p pair.now small) }
 {
-    let mut candidates = Vec::from_elem(alloc, no_bits(), small.len())?;
+    let mut candidates = Vec::from_elem(alloc, no_bits(), small.at.len())?;
     let mut small = small;
     for from in 0..candidates.len() {
         let window = Window { from, size, tried };
@@ -136,7 +141,7 @@ fn by_windows(
     Ok(small)
 }
 
-/// Another difference of a pair, if one is found that comes before this one in the order in which the least difference is the first. In
+/// Another counterexample of a pair, if one is found that comes before this one in the order in which the least difference is the first. In
 /// windows of nine groups, from the first level on, those groups become 0 without which the pair still differs and the condition holds;
 /// groups have 729 levels, then 81, 9 and 1, and single levels take the least of all their combinations. One block of candidates is
 /// evaluated for each window in which there is a 1, and only the first windows of each size are tried, of which the caller says how many.
@@ -145,17 +150,17 @@ pub fn make_small(
     netlists: &Netlists<'_, '_>,
     pair: (Signal, Signal),
     windows: usize,
-    at: Vec<bool>,
-) -> Result<Vec<bool>, AllocError>
+    found: Counterexample,
+) -> Result<Counterexample, AllocError>
     requires pair { IsPairOf (circuit netlists.now.first.now) (circuit netlists.now.second.now) pair }
     requires condition { IfSome (condition netlists.now.given) HasOutput }
-    requires difference { IsDifferenceAt (circuit netlists.now.first.now) (circuit netlists.now.second.now)
-        (condition netlists.now.given) netlists.now.naming.now pair at.items }
-    ensures { IfOk result (λ y. MakesSmaller (circuit netlists.now.first.now) (circuit netlists.now.second.now)
-        (condition netlists.now.given) netlists.now.naming.now pair at.items y.items) }
+    requires difference { IsCounterexample (circuit netlists.now.first.now) (circuit netlists.now.second.now)
+        (condition netlists.now.given) netlists.now.naming.now pair found }
+    ensures { IfOk result (MakesSmaller (circuit netlists.now.first.now) (circuit netlists.now.second.now)
+        (condition netlists.now.given) netlists.now.naming.now pair found) }
 {
     let mut sides = sides_of(alloc, netlists)?;
-    let rough = by_windows(alloc, &mut sides, &pair, 729, windows, at)?;
+    let rough = by_windows(alloc, &mut sides, &pair, 729, windows, found)?;
     let finer = by_windows(alloc, &mut sides, &pair, 81, windows, rough)?;
     let fine = by_windows(alloc, &mut sides, &pair, 9, windows, finer)?;
     let small = by_windows(alloc, &mut sides, &pair, 1, windows, fine)?;

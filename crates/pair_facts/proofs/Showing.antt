@@ -9,11 +9,12 @@ use Rattle.gate_plan.proofs.Signals.{function, some_function}
 use Rattle.net_bench.specs.Circuit.{Circuit, Net, IsNet, circuit}
 use Rattle.net_bench.specs.Labels.{IsFunctionOf}
 use Rattle.net_order.specs.Order.{NamingModel, first_level, name_of, second_level}
+use Rattle.net_patterns.specs.declared.counterexample.ShownPattern.{ShownPattern}
 use Rattle.net_patterns.specs.declared.patterns.Patterns.{Patterns}
-use Rattle.net_patterns.specs.Choices.{IsFirst}
-use Rattle.net_patterns.specs.Differences.{AreFirst, HasOutput, IsDifferenceAt, IsPairOf, IsShownBy}
+use Rattle.net_patterns.specs.Choices.{IsFirstWith}
+use Rattle.net_patterns.specs.Differences.{AreFirst, HasFirstValue, HasOutput, IsDifferenceAt, IsDifferenceWith, IsPairOf, IsShownBy}
 use Rattle.net_patterns.specs.Patterns.{pattern_count}
-use Rattle.net_patterns.proofs.Differing.{condition_holds, functions_differ}
+use Rattle.net_patterns.proofs.Differing.{condition_holds, function_is, functions_differ}
 use Rattle.report_text.specs.declared.verdict.Verdict.TheVariants.{Differs}
 use Rattle.compare_built.specs.declared.subject.Subject.{Subject}
 use Rattle.compare_built.specs.Comparing.{IsInside}
@@ -59,13 +60,13 @@ zipped R (x ∷ xs) [] e same each = absurd (omega (arith, same))
 zipped R (x ∷ xs) (y ∷ ys) e same each = (each 0 x (omega arith), zipped R xs ys e (omega (arith, same)) (λ k d low. each (suc k) d (omega (arith, low))))
 
 -- the first patterns that show differences, pair by pair
-pub first_of_each : (a b : Circuit) (given : Option Circuit) (p : NamingModel) (ss : List Subject) (numbers : List (Option ℕ)) →
-    AreFirst a b given p (patterns_of a b p) (pattern_count (patterns_of a b p)) (map signals_of ss) numbers → AllZip (IsFirstShown a b given p) ss numbers
-first_of_each a b given p ss numbers are =
+pub first_of_each : (a b : Circuit) (given : Option Circuit) (p : NamingModel) (ss : List Subject) (found : List (Option ShownPattern)) →
+    AreFirst a b given p (patterns_of a b p) (pattern_count (patterns_of a b p)) (map signals_of ss) found → AllZip (IsFirstShown a b given p) ss found
+first_of_each a b given p ss found are =
     let count = pattern_count (patterns_of a b p) in
     let long : length (map signals_of ss) ≡ length ss = length-map ss signals_of in
-    zipped (IsFirstShown a b given p) ss numbers None (are.each ∙ long)
-    (λ k d low. subst (λ (pair : ℕ × ℕ). IsFirst (IsShownBy a b given p (patterns_of a b p) pair) count (get_or numbers k None))
+    zipped (IsFirstShown a b given p) ss found None (are.each ∙ long)
+    (λ k d low. subst (λ (pair : ℕ × ℕ). IsFirstWith (IsShownBy a b given p (patterns_of a b p) pair) (HasFirstValue a p (patterns_of a b p) pair) count (get_or found k None))
     (get_or-map signals_of ss k d (signals_of d) low) (are.first k (signals_of d) (omega (arith, low, long))))
 
 pub fact_at : {A B : Type 0} (R : A → B → Type 0) (xs : List A) (ys : List B) (e : B) (k : ℕ) (d : A) → k < length xs → AllZip R xs ys → R (get_or xs k d) (get_or ys k e)
@@ -94,10 +95,9 @@ holds_at a b (Some c) p pair x net some d holds is =
         (λ one apart of. condition_holds net.net net.sound a b p pair x apart one holds of)
 
 pub verdict_shown : (n m : Net) → IsNet n → IsNet m → (given : Option Circuit) (p : NamingModel) (s : Subject) (x : List Bool) (value : Bool) → IfSome given IsOfNet → IfSome given HasOutput →
-    IsInside (circuit n) (circuit m) s → IsDifferenceAt (circuit n) (circuit m) given p (signals_of s) x →
-    ((f : List Bool → Bool) → IsFunctionOf (circuit n) (first_level p) (length x) s.first f → value ≡ f x) →
+    IsInside (circuit n) (circuit m) s → IsDifferenceWith (circuit n) (circuit m) given p (signals_of s) x value →
     IsShownVerdict (circuit n) (circuit m) given p s (Differs s.role (name_of (circuit n) s.named) x value (not value) shown_extras)
-verdict_shown n m sound fine given p s x value net some inside d is =
+verdict_shown n m sound fine given p s x value net some inside (d, has) =
     let f = function n sound (first_level p) (length p.names) s.first in
     let g = function m fine (second_level p) (length p.names) s.second in
     let of_first = some_function n sound (first_level p) (length p.names) s.first in
@@ -105,7 +105,7 @@ verdict_shown n m sound fine given p s x value net some inside d is =
     let c : Compared = record { role = s.role; name = name_of (circuit n) s.named; first = f; second = g } in
     let holds = some_holds given p net in
     let apart : f x ≢ g x = functions_differ n m sound fine given p (signals_of s) x (inside.1, inside.2) d f g of_first of_second in
-    let one : value ≡ f x = is f (subst (λ k. IsFunctionOf (circuit n) (first_level p) k s.first f) (sym d.bits) of_first) in
+    let one : value ≡ f x = function_is n sound (first_level p) x s.first inside.1 value has f (subst (λ k. IsFunctionOf (circuit n) (first_level p) k s.first f) (sym d.bits) of_first) in
     let two : not value ≡ g x = ap not one ∙ sym (other_value (f x) (g x) apart) in
     let name = name_of (circuit n) s.named in
     let it = λ (u v : Bool). IsShownDifference (length p.names) holds.0 c (Differs s.role name x u v shown_extras) in

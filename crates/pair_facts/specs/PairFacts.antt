@@ -5,10 +5,12 @@ use Rattle.std.specs.List.Sorted.{IsPermutation}
 use Rattle.net_bench.specs.Circuit.{Circuit}
 use Rattle.net_order.specs.Force.{numbers_below}
 use Rattle.net_order.specs.Order.{NamingModel}
-use Rattle.net_patterns.specs.Choices.{IsFirst}
-use Rattle.net_patterns.specs.Patterns.{pattern_count}
+use Rattle.net_patterns.specs.declared.counterexample.ShownPattern.{ShownPattern}
+use Rattle.net_patterns.specs.Choices.{IsFirstWith}
+use Rattle.net_patterns.specs.Differences.{HasFirstValue, IsDifferenceWith}
+use Rattle.net_patterns.specs.Patterns.{pattern, pattern_count}
 use Rattle.compare_built.specs.declared.subject.Subject.{Subject}
-use Rattle.compare_built.specs.Facts.{IsShownAt, patterns_of}
+use Rattle.compare_built.specs.Facts.{IsShownAt, patterns_of, signals_of}
 use Rattle.compare_built.specs.PairSelection.{ComesBefore, HasWeight}
 
 -- These are the places of pairs by falling weight.
@@ -18,6 +20,12 @@ pub record IsWeightOrder (a b : Circuit) (pairs : List Subject) (order : List �
   pub places : IsPermutation (numbers_below (length weights)) order
   pub falls : (t u : ℕ) → t < u → u < length order → ComesBefore weights (slice_index order t) (slice_index order u)
 
--- This is the number of the first pattern that shows that a pair differs; there is none only if no pattern shows it.
-abbrev pub IsFirstShown : Circuit → Circuit → Option Circuit → NamingModel → Subject → Option ℕ → Type 0
-IsFirstShown a b given p s number = IsFirst (IsShownAt a b given p s) (pattern_count (patterns_of a b p)) number
+-- A pattern shows that a pair differs, and the pair's first signal has the value there.
+abbrev pub IsShownWith : Circuit → Circuit → Option Circuit → NamingModel → Subject → ShownPattern → Type 0
+IsShownWith a b given p s shown = IsDifferenceWith a b given p (signals_of s) (pattern (patterns_of a b p) shown.number) shown.first
+
+-- This is the first pattern that shows that a pair differs, with the value of its first signal there; there is none only if no pattern
+-- shows it.
+abbrev pub IsFirstShown : Circuit → Circuit → Option Circuit → NamingModel → Subject → Option ShownPattern → Type 0
+IsFirstShown a b given p s shown =
+    IsFirstWith (IsShownAt a b given p s) (HasFirstValue a p (patterns_of a b p) (signals_of s)) (pattern_count (patterns_of a b p)) shown

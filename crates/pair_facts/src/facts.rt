@@ -15,7 +15,7 @@ use compare_built::task::Task;
 use expand_work::Monitor;
 use net_bench::netlist::{Netlist, Signal};
 use net_order::naming::Naming;
-use net_patterns::{Netlists, Patterns, first_differences};
+use net_patterns::{Netlists, Patterns, ShownPattern, first_differences};
 use report_text::Verdict;
 use std::alloc::{AllocError, Global};
 
@@ -26,8 +26,8 @@ pub struct PairFacts {
     pub subjects: Vec<Subject>,
     /// The lines of what has no partner.
     pub unmatched_lines: Vec<Verdict>,
-    /// For each pair the number of the first pattern that shows that it differs.
-    pub shown: Vec<Option<usize>>,
+    /// For each pair the first pattern that shows that it differs.
+    pub shown: Vec<Option<ShownPattern>>,
 }
 
 /// The patterns of two netlists.
@@ -50,12 +50,12 @@ fn signals_of(alloc: Global, subjects: &[Subject]) -> Result<Vec<(Signal, Signal
         .collect(alloc)
 }
 
-/// For each of these pairs the number of the first pattern that shows that it differs.
+/// For each of these pairs the first pattern that shows that it differs.
 fn first_shown<H>(
     task: &Task<'_, H>,
     naming: &Naming,
     subjects: &[Subject],
-) -> Result<Vec<Option<usize>>, AllocError>
+) -> Result<Vec<Option<ShownPattern>>, AllocError>
     requires { All (IsInside (circuit task.now.first.now) (circuit task.now.second.now)) subjects.now }
     ensures { IfOk result (λ v. AllZip (IsFirstShown (circuit task.now.first.now) (circuit task.now.second.now) (condition task.now.given)
         naming.now) subjects.now v.items) }
@@ -73,7 +73,11 @@ fn first_shown<H>(
 }
 
 /// The name of the first pair that a pattern shows to differ, empty if there is none.
-fn first_name<'a>(first: &'a Netlist, subjects: &[Subject], shown: &[Option<usize>]) -> &'a [u8]
+fn first_name<'a>(
+    first: &'a Netlist,
+    subjects: &[Subject],
+    shown: &[Option<ShownPattern>],
+) -> &'a [u8]
     requires { All (λ s. s.named < length first.now.names) subjects.now }
 {
     for place in 0..subjects.len().min(shown.len()) {
@@ -88,12 +92,12 @@ fn first_name<'a>(first: &'a Netlist, subjects: &[Subject], shown: &[Option<usiz
 fn notify_shown<G: Monitor>(
     first: &Netlist,
     subjects: &[Subject],
-    shown: &[Option<usize>],
+    shown: &[Option<ShownPattern>],
     monitor: &G,
 )
     requires named { All (λ s. s.named < length first.now.names) subjects.now }
 {
-    let different = shown.iter().filter(|number| number.is_some()).count();
+    let different = shown.iter().filter(|pattern| pattern.is_some()).count();
     let name = first_name(first, subjects, shown);
     monitor.at_patterns(different, subjects.len(), name);
 }

@@ -1,8 +1,8 @@
 //! Which pairs are compared, and what is known of each before an attempt is made: whether a pattern shows that it differs.
 //!
 //! **Promises.** `select_pairs` answers the pairs of a filter, and refuses a name only if the first netlist has no such
-//! output or register (`unknown`). `facts_of` answers for each of them the first pattern at which it differs, and none
-//! only if no pattern shows it (`shown`). `shown_verdict` answers a verdict with an assignment at which the two functions
+//! output or register (`unknown`). `facts_of` answers for each of them the first pattern at which it differs, with the
+//! first signal's value there, and none only if no pattern shows it (`shown`). `shown_verdict` answers a verdict with an assignment at which the two functions
 //! differ and the condition holds; it may not be the least (`shown`). `weight_order` has the pairs by the size of their
 //! cones.
 //!

@@ -1,21 +1,20 @@
 //! The verdict of a pair that a pattern shows to differ.
-ghost use Rattle.std.specs.Prelude.{◌≡◌, ◌<◌, Bool, List, length, IfOk, IfSome};
+ghost use Rattle.std.specs.Prelude.{◌≡◌, ◌<◌, IfOk, IfSome};
 ghost use Rattle.net_bench.specs.Circuit.{circuit};
-ghost use Rattle.net_bench.specs.Labels.{IsFunctionOf};
-ghost use Rattle.net_order.specs.Order.{condition, first_level};
-ghost use Rattle.net_patterns.specs.Differences.{HasOutput, IsDifferenceAt, IsPairOf};
+ghost use Rattle.net_order.specs.Order.{condition};
+ghost use Rattle.net_patterns.specs.Differences.{HasOutput, IsCounterexample, IsPairOf};
 ghost use Rattle.net_patterns.specs.Patterns.{pattern_count};
 ghost use Rattle.compare_built.specs.Comparing.{IsInside};
-ghost use Rattle.compare_built.specs.Facts.{IsShownAt, IsShownVerdict, patterns_of, signals_of};
+ghost use Rattle.compare_built.specs.Facts.{IsShownVerdict, patterns_of, signals_of};
 ghost use Rattle.compare_built.specs.Scatter.{IsOfNet};
+ghost use Rattle.pair_facts.specs.PairFacts.{IsShownWith};
 
 use crate::facts::patterns_of;
 use compare_built::subject::Subject;
 use compare_built::task::Task;
 use net_bench::netlist::{Netlist, Signal};
-use net_explain::{WhichNetlist, values};
 use net_order::naming::Naming;
-use net_patterns::{Netlists, make_small};
+use net_patterns::{Counterexample, Netlists, ShownPattern, make_small};
 use report_text::{Bits, Extras, Name, Verdict};
 use std::alloc::{AllocError, Global};
 
@@ -40,41 +39,26 @@ fn windows_of(netlists: &Netlists<'_, '_>) -> usize {
     windows_for(gates, pairs)
 }
 
-/// Another difference of a pair, or the same one, made small as far as that is cheap.
+/// Another counterexample of a pair, or the same one, made small as far as that is cheap.
 fn made_small(
     alloc: Global,
     netlists: &Netlists<'_, '_>,
     pair: (Signal, Signal),
-    at: Vec<bool>,
-) -> Result<Vec<bool>, AllocError>
+    found: Counterexample,
+) -> Result<Counterexample, AllocError>
     requires pair { IsPairOf (circuit netlists.now.first.now) (circuit netlists.now.second.now) pair }
     requires condition { IfSome (condition netlists.now.given) HasOutput }
-    requires difference { IsDifferenceAt (circuit netlists.now.first.now) (circuit netlists.now.second.now)
-        (condition netlists.now.given) netlists.now.naming.now pair at.items }
-    ensures { IfOk result (λ y. IsDifferenceAt (circuit netlists.now.first.now) (circuit netlists.now.second.now)
-        (condition netlists.now.given) netlists.now.naming.now pair y.items) }
+    requires difference { IsCounterexample (circuit netlists.now.first.now) (circuit netlists.now.second.now)
+        (condition netlists.now.given) netlists.now.naming.now pair found }
+    ensures { IfOk result (IsCounterexample (circuit netlists.now.first.now) (circuit netlists.now.second.now)
+        (condition netlists.now.given) netlists.now.naming.now pair) }
 {
     let windows = windows_of(netlists);
     if windows == 0 {
-        return Ok(at);
+        return Ok(found);
     }
-    let small = make_small(alloc, netlists, pair, windows, at)?;
+    let small = make_small(alloc, netlists, pair, windows, found)?;
     Ok(small)
-}
-
-/// The value of the first netlist's signal at an assignment.
-fn first_value<H>(
-    task: &Task<'_, H>,
-    naming: &Naming,
-    signal: Signal,
-    at: &[bool],
-) -> Result<bool, AllocError>
-    requires { signal < length task.now.first.now.names }
-    ensures { IfOk result (λ v. (f : List Bool → Bool)
-        → IsFunctionOf (circuit task.now.first.now) (first_level naming.now) (length at.now) signal f → v ≡ f at.now) }
-{
-    let bits = values(task.alloc, task.first, naming, WhichNetlist::First, at)?;
-    Ok(bits[signal.number() as usize])
 }
 
 /// Says that a condition is a netlist.
@@ -87,17 +71,17 @@ fn note_condition(given: Option<&Netlist>)
     let _ = net.outputs();
 }
 
-/// The verdict of a pair that the pattern of this number shows to differ: an assignment at which it differs, made small as far as that is
-/// cheap. It may not be the least. Time is linear in the netlists.
+/// The verdict of a pair that a pattern shows to differ: an assignment at which it differs, made small as far as that is cheap. It may not
+/// be the least. The pattern's value is not computed again.
 pub fn shown_verdict<H>(
     task: &Task<'_, H>,
     naming: &Naming,
     subject: &Subject,
-    number: usize,
+    shown: ShownPattern,
 ) -> Result<Verdict, AllocError>
     requires inside { IsInside (circuit task.now.first.now) (circuit task.now.second.now) subject.now }
-    requires number { number < pattern_count (patterns_of (circuit task.now.first.now) (circuit task.now.second.now) naming.now) }
-    requires shown { IsShownAt (circuit task.now.first.now) (circuit task.now.second.now) (condition task.now.given) naming.now subject.now number }
+    requires number { shown.number < pattern_count (patterns_of (circuit task.now.first.now) (circuit task.now.second.now) naming.now) }
+    requires shown { IsShownWith (circuit task.now.first.now) (circuit task.now.second.now) (condition task.now.given) naming.now subject.now shown }
     ensures { IfOk result (IsShownVerdict (circuit task.now.first.now) (circuit task.now.second.now) (condition task.now.given)
         naming.now subject.now) }
 {
@@ -112,16 +96,19 @@ pub fn shown_verdict<H>(
         naming,
     };
     let patterns = patterns_of(task.first, task.second, naming);
-    let pattern = patterns.assignment(alloc, number)?;
-    let at = made_small(alloc, &netlists, (subject.first, subject.second), pattern)?;
-    let first = first_value(task, naming, subject.first, at.as_slice())?;
+    let pattern = patterns.assignment(alloc, shown.number)?;
+    let found = Counterexample {
+        at: pattern,
+        first: shown.first,
+    };
+    let small = made_small(alloc, &netlists, (subject.first, subject.second), found)?;
     let name = Name::copied(alloc, task.first.name(subject.named))?;
     Ok(Verdict::Differs {
         role: subject.role,
         name,
-        at: Bits::of(at),
-        first,
-        second: !first,
+        at: Bits::of(small.at),
+        first: small.first,
+        second: !small.first,
         extras: Extras {
             least: false,
             support: None,

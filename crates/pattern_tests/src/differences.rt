@@ -9,7 +9,9 @@ use net_bench::netlist::{Netlist, Signal};
 use net_bench::reader::parse_bench;
 use net_order::naming::{Naming, naming_of};
 use net_order::order::Match;
-use net_patterns::{Netlists, Patterns, first_differences, make_small};
+use net_patterns::{
+    Counterexample, Netlists, Patterns, ShownPattern, first_differences, make_small,
+};
 use std::alloc::Global;
 use std::test::Fail;
 
@@ -19,6 +21,11 @@ static OR: &str = "INPUT(a)\nINPUT(b)\nOUTPUT(z)\nz = OR(a, b)\n";
 
 /// The same function as AND.
 static NOR: &str = "INPUT(b)\nINPUT(a)\nOUTPUT(z)\nna = NOT(a)\nnb = NOT(b)\nz = NOR(na, nb)\n";
+
+/// The values of a and of b, which differ if a and b do.
+static A: &str = "INPUT(a)\nINPUT(b)\nOUTPUT(z)\nz = BUFF(a)\n";
+
+static B_OF_BOTH: &str = "INPUT(a)\nINPUT(b)\nOUTPUT(z)\nz = BUFF(b)\n";
 
 /// Conditions: b is 1, and never.
 static B: &str = "INPUT(b)\nOUTPUT(b)\n";
@@ -78,8 +85,12 @@ fn has_output(given: Option<&Netlist>) -> bool
     }
 }
 
-/// The number of the first pattern that shows a difference of the signals of this name, and the difference made small.
-fn shown(alloc: Global, texts: &Texts, name: &str) -> Result<Option<(usize, Vec<bool>)>, Fail> {
+/// The first pattern that shows a difference of the signals of this name, and the difference made small.
+fn shown(
+    alloc: Global,
+    texts: &Texts,
+    name: &str,
+) -> Result<Option<(ShownPattern, Counterexample)>, Fail> {
     let pair = (signal(&texts.first, name), signal(&texts.second, name));
     let netlists = Netlists {
         first: &texts.first,
@@ -95,20 +106,33 @@ fn shown(alloc: Global, texts: &Texts, name: &str) -> Result<Option<(usize, Vec<
     }
     let patterns = Patterns::of(texts.naming.names().len(), texts.first.gates().len());
     let found = first_differences(alloc, &netlists, &[pair], &patterns)?;
-    let Some(number) = found[0] else {
+    let Some(pattern) = found[0] else {
         return Ok(None);
     };
-    let at = patterns.assignment(alloc, number)?;
-    let small = make_small(alloc, &netlists, pair, 16, at)?;
-    Ok(Some((number, small)))
+    let at = patterns.assignment(alloc, pattern.number)?;
+    let first = pattern.first;
+    let small = make_small(alloc, &netlists, pair, 16, Counterexample { at, first })?;
+    Ok(Some((pattern, small)))
 }
 
-/// Whether a difference is shown by the pattern of this number, and becomes this assignment.
-fn is_shown(found: &Option<(usize, Vec<bool>)>, number: usize, small: &[bool]) -> bool {
+/// Whether a difference is shown by this pattern, and becomes this assignment, at which the first signal has this value.
+fn is_shown(
+    found: &Option<(ShownPattern, Counterexample)>,
+    shown: ShownPattern,
+    at: &[bool],
+    first: bool,
+) -> bool {
     match found {
-        Some((first, least)) => *first == number && least.as_slice() == small,
+        Some((pattern, small)) => {
+            *pattern == shown && small.at.as_slice() == at && small.first == first
+        }
         None => false,
     }
+}
+
+/// The pattern of this number, at which the first signal has this value.
+fn pattern(number: usize, first: bool) -> ShownPattern {
+    ShownPattern { number, first }
 }
 
 // Pattern 2 is a = 1, b = 0. The least difference is a = 0, b = 1.
@@ -116,7 +140,16 @@ fn is_shown(found: &Option<(usize, Vec<bool>)>, number: usize, small: &[bool]) -
 fn one_1_among_0s(rt: HostRuntime) -> Result<(), Fail> {
     let texts = texts_of(rt.alloc(), AND, OR, None)?;
     let found = shown(rt.alloc(), &texts, "z")?;
-    assert!(rt; is_shown(&found, 2, &[false, true]));
+    assert!(rt; is_shown(&found, pattern(2, false), &[false, true], false));
+    Ok(())
+}
+
+// At pattern 2 the first signal is 1, and at the least difference 0.
+#[test]
+fn value_of_each_assignment(rt: HostRuntime) -> Result<(), Fail> {
+    let texts = texts_of(rt.alloc(), A, B_OF_BOTH, None)?;
+    let found = shown(rt.alloc(), &texts, "z")?;
+    assert!(rt; is_shown(&found, pattern(2, true), &[false, true], false));
     Ok(())
 }
 
@@ -125,7 +158,7 @@ fn one_1_among_0s(rt: HostRuntime) -> Result<(), Fail> {
 fn under_a_condition(rt: HostRuntime) -> Result<(), Fail> {
     let texts = texts_of(rt.alloc(), AND, OR, Some(B))?;
     let found = shown(rt.alloc(), &texts, "z")?;
-    assert!(rt; is_shown(&found, 3, &[false, true]));
+    assert!(rt; is_shown(&found, pattern(3, false), &[false, true], false));
     let never = texts_of(rt.alloc(), AND, OR, Some(NEVER))?;
     assert!(rt; shown(rt.alloc(), &never, "z")?.is_none());
     Ok(())
@@ -143,7 +176,7 @@ fn equal_functions(rt: HostRuntime) -> Result<(), Fail> {
 fn next_states(rt: HostRuntime) -> Result<(), Fail> {
     let texts = texts_of(rt.alloc(), HELD, TOGGLED, None)?;
     let found = shown(rt.alloc(), &texts, "d")?;
-    assert!(rt; is_shown(&found, 1, &[true, false]));
+    assert!(rt; is_shown(&found, pattern(1, true), &[true, false], false));
     Ok(())
 }
 

@@ -15,6 +15,7 @@ use expand_work::NoMonitor;
 use net_bench::reader::parse_bench;
 use net_order::naming::{Naming, naming_of};
 use net_order::order::Match;
+use net_patterns::ShownPattern;
 use pair_facts::{PairFacts, facts_of, shown_verdict};
 use report_text::Verdict;
 use std::alloc::{AllocError, Global};
@@ -59,10 +60,10 @@ fn verdict_at<H>(
         return Ok(None);
     }
     let subject = facts.subjects[place];
-    let Some(number) = facts.shown[place] else {
+    let Some(pattern) = facts.shown[place] else {
         return Ok(None);
     };
-    let verdict = shown_verdict(task, naming, &subject, number)?;
+    let verdict = shown_verdict(task, naming, &subject, pattern)?;
     Ok(Some(verdict))
 }
 
@@ -71,7 +72,7 @@ fn judged<R: AllocGlobal>(
     rt: &R,
     first: &str,
     second: &str,
-) -> Result<(Vec<Option<usize>>, Option<Verdict>), Fail> {
+) -> Result<(Vec<Option<ShownPattern>>, Option<Verdict>), Fail> {
     let alloc = rt.alloc();
     let first = parse_bench(alloc, first.as_bytes())?;
     let second = parse_bench(alloc, second.as_bytes())?;
@@ -113,7 +114,11 @@ fn is_difference(verdict: &Option<Verdict>, at: &[bool], value: bool) -> bool {
 #[test]
 fn a_pair_that_differs(rt: HostRuntime) -> Result<(), Fail> {
     let (shown, verdict) = judged(&rt, BOTH, EITHER)?;
-    assert!(rt; shown.as_slice() == [Some(2), None].as_slice());
+    let pattern = ShownPattern {
+        number: 2,
+        first: false,
+    };
+    assert!(rt; shown.as_slice() == [Some(pattern), None].as_slice());
     assert!(rt; is_difference(&verdict, &[false, true], false));
     Ok(())
 }

@@ -43,7 +43,7 @@ loop-block-preserved c =
       found = subst (AreFirst a b given p c.args.patterns.now (512 * (c.loop-block.block + 1)) c.args.pairs.now)
           (sym (written_back new (drop (length new) c.loop-block.found.items) c.loop-block.found.len whole))
           (found_more a b given p c.args.patterns.now c.loop-block.block c.args.pairs.now at c.as_slice.result.now is c.evaluate-holds.new.sides c.evaluate-holds.result c.loop-block.found.items before new same
-          c.requires.pairs each c.set_block.ensures (c.evaluate-holds.ensures.shown a b given p of) c.add_block.auto.found c.add_block.ensures c.loop-block.invariant.found);
+          c.requires.pairs each c.set_block.ensures (c.evaluate-holds.ensures.shown a b given p of) (c.evaluate-holds.ensures.first a b given p of) c.add_block.auto.found c.add_block.ensures c.loop-block.invariant.found);
     }
 
 pub returns : goal.returns

@@ -15,5 +15,5 @@ loop-from-preserved c =
       smaller = λ a b given p of difference.
           let first = c.loop-from.invariant.smaller a b given p of difference in
           let second = c.in_ok-small.ensures.smaller a b given p (kept_all a b given p start before kept of) first.difference in
-          smaller_twice a b given p c.args.pair.now c.args.small.items c.loop-from.small.items c.in_ok-small.small.items first second;
+          smaller_twice a b given p c.args.pair.now c.args.small c.loop-from.small c.in_ok-small.small first second;
     }

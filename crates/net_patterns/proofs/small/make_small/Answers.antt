@@ -34,6 +34,6 @@ returns c =
     let finer = c.in_ok-finer.ensures.smaller a b given p two rough.difference in
     let fine = c.in_ok-fine.ensures.smaller a b given p three finer.difference in
     let small = c.in_ok-small.ensures.smaller a b given p four fine.difference in
-    smaller_twice a b given p c.args.pair c.args.at.items c.in_ok-rough.rough.items c.in_ok-small.small.items rough
-    (smaller_twice a b given p c.args.pair c.in_ok-rough.rough.items c.in_ok-finer.finer.items c.in_ok-small.small.items finer
-    (smaller_twice a b given p c.args.pair c.in_ok-finer.finer.items c.in_ok-fine.fine.items c.in_ok-small.small.items fine small))
+    smaller_twice a b given p c.args.pair c.args.found c.in_ok-rough.rough c.in_ok-small.small rough
+    (smaller_twice a b given p c.args.pair c.in_ok-rough.rough c.in_ok-finer.finer c.in_ok-small.small finer
+    (smaller_twice a b given p c.args.pair c.in_ok-finer.finer c.in_ok-fine.fine c.in_ok-small.small fine small))

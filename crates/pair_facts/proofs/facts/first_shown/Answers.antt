@@ -27,8 +27,8 @@ returns g c =
     let b = circuit task.second.now in
     let given = condition task.given in
     let p = c.args.naming.now in
-    let numbers = c.in_ok-shown.shown.items in
+    let found = c.in_ok-shown.shown.items in
     let P = patterns_of a b p in
-    first_of_each a b given p c.args.subjects.now numbers
-    (subst (λ (pairs : List (ℕ × ℕ)). AreFirst a b given p P (pattern_count P) pairs numbers) (c.as_slice.ensures.value ∙ c.in_ok-pairs.ensures)
-    (subst (λ (q : Patterns). AreFirst a b given p q (pattern_count q) c.as_slice.result.now numbers) c.patterns_of-patterns.ensures c.in_ok-shown.ensures))
+    first_of_each a b given p c.args.subjects.now found
+    (subst (λ (pairs : List (ℕ × ℕ)). AreFirst a b given p P (pattern_count P) pairs found) (c.as_slice.ensures.value ∙ c.in_ok-pairs.ensures)
+    (subst (λ (q : Patterns). AreFirst a b given p q (pattern_count q) c.as_slice.result.now found) c.patterns_of-patterns.ensures c.in_ok-shown.ensures))

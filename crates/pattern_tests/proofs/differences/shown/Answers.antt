@@ -2,8 +2,8 @@ use Rattle.std.proofs.Common.{◌≡◌, ◌<◌, ◌∙◌, ℕ, Some, None, sy
 use Rattle.std.proofs.lemmas.List.{get_or_default}
 use Rattle.net_bench.specs.Circuit.{circuit}
 use Rattle.net_order.specs.Order.{condition}
-use Rattle.net_patterns.specs.Choices.{IsFirst}
-use Rattle.net_patterns.specs.Differences.{IsDifferenceAt, IsShownBy}
+use Rattle.net_patterns.specs.Choices.{IsFirstWith}
+use Rattle.net_patterns.specs.Differences.{HasFirstValue, IsDifferenceWith, IsShownBy}
 use Rattle.net_patterns.specs.Patterns.{pattern_count}
 use Rattle.pattern_tests.proofs.differences.shown.Goals as goal
 
@@ -18,6 +18,6 @@ make_small-requires-clause-difference c =
     let items = c.in_ok-found.found.items in
     let one : length items ≡ 1 = c.in_ok-found.ensures.each in
     let low : 0 < length items = omega (arith, one) in
-    let is : get_or items 0 None ≡ Some c.in-Some.number = get_or_default items 0 None c.index.result.now low ∙ sym c.index.ensures ∙ c.in-Some.is in
-    let first = subst (IsFirst (IsShownBy a b given p patterns pair) (pattern_count patterns)) is (c.in_ok-found.ensures.first 0 pair (omega arith)) in
-    subst (IsDifferenceAt a b given p pair) (sym c.in_ok-at.ensures) first.1
+    let is : get_or items 0 None ≡ Some c.in-Some.pattern = get_or_default items 0 None c.index.result.now low ∙ sym c.index.ensures ∙ c.in-Some.is in
+    let first = subst (IsFirstWith (IsShownBy a b given p patterns pair) (HasFirstValue a p patterns pair) (pattern_count patterns)) is (c.in_ok-found.ensures.first 0 pair (omega arith)) in
+    subst (λ x. IsDifferenceWith a b given p pair x c.in-Some.pattern.first) (sym c.in_ok-at.ensures) (first.0.1, first.1)

@@ -1,0 +1,6 @@
+use Rattle.std.proofs.Common.{◌≡◌, map, take}
+use Rattle.net_explain.specs.Values.{level_in}
+use Rattle.net_explain.proofs.evaluate.levels_of.Given as goal
+
+abbrev pub invariant-loop-place : goal.invariant-loop-place
+invariant-loop-place l = l.levels.items ≡ map (level_in l.naming l.which) (take l.place l.variables)
