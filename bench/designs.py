@@ -26,7 +26,7 @@ from results import Results, first_line, options, package
 
 ABC = "berkeley-abc"
 KINDS = ("EQUAL", "DIFFER", "ONLY", "UNDECIDED")
-ORDERS = ("interleave", "force", "index", "depth", "declared")
+ORDERS = ("msb-first", "weights", "force-groups", "interleave", "force", "index", "depth", "declared")
 EASY = 0.05
 LARGE = 1 << 18
 UNBOUNDED = 2_000_000_000

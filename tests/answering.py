@@ -14,8 +14,8 @@ from reading import Fault, Netlist, read, read_names, split
 
 # Each of these is tried within a budget: the cases here are far below the first one, so only the limit counts. Best is the first that
 # fits. Auto takes the same for the diagrams, and reports as by declared order; if each was given up, and by cones and merge at once, each
-# pair is judged by itself.
-CANDIDATES = ["interleave", "force", "index", "depth", "declared"]
+# pair is judged by itself. If auto leaves a pair of which another attempt could say more, declared order is tried last.
+CANDIDATES = ["msb-first", "weights", "force-groups"]
 BY_CONES = ("auto", "cones", "merge")
 # By these signals are merged, so that an equal pair may be decided whatever its diagrams need.
 MERGING = ("auto", "merge")
@@ -245,8 +245,15 @@ def best(paired, case):
 
 def auto(paired, case):
     found, may_be_none, _ = attempts(paired, case)
-    runs = [report_of(judge(paired, "declared", False))] if found else []
-    return runs + (by_cones(paired, case) if may_be_none or case.is_any else [])
+    declared = judge(paired, "declared", False)
+    runs = [report_of(declared)] if found else []
+    for seen in by_cones(paired, case) if may_be_none or case.is_any else []:
+        is_left = b"UNDECIDED " in seen.out or (NOT_LEAST in seen.out and not case.is_any)
+        if is_left and fits(declared, case.limit):
+            runs.append(report_of(declared))
+        if not is_left or (may_be_none and not must_fit(declared, case.limit)):
+            runs.append(seen)
+    return runs
 
 
 def judged(case):

@@ -125,7 +125,7 @@ class Devices:
         seen = self.run("--verbose", self.c17, late)
         reported = seen.err.decode()
         self.check("a report behind a late text", Run(seen.status, seen.out, b""), Run(1, C17_DIFFERS, b""))
-        self.tally.check("a rank behind a late text", re.fullmatch(r"bddcheck: building rank 1 of 3: 5 nodes and 0 requests so far in \d+ MB\nbddcheck: order interleave decided within 16384 nodes\n", reported), seen)
+        self.tally.check("a rank behind a late text", re.fullmatch(r"bddcheck: building rank 1 of 3: 5 nodes and 0 requests so far in \d+ MB\nbddcheck: order msb-first decided within 16384 nodes\n", reported), seen)
 
     def later_attempts(self):
         """Within a later budget that order is tried first which came furthest within the one before, and no other byte tells of it."""
@@ -136,14 +136,14 @@ class Devices:
             texts.append(self.file(name, net.text().encode()))
         seen = self.run("--verbose", "--order", "best", *texts, seconds=240)
         reported = [line for line in seen.err.decode().splitlines() if line.startswith("bddcheck: order ")]
-        self.check("the attempt that came furthest goes first", reported[10:], ["bddcheck: order declared decided within 4194304 nodes"])
-        orders = ("interleave", "force", "index", "depth", "declared")
-        needs = r"bddcheck: order (\w+) needs (?:more than|too many requests in one wave for a budget of) (\d+) nodes"
-        ends = [re.fullmatch(needs, line) for line in reported[:10]]
+        self.check("the attempt that came furthest goes first", reported[6:], ["bddcheck: order weights decided within 4194304 nodes"])
+        orders = ("msb-first", "weights", "force-groups")
+        needs = r"bddcheck: order ([\w-]+) needs (?:more than|too many requests in one wave for a budget of) (\d+) nodes"
+        ends = [re.fullmatch(needs, line) for line in reported[:6]]
         ends = [end.groups() if end else None for end in ends]
-        self.check("each attempt of the first budget is reported", ends[:5], [(order, "16384") for order in orders])
-        self.tally.check("each attempt of the second", set(ends[5:]) == {(order, "262144") for order in orders}, reported)
-        first = self.run("--order", "interleave", "--limit", 4194304, *texts, seconds=240)
+        self.check("each attempt of the first budget is reported", ends[:3], [(order, "16384") for order in orders])
+        self.tally.check("each attempt of the second", set(ends[3:]) == {(order, "262144") for order in orders}, reported)
+        first = self.run("--order", "msb-first", "--limit", 4194304, *texts, seconds=240)
         self.check("the first candidate would have ended there too", first, Run(seen.status, seen.out, b""))
         rounds = [self.run("--verbose", "--order", "cones", "--workers", workers, *texts, seconds=240) for workers in (1, 3)]
         reported = [[line for line in one.err.decode().splitlines() if " rank " not in line] for one in rounds]

@@ -370,7 +370,7 @@ def needs_of(case):
     if case.order not in TRIED:
         return {judged(case).nodes}
     paired, _ = paired_of(case)
-    whole = [judge(paired, order, False) for order in CANDIDATES]
+    whole = [judge(paired, order, False) for order in [*CANDIDATES, "declared"]]
     needs = set() if case.order == "cones" else {result.nodes for result in whole}
     if case.order in BY_CONES:
         for pair in whole[0].pairs[:3]:

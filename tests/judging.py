@@ -7,6 +7,8 @@ from __future__ import annotations
 import re
 from dataclasses import dataclass
 
+import order_reference
+
 MOST_VARIABLES = 4096
 COUNTS_DIFFER = "the netlists have different numbers of inputs, outputs or registers"
 
@@ -178,13 +180,20 @@ def leaves(net, roots, rank=None):
 
 # The orders by their words. A new order is one line here, from the paired netlists to a list of names.
 # `best` is one of them.
+def by_rule(rule):
+    return lambda paired: rule(order_reference.Pair.of(paired))
+
+
 ORDERS = {
     "declared": Paired.declared,
     "depth": Paired.by_depth,
-    "best": Paired.interleaved,
+    "best": by_rule(order_reference.msb_first),
     "interleave": Paired.interleaved,
     "index": Paired.by_index,
     "force": Paired.by_force,
+    "msb-first": by_rule(order_reference.msb_first),
+    "weights": by_rule(order_reference.weights),
+    "force-groups": by_rule(order_reference.force_groups),
     "auto": Paired.declared,
     "cones": Paired.declared,
     "merge": Paired.declared,

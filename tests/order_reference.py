@@ -1,7 +1,8 @@
 """The orders msb-first, weights and force-groups by an implementation of its own, from the words of their definitions in
 crates/group_order/specs.
 
-No code is shared with the product. A netlist is read by `reading`, and a variable goes by its name.
+No code is shared with the product. A netlist is read by `reading`, and a variable goes by its name. `orders.py` compares what the
+program prints with them.
 """
 from __future__ import annotations
 
@@ -52,14 +53,33 @@ class Side:
 
 
 class Pair:
-    """Two netlists and the variables of both, as they are declared."""
+    """Two netlists, or three with a condition, and the variables of all, as they are declared. A variable has one name in all of them."""
 
-    def __init__(self, first, second):
-        self.sides = [Side.of(reading.read(text)) for text in (first, second)]
-        inputs = [name for side in self.sides for name in side.net.inputs]
-        registers = [name for side in self.sides for name in side.net.registers]
-        self.variables = list(dict.fromkeys(inputs + registers))
-        self.level = {name: level for level, name in enumerate(self.variables)}
+    def __init__(self, nets, variables):
+        self.sides = [Side.of(net) for net in nets]
+        self.variables = variables
+        self.level = {name: level for level, name in enumerate(variables)}
+
+    @staticmethod
+    def of_texts(first, second):
+        nets = [reading.read(text) for text in (first, second)]
+        inputs = [name for net in nets for name in net.inputs]
+        registers = [name for net in nets for name in net.registers]
+        return Pair(nets, list(dict.fromkeys(inputs + registers)))
+
+    @staticmethod
+    def of(paired):
+        """The pair of netlists whose variables have a naming: judging's."""
+        nets = [named(paired, net) for net in (paired.first, paired.second, paired.given) if net]
+        return Pair(nets, list(dict.fromkeys([*paired.declared(), *paired.of_condition()])))
+
+
+def named(paired, net):
+    """A netlist whose variables have their paired names. A gate has a name that no variable has."""
+    called = {s: paired.name(net, s) for s in [*net.inputs, *net.registers]} | {s: "= " + s for s in net.gates}
+    gates = {called[s]: (word, [called[o] for o in operands]) for s, (word, operands) in net.gates.items()}
+    registers = {called[s]: called[next_state] for s, next_state in net.registers.items()}
+    return reading.Netlist([called[s] for s in net.inputs], [called[s] for s in net.outputs], gates, registers)
 
 
 def number_of(name):
@@ -241,7 +261,7 @@ class Weighing:
 
 def weights(pair):
     weighing = Weighing(pair)
-    for side in sorted(pair.sides, key=lambda side: len(side.net.gates)):
+    for side in sorted(pair.sides[:2], key=lambda side: len(side.net.gates)):
         weighing.side(side)
     rest = [name for name in pair.variables if name not in weighing.placed]
     return grouped(pair, weighing.order + rest)
@@ -307,7 +327,7 @@ ORDERS = {"msb-first": msb_first, "weights": weights, "force-groups": force_grou
 def main():
     first, second, name = sys.argv[1:]
     with open(first, "rb") as one, open(second, "rb") as other:
-        pair = Pair(one.read(), other.read())
+        pair = Pair.of_texts(one.read(), other.read())
     for variable in ORDERS[name](pair):
         print(variable)
 

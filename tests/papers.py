@@ -78,7 +78,7 @@ def check_options(tally, program, readme):
     tally.check("help fits 80 columns", not wide, wide)
     known = {"--" + name for name in re.findall(r'\.long\("([a-z-]+)"\)', ARGUMENTS.read_text())} | {"--help", "--version"}
     tally.check("help has the options of the parser", wanted == known, wanted ^ known)
-    orders = re.findall(r'"([a-z]+)"', ARGUMENTS.read_text().split("static ORDERS", 1)[1].split("];", 1)[0])
+    orders = re.findall(r'"([a-z-]+)"', ARGUMENTS.read_text().split("static ORDERS", 1)[1].split("];", 1)[0])
     has_lines = [order for order in orders if re.search(rf"^    {order} {{2,}}\S", helped.out.decode(), re.M)]
     tally.check("help has a line for each order", orders and has_lines == orders, set(orders) ^ set(has_lines))
     manual = (TOP / "docs" / "bddcheck.1").read_text().replace("\\-", "-")
@@ -99,14 +99,14 @@ def check_options(tally, program, readme):
 def check_orders(tally, program):
     """The values of --order are those of the parser, and the help has a line for each."""
     found = re.search(r'ORDERS: \[&str; \d+\] = \[(.*?)\]', ARGUMENTS.read_text(), re.S)
-    orders = set(re.findall(r'"(\w+)"', found[1])) if found else set()
+    orders = set(re.findall(r'"([\w-]+)"', found[1])) if found else set()
     tally.check("the parser has orders", len(orders) > 1)
     helped = run([program, "--help"]).out.decode()
     lined = {order for order in orders if re.search(rf"^    {order} {{2,}}\S", helped, re.M)}
     tally.check("help has a line for each order", lined == orders, orders - lined)
     files = ["README.md", "docs/ORDERS.md", "docs/bddcheck.1", "docs/report.schema.json"]
     for name in files + [f"tools/completions/{shell}" for shell in ("bddcheck.bash", "_bddcheck", "bddcheck.fish")]:
-        missing = orders - set(re.findall(r"\w+", (TOP / name).read_text()))
+        missing = orders - set(re.findall(r"[\w-]+", (TOP / name).read_text().replace("\\-", "-")))
         tally.check(f"{name} has the orders of the parser", not missing, missing)
 
 

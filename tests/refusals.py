@@ -108,9 +108,9 @@ def rows(place):
     declared = ["--order", "declared"]
     for workers in (1, 2, 4):
         yield Row(f"c17 by {workers}", [*declared, "--workers", workers, c17, c17b], (EACH, EACH_START, STARTS_FROM))
-    # Attempts, the first of which are given up: interleaved the pair needs 20 nodes, by force 14.
+    # Attempts, the first of which is given up: by msb-first the pair needs 20 nodes, by weights 19.
     yield Row("auto", [c17, c17b], (EACH,))
-    yield Row("auto in a second attempt", ["--order", "auto", "--limit", 18, c17, c17b], (EACH,))
+    yield Row("auto in a second attempt", ["--order", "auto", "--limit", 19, c17, c17b], (EACH,))
     # By cones: after attempts of the whole, at once by one pair at a time and by two, undecided, picked by name and by share.
     yield Row("auto, then cones", ["--order", "auto", "--limit", 12, c17, c17b], (EACH,))
     yield Row("cones by 1", ["--order", "cones", "--workers", 1, c17, c17b], (EACH,))

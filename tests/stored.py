@@ -13,11 +13,11 @@ The file has sections, each begun by a line `== ..`. Lines before the first one,
     == ways WORDS NAME NAME    four such runs on two files, by 1 and 3 workers, and by 2 and 16 with both on standard input, where the second
                                line of a fault names that in place of the file and shows no line of it
     == order WORDS             a run with --print-order, whose names follow on one line
-    == best N N N N N WORDS    with --order best at each limit from 1 to 49 the answer is that of the first of interleave, force, index, depth
-                               and declared that is within the limit, and --verbose says which, and of those before it, each once where some are the
+    == best N N N WORDS        with --order best at each limit from 1 to 49 the answer is that of the first of msb-first, weights and
+                               force-groups that is within the limit, and --verbose says which, and of those before it, each once where some are the
                                same, that they need more. They need N nodes each. With --order auto it
-                               is the answer of declared order without a limit, by the same attempt, or where there is none some pairs
-                               are undecided, and all others as in that answer
+                               is the answer of declared order without a limit, by the same attempt, or where there is none by the last
+                               attempt, in declared order, or some pairs are undecided, and all others as in that answer
     == texts                   lines `TEXT => SAID`: the text, written as in Python, is refused beside itself by the line SAID, and by a second
                                line with the name of the file and the number of the line; or if SAID is `netlist` it is equal to itself
 """
@@ -112,7 +112,7 @@ def try_order(program, tally, place, _files, head, body):
     tally.same(head, run([program, "--print-order", *words], cwd=place), 0, joined(names), b"")
 
 
-CANDIDATES = ("interleave", "force", "index", "depth", "declared")
+CANDIDATES = ("msb-first", "weights", "force-groups")
 
 
 def is_tried(program, place, words):
@@ -131,7 +131,7 @@ def best_of(program, place, tally, name, limit, needs, words):
             wanted = single.status, single.out, joined([*reported, f"bddcheck: order {order} decided within {limit} nodes"])
         if tried:
             reported.append(f"bddcheck: order {order} needs more than {limit} nodes")
-    more = "interleave, force, index, depth and declared were tried; a list by --order-file may need fewer nodes"
+    more = "msb-first, weights and force-groups were tried; a list by --order-file may need fewer nodes"
     return wanted or (3, b"", joined([*reported, "bddcheck: build: more nodes than the limit", f"bddcheck: {more}"]))
 
 
@@ -151,6 +151,9 @@ def is_left(seen, wanted, limit):
     status = 1 if counts[1] or counts[2] else 3 if counts[3] else 0
     others = re.compile("bddcheck: (order .* needs more than |patterns show that |merging, )")
     reported = [line.split(";")[0] for line in seen.err.decode().splitlines() if not others.match(line)]
+    if not counts[3] and "bddcheck: each pair was judged by its cones" not in reported:
+        # The last attempt has decided.
+        return (seen.status, seen.out) == (wanted.status, wanted.out) and reported[1:] == [f"bddcheck: order declared decided within {limit} nodes"]
     pairs = counts[0] + counts[1] + counts[3]
     left = counts[3] + sum(line.endswith(" (may not be the least)") for line in lines)
     of_cones = f"bddcheck: {left} of {pairs} pairs are undecided by cones within {max(1, limit // 4)} nodes"
@@ -162,7 +165,7 @@ def is_left(seen, wanted, limit):
 
 
 def try_best(program, tally, place, _files, head, _body):
-    *needs, words = head.split(" ", 6)[1:]
+    *needs, words = head.split(" ", 4)[1:]
     words = shlex.split(words)
     plain = [word for word in words if word != "--sizes"]
     as_declared = run([program, "--order", "declared", *plain], cwd=place)

@@ -10,7 +10,7 @@ _bddcheck() {
     fi
     case $before in
     --match) mapfile -t COMPREPLY < <(compgen -W 'name position' -- "$word") ;;
-    --order) mapfile -t COMPREPLY < <(compgen -W 'auto cones merge declared depth interleave index force best' -- "$word") ;;
+    --order) mapfile -t COMPREPLY < <(compgen -W 'auto cones merge declared depth interleave index force msb-first weights force-groups best' -- "$word") ;;
     --format) mapfile -t COMPREPLY < <(compgen -W 'text json' -- "$word") ;;
     --assignment) mapfile -t COMPREPLY < <(compgen -W 'all support ones' -- "$word") ;;
     --difference) mapfile -t COMPREPLY < <(compgen -W 'least any' -- "$word") ;;

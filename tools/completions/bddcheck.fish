@@ -1,6 +1,6 @@
 # fish completion of bddcheck
 complete -c bddcheck -l match -x -a 'name position' -d 'Pair inputs, outputs and registers by names or places'
-complete -c bddcheck -l order -x -a 'auto cones merge declared depth interleave index force best' -d 'Order the variables'
+complete -c bddcheck -l order -x -a 'auto cones merge declared depth interleave index force msb-first weights force-groups best' -d 'Order the variables'
 complete -c bddcheck -l order-file -r -F -d 'Order the variables as a file lists their names'
 complete -c bddcheck -l extend -d 'Ignore names of the file that are no variables, and append those that it lacks'
 complete -c bddcheck -l given -r -F -d 'Compare only where the one output of a netlist is 1'

@@ -1,7 +1,9 @@
 -- What a comparison finds by its settings, and why it finds nothing.
 use Rattle.std.proofs.Common.{◌≡◌, ◌≢◌, ◌⊎◌, ◌∙◌, sym, subst, refl, inl, inr, ℕ, ◌<◌, length, Option, None, Result, Ok, Err, IfErr}
 use Rattle.std.specs.Prelude.{option_map}
-use Rattle.net_bench.specs.Circuit.{Net, circuit}
+use Rattle.net_bench.specs.Circuit.{Circuit, Net, circuit}
+use Rattle.net_order.specs.declared.order.Match.{Match}
+use Rattle.net_order.specs.declared.order.Order.{Order}
 use Rattle.net_order.specs.declared.order.Order.TheVariants as orders
 use Rattle.net_order.specs.declared.order.OrderFault.{OrderFault}
 use Rattle.net_order.specs.declared.order.OrderFault.TheVariants.{TooManyInputs}
@@ -9,9 +11,9 @@ use Rattle.net_order.specs.Order.{NamingModel, condition, max_variables}
 use Rattle.net_order.proofs.InputLevels.{names_count}
 use Rattle.report_text.specs.Lines.{Found}
 use Rattle.compare_built.specs.declared.strategy.Attempt.{Attempt}
-use Rattle.compare_built.specs.declared.strategy.Candidate.TheVariants.{Declared}
+use Rattle.compare_built.specs.declared.strategy.AttemptOrder.TheVariants as tried_orders
 use Rattle.compare_built.specs.declared.strategy.Strategy.{Strategy}
-use Rattle.compare_built.specs.declared.strategy.Strategy.TheVariants.{One, Best, Auto, Cones, Merge}
+use Rattle.compare_built.specs.declared.strategy.Strategy.TheVariants.{One, Computed, Best, Auto, Cones, Merge}
 use Rattle.compare_built.specs.declared.fault.CheckFault.{CheckFault}
 use Rattle.compare_built.specs.declared.fault.CheckFault.TheVariants.{Only, Order as OrderRefused, Write}
 use Rattle.compare_built.specs.declared.settings.Settings.{Settings}
@@ -22,7 +24,7 @@ use Rattle.compare_built.specs.Devices.{DeviceTexts}
 use Rattle.cone_check.specs.ConeRounds.{EndsAuto, EndsPairs, IsFoundByCones}
 use Rattle.explain_report.specs.Deciding.{HasLastAttempt, IsFoundBy, IsUnknown, MayTakeCones}
 use Rattle.explain_report.specs.Deciding.IsFoundBy.{by_cones}
-use Rattle.explain_report.specs.Explaining.{reported_order}
+use Rattle.explain_report.specs.Explaining.{IsReportedOrder}
 use Rattle.explain_report.proofs.Trying.{none_failed}
 use Rattle.order_search.specs.Trials.{EndsAtOnce, AreAllGivenUp, IsNamingIn}
 use Rattle.order_search.proofs.Reporting.{any_for, late_fault, late_whole}
@@ -51,7 +53,7 @@ module _ {H : Type 0} (task : Task H) (input : DeviceTexts) (given : AreGiven in
 
   -- the cause for cones where the whole was tried
   pub auto_cause : (bound : Option ℕ) → task.settings.now.order ≡ Auto → AreAllGivenUp task (first_whole_limit task.settings.now.limit) bound → MayTakeCones input task.settings.now bound task.settings.now.order
-  auto_cause bound auto earlier_given_up = subst (MayTakeCones input task.settings.now bound) (sym auto) (inl (λ budget is c. given_up_in_input task input given budget bound c (earlier_given_up budget is c)))
+  auto_cause bound auto earlier_given_up = subst (MayTakeCones input task.settings.now bound) (sym auto) (inl (λ budget is c. given_up_in_input task input given budget bound (tried_orders.Computed c) (earlier_given_up budget is c)))
 
   -- and where it has too many variables
   pub many_cause : (bound : Option ℕ) (p : NamingModel) → task.settings.now.order ≡ Auto → IsNamingIn task orders.Declared p → max_variables < length p.names → MayTakeCones input task.settings.now bound task.settings.now.order
@@ -74,20 +76,24 @@ module _ {H : Type 0} (task : Task H) (input : DeviceTexts) (given : AreGiven in
 -- where pairs may be judged by their cones, declared order is allowed, and it is that of the report
 pub declared_allowed : (choice : Strategy) → MayGoByCones choice → IsAllowed choice orders.Declared
 declared_allowed (One o) may = absurd may
+declared_allowed (Computed c) may = absurd may
 declared_allowed Best may = absurd may
-declared_allowed Auto may = (Declared, refl)
+declared_allowed Auto may = refl
 declared_allowed Cones may = refl
 declared_allowed Merge may = refl
 
-declared_reported : (choice : Strategy) (tried : Option Attempt) → MayGoByCones choice → orders.Declared ≡ reported_order choice tried
-declared_reported (One o) tried may = absurd may
-declared_reported Best tried may = absurd may
-declared_reported Auto tried may = refl
-declared_reported Cones tried may = refl
-declared_reported Merge tried may = refl
+declared_reported : (choice : Strategy) (tried : Option Attempt) (how : Match) (a b : Circuit) (c : Option Circuit) → MayGoByCones choice → IsReportedOrder choice tried how a b c orders.Declared
+declared_reported (One o) tried how a b c may = absurd may
+declared_reported (Computed k) tried how a b c may = absurd may
+declared_reported Best tried how a b c may = absurd may
+declared_reported Auto tried how a b c may = refl
+declared_reported Cones tried how a b c may = refl
+declared_reported Merge tried how a b c may = refl
 
-pub declared_naming : {H : Type 0} (task : Task H) (tried : Option Attempt) (p : NamingModel) → MayGoByCones task.settings.now.order → IsNamingIn task orders.Declared p → IsNamingIn task (reported_order task.settings.now.order tried) p
-declared_naming task tried p may is = subst (λ order. IsNamingIn task order p) (declared_reported task.settings.now.order tried may) is
+pub declared_naming : {H : Type 0} (task : Task H) (tried : Option Attempt) (p : NamingModel) → MayGoByCones task.settings.now.order → IsNamingIn task orders.Declared p →
+    (order : Order) × IsReportedOrder task.settings.now.order tried task.settings.now.matching (circuit task.first.now) (circuit task.second.now) (condition task.given) order × IsNamingIn task order p
+declared_naming task tried p may is =
+    (orders.Declared, declared_reported task.settings.now.order tried task.settings.now.matching (circuit task.first.now) (circuit task.second.now) (condition task.given) may, is)
 
 -- ---- faults
 

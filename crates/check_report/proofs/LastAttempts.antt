@@ -13,11 +13,11 @@ use Rattle.report_text.specs.Lines.{Found}
 use Rattle.compare_built.specs.declared.fault.CheckFault.{CheckFault}
 use Rattle.compare_built.specs.declared.settings.Settings.{Settings}
 use Rattle.compare_built.specs.declared.strategy.Attempt.{Attempt}
-use Rattle.compare_built.specs.declared.strategy.Candidate.{Candidate}
-use Rattle.compare_built.specs.declared.strategy.Candidate.TheVariants.{Declared}
+use Rattle.compare_built.specs.declared.strategy.AttemptOrder.{AttemptOrder}
+use Rattle.compare_built.specs.declared.strategy.AttemptOrder.TheVariants.{Declared}
 use Rattle.compare_built.specs.declared.strategy.Strategy.TheVariants.{Auto, Cones, Merge}
 use Rattle.compare_built.specs.declared.task.Task.{Task}
-use Rattle.compare_built.specs.Attempts.{AreGivenUp, IsChosen, IsGivenUpWithin, MayGoByCones, first_whole_limit, last_budget, order_of, whole_limit}
+use Rattle.compare_built.specs.Attempts.{AreGivenUp, IsAttemptGivenUp, IsChosen, MayGoByCones, first_whole_limit, last_budget, whole_limit}
 use Rattle.compare_built.specs.Check.{AreGiven, HaveTooManyVariables}
 use Rattle.compare_built.specs.Details.{details_in}
 use Rattle.compare_built.specs.Devices.{DeviceTexts}
@@ -28,8 +28,8 @@ use Rattle.order_search.specs.declared.attempts.Decided.{Decided as DecidedValue
 use Rattle.order_search.specs.declared.attempts.Round.{Round}
 use Rattle.order_search.specs.declared.attempts.Round.TheVariants.{GivenUp}
 use Rattle.order_search.specs.declared.trials.Trial.{Trial}
-use Rattle.order_search.specs.Trials.{AreAllGivenUp, AreTrials, EndsAtOnce, IsCandidateGivenUp, IsFoundWithin, IsLastRound, IsNamingIn, IsPairingIn, reported_pairing}
-use Rattle.order_search.proofs.Rounds.{earlier_in_input, given_up_in_input, judged, within}
+use Rattle.order_search.specs.Trials.{AreAllGivenUp, AreTrials, EndsAtOnce, IsFoundWithin, IsLastRound, IsNamingIn, IsOrderGivenUp, IsPairingIn, reported_pairing}
+use Rattle.order_search.proofs.Rounds.{earlier_in_input, given_up_in_input, judged, order_in_input, within}
 use Rattle.cone_check.specs.ConeRounds.{IsFoundByCones}
 use Rattle.check_report.specs.Decisions.{IsDecision, IsNoDecision}
 use Rattle.check_report.specs.Pairs.{EndsComparison}
@@ -42,14 +42,14 @@ use Rattle.check_report.proofs.Findings.{auto_cause, cones_fault, cones_whole, f
 use Rattle.check_report.proofs.Wholes.{all_first, decided_first}
 
 -- both of the last orders were given up
-pub last_given_up : {H : Type 0} (task : Task H) (declared : Option (Bor NamingModel)) (furthest : Candidate) (budget : ℕ) (bound : Option ℕ) {round : Round} {full : Bool} → round ≡ GivenUp full →
-    IsLastRound task declared furthest budget bound round → IsCandidateGivenUp task budget bound Declared
+pub last_given_up : {H : Type 0} (task : Task H) (declared : Option (Bor NamingModel)) (furthest : AttemptOrder) (budget : ℕ) (bound : Option ℕ) {round : Round} {full : Bool} → round ≡ GivenUp full →
+    IsLastRound task declared furthest budget bound round → IsOrderGivenUp task budget bound Declared
 last_given_up task declared furthest budget bound {round} {full} is last = (let h : IsLastRound task declared furthest budget bound (GivenUp full) = subst (IsLastRound task declared furthest budget bound) is last in h.1)
 
 module _ {H : Type 0} (task : Task H) (input : DeviceTexts) (given : AreGiven input (circuit task.first.now) (circuit task.second.now) (condition task.given)) (bound : Option ℕ) where
   -- what auto owes for a pair of which another attempt could say more, from each way in which it ends
   pub last_of_auto : (found : Found) → task.settings.now.order ≡ Auto →
-      (list_any (is_open task.settings.now.difference) found.verdicts ≡ true → IsGivenUpWithin input task.settings.now.matching task.settings.now.limit bound orders.Declared ⊎ HaveTooManyVariables input task.settings.now.matching) →
+      (list_any (is_open task.settings.now.difference) found.verdicts ≡ true → IsAttemptGivenUp input task.settings.now.matching task.settings.now.limit bound Declared ⊎ HaveTooManyVariables input task.settings.now.matching) →
       HasLastAttempt input task.settings.now bound task.settings.now.order found
   last_of_auto found auto h = subst (λ choice. HasLastAttempt input task.settings.now bound choice found) (sym auto) h
 
@@ -62,7 +62,7 @@ module _ {H : Type 0} (task : Task H) (input : DeviceTexts) (given : AreGiven in
       let count = names_count task.settings.now.matching (circuit task.first.now) (circuit task.second.now) (condition task.given) orders.Declared p is in
       last_of_auto found auto (λ _. inr (circuit task.first.now, circuit task.second.now, condition task.given, given, subst (λ n. max_variables < n) count many))
 
-  pub given_up_last : (found : Found) → task.settings.now.order ≡ Auto → IsCandidateGivenUp task task.settings.now.limit bound Declared →
+  pub given_up_last : (found : Found) → task.settings.now.order ≡ Auto → IsOrderGivenUp task task.settings.now.limit bound Declared →
       HasLastAttempt input task.settings.now bound task.settings.now.order found
   given_up_last found auto last = last_of_auto found auto (λ _. inl (given_up_in_input task input given task.settings.now.limit bound Declared last))
 
@@ -86,7 +86,11 @@ module _ {H : Type 0} (task : Task H) (input : DeviceTexts) (given : AreGiven in
         (subst (λ choice. IsChosen input task.settings.now.matching choice task.settings.now.limit (Some (attempt_of d)) orders.Declared) (sym auto) (
           refl,
           h.budget,
-          within task input given (order_of d.trial.candidate) d.trial.pairing d.budget h.decided.paired h.decided.within,
+          (
+            h.decided.paired.0,
+            order_in_input task input given d.trial.order h.decided.paired.0 h.decided.paired.1,
+            within task input given h.decided.paired.0 d.trial.pairing d.budget h.decided.paired.2 h.decided.within,
+          ),
         ));
     earlier_given_up = subst (λ choice. AreGivenUp input task.settings.now.matching (last_budget choice task.settings.now.limit) bound (attempt_of d)) (sym auto)
         (earlier_in_input task input given (whole_limit task.settings.now.limit) bound (attempt_of d) h.earlier_given_up);
@@ -135,7 +139,7 @@ module _ {H : Type 0} (task : Task H) (bound : Option ℕ) where
   pub again_given_up : (declared : Option (Bor NamingModel)) {trials : Vec Trial Global} {end : WholeEnd} → end ≡ WholeGivenUp trials → IsTriedAgain task declared bound end → AreAllGivenUp task (whole_limit task.settings.now.limit) bound
   again_given_up declared {trials} ended h = subst (IsTriedAgain task declared bound) ended h
 
-  pub given_up_by_rest : (declared : Option (Bor NamingModel)) {end : Option DecidedValue} → end ≡ None → IsRestOfWhole task declared bound end → IsCandidateGivenUp task task.settings.now.limit bound Declared
+  pub given_up_by_rest : (declared : Option (Bor NamingModel)) {end : Option DecidedValue} → end ≡ None → IsRestOfWhole task declared bound end → IsOrderGivenUp task task.settings.now.limit bound Declared
   given_up_by_rest declared ended h = subst (IsRestOfWhole task declared bound) ended h
 
 -- cones and merging that were asked for owe nothing more

@@ -1,23 +1,27 @@
 -- An order that is printed, from a comparison that was made in it.
-use Rattle.std.proofs.Common.{◌≡◌, ◌≢◌, ◌∙◌, ap, sym, subst, ℕ, List, Option, Some, None, Result, Ok, Err, IfOk, IfErr, IfSome}
+use Rattle.std.proofs.Common.{◌≡◌, ◌≢◌, ◌∙◌, ap, refl, sym, subst, ℕ, List, Option, Some, None, Result, Ok, Err, IfOk, IfErr, IfSome}
+use Rattle.net_bench.specs.Circuit.{Circuit}
 use Rattle.net_order.specs.declared.order.Match.{Match}
 use Rattle.net_order.specs.declared.order.Order.{Order}
+use Rattle.net_order.specs.declared.order.Order.TheVariants as orders
+use Rattle.net_order.specs.Order.{NamingModel}
 use Rattle.net_order.specs.OrderText.{order_text}
 use Rattle.compare_built.specs.declared.verdict_order.Details.{Details}
 use Rattle.compare_built.specs.Devices.{DeviceTexts}
 use Rattle.compare_built.specs.declared.strategy.Strategy.{Strategy}
-use Rattle.compare_built.specs.declared.strategy.Strategy.TheVariants.{One, Best, Auto, Cones, Merge}
+use Rattle.compare_built.specs.declared.strategy.Strategy.TheVariants.{One, Computed, Best, Auto, Cones, Merge}
+use Rattle.compare_built.specs.declared.strategy.AttemptOrder.TheVariants as tried_orders
 use Rattle.compare_built.specs.declared.strategy.Attempt.{Attempt}
-use Rattle.compare_built.specs.declared.strategy.Candidate.TheVariants.{Declared}
 use Rattle.compare_built.specs.declared.fault.CheckFault.{CheckFault}
 use Rattle.compare_built.specs.declared.fault.CheckFault.TheVariants.{Write}
 use Rattle.compare_built.specs.declared.settings.Settings.{Settings}
 use Rattle.compare_built.specs.Attempts.{IsAllowed, IsChosen, IsFound}
-use Rattle.compare_built.specs.Check.{IsJudged}
+use Rattle.compare_built.specs.Check.{AreAccepted, ArePaired, IsJudged}
 use Rattle.compare_built.specs.Details.{details_in}
 use Rattle.report_text.specs.Lines.{Found}
 use Rattle.explain_report.specs.Deciding.{IsFoundBy, MayTakeCones}
 use Rattle.explain_report.specs.Deciding.IsFoundBy.{by_cones, in_order}
+use Rattle.explain_report.proofs.Trying.{accepted_declared, accepted_in, chosen_accepted}
 use Rattle.order_search.specs.Trials.{EndsAtOnce}
 use Rattle.check_report.specs.Listing.{IsOrderPrinted}
 use Rattle.check_report.specs.Refusals.{MayList}
@@ -26,14 +30,16 @@ use Rattle.check_report.proofs.Refusing.{list_at_once}
 pub printed : (input : DeviceTexts) (how : Match) (order : Order) (asked : Details) (found : Found) (bytes : List ℕ) → IsJudged input how order asked found → bytes ≡ order_text found.variables → IsOrderPrinted input how order bytes
 printed input how order asked found bytes j e = record { a = j.a; b = j.b; c = j.c; p = j.p; paired = j.paired; text = e ∙ ap order_text j.verdicts.variables }
 
--- an order that was found is allowed
-pub found_allowed : (input : DeviceTexts) (how : Match) (choice : Strategy) (limit : ℕ) (tried : Option Attempt) (order : Order) → IsFound input how choice limit tried order → IsAllowed choice order
-found_allowed input how (One o) limit tried order f = f.1
-found_allowed input how Best limit None order f = absurd f
-found_allowed input how Best limit (Some t) order f = (t.order, f.0)
-found_allowed input how Auto limit tried order f = (Declared, f.1)
-found_allowed input how Cones limit tried order f = f.1
-found_allowed input how Merge limit tried order f = f.1
+-- what has the order that was found is accepted, in an order in which faults have their causes
+pub listed_accepted : (input : DeviceTexts) (how : Match) (choice : Strategy) (limit : ℕ) (tried : Option Attempt) (order : Order) (a b : Circuit) (c : Option Circuit) (p : NamingModel) → ArePaired input how order a b c p →
+    IsFound input how choice limit tried order → (k : Order) × IsAllowed choice k × AreAccepted input choice how k
+listed_accepted input how (One o) limit tried order a b c p paired is = (order, is.1, accepted_in (One o) input how order a b c p paired)
+listed_accepted input how (Computed k) limit tried order a b c p paired is =
+    (orders.Declared, refl, accepted_declared (Computed k) input how (tried_orders.Computed k) order a b c p is.1 paired)
+listed_accepted input how Best limit tried order a b c p paired is = chosen_accepted input how Best limit tried order a b c p paired is
+listed_accepted input how Auto limit tried order a b c p paired is = (order, is.1, accepted_in Auto input how order a b c p paired)
+listed_accepted input how Cones limit tried order a b c p paired is = (order, is.1, accepted_in Cones input how order a b c p paired)
+listed_accepted input how Merge limit tried order a b c p paired is = (order, is.1, accepted_in Merge input how order a b c p paired)
 
 -- where no order was tried, whatever is said of an attempt
 pub never_tried : {A B E : Type 0} (P : B → Type 0) (r : Result (A × Option B) E) → IfOk r (λ r. r.1 ≡ None) → IfOk r (λ r. IfSome r.1 P)

@@ -13,7 +13,7 @@ use Rattle.compare_built.specs.declared.fault.CheckFault.TheVariants.{First, Sec
 use Rattle.compare_built.specs.declared.fault.CheckFault.TheVariants.{Wave, GivenUp, Write, OutOfMemory}
 use Rattle.compare_built.specs.declared.settings.Settings.{Settings}
 use Rattle.compare_built.specs.declared.strategy.Strategy.{Strategy}
-use Rattle.compare_built.specs.declared.strategy.Strategy.TheVariants.{One, Best, Auto, Cones, Merge}
+use Rattle.compare_built.specs.declared.strategy.Strategy.TheVariants.{One, Computed, Best, Auto, Cones, Merge}
 use Rattle.cone_check.specs.ConeRounds.{EndsAuto}
 use Rattle.explain_report.specs.Deciding.{IsUnknown}
 use Rattle.order_search.specs.Trials.{EndsAtOnce, EndsSearch}
@@ -22,6 +22,7 @@ use Rattle.check_report.specs.Refusals.{ListSaysOfEach, MayAnswer, MayList, Says
 -- where orders are tried and nothing else, no cones may be taken
 not_both : (choice : Strategy) → MayGoByCones choice → AreTried choice → ⊥
 not_both (One o) may tried = may
+not_both (Computed c) may tried = may
 not_both Best may tried = may
 not_both Auto may tried = tried
 not_both Cones may tried = tried

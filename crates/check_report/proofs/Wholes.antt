@@ -7,12 +7,14 @@ use Rattle.std.proofs.lemmas.Bool.{cases_lt}
 use Rattle.net_order.specs.Order.{NamingModel}
 use Rattle.compare_built.specs.Attempts.{IsBudget, first_budget, first_whole_limit, whole_limit}
 use Rattle.compare_built.specs.declared.fault.CheckFault.{CheckFault}
-use Rattle.compare_built.specs.declared.strategy.Candidate.TheVariants.{Declared}
+use Rattle.compare_built.specs.declared.strategy.Attempt.{Attempt}
 use Rattle.compare_built.specs.declared.task.Task.{Task}
 use Rattle.order_search.specs.declared.attempts.Decided.{Decided as DecidedValue}
 use Rattle.order_search.specs.declared.trials.Trial.{Trial}
-use Rattle.order_search.specs.Trials.{AreAllGivenUp, AreCandidatesGivenUp, Decides, IsCandidateGivenUp, IsDecided, IsFoundWithin}
-use Rattle.check_report.specs.Wholes.{IsDecidedWhole, IsSearched, IsTriedAgain}
+use Rattle.order_search.specs.Trials.{AreAllGivenUp, AreCandidatesGivenUp, AreEarlierGivenUp, Decides, IsCandidateGivenUp, IsDecided, IsFoundWithin}
+use Rattle.order_search.proofs.Budgets.{first_is_one}
+use Rattle.order_search.proofs.Rounds.{before_any}
+use Rattle.check_report.specs.Wholes.{IsDecidedWhole, IsSearched, IsTriedAgain, attempt_of}
 use Rattle.check_report.specs.declared.whole.WholeEnd.{WholeEnd}
 use Rattle.check_report.specs.declared.whole.WholeEnd.TheVariants.{Decided, GivenUp}
 
@@ -77,10 +79,12 @@ module _ {H : Type 0} (task : Task H) (bound : Option ℕ) where
       by (inl lt) = all b (below_whole run_limit b more is lt) c
       by (inr le) = let most = within_limit (whole_limit run_limit) b is in subst (λ n. IsCandidateGivenUp task n bound c) (let e : whole_limit run_limit ≡ b = omega (arith, le, most) in e) (last.each c)
 
--- declared order was given up within the limit of the run, if that is small
-module _ {H : Type 0} (task : Task H) (bound : Option ℕ) where
-  pub small_last : task.settings.now.limit ≤ 4194304 → AreAllGivenUp task (whole_limit task.settings.now.limit) bound → IsCandidateGivenUp task task.settings.now.limit bound Declared
-  small_last few all = all task.settings.now.limit (inr (let e : task.settings.now.limit ≡ whole_limit task.settings.now.limit = omega (arith, few) in e)) Declared
+-- if each attempt of a search was given up, those before any other attempt were
+pub after_all : {H : Type 0} (task : Task H) (limit : ℕ) (bound : Option ℕ) (t : Attempt) → AreAllGivenUp task (whole_limit limit) bound → AreEarlierGivenUp task (whole_limit limit) bound t
+after_all task limit bound t all = record {
+  smaller = λ budget within lt c. all budget within c;
+  first = λ first. before_any (IsCandidateGivenUp task t.budget bound) t.order (all t.budget (first_is_one (whole_limit limit) t.budget first));
+}
 
 -- ---- what decides
 
@@ -119,16 +123,13 @@ module _ {H : Type 0} (task : Task H) (declared : Option (Bor NamingModel)) (bou
       }
 
   -- an attempt within the limit of the run, after those up to the second limit were given up
-  pub decided_last : (d : DecidedValue) → 4194304 < task.settings.now.limit → Decides task declared task.settings.now.limit d → AreAllGivenUp task (whole_limit task.settings.now.limit) bound → IsDecidedWhole task declared bound d
-  decided_last d more decides all =
+  pub decided_last : (d : DecidedValue) → Decides task declared task.settings.now.limit d → AreAllGivenUp task (whole_limit task.settings.now.limit) bound → IsDecidedWhole task declared bound d
+  decided_last d decides all =
       let same = decides.1 in
       record {
         decided = subst (λ n. IsDecided task declared n d.trial d.verdicts.items) (sym same) decides.0;
         budget = inr same;
-        earlier_given_up = record {
-          smaller = λ b is lt c. all b is c;
-          first = λ e. absurd (omega (arith, e, same, more));
-        };
+        earlier_given_up = after_all task task.settings.now.limit bound (attempt_of d) all;
       }
 
   -- a search up to the second limit says what attempts up to it have come to

@@ -12,7 +12,7 @@ use Rattle.compare_built.specs.declared.strategy.Attempt.{Attempt}
 use Rattle.explain_report.specs.Deciding.{IsFoundBy}
 use Rattle.check_report.specs.Refusals.{MayAnswer}
 
--- the fault has its cause in an order that the settings allow, where this says that the devices have failed
+-- the fault has its cause in the order of the choice, or in declared order, from which others are made, where this says that the devices have failed
 abbrev pub HasCause : DeviceTexts → (first_failed second_failed given_failed : Type 0) → Settings → CheckFault → Type 0
 HasCause input first_failed second_failed given_failed s fault =
     (order : Order) × IsAllowed s.order order × IsCheckFault input first_failed second_failed given_failed s.order s.matching order fault

@@ -5,7 +5,7 @@ use Rattle.expand_work.specs.declared.fault.WaveFault.TheVariants.{OutOfMemory a
 use Rattle.net_order.specs.declared.order.Order.{Order}
 use Rattle.net_order.specs.declared.order.OrderFault.TheVariants.{CountsDiffer, NotAPermutation, TooManyInputs, OutOfMemory as NoOrderMemory}
 use Rattle.net_order.specs.declared.order.OrderFault.TheVariants.{BadName, TooLong, Read}
-use Rattle.compare_built.specs.Attempts.{AreTried, IsAllowed, IsGivenUpWithin, MayGoByCones, NamesOrder}
+use Rattle.compare_built.specs.Attempts.{AreTried, InEachOrder, IsGivenUpWithin, IsNamedIn, MayGoByCones, NamesOrder}
 use Rattle.compare_built.specs.Devices.{DeviceTexts}
 use Rattle.compare_built.specs.Limits.{AreBeyond}
 use Rattle.compare_built.specs.Widths.{AreTooWide}
@@ -17,14 +17,14 @@ use Rattle.explain_report.specs.Deciding.{IsUnknown}
 
 -- ---- a comparison
 
--- the limit is refused: no cones may be taken, and in each order that is allowed more nodes are needed
+-- the limit is refused: no cones may be taken, and more nodes are needed in the order that is named, or in that of each candidate
 abbrev pub IsOutOfNodes : DeviceTexts → Settings → Type 0
-IsOutOfNodes input s = (MayGoByCones s.order → ⊥) × ((order : Order) → IsAllowed s.order order → AreBeyond input s.matching order s.limit)
+IsOutOfNodes input s = (MayGoByCones s.order → ⊥) × InEachOrder input s.matching s.order (λ order. AreBeyond input s.matching order s.limit)
 
 -- orders are tried, no cones, and each attempt within the limit was given up
 abbrev pub IsGivenUpInEach : DeviceTexts → Settings → (bound : Option ℕ) → Type 0
 IsGivenUpInEach input s bound =
-    AreTried s.order × ((order : Order) → IsAllowed s.order order → IsGivenUpWithin input s.matching s.limit bound order)
+    AreTried s.order × InEachOrder input s.matching s.order (IsGivenUpWithin input s.matching s.limit bound)
 
 -- What a comparison that answers this fault says by it: that the first netlist has no output or register of a name that is picked, that the
 -- limit is too low, that all attempts were given up, that one wave reaches more requests than the monitor allows. Too many variables are
@@ -47,15 +47,15 @@ MayAnswer input s bound (Wave NoWaveMemory) = ⊤
 MayAnswer input s bound (Wave NoWorker) = NamesOrder s.order × (2 ^ 64 - 1 ≤ most_of bound)
 MayAnswer input s bound (Wave Full) = IsOutOfNodes input s
 MayAnswer input s bound (Wave TooManyRequests) =
-    (order : Order) × IsAllowed s.order order × IsSomeAnd bound (AreTooWide input s.matching order)
+    (order : Order) × IsNamedIn input s.matching s.order order × IsSomeAnd bound (AreTooWide input s.matching order)
 MayAnswer input s bound GivenUp = IsGivenUpInEach input s bound
 MayAnswer input s bound Write = ⊤
 MayAnswer input s bound OutOfMemory = ⊤
 
 -- The same as one statement for each fault of which more is said.
 pub record SaysOfEach (input : DeviceTexts) (s : Settings) (bound : Option ℕ) (fault : CheckFault) : Type 0 where
-  -- Full comes only if the nodes are not within the limit, in each order that the settings allow.
-  pub full : fault ≡ Wave Full → (order : Order) → IsAllowed s.order order → AreBeyond input s.matching order s.limit
+  -- Full comes only if the nodes are not within the limit in the order that is named, or in that of each candidate.
+  pub full : fault ≡ Wave Full → InEachOrder input s.matching s.order (λ order. AreBeyond input s.matching order s.limit)
   -- GivenUp comes only if orders are tried, and no cones, and each attempt within the limit was given up.
   pub given_up : fault ≡ GivenUp → IsGivenUpInEach input s bound
   -- If pairs may be judged by their cones, no nodes and no requests are wanted.
@@ -64,8 +64,8 @@ pub record SaysOfEach (input : DeviceTexts) (s : Settings) (bound : Option ℕ) 
   pub any_number_of_inputs : MayGoByCones s.order → fault ≢ OrderRefused TooManyInputs
   -- A name that is picked is refused only if the first netlist has no such output or register.
   pub only : fault ≡ Only → IsUnknown input s.picked
-  -- TooManyRequests comes only if one wave reaches more than the monitor allows, in an order that the settings allow.
-  pub past : fault ≡ Wave TooManyRequests → (order : Order) × IsAllowed s.order order × IsSomeAnd bound (AreTooWide input s.matching order)
+  -- TooManyRequests comes only if an order is named, and one wave in it reaches more than the monitor allows.
+  pub past : fault ≡ Wave TooManyRequests → (order : Order) × IsNamedIn input s.matching s.order order × IsSomeAnd bound (AreTooWide input s.matching order)
   -- A thread that cannot be started refuses nothing if the monitor sets a bound, nor if an order is sought or cones may be taken.
   pub needs_no_thread : most_of bound < 2 ^ 64 - 1 → fault ≢ Wave NoWorker
   pub thread_for_named_order : fault ≡ Wave NoWorker → NamesOrder s.order
@@ -91,7 +91,7 @@ MayList input s bound OutOfMemory = ⊤
 
 -- The same as one statement for each fault of which more is said.
 pub record ListSaysOfEach (input : DeviceTexts) (s : Settings) (bound : Option ℕ) (fault : CheckFault) : Type 0 where
-  pub full : fault ≡ Wave Full → (order : Order) → IsAllowed s.order order → AreBeyond input s.matching order s.limit
+  pub full : fault ≡ Wave Full → InEachOrder input s.matching s.order (λ order. AreBeyond input s.matching order s.limit)
   pub given_up : fault ≡ GivenUp → IsGivenUpInEach input s bound
   pub by_cones : MayGoByCones s.order → (fault ≢ Wave Full) × (fault ≢ GivenUp)
   pub never_too_many_requests : fault ≢ Wave TooManyRequests

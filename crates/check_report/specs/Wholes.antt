@@ -5,10 +5,10 @@ use Rattle.net_order.specs.Order.{NamingModel}
 use Rattle.compare_built.specs.Attempts.{IsBudget, first_whole_limit, whole_limit}
 use Rattle.compare_built.specs.declared.settings.Difference.TheVariants.{AnyOne}
 use Rattle.compare_built.specs.declared.strategy.Attempt.{Attempt}
-use Rattle.compare_built.specs.declared.strategy.Candidate.TheVariants.{Declared}
+use Rattle.compare_built.specs.declared.strategy.AttemptOrder.TheVariants.{Declared}
 use Rattle.compare_built.specs.declared.task.Task.{Task}
 use Rattle.order_search.specs.declared.attempts.Decided.{Decided as DecidedValue}
-use Rattle.order_search.specs.Trials.{AreAllGivenUp, AreEarlierGivenUp, AreTrials, IsCandidateGivenUp, IsDecided, IsFoundWithin}
+use Rattle.order_search.specs.Trials.{AreAllGivenUp, AreEarlierGivenUp, AreTrials, IsDecided, IsFoundWithin, IsOrderGivenUp}
 use Rattle.check_report.specs.declared.whole.TriedBefore.{TriedBefore}
 use Rattle.check_report.specs.declared.whole.TriedBefore.TheVariants.{Nothing, First, Second}
 use Rattle.check_report.specs.declared.whole.WholeEnd.{WholeEnd}
@@ -16,7 +16,7 @@ use Rattle.check_report.specs.declared.whole.WholeEnd.TheVariants.{Decided, Give
 
 -- the attempt that has decided
 abbrev pub attempt_of : DecidedValue → Attempt
-attempt_of d = record { order = d.trial.candidate; budget = d.budget }
+attempt_of d = record { order = d.trial.order; budget = d.budget }
 
 -- what a search up to a limit has come to
 abbrev pub IsSearched : {H : Type 0} → Task H → Option (Bor NamingModel) → (limit : ℕ) → (bound : Option ℕ) → WholeEnd → Type 0
@@ -44,4 +44,4 @@ AreTriedBefore task bound (Second trials) = AreAllGivenUp task (whole_limit task
 -- what the attempts after the pairs have come to: one decides, or that in declared order was given up too
 abbrev pub IsRestOfWhole : {H : Type 0} → Task H → Option (Bor NamingModel) → (bound : Option ℕ) → Option DecidedValue → Type 0
 IsRestOfWhole task declared bound (Some d) = IsDecidedWhole task declared bound d
-IsRestOfWhole task declared bound None = IsCandidateGivenUp task task.settings.now.limit bound Declared
+IsRestOfWhole task declared bound None = IsOrderGivenUp task task.settings.now.limit bound Declared

@@ -10,13 +10,13 @@ ghost use Rattle.check_report.specs.Decisions.{IsDecision, IsNoDecision};
 use crate::pairs::{compare_auto, compare_by_cones, compare_by_merging};
 use compare_built::comparison::compare;
 use compare_built::fault::CheckFault;
-use compare_built::strategy::{Attempt, Strategy};
+use compare_built::strategy::{Attempt, AttemptOrder, Candidate, Strategy};
 use compare_built::task::Task;
 use expand_work::Monitor;
 use net_order::order::Order;
 use order_search::attempts::Decided;
 use order_search::budget_search::find_attempt;
-use order_search::trials::{Trial, paired};
+use order_search::trials::{Trial, paired, paired_by};
 use report_text::Verdicts;
 use std::sync::Wait;
 use std::thread::Threads;
@@ -33,6 +33,22 @@ fn compare_in_order<H: Threads + Wait + Sync, G: Monitor>(
     ensures named { IfOk result (λ r. HaveReportNaming task.now r.1 r.0) }
 {
     let pairing = paired(task, order)?;
+    let verdicts = compare(task, &pairing, task.settings.limit, monitor)?;
+    Ok((Verdicts::of(pairing.into_naming(), verdicts), None))
+}
+
+/// Compares two netlists in the order of a candidate, whatever it comes to.
+fn compare_in_computed_order<H: Threads + Wait + Sync, G: Monitor>(
+    task: &Task<'_, H>,
+    candidate: Candidate,
+    monitor: &G,
+) -> Result<(Verdicts, Option<Attempt>), CheckFault>
+    requires computed { task.now.settings.now.order ≡ StrategyValue.Computed candidate }
+    ensures decision { OfTask task.now (λ input s. IfOk result (λ r. IsDecision input s (G.bound monitor.now) (found_of r.0) r.1)) }
+    ensures no_decision { OfTask task.now (λ input s. IfErr result (IsNoDecision input ⊥ ⊥ ⊥ s (G.bound monitor.now))) }
+    ensures named { IfOk result (λ r. HaveReportNaming task.now r.1 r.0) }
+{
+    let pairing = paired_by(task, AttemptOrder::Computed(candidate))?;
     let verdicts = compare(task, &pairing, task.settings.limit, monitor)?;
     Ok((Verdicts::of(pairing.into_naming(), verdicts), None))
 }
@@ -54,11 +70,7 @@ pub(crate) fn compare_in_best_order<H: Threads + Wait + Sync, G: Monitor>(
         verdicts,
         budget,
     } = decided;
-    let Trial {
-        candidate: order,
-        pairing,
-        ..
-    } = trial;
+    let Trial { order, pairing, .. } = trial;
     let attempt = Attempt { order, budget };
     Ok((Verdicts::of(pairing.into_naming(), verdicts), Some(attempt)))
 }
@@ -74,6 +86,7 @@ pub(crate) fn decide<H: Threads + Wait + Sync, G: Monitor>(
 {
     match &task.settings.order {
         Strategy::One(order) => compare_in_order(task, order, monitor),
+        Strategy::Computed(candidate) => compare_in_computed_order(task, *candidate, monitor),
         Strategy::Best => compare_in_best_order(task, monitor),
         Strategy::Auto => compare_auto(task, monitor),
         Strategy::Cones => compare_by_cones(task, monitor),

@@ -4,8 +4,8 @@
 //! (`decision`, `report`): EQUAL exactly if the functions agree wherever the condition holds, and otherwise the least
 //! difference, or one that is reported as maybe not the least. Each fault has its cause (`fault`), with nothing written (`untouched`), or at Write a front part of the
 //! report (`unwritten`). The attempts before the one that is reported were given up (`earlier_given_up`). Which faults
-//! may be answered, and what each says, is one table (`answer`, `MayAnswer` in `specs/Refusals`): Full only if each order
-//! that is allowed needs more nodes than the limit, GivenUp only if each was given up, and neither if cones may be taken;
+//! may be answered, and what each says, is one table (`answer`, `MayAnswer` in `specs/Refusals`): Full only if the order
+//! that is named, or that of each candidate, needs more nodes than the limit, GivenUp only if each was given up, and neither if cones may be taken;
 //! NoWorker only if an order is named and nothing is bounded, too many requests only past the bound, and a name is
 //! refused only if it is unknown. `print_order` writes the order (`order`). Laws: `limits`, `one_report`,
 //! `without_condition`, `conjunctions`, `shares`, `refusals`.
@@ -35,7 +35,7 @@ pub use compare_built::fault::CheckFault;
 pub use compare_built::named_signals::is_named;
 pub use compare_built::pair_filter::PairFilter;
 pub use compare_built::settings::{Difference, Settings};
-pub use compare_built::strategy::{Attempt, Candidate, Strategy};
+pub use compare_built::strategy::{Attempt, AttemptOrder, Candidate, Strategy};
 pub use compare_built::task::Context;
 pub use cone_check::rounds::cone_limit;
 pub use explain_report::explanations::has_pair;

@@ -73,9 +73,9 @@ pub fn print_order<
     ensures earlier_given_up { let input = device_texts (R1.remaining first.old) (R2.remaining second.old) (device_text R3.remaining given.old) in
         let s = context.now.settings.now in
         IfOk result (λ tried. IfSome tried (AreGivenUp input s.matching (last_budget s.order s.limit) (G.bound context.now.monitor.now))) }
-    // A fault comes only if it may: Full only if the nodes that the netlists need are not within the limit, in each order that the settings
-    // allow, and GivenUp only if orders are tried and each attempt within the limit was given up. Only attempts build diagrams, and no
-    // pairs are picked.
+    // A fault comes only if it may: Full only if the nodes that the netlists need are not within the limit, in the order that is named or in
+    // that of each candidate, and GivenUp only if orders are tried and each attempt within the limit was given up. Only attempts build
+    // diagrams, and no pairs are picked.
     ensures answer { let input = device_texts (R1.remaining first.old) (R2.remaining second.old) (device_text R3.remaining given.old) in
         let s = context.now.settings.now in
         IfErr result (MayList input s (G.bound context.now.monitor.now)) }

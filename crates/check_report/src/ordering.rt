@@ -1,7 +1,7 @@
 //! The order file of the variables of two netlists, as the settings ask for it.
 ghost use Rattle.std.specs.Prelude.{None, ◌≡◌, ◌≢◌, IfOk, IfErr, IfSome, Err};
 ghost use Rattle.compare_built.specs.declared.strategy.Strategy.{Strategy as StrategyValue};
-ghost use Rattle.compare_built.specs.Attempts.{AreGivenUp, IsFound, last_budget};
+ghost use Rattle.compare_built.specs.Attempts.{AreGivenUp, IsAllowed, IsFound, last_budget};
 ghost use Rattle.compare_built.specs.Check.{IsCheckFault};
 ghost use Rattle.check_report.specs.Decisions.{HasCause};
 ghost use Rattle.check_report.specs.Listing.{IsListing, IsOrderPrinted};
@@ -11,12 +11,12 @@ ghost use Rattle.order_search.specs.Trials.{EndsAtOnce};
 
 use crate::decision::compare_in_best_order;
 use compare_built::fault::CheckFault;
-use compare_built::strategy::{Attempt, Strategy};
+use compare_built::strategy::{Attempt, AttemptOrder, Candidate, Strategy};
 use compare_built::task::Task;
 use expand_work::Monitor;
 use net_order::order::Order;
 use net_order::order_file::order_text;
-use order_search::trials::paired;
+use order_search::trials::{paired, paired_by};
 use std::sync::Wait;
 use std::thread::Threads;
 
@@ -38,12 +38,29 @@ fn given_text<H>(
     order: &Order,
 ) -> Result<(Vec<u8>, Option<Attempt>), CheckFault>
     requires untried { OfTask task.now (λ input s. IsFound input s.matching s.order s.limit None order.now) }
+    requires cause { IsAllowed task.now.settings.now.order order.now }
     ensures text { OfTask task.now (λ input s. IfOk result (λ r. IsListing input s r.1 r.0.items)) }
     ensures no_attempt { IfOk result (λ r. r.1 ≡ None) }
     ensures fault { OfTask task.now (λ input s. IfErr result (HasCause input ⊥ ⊥ ⊥ s)) }
     ensures ends { IfErr result EndsAtOnce }
 {
     let text = text_in(task, order)?;
+    Ok((text, None))
+}
+
+/// The same in the order of a candidate.
+fn computed_text<H>(
+    task: &Task<'_, H>,
+    candidate: Candidate,
+) -> Result<(Vec<u8>, Option<Attempt>), CheckFault>
+    requires computed { task.now.settings.now.order ≡ StrategyValue.Computed candidate }
+    ensures text { OfTask task.now (λ input s. IfOk result (λ r. IsListing input s r.1 r.0.items)) }
+    ensures no_attempt { IfOk result (λ r. r.1 ≡ None) }
+    ensures fault { OfTask task.now (λ input s. IfErr result (HasCause input ⊥ ⊥ ⊥ s)) }
+    ensures ends { IfErr result EndsAtOnce }
+{
+    let pairing = paired_by(task, AttemptOrder::Computed(candidate))?;
+    let text = order_text(task.alloc, pairing.names())?;
     Ok((text, None))
 }
 
@@ -79,6 +96,7 @@ pub(crate) fn text_for<H: Threads + Wait + Sync, G: Monitor>(
 {
     match &task.settings.order {
         Strategy::One(order) => given_text(task, order),
+        Strategy::Computed(candidate) => computed_text(task, *candidate),
         Strategy::Best => best_text(task, monitor),
         Strategy::Auto | Strategy::Cones | Strategy::Merge => { given_text(task, &Order::Declared) }
     }

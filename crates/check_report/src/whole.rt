@@ -5,7 +5,7 @@ ghost use Rattle.order_search.specs.Trials.{AreAllGivenUp, AreTrials, EndsAtOnce
 ghost use Rattle.check_report.specs.Wholes.{AreTriedBefore, IsRestOfWhole, IsSearched, IsTriedAgain, attempt_of};
 
 use compare_built::fault::CheckFault;
-use compare_built::strategy::Attempt;
+use compare_built::strategy::{Attempt, AttemptOrder};
 use compare_built::task::Task;
 use expand_work::{Monitor, WaveFault};
 use net_order::pairing::Pairing;
@@ -121,8 +121,18 @@ fn search_rest<H: Threads + Wait + Sync, G: Monitor>(
     }
 }
 
-/// Makes the attempts that are left: those within the second limit that were not made before, and then, if the limit of the run is larger,
-/// one within it in the order that came furthest, and one in declared order.
+/// The order of the attempt before that in declared order: the one that came furthest, but declared order itself, which is then tried once,
+/// if that one was tried within the limit before.
+fn before_declared(furthest: AttemptOrder, limit: u64) -> AttemptOrder {
+    if limit <= WHOLE_LIMIT {
+        AttemptOrder::Declared
+    } else {
+        furthest
+    }
+}
+
+/// Makes the attempts that are left: those within the second limit that were not made before, and then those within the limit of the run, one
+/// in the order that came furthest if that limit is larger, and one in declared order.
 pub(crate) fn try_rest<H: Threads + Wait + Sync, G: Monitor>(
     task: &Task<'_, H>,
     declared: &Pairing,
@@ -139,11 +149,9 @@ pub(crate) fn try_rest<H: Threads + Wait + Sync, G: Monitor>(
         WholeEnd::Decided(decided) => return Ok(Some(decided)),
         WholeEnd::GivenUp(trials) => trials,
     };
-    if limit <= WHOLE_LIMIT {
-        return Ok(None);
-    }
     let furthest = furthest_of(trials.as_slice());
-    match try_last(task, Some(declared), furthest, limit, monitor)? {
+    let order = before_declared(furthest, limit);
+    match try_last(task, Some(declared), order, limit, monitor)? {
         Round::Decided(decided) => Ok(Some(decided)),
         Round::GivenUp { .. } => Ok(None),
     }
@@ -155,7 +163,7 @@ pub(crate) fn whole_verdicts(declared: Pairing, decided: Decided) -> (Verdicts, 
     ensures tried { result.1 ≡ Some (attempt_of decided) }
 {
     let attempt = Attempt {
-        order: decided.trial.candidate,
+        order: decided.trial.order,
         budget: decided.budget,
     };
     let Decided { verdicts, .. } = decided;

@@ -1,7 +1,7 @@
 -- What a check says by its settings, by the options.
 use Rattle.std.proofs.Common.{◌≡◌, inl, inr, sym, subst, ℕ, List, Option, None}
 use Rattle.std.specs.Prelude.{IfSome, IsSomeAnd}
-use Rattle.compare_built.specs.Attempts.{AreGivenUp, AreTried as TriesOrders, IsAllowed, IsGivenUpWithin, MayGoByCones as MayCheckByCones, NamesOrder as NamesCheckOrder, last_budget}
+use Rattle.compare_built.specs.Attempts.{AreGivenUp, AreTried as TriesOrders, InEachOrder, IsAllowed, IsGivenUpWithin, MayGoByCones as MayCheckByCones, NamesOrder as NamesCheckOrder, last_budget}
 use Rattle.compare_built.specs.Check.{IsCheckFault}
 use Rattle.compare_built.specs.Devices.{DeviceTexts}
 use Rattle.explain_report.specs.Deciding.{IsUnknown}
@@ -18,7 +18,7 @@ use Rattle.net_order.specs.declared.order.Match.{Match}
 use Rattle.net_order.specs.declared.order.Order.{Order}
 use Rattle.command_line.specs.declared.options.Options.{Options}
 use Rattle.command_line.specs.declared.options.OrderChoice.{OrderChoice}
-use Rattle.command_line.specs.declared.options.OrderChoice.TheVariants.{Declared, Depth, Interleave, Index, Force, Best, Auto, Cones, Merge, File, Extended}
+use Rattle.command_line.specs.declared.options.OrderChoice.TheVariants.{Declared, Depth, Interleave, Index, Force, MsbFirst, Weights, ForceGroups, Best, Auto, Cones, Merge, File, Extended}
 use Rattle.check_tool.specs.Running.{AreSettings, IsFailedCheck, IsOrderOf, MayGoByCones, NamesOrder, limit_of}
 
 -- cones may be taken where the options allow them
@@ -31,6 +31,9 @@ goes_by_cones bytes_at Depth choice is may = absurd may
 goes_by_cones bytes_at Interleave choice is may = absurd may
 goes_by_cones bytes_at Index choice is may = absurd may
 goes_by_cones bytes_at Force choice is may = absurd may
+goes_by_cones bytes_at MsbFirst choice is may = absurd may
+goes_by_cones bytes_at Weights choice is may = absurd may
+goes_by_cones bytes_at ForceGroups choice is may = absurd may
 goes_by_cones bytes_at Best choice is may = absurd may
 goes_by_cones bytes_at (File path) choice is may = absurd may
 goes_by_cones bytes_at (Extended path) choice is may = absurd may
@@ -42,6 +45,9 @@ named_by bytes_at Depth choice is named = tt
 named_by bytes_at Interleave choice is named = tt
 named_by bytes_at Index choice is named = tt
 named_by bytes_at Force choice is named = tt
+named_by bytes_at MsbFirst choice is named = tt
+named_by bytes_at Weights choice is named = tt
+named_by bytes_at ForceGroups choice is named = tt
 named_by bytes_at (File path) choice is named = tt
 named_by bytes_at (Extended path) choice is named = tt
 named_by bytes_at Best choice is named = absurd (subst NamesCheckOrder is named)
@@ -62,25 +68,23 @@ pub earlier_given_up_unbound : (sources : DeviceTexts) (how : Match) (budget : �
 earlier_given_up_unbound sources how budget bound none tried h = subst (λ b. IfSome tried (AreGivenUp sources how budget b)) none h
 
 -- nor for those that were given up
-pub given_up_unbound : (sources : DeviceTexts) (s : Settings) (bound : Option ℕ) → bound ≡ None → TriesOrders s.order × ((order : Order) → IsAllowed s.order order → IsGivenUpWithin sources s.matching s.limit bound order)
-    → TriesOrders s.order × ((order : Order) → IsAllowed s.order order → IsGivenUpWithin sources s.matching s.limit None order)
-given_up_unbound sources s bound none f =
-    subst (λ b. TriesOrders s.order × ((order : Order) → IsAllowed s.order order → IsGivenUpWithin sources s.matching s.limit b order)) none f
+pub given_up_unbound : (sources : DeviceTexts) (s : Settings) (bound : Option ℕ) → bound ≡ None → TriesOrders s.order × InEachOrder sources s.matching s.order (IsGivenUpWithin sources s.matching s.limit bound)
+    → TriesOrders s.order × InEachOrder sources s.matching s.order (IsGivenUpWithin sources s.matching s.limit None)
+given_up_unbound sources s bound none f = subst (λ b. TriesOrders s.order × InEachOrder sources s.matching s.order (IsGivenUpWithin sources s.matching s.limit b)) none f
 
 module _ (sources : DeviceTexts) (o : Options) (choice : Strategy) (picked : PairFilter) (s : Settings) (set : AreSettings o choice picked s) where
-  pub beyond : ((order : Order) → IsAllowed s.order order → AreBeyond sources s.matching order s.limit) → (order : Order) → IsAllowed choice order → AreBeyond sources o.matching order (limit_of o)
-  beyond f order allowed =
-      subst (λ m. AreBeyond sources m order (limit_of o)) set.matching
-      (subst (λ n. AreBeyond sources s.matching order n) set.limit (f order (subst (λ c. IsAllowed c order) (sym set.order) allowed)))
+  -- what holds of each order by the settings, which say so many nodes, holds of each by the options
+  in_each : (P : Match → ℕ → Order → Type 0) → InEachOrder sources s.matching s.order (P s.matching s.limit) → InEachOrder sources o.matching choice (P o.matching (limit_of o))
+  in_each P f =
+      subst (λ m. InEachOrder sources m choice (P m (limit_of o))) set.matching
+      (subst (λ c. InEachOrder sources s.matching c (P s.matching (limit_of o))) set.order (subst (λ n. InEachOrder sources s.matching s.order (P s.matching n)) set.limit f))
 
-  pub given_up : TriesOrders s.order × ((order : Order) → IsAllowed s.order order → IsGivenUpWithin sources s.matching s.limit None order)
-      → TriesOrders choice × ((order : Order) → IsAllowed choice order → IsGivenUpWithin sources o.matching (limit_of o) None order)
-  given_up f = (
-    subst TriesOrders set.order f.0,
-    λ order allowed.
-        subst (λ m. IsGivenUpWithin sources m (limit_of o) None order) set.matching
-        (subst (λ n. IsGivenUpWithin sources s.matching n None order) set.limit (f.1 order (subst (λ c. IsAllowed c order) (sym set.order) allowed))),
-  )
+  pub beyond : InEachOrder sources s.matching s.order (λ order. AreBeyond sources s.matching order s.limit) → InEachOrder sources o.matching choice (λ order. AreBeyond sources o.matching order (limit_of o))
+  beyond f = in_each (λ how limit order. AreBeyond sources how order limit) f
+
+  pub given_up : TriesOrders s.order × InEachOrder sources s.matching s.order (IsGivenUpWithin sources s.matching s.limit None)
+      → TriesOrders choice × InEachOrder sources o.matching choice (IsGivenUpWithin sources o.matching (limit_of o) None)
+  given_up f = (subst TriesOrders set.order f.0, in_each (λ how limit order. IsGivenUpWithin sources how limit None order) f.1)
 
   pub earlier_given_up : (t : Attempt) → AreGivenUp sources s.matching (last_budget s.order s.limit) None t → AreGivenUp sources o.matching (last_budget choice (limit_of o)) None t
   earlier_given_up t h =

@@ -6,7 +6,7 @@ use Rattle.net_order.specs.declared.order.Order.{Order}
 use Rattle.expand_work.specs.declared.fault.WaveFault.TheVariants.{Full, NoWorker, TooManyRequests}
 use Rattle.compare_built.specs.Devices.{DeviceTexts, device_texts}
 use Rattle.compare_built.specs.Limits.{AreBeyond}
-use Rattle.compare_built.specs.Attempts.{AreGivenUp, AreTried as TriesOrders, IsAllowed, IsGivenUpWithin, MayGoByCones as MayCheckByCones}
+use Rattle.compare_built.specs.Attempts.{AreGivenUp, AreTried as TriesOrders, InEachOrder, IsGivenUpWithin, MayGoByCones as MayCheckByCones}
 use Rattle.compare_built.specs.Attempts.{NamesOrder as NamesCheckOrder, last_budget}
 use Rattle.explain_report.specs.Deciding.{IsUnknown}
 use Rattle.explain_report.specs.Explaining.{IsReportFault}
@@ -38,9 +38,8 @@ pub record IsUnchecked (sources : DeviceTexts) (s : Settings) (print : Bool) (fi
   pub check : CheckFault
   pub is : fault ≡ Check check
   pub cause : IsReportFault sources first_failed second_failed given_failed s check
-  pub full : check ≡ Wave Full → (order : Order) → IsAllowed s.order order → AreBeyond sources s.matching order s.limit
-  pub given_up : check ≡ GivenUp → TriesOrders s.order × ((order : Order) → IsAllowed s.order order
-      → IsGivenUpWithin sources s.matching s.limit None order)
+  pub full : check ≡ Wave Full → InEachOrder sources s.matching s.order (λ order. AreBeyond sources s.matching order s.limit)
+  pub given_up : check ≡ GivenUp → TriesOrders s.order × InEachOrder sources s.matching s.order (IsGivenUpWithin sources s.matching s.limit None)
   pub by_cones : MayCheckByCones s.order → (check ≢ Wave Full) × (check ≢ GivenUp)
   pub thread_for_named_order : check ≡ Wave NoWorker → (print ≡ false) × NamesCheckOrder s.order
   pub only : check ≡ Only → IsUnknown sources s.picked

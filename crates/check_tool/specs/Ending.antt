@@ -4,13 +4,13 @@ use Rattle.std.specs.Prelude.{string_bytes, codes, decimal, if◌then◌else◌,
 use Rattle.std.specs.Io.KnownBytes.{Appends, Keeps}
 use Rattle.report_text.specs.declared.outcome.Outcome.{Outcome}
 use Rattle.compare_built.specs.declared.strategy.Attempt.{Attempt}
-use Rattle.compare_built.specs.Attempts.{candidate_text}
+use Rattle.compare_built.specs.Attempts.{attempt_text}
 use Rattle.compare_built.specs.Cones.{cone_limit}
 use Rattle.compare_built.specs.declared.fault.CheckFault.TheVariants.{Write}
 use Rattle.report_text.specs.Writing.{AppendsFront}
 use Rattle.command_line.specs.declared.options.Options.{Options}
 use Rattle.command_line.specs.declared.options.OrderChoice.{OrderChoice}
-use Rattle.command_line.specs.declared.options.OrderChoice.TheVariants.{Declared, Depth, Interleave, Index, Force, Best, Auto, Cones, Merge, File}
+use Rattle.command_line.specs.declared.options.OrderChoice.TheVariants.{Declared, Depth, Interleave, Index, Force, MsbFirst, Weights, ForceGroups, Best, Auto, Cones, Merge, File}
 use Rattle.command_line.specs.declared.options.OrderChoice.TheVariants.{Extended}
 use Rattle.command_line.specs.declared.reading.Refused.{Refused}
 use Rattle.command_line.specs.declared.reading.Refused.TheVariants.{Help, Mistake, OutOfMemory as NoWordMemory}
@@ -92,7 +92,7 @@ IsSaidOf bytes_at o w fault status = (b : DeviceState) × IsSaid (written_until 
 
 -- the line that names the attempt that has decided
 abbrev pub attempt_line : Attempt → List ℕ
-attempt_line t = codes "bddcheck: order " ++ candidate_text t.order ++ codes " decided within " ++ decimal t.budget ++ codes " nodes\n"
+attempt_line t = codes "bddcheck: order " ++ attempt_text t.order ++ codes " decided within " ++ decimal t.budget ++ codes " nodes\n"
 
 -- what is said of the attempt that a run ended with, where orders were tried
 abbrev pub IsAttemptSaid : Option Attempt → Written → Type 0
@@ -114,6 +114,9 @@ IsMethodSaid Depth None w = IsAttemptSaid None w
 IsMethodSaid Interleave None w = IsAttemptSaid None w
 IsMethodSaid Index None w = IsAttemptSaid None w
 IsMethodSaid Force None w = IsAttemptSaid None w
+IsMethodSaid MsbFirst None w = IsAttemptSaid None w
+IsMethodSaid Weights None w = IsAttemptSaid None w
+IsMethodSaid ForceGroups None w = IsAttemptSaid None w
 IsMethodSaid Best None w = IsAttemptSaid None w
 IsMethodSaid (File path) None w = IsAttemptSaid None w
 IsMethodSaid (Extended path) None w = IsAttemptSaid None w
@@ -126,7 +129,7 @@ larger_option o = if nat_lt o.limit (o.memory / node_bytes) then codes "--limit"
 abbrev pub undecided_words : (undecided nodes : ℕ) → (larger : List ℕ) → List ℕ
 undecided_words n nodes larger =
     codes "bddcheck: the number of undecided pairs is " ++ (decimal n
-    ++ (codes "; each has more than 4096 variables, or was given up in each of five orders within "
+    ++ (codes "; each has more than 4096 variables, or was given up in each of three orders within "
     ++ (decimal nodes ++ (codes " nodes or eight requests for each of them; a larger "
     ++ (larger ++ codes " may help\n")))))
 

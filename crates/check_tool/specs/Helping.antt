@@ -24,7 +24,7 @@ use Rattle.command_line.specs.declared.options.Picks.{Picks}
 use Rattle.command_line.specs.declared.options.Picks.TheVariants.{All as AllPicks, Only as OnlyPicks, Share as SharePicks}
 use Rattle.command_line.specs.declared.options.Options.{Options}
 use Rattle.command_line.specs.declared.options.OrderChoice.{OrderChoice}
-use Rattle.command_line.specs.declared.options.OrderChoice.TheVariants.{Declared, Depth, Interleave, Index, Force, Best, Auto, Cones, Merge, File}
+use Rattle.command_line.specs.declared.options.OrderChoice.TheVariants.{Declared, Depth, Interleave, Index, Force, MsbFirst, Weights, ForceGroups, Best, Auto, Cones, Merge, File}
 use Rattle.command_line.specs.declared.options.OrderChoice.TheVariants.{Extended}
 use Rattle.command_line.specs.declared.options.Texts.{Texts}
 use Rattle.command_line.specs.declared.options.Texts.TheVariants.{Input, Files, InputAndFile, FileAndInput, InputTwice, One}
@@ -112,6 +112,9 @@ order_location Depth fault = None
 order_location Interleave fault = None
 order_location Index fault = None
 order_location Force fault = None
+order_location MsbFirst fault = None
+order_location Weights fault = None
+order_location ForceGroups fault = None
 order_location Best fault = None
 order_location Auto fault = None
 order_location Cones fault = None
@@ -183,8 +186,8 @@ order_help OrderReadFailed = codes "the device failed, or the path is a folder"
 
 -- what helps where diagrams grow too large in this order
 abbrev pub fewer_nodes : OrderChoice → List ℕ
-fewer_nodes Best = codes "interleave, force, index, depth and declared were tried; a list by --order-file may need fewer nodes"
-fewer_nodes Auto = codes "interleave, force, index, depth and declared were tried; another --memory, or a list by --order-file, may help"
+fewer_nodes Best = codes "msb-first, weights and force-groups were tried; a list by --order-file may need fewer nodes"
+fewer_nodes Auto = codes "msb-first, weights and force-groups were tried; another --memory, or a list by --order-file, may help"
 fewer_nodes Cones = codes "each pair was judged by its cones; another --memory, or fewer --workers, may help"
 fewer_nodes Merge = codes "each pair was judged by its cones; another --memory, or fewer --workers, may help"
 fewer_nodes Declared = codes "another order may need fewer nodes: try --order auto"
@@ -192,6 +195,9 @@ fewer_nodes Depth = codes "another order may need fewer nodes: try --order auto"
 fewer_nodes Interleave = codes "another order may need fewer nodes: try --order auto"
 fewer_nodes Index = codes "another order may need fewer nodes: try --order auto"
 fewer_nodes Force = codes "another order may need fewer nodes: try --order auto"
+fewer_nodes MsbFirst = codes "another order may need fewer nodes: try --order auto"
+fewer_nodes Weights = codes "another order may need fewer nodes: try --order auto"
+fewer_nodes ForceGroups = codes "another order may need fewer nodes: try --order auto"
 fewer_nodes (File path) = codes "another order may need fewer nodes: try --order auto"
 fewer_nodes (Extended path) = codes "another order may need fewer nodes: try --order auto"
 

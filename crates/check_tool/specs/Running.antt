@@ -16,10 +16,11 @@ use Rattle.compare_built.specs.Check.{IsCheckFault}
 use Rattle.compare_built.specs.Devices.{DeviceTexts, device_texts}
 use Rattle.compare_built.specs.declared.fault.CheckFault.{CheckFault}
 use Rattle.compare_built.specs.Limits.{AreBeyond}
-use Rattle.compare_built.specs.Attempts.{AreGivenUp, AreTried as TriesOrders, IsAllowed, IsGivenUpWithin, last_budget}
+use Rattle.compare_built.specs.Attempts.{AreGivenUp, AreTried as TriesOrders, InEachOrder, IsAllowed, IsGivenUpWithin, last_budget}
 use Rattle.compare_built.specs.declared.strategy.Attempt.{Attempt}
 use Rattle.compare_built.specs.declared.strategy.Strategy.{Strategy}
-use Rattle.compare_built.specs.declared.strategy.Strategy.TheVariants.{One as Ordered, Best as TheBest, Auto as Found, Cones as ByCones, Merge as ByMerging}
+use Rattle.compare_built.specs.declared.strategy.Candidate.TheVariants as candidates
+use Rattle.compare_built.specs.declared.strategy.Strategy.TheVariants.{One as Ordered, Computed, Best as TheBest, Auto as Found, Cones as ByCones, Merge as ByMerging}
 use Rattle.compare_built.specs.declared.pair_filter.PairFilter.{PairFilter}
 use Rattle.compare_built.specs.declared.pair_filter.PairFilter.TheVariants.{All as AllPairs, Only as OnlyPairs, Share as SharedPairs}
 use Rattle.compare_built.specs.declared.settings.Settings.{Settings}
@@ -37,7 +38,7 @@ use Rattle.command_line.specs.declared.options.DifferenceChoice.{DifferenceChoic
 use Rattle.command_line.specs.declared.options.DifferenceChoice.TheVariants.{Least, AnyOne}
 use Rattle.compare_built.specs.declared.settings.Difference.{Difference}
 use Rattle.compare_built.specs.declared.settings.Difference.TheVariants.{Least as TheLeast, AnyOne as TheAny}
-use Rattle.command_line.specs.declared.options.OrderChoice.TheVariants.{Declared, Depth, Interleave, Index, Force, Best, Auto, Cones, Merge, File}
+use Rattle.command_line.specs.declared.options.OrderChoice.TheVariants.{Declared, Depth, Interleave, Index, Force, MsbFirst, Weights, ForceGroups, Best, Auto, Cones, Merge, File}
 use Rattle.command_line.specs.declared.options.OrderChoice.TheVariants.{Extended}
 use Rattle.command_line.specs.declared.options.Texts.{Texts}
 use Rattle.command_line.specs.declared.options.Texts.TheVariants.{Input, Files, InputAndFile, FileAndInput, InputTwice, One}
@@ -105,6 +106,9 @@ order_paths Depth = []
 order_paths Interleave = []
 order_paths Index = []
 order_paths Force = []
+order_paths MsbFirst = []
+order_paths Weights = []
+order_paths ForceGroups = []
 order_paths Best = []
 order_paths Auto = []
 order_paths Cones = []
@@ -158,6 +162,9 @@ IsOrderOf bytes_at Depth choice = choice ≡ Ordered depth
 IsOrderOf bytes_at Interleave choice = choice ≡ Ordered interleave
 IsOrderOf bytes_at Index choice = choice ≡ Ordered index
 IsOrderOf bytes_at Force choice = choice ≡ Ordered force
+IsOrderOf bytes_at MsbFirst choice = choice ≡ Computed candidates.MsbFirst
+IsOrderOf bytes_at Weights choice = choice ≡ Computed candidates.Weights
+IsOrderOf bytes_at ForceGroups choice = choice ≡ Computed candidates.ForceGroups
 IsOrderOf bytes_at Best choice = choice ≡ TheBest
 IsOrderOf bytes_at Auto choice = choice ≡ Found
 IsOrderOf bytes_at Cones choice = choice ≡ ByCones
@@ -181,6 +188,9 @@ limit_in Depth limit memory = limit
 limit_in Interleave limit memory = limit
 limit_in Index limit memory = limit
 limit_in Force limit memory = limit
+limit_in MsbFirst limit memory = limit
+limit_in Weights limit memory = limit
+limit_in ForceGroups limit memory = limit
 limit_in Best limit memory = limit
 limit_in (File path) limit memory = limit
 limit_in (Extended path) limit memory = limit
@@ -199,6 +209,9 @@ MayGoByCones Depth = ⊥
 MayGoByCones Interleave = ⊥
 MayGoByCones Index = ⊥
 MayGoByCones Force = ⊥
+MayGoByCones MsbFirst = ⊥
+MayGoByCones Weights = ⊥
+MayGoByCones ForceGroups = ⊥
 MayGoByCones Best = ⊥
 MayGoByCones (File path) = ⊥
 MayGoByCones (Extended path) = ⊥
@@ -210,6 +223,9 @@ NamesOrder Depth = ⊤
 NamesOrder Interleave = ⊤
 NamesOrder Index = ⊤
 NamesOrder Force = ⊤
+NamesOrder MsbFirst = ⊤
+NamesOrder Weights = ⊤
+NamesOrder ForceGroups = ⊤
 NamesOrder (File path) = ⊤
 NamesOrder (Extended path) = ⊤
 NamesOrder Best = ⊥
@@ -298,15 +314,15 @@ AreNamed bytes_at input o P =
     (one two : Option (List ℕ)) × (given : Option (Option (List ℕ))) × (choice : Strategy) × AreTexts bytes_at input o.texts one two
     × IsGivenOf bytes_at o.given given × IsOrderOf bytes_at o.order choice × P one two given choice
 
--- the nodes that the texts need are not within the limit of the options, in any order that is asked for
+-- the nodes that the texts need are not within the limit of the options, in the order that is asked for, or in that of each candidate
 abbrev pub IsBeyond : (List ℕ → Option (List ℕ)) → Option (List ℕ) → Options → Type 0
-IsBeyond bytes_at input o = AreNamed bytes_at input o (λ one two given choice. (order : Order) → IsAllowed choice order
-    → AreBeyond (device_texts one two given) o.matching order (limit_of o))
+IsBeyond bytes_at input o = AreNamed bytes_at input o (λ one two given choice. InEachOrder (device_texts one two given) o.matching choice
+    (λ order. AreBeyond (device_texts one two given) o.matching order (limit_of o)))
 
 -- orders are tried, and in each of them the attempt within the limit of the options was given up
 abbrev pub IsGivenUp : (List ℕ → Option (List ℕ)) → Option (List ℕ) → Options → Type 0
 IsGivenUp bytes_at input o = AreNamed bytes_at input o (λ one two given choice. TriesOrders choice
-    × ((order : Order) → IsAllowed choice order → IsGivenUpWithin (device_texts one two given) o.matching (limit_of o) None order))
+    × InEachOrder (device_texts one two given) o.matching choice (IsGivenUpWithin (device_texts one two given) o.matching (limit_of o) None))
 
 -- the attempt that a run tells, where orders were tried and one of them decided
 abbrev pub attempt_of : Done → Option Attempt

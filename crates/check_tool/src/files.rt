@@ -10,7 +10,7 @@ ghost use Rattle.check_tool.specs.Running.{IsListFault, IsOrderFault, IsGivenFau
 
 use crate::fault::{FileRole, ToolFault};
 use crate::folder::{Folder, OpenFault};
-use check_report::Strategy;
+use check_report::{Candidate, Strategy};
 use command_line::{Options, OrderChoice};
 use net_order::names::Names;
 use net_order::order::Order;
@@ -75,6 +75,9 @@ fn order_of<F: Folder>(
         OrderChoice::Interleave => Ok(Strategy::One(Order::Interleave)),
         OrderChoice::Index => Ok(Strategy::One(Order::Index)),
         OrderChoice::Force => Ok(Strategy::One(Order::Force)),
+        OrderChoice::MsbFirst => Ok(Strategy::Computed(Candidate::MsbFirst)),
+        OrderChoice::Weights => Ok(Strategy::Computed(Candidate::Weights)),
+        OrderChoice::ForceGroups => Ok(Strategy::Computed(Candidate::ForceGroups)),
         OrderChoice::Best => Ok(Strategy::Best),
         OrderChoice::Auto => Ok(Strategy::Auto),
         OrderChoice::Cones => Ok(Strategy::Cones),

@@ -60,9 +60,9 @@ fn help_by_order(choice: OrderChoice<'_>) -> &'static str
 {
     match choice {
         OrderChoice::Best =>
-            "interleave, force, index, depth and declared were tried; a list by --order-file may need fewer nodes",
+            "msb-first, weights and force-groups were tried; a list by --order-file may need fewer nodes",
         OrderChoice::Auto =>
-            "interleave, force, index, depth and declared were tried; another --memory, or a list by --order-file, may help",
+            "msb-first, weights and force-groups were tried; another --memory, or a list by --order-file, may help",
         OrderChoice::Cones | OrderChoice::Merge =>
             "each pair was judged by its cones; another --memory, or fewer --workers, may help",
         _ => "another order may need fewer nodes: try --order auto",

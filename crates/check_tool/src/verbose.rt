@@ -70,7 +70,7 @@ fn say_undecided<E: Sink>(alloc: Global, options: &Options<'_>, undecided: u64, 
     let parts = [
         "bddcheck: the number of undecided pairs is ",
         pairs.format(undecided),
-        "; each has more than 4096 variables, or was given up in each of five orders within ",
+        "; each has more than 4096 variables, or was given up in each of three orders within ",
         nodes.format(cone_limit(limit_of(options))),
         " nodes or eight requests for each of them; a larger ",
         larger_option(options),

@@ -24,7 +24,7 @@ use Rattle.command_line.specs.declared.options.DifferenceChoice.{DifferenceChoic
 use Rattle.command_line.specs.declared.options.DifferenceChoice.TheVariants.{Least, AnyOne}
 use Rattle.command_line.specs.declared.options.Options.{Options}
 use Rattle.command_line.specs.declared.options.OrderChoice.{OrderChoice}
-use Rattle.command_line.specs.declared.options.OrderChoice.TheVariants.{Declared, Depth, Interleave, Index, Force, Best, Auto, Cones, Merge, File}
+use Rattle.command_line.specs.declared.options.OrderChoice.TheVariants.{Declared, Depth, Interleave, Index, Force, MsbFirst, Weights, ForceGroups, Best, Auto, Cones, Merge, File}
 use Rattle.command_line.specs.declared.options.OrderChoice.TheVariants.{Extended}
 use Rattle.command_line.specs.declared.options.Picks.{Picks}
 use Rattle.command_line.specs.declared.options.Picks.TheVariants.{All, Only, Share as InShare}
@@ -116,8 +116,8 @@ abbrev pub TakesMatches : Option ValueParser → Type 0
 TakesMatches = TakesOnly (codes "name" ∷ codes "position" ∷ [])
 
 abbrev pub TakesOrders : Option ValueParser → Type 0
-TakesOrders = TakesOnly (codes "auto" ∷ codes "cones" ∷ codes "merge" ∷ codes "declared" ∷ codes "depth" ∷ codes "interleave" ∷ codes "index"
-    ∷ codes "force" ∷ codes "best" ∷ [])
+TakesOrders = TakesOnly (codes "auto" ∷ codes "cones" ∷ codes "merge" ∷ codes "declared" ∷ codes "depth" ∷ codes "interleave"
+    ∷ codes "index" ∷ codes "force" ∷ codes "msb-first" ∷ codes "weights" ∷ codes "force-groups" ∷ codes "best" ∷ [])
 
 abbrev pub TakesFormats : Option ValueParser → Type 0
 TakesFormats = TakesOnly (codes "text" ∷ codes "json" ∷ [])
@@ -178,6 +178,9 @@ IsChoice (Some path) word extend default_order Depth = ⊥
 IsChoice (Some path) word extend default_order Interleave = ⊥
 IsChoice (Some path) word extend default_order Index = ⊥
 IsChoice (Some path) word extend default_order Force = ⊥
+IsChoice (Some path) word extend default_order MsbFirst = ⊥
+IsChoice (Some path) word extend default_order Weights = ⊥
+IsChoice (Some path) word extend default_order ForceGroups = ⊥
 IsChoice (Some path) word extend default_order Best = ⊥
 IsChoice (Some path) word extend default_order Auto = ⊥
 IsChoice (Some path) word extend default_order Cones = ⊥
@@ -188,13 +191,17 @@ IsChoice None (Some word) extend default_order Depth = bytes_eq word (codes "dep
 IsChoice None (Some word) extend default_order Interleave = bytes_eq word (codes "interleave") ≡ true
 IsChoice None (Some word) extend default_order Index = bytes_eq word (codes "index") ≡ true
 IsChoice None (Some word) extend default_order Force = bytes_eq word (codes "force") ≡ true
+IsChoice None (Some word) extend default_order MsbFirst = bytes_eq word (codes "msb-first") ≡ true
+IsChoice None (Some word) extend default_order Weights = bytes_eq word (codes "weights") ≡ true
+IsChoice None (Some word) extend default_order ForceGroups = bytes_eq word (codes "force-groups") ≡ true
 IsChoice None (Some word) extend default_order Best = bytes_eq word (codes "best") ≡ true
 IsChoice None (Some word) extend default_order Auto = bytes_eq word (codes "auto") ≡ true
 IsChoice None (Some word) extend default_order Cones = bytes_eq word (codes "cones") ≡ true
 IsChoice None (Some word) extend default_order Merge = bytes_eq word (codes "merge") ≡ true
 IsChoice None (Some word) extend default_order Declared =
     (bytes_eq word (codes "depth") ≡ false) × (bytes_eq word (codes "interleave") ≡ false) × (bytes_eq word (codes "index") ≡ false)
-    × (bytes_eq word (codes "force") ≡ false) × (bytes_eq word (codes "best") ≡ false) × (bytes_eq word (codes "auto") ≡ false)
+    × (bytes_eq word (codes "force") ≡ false) × (bytes_eq word (codes "msb-first") ≡ false) × (bytes_eq word (codes "weights") ≡ false)
+    × (bytes_eq word (codes "force-groups") ≡ false) × (bytes_eq word (codes "best") ≡ false) × (bytes_eq word (codes "auto") ≡ false)
     × (bytes_eq word (codes "cones") ≡ false) × (bytes_eq word (codes "merge") ≡ false)
 IsChoice None None extend default_order choice = choice ≡ default_order
 
@@ -319,6 +326,9 @@ default_limit Depth = 67108864
 default_limit Interleave = 67108864
 default_limit Index = 67108864
 default_limit Force = 67108864
+default_limit MsbFirst = 67108864
+default_limit Weights = 67108864
+default_limit ForceGroups = 67108864
 default_limit Best = 67108864
 default_limit (File path) = 67108864
 default_limit (Extended path) = 67108864

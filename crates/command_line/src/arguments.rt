@@ -11,7 +11,7 @@ use std::alloc::Global;
 
 static MATCHES: [&str; 2] = ["name", "position"];
 
-static ORDERS: [&str; 9] = [
+static ORDERS: [&str; 12] = [
     "auto",
     "cones",
     "merge",
@@ -20,6 +20,9 @@ static ORDERS: [&str; 9] = [
     "interleave",
     "index",
     "force",
+    "msb-first",
+    "weights",
+    "force-groups",
     "best",
 ];
 

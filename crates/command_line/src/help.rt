@@ -47,16 +47,22 @@ What is printed:
 
 How it is decided:
   --order ORDER        order the variables in a given way, or find an order:
-    auto               try the five orders below on the whole netlists, and if
-                       none fits go on as by merge; the report is as by
-                       declared; the default
-    cones              judge each pair by itself, by the gates below it, in the
-                       five orders of its own variables; the report is as by
-                       declared; the default with --only and --share
+    auto               try msb-first, weights and force-groups on the whole
+                       netlists, and if none fits go on as by merge; the report
+                       is as by declared; the default
+    cones              judge each pair by itself, by the gates below it, in
+                       those three orders of its own variables; the report is as
+                       by declared; the default with --only and --share
     merge              first merge inner signals that are equal in both
                        netlists, which decides pairs that are equal inside; the
                        other pairs as by cones
-    best               try the five orders, and report in the first that fits
+    best               try those three, and report in the first that fits
+    msb-first          by falling number at the end of the name: the most
+                       significant bits of all buses first, bit by bit
+    weights            those first that have most weight in the outputs, as a
+                       share of the gates above them
+    force-groups       as by force, but variables that select among others are
+                       in front, and variables that an XOR joins are together
     declared           as the netlists declare their inputs and registers; the
                        default with --limit, --sizes and --print-order
     depth              as a walk from the outputs to the inputs meets them

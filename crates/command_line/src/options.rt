@@ -14,9 +14,12 @@ pub enum OrderChoice<'a> {
     Interleave,
     Index,
     Force,
-    /// The best of these is to be found.
+    MsbFirst,
+    Weights,
+    ForceGroups,
+    /// The best of the last three is to be found.
     Best,
-    /// One of these is to be found, or else orders for each pair; the report is as by declared order.
+    /// One of those is to be found, or else orders for each pair; the report is as by declared order.
     Auto,
     /// Orders are to be found for each pair; the report is as by declared order.
     Cones,

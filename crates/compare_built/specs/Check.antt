@@ -10,7 +10,7 @@ use Rattle.net_order.specs.declared.order.OrderFault.TheVariants.{OutOfMemory as
 use Rattle.net_order.specs.Order.{NamingModel, IsNaming, IsPairing, IsRefused, max_variables, variables_in}
 use Rattle.compare_built.specs.Devices.{DeviceTexts}
 use Rattle.compare_built.specs.declared.strategy.Strategy.{Strategy}
-use Rattle.compare_built.specs.declared.strategy.Strategy.TheVariants.{One, Best, Auto, Cones, Merge}
+use Rattle.compare_built.specs.declared.strategy.Strategy.TheVariants.{One, Computed, Best, Auto, Cones, Merge}
 use Rattle.compare_built.specs.declared.fault.CheckFault.{CheckFault}
 use Rattle.compare_built.specs.declared.fault.CheckFault.TheVariants.{First, Second, Given, GivenOutputs, Order as OrderRefused, Only}
 use Rattle.compare_built.specs.declared.fault.CheckFault.TheVariants.{Explain, Wave, GivenUp, Write, OutOfMemory}
@@ -81,6 +81,7 @@ HaveTooManyVariables input how = (a b : Circuit) × (c : Option Circuit) × AreG
 -- the variables are few, as a pairing's are, unless the choice lets pairs be judged by their cones
 abbrev pub AreVariablesFewFor : Strategy → Match → Circuit → Circuit → Option Circuit → Type 0
 AreVariablesFewFor (One o) how a b c = length (variables_in how a b c) ≤ max_variables
+AreVariablesFewFor (Computed k) how a b c = length (variables_in how a b c) ≤ max_variables
 AreVariablesFewFor Best how a b c = length (variables_in how a b c) ≤ max_variables
 AreVariablesFewFor Auto how a b c = ⊤
 AreVariablesFewFor Cones how a b c = ⊤

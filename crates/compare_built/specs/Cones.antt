@@ -6,13 +6,16 @@ use Rattle.expand_work.specs.Bounds.{most_of}
 use Rattle.net_bench.specs.Circuit.{Circuit, Net, circuit, variables_of}
 use Rattle.net_cone.specs.Cones.{IsCone}
 use Rattle.net_order.specs.declared.order.Match.TheVariants.{Name}
-use Rattle.net_order.specs.Order.{NamingModel, IsPairing, max_variables, variables_in}
+use Rattle.net_order.specs.Order.{NamingModel, max_variables, variables_in}
 use Rattle.report_text.specs.declared.verdict.Verdict.{Verdict}
 use Rattle.report_text.specs.declared.verdict.Verdict.TheVariants.{Equal, Undecided}
 use Rattle.report_text.specs.Lines.{Found}
+use Rattle.compare_built.specs.declared.strategy.AttemptOrder.{AttemptOrder}
+use Rattle.compare_built.specs.declared.strategy.AttemptOrder.TheVariants.{Computed}
 use Rattle.compare_built.specs.declared.strategy.Candidate.{Candidate}
 use Rattle.compare_built.specs.declared.subject.Subject.{Subject}
-use Rattle.compare_built.specs.Attempts.{IsBudget, order_of}
+use Rattle.compare_built.specs.Attempts.{IsBudget}
+use Rattle.compare_built.specs.Candidates.{IsPairingBy}
 use Rattle.compare_built.specs.declared.settings.Difference.{Difference}
 use Rattle.compare_built.specs.declared.settings.Difference.TheVariants.{Least, AnyOne}
 use Rattle.compare_built.specs.Conditions.{AgreeWhere, HoldsWhere, everywhere, output_of}
@@ -62,7 +65,7 @@ cone_limit limit = max 1 (limit / 4)
 -- in each candidate's order of their variables an attempt of the cones was given up, as they need more nodes than so many, or one wave
 -- reaches more requests than eight for each of these nodes, or than the monitor's bound where that is less
 abbrev pub AreGivenUpIn : (budget : ℕ) → (bound : Option ℕ) → (first second : Circuit) → (condition : Option Circuit) → Type 0
-AreGivenUpIn budget bound first second condition = (c : Candidate) → (q : NamingModel) × IsPairing Name first second condition (order_of c) q
+AreGivenUpIn budget bound first second condition = (c : Candidate) → (q : NamingModel) × IsPairingBy Name first second condition (Computed c) q
     × (Exceeds budget first second condition q ⊎ IsTooWide (min (budget * 8) (most_of bound)) first second condition q)
 
 -- Within so many nodes a pair is not decided by its cones: they have more variables together than a pairing has, or each attempt was given
@@ -78,15 +81,15 @@ pub record IsUndecidedWithin (budget : ℕ) (bound : Option ℕ) (a b : Circuit)
 abbrev pub IsUndecided : (limit : ℕ) → (bound : Option ℕ) → Circuit → Circuit → Option Circuit → NamingModel → Subject → Type 0
 IsUndecided limit bound a b given p s = (budget : ℕ) → IsBudget (cone_limit limit) budget → IsUndecidedWithin budget bound a b given p s
 
--- The cones of a pair need so many nodes at most, in some candidate's order of their variables.
+-- The cones of a pair need so many nodes at most, in the order of some attempt at them.
 pub record FitByCones (limit : ℕ) (a b : Circuit) (given : Option Circuit) (p : NamingModel) (s : Subject) : Type 0 where
   pub first : Circuit
   pub second : Circuit
   pub condition : Option Circuit
   pub cones : AreCones a b given p s first second condition
-  pub candidate : Candidate
+  pub order : AttemptOrder
   pub pairing : NamingModel
-  pub paired : IsPairing Name first second condition (order_of candidate) pairing
+  pub paired : IsPairingBy Name first second condition order pairing
   pub fit : FitsWithin limit first second condition pairing
 
 -- ---- verdicts

@@ -5,6 +5,7 @@ pub mod Comparing
 pub mod Arrangement
 pub mod Check
 pub mod Facts
+pub mod Candidates
 pub mod Limits
 pub mod Widths
 pub mod Attempts

@@ -1,44 +1,70 @@
 //! Where the order of the variables comes from.
 ghost use Rattle.std.specs.Prelude.{◌≡◌};
-ghost use Rattle.compare_built.specs.Attempts.{candidate_text, order_of, reported_kind};
+ghost use Rattle.compare_built.specs.Attempts.{attempt_kind, attempt_text, candidate_kind, candidate_text, reported_kind};
 
 use net_order::order::Order;
 use report_text::OrderKind;
 
-/// One of the orders that are tried in turn, in this order.
+/// One of the orders that are tried in turn, in this order. Each is made from the netlists, by `group_order`.
 #[derive(Clone, Copy, Drop, Debug, PartialEq, Eq)]
 pub enum Candidate {
-    Interleave,
-    Force,
-    Index,
-    Depth,
-    Declared,
+    /// By falling number at the end of names.
+    MsbFirst,
+    /// By dynamic weight assignment.
+    Weights,
+    /// As FORCE moves variables and gates, without selectors.
+    ForceGroups,
 }
 
 impl Candidate {
-    /// The order that it is.
-    pub fn order(self) -> Order
-        ensures { result ≡ order_of self }
-    {
-        match self {
-            Candidate::Interleave => Order::Interleave,
-            Candidate::Force => Order::Force,
-            Candidate::Index => Order::Index,
-            Candidate::Depth => Order::Depth,
-            Candidate::Declared => Order::Declared,
-        }
-    }
-
     /// Its name, as the command line and the reports have it.
     pub fn name(self) -> &'static str
         ensures { result.now ≡ candidate_text self }
     {
         match self {
-            Candidate::Interleave => "interleave",
-            Candidate::Force => "force",
-            Candidate::Index => "index",
-            Candidate::Depth => "depth",
-            Candidate::Declared => "declared",
+            Candidate::MsbFirst => "msb-first",
+            Candidate::Weights => "weights",
+            Candidate::ForceGroups => "force-groups",
+        }
+    }
+
+    /// What a report says of its order.
+    pub fn kind(self) -> OrderKind
+        ensures { result ≡ candidate_kind self }
+    {
+        match self {
+            Candidate::MsbFirst => OrderKind::MsbFirst,
+            Candidate::Weights => OrderKind::Weights,
+            Candidate::ForceGroups => OrderKind::ForceGroups,
+        }
+    }
+}
+
+/// The order of an attempt: that of a candidate, or declared order, which the very last attempt has.
+#[derive(Clone, Copy, Drop, Debug, PartialEq, Eq)]
+pub enum AttemptOrder {
+    Computed(Candidate),
+    Declared,
+}
+
+impl AttemptOrder {
+    /// Its name, as the reports have it.
+    pub fn name(self) -> &'static str
+        ensures { result.now ≡ attempt_text self }
+    {
+        match self {
+            AttemptOrder::Computed(candidate) => candidate.name(),
+            AttemptOrder::Declared => "declared",
+        }
+    }
+
+    /// What a report says of it.
+    pub fn kind(self) -> OrderKind
+        ensures { result ≡ attempt_kind self }
+    {
+        match self {
+            AttemptOrder::Computed(candidate) => candidate.kind(),
+            AttemptOrder::Declared => OrderKind::Declared,
         }
     }
 }
@@ -48,6 +74,8 @@ impl Candidate {
 pub enum Strategy {
     /// This order.
     One(Order),
+    /// The order of this candidate, whatever it comes to.
+    Computed(Candidate),
     /// The first of the candidates whose diagrams stay within a budget that grows from attempt to attempt.
     Best,
     /// The first of the candidates within small budgets. If each was given up, pairs that are equal inside by merging equal signals, and
@@ -66,7 +94,8 @@ impl Strategy {
     {
         match (self, tried) {
             (Strategy::One(order), _) => OrderKind::of(order),
-            (Strategy::Best, Some(attempt)) => OrderKind::of(&attempt.order.order()),
+            (Strategy::Computed(candidate), _) => candidate.kind(),
+            (Strategy::Best, Some(attempt)) => attempt.order.kind(),
             (Strategy::Best, None) => OrderKind::Declared,
             (Strategy::Auto, _) => OrderKind::Auto,
             (Strategy::Cones, _) => OrderKind::Cones,
@@ -75,9 +104,9 @@ impl Strategy {
     }
 }
 
-/// An order of the candidates, and the most nodes that it was to need.
+/// An attempt: its order, and the most nodes that it was to need.
 #[derive(Clone, Copy, Drop, Debug, PartialEq, Eq)]
 pub struct Attempt {
-    pub order: Candidate,
+    pub order: AttemptOrder,
     pub budget: u64,
 }

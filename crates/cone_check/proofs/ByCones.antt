@@ -19,7 +19,8 @@ use Rattle.compare_built.specs.Details.{unsized}
 use Rattle.compare_built.specs.declared.strategy.Candidate.{Candidate}
 use Rattle.compare_built.specs.declared.subject.Subject.{Subject}
 use Rattle.compare_built.specs.declared.task.Task.{Task}
-use Rattle.compare_built.specs.Attempts.{order_of}
+use Rattle.compare_built.specs.Candidates.{IsPairingBy}
+use Rattle.compare_built.specs.declared.strategy.AttemptOrder.TheVariants.{Computed}
 use Rattle.compare_built.specs.Conditions.{HoldsWhere, everywhere, output_of}
 use Rattle.compare_built.specs.declared.settings.Difference.{Difference}
 use Rattle.compare_built.specs.declared.settings.Difference.TheVariants.{Least, AnyOne}
@@ -73,7 +74,7 @@ more_nodes budget limit a b given p s le few = record {
   second = few.second;
   condition = few.condition;
   cones = few.cones;
-  candidate = few.candidate;
+  order = few.order;
   pairing = few.pairing;
   paired = few.paired;
   fit = record {
@@ -157,7 +158,7 @@ module _ {H : Type 0} (task : Task H) (k m : Circuit) (w : Option Circuit) (by_n
     second = m;
     condition = w;
     cones = cones;
-    cause = inr (λ x. as_cones (λ how a b g. (q : NamingModel) × IsPairing how a b g (order_of x) q × (Exceeds budget a b g q ⊎ IsTooWide (min (budget * 8) (most_of bound)) a b g q))
+    cause = inr (λ x. as_cones (λ how a b g. (q : NamingModel) × IsPairingBy how a b g (Computed x) q × (Exceeds budget a b g q ⊎ IsTooWide (min (budget * 8) (most_of bound)) a b g q))
         ((earlier_given_up x).pairing, (earlier_given_up x).paired, (earlier_given_up x).cause));
   }
 
@@ -172,8 +173,8 @@ module _ {H : Type 0} (task : Task H) (k m : Circuit) (w : Option Circuit) (by_n
 
   pub within_by_cones : (a b : Circuit) (c : Option Circuit) (p : NamingModel) (s : Subject) → AreCones a b c p s k m w → (budget : ℕ) → IsDecidedWithin task budget → FitByCones budget a b c p s
   within_by_cones a b c p s cones budget few =
-      let h = as_cones (λ how a b g. IsPairing how a b g (order_of few.candidate) few.pairing × FitsWithin budget a b g few.pairing) (few.paired, few.fit) in
-      record { first = k; second = m; condition = w; cones = cones; candidate = few.candidate; pairing = few.pairing; paired = h.0; fit = h.1 }
+      let h = as_cones (λ how a b g. IsPairingBy how a b g few.order few.pairing × FitsWithin budget a b g few.pairing) (few.paired, few.fit) in
+      record { first = k; second = m; condition = w; cones = cones; order = few.order; pairing = few.pairing; paired = h.0; fit = h.1 }
 
 -- a verdict by cones, or none, over all variables
 pub known_by_cones : (which : Option Assignment) (a b : Circuit) (given : Option Circuit) (p : NamingModel) (s : Subject) (k m : Circuit) (w : Option Circuit) (places : List ℕ) (q : NamingModel) →

@@ -6,15 +6,17 @@ use Rattle.std.specs.Borrow.{Bor}
 use Rattle.net_order.specs.declared.order.Match.{Match}
 use Rattle.net_order.specs.declared.order.Order.{Order}
 use Rattle.net_order.specs.declared.order.Order.TheVariants as orders
-use Rattle.compare_built.specs.declared.strategy.Candidate.TheVariants.{Interleave, Declared}
+use Rattle.compare_built.specs.declared.strategy.AttemptOrder.{AttemptOrder}
+use Rattle.compare_built.specs.declared.strategy.AttemptOrder.TheVariants as tried_orders
 use Rattle.compare_built.specs.declared.strategy.Strategy.{Strategy}
-use Rattle.compare_built.specs.declared.strategy.Strategy.TheVariants.{One, Best, Auto, Cones, Merge}
+use Rattle.compare_built.specs.declared.strategy.Strategy.TheVariants.{One, Computed, Best, Auto, Cones, Merge}
 use Rattle.compare_built.specs.declared.fault.CheckFault.{CheckFault}
 use Rattle.compare_built.specs.declared.fault.CheckFault.TheVariants.{First, Second, Given, GivenOutputs, Order as OrderRefused, Only, Explain, Wave, GivenUp, Write, OutOfMemory}
 use Rattle.compare_built.specs.declared.strategy.Attempt.{Attempt}
 use Rattle.compare_built.specs.Attempts.{IsAllowed, IsChosen, MayGoByCones}
+use Rattle.compare_built.specs.Candidates.{IsOrderIn}
 use Rattle.net_bench.specs.Circuit.{Circuit, Net, circuit}
-use Rattle.net_order.specs.Order.{NamingModel, condition}
+use Rattle.net_order.specs.Order.{IsPairing, NamingModel, condition}
 use Rattle.compare_built.specs.Devices.{DeviceTexts, device_text}
 use Rattle.report_text.specs.declared.order_kind.OrderKind.{OrderKind}
 use Rattle.report_text.specs.declared.outcome.Share.{Share}
@@ -33,8 +35,9 @@ use Rattle.order_search.proofs.Reporting.{any_for, few_for}
 -- each choice allows some order
 pub some_order : (choice : Strategy) → (order : Order) × IsAllowed choice order
 some_order (One o) = (o, refl)
-some_order Best = (orders.Interleave, (Interleave, refl))
-some_order Auto = (orders.Interleave, (Interleave, refl))
+some_order (Computed c) = (orders.Declared, refl)
+some_order Best = (orders.Declared, refl)
+some_order Auto = (orders.Declared, refl)
 some_order Cones = (orders.Declared, refl)
 some_order Merge = (orders.Declared, refl)
 
@@ -106,37 +109,55 @@ pub form_as : (json : Bool) (which : Option Assignment) (how : Match) (kind : Or
     → items ≡ form_text json which how kind h share list found → h ≡ given → list ≡ causes → items ≡ form_text json which how kind given share causes found
 form_as json which how kind share found items h given list causes e input same = e ∙ ap₂ (λ (z : Bool) (cs : Option (List Caused)). form_text json which how kind z share cs found) input same
 
--- the order of a report is allowed
-pub chosen_allowed : (input : DeviceTexts) (how : Match) (choice : Strategy) (limit : ℕ) (tried : Option Attempt) (order : Order) → IsChosen input how choice limit tried order → IsAllowed choice order
-chosen_allowed input how (One o) limit None order c = c.0
-chosen_allowed input how (One o) limit (Some t) order c = absurd c
-chosen_allowed input how Best limit None order c = absurd c
-chosen_allowed input how Best limit (Some t) order c = (t.order, c.0)
-chosen_allowed input how Auto limit None order c = absurd c
-chosen_allowed input how Auto limit (Some t) order c = (Declared, c.0)
-chosen_allowed input how Cones limit tried order c = absurd c
-chosen_allowed input how Merge limit tried order c = absurd c
-
 -- what has a pairing is accepted, for any choice
 pub accepted_in : (choice : Strategy) (input : DeviceTexts) (how : Match) (order : Order) (a b : Circuit) (c : Option Circuit) (p : NamingModel) → ArePaired input how order a b c p → AreAccepted input choice how order
 accepted_in choice input how order a b c p paired =
     (a, b, c, p, record { netlists = paired.netlists; naming = paired.pairing.naming }, few_for choice how a b c paired.pairing.few)
 
+module _ (choice : Strategy) (input : DeviceTexts) (how : Match) where
+  -- where there is a pairing in the order of an attempt, declared order is accepted
+  pub accepted_declared : (o : AttemptOrder) (order : Order) (a b : Circuit) (c : Option Circuit) (p : NamingModel) → IsOrderIn input how o order → ArePaired input how order a b c p → AreAccepted input choice how orders.Declared
+  accepted_declared (tried_orders.Computed k) order a b c p (x, y, z, given, made) paired =
+      let q = made.by_rule.0 in
+      let declared : IsPairing how x y z orders.Declared q =
+      subst (λ g. IsPairing how x y g orders.Declared q) made.is_conditional
+      (subst (λ d. IsPairing how x d (condition made.conditional) orders.Declared q) made.is_second
+      (subst (λ d. IsPairing how d (circuit made.second) (condition made.conditional) orders.Declared q) made.is_first made.by_rule.1)) in
+      accepted_in choice input how orders.Declared x y z q (record { netlists = given; pairing = declared })
+  accepted_declared tried_orders.Declared order a b c p (x, y, z, given, same) paired = accepted_in choice input how orders.Declared a b c p (subst (λ k. ArePaired input how k a b c p) same paired)
+
+-- what has the order of a report is accepted, in an order in which faults have their causes
+pub chosen_accepted : (input : DeviceTexts) (how : Match) (choice : Strategy) (limit : ℕ) (tried : Option Attempt) (order : Order) (a b : Circuit) (c : Option Circuit) (p : NamingModel) → ArePaired input how order a b c p →
+    IsChosen input how choice limit tried order → (k : Order) × IsAllowed choice k × AreAccepted input choice how k
+chosen_accepted input how (One o) limit None order a b c p paired is = (order, is.0, accepted_in (One o) input how order a b c p paired)
+chosen_accepted input how (One o) limit (Some t) order a b c p paired is = absurd is
+chosen_accepted input how (Computed k) limit None order a b c p paired is =
+    (orders.Declared, refl, accepted_declared (Computed k) input how (tried_orders.Computed k) order a b c p is.0 paired)
+chosen_accepted input how (Computed k) limit (Some t) order a b c p paired is = absurd is
+chosen_accepted input how Best limit None order a b c p paired is = absurd is
+chosen_accepted input how Best limit (Some t) order a b c p paired is = (orders.Declared, refl, accepted_declared Best input how t.order order a b c p is.0 paired)
+chosen_accepted input how Auto limit None order a b c p paired is = absurd is
+chosen_accepted input how Auto limit (Some t) order a b c p paired is = (order, is.0, accepted_in Auto input how order a b c p paired)
+chosen_accepted input how Cones limit tried order a b c p paired is = absurd is
+chosen_accepted input how Merge limit tried order a b c p paired is = absurd is
+
 -- what is found is accepted, in an order that is allowed
 pub found_accepted : (input : DeviceTexts) (s : Settings) (bound : Option ℕ) (found : Found) (tried : Option Attempt) → IsFoundBy input s bound found tried →
     (order : Order) × IsAllowed s.order order × AreAccepted input s.order s.matching order
-found_accepted input s bound found tried (in_order order j chosen) = (order, chosen_allowed input s.matching s.order s.limit tried order chosen, accepted_in s.order input s.matching order j.a j.b j.c j.p j.paired)
+found_accepted input s bound found tried (in_order order j chosen) = chosen_accepted input s.matching s.order s.limit tried order j.a j.b j.c j.p j.paired chosen
 found_accepted input s bound found None (by_cones cause j last) = (orders.Declared, declared_allowed s.order cause, (j.a, j.b, j.c, j.p, j.named, any_for s.order s.matching j.a j.b j.c (may_go s.order cause)))
   where
     declared_allowed : (choice : Strategy) → MayTakeCones input s bound choice → IsAllowed choice orders.Declared
     declared_allowed (One o) cause = absurd cause
+    declared_allowed (Computed c) cause = absurd cause
     declared_allowed Best cause = absurd cause
-    declared_allowed Auto cause = (Declared, refl)
+    declared_allowed Auto cause = refl
     declared_allowed Cones cause = refl
     declared_allowed Merge cause = refl
 
     may_go : (choice : Strategy) → MayTakeCones input s bound choice → MayGoByCones choice
     may_go (One o) cause = absurd cause
+    may_go (Computed c) cause = absurd cause
     may_go Best cause = absurd cause
     may_go Auto cause = tt
     may_go Cones cause = tt

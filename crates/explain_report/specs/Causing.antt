@@ -17,9 +17,8 @@ use Rattle.explain_report.specs.declared.first_differences.FirstDifference.{Firs
 use Rattle.compare_built.specs.declared.strategy.Attempt.{Attempt}
 use Rattle.compare_built.specs.declared.settings.Settings.{Settings}
 use Rattle.compare_built.specs.declared.subject.Subject.{Subject}
-use Rattle.compare_built.specs.Check.{HaveNaming}
 use Rattle.compare_built.specs.Devices.{DeviceTexts}
-use Rattle.explain_report.specs.Explaining.{is_subject_of, reported_order}
+use Rattle.explain_report.specs.Explaining.{HaveReportedNaming, is_subject_of}
 use Rattle.compare_built.specs.Report.{subjects}
 
 -- ---- the first inner signal that differs
@@ -88,7 +87,7 @@ pub record HaveCauses (input : DeviceTexts) (s : Settings) (tried : Option Attem
   -- their ranks, which order inner signals, are those of their gates
   pub first_sound : IsNet a
   pub second_sound : IsNet b
-  pub named : HaveNaming input s.matching (reported_order s.order tried) (circuit a) (circuit b) c p
+  pub named : HaveReportedNaming input s tried (circuit a) (circuit b) c p
   -- the bits of an assignment are those of the variables of this naming
   pub variables : found.variables ≡ p.names
   pub differences : List FirstDifference

@@ -12,16 +12,17 @@ use Rattle.report_text.specs.Causes.{Caused}
 use Rattle.report_text.specs.Json.{form_text}
 use Rattle.report_text.specs.Lines.{Found, counted}
 use Rattle.compare_built.specs.declared.strategy.Attempt.{Attempt}
+use Rattle.compare_built.specs.declared.strategy.AttemptOrder.TheVariants as tried_orders
 use Rattle.compare_built.specs.declared.strategy.Candidate.{Candidate}
 use Rattle.compare_built.specs.declared.strategy.Strategy.{Strategy}
-use Rattle.compare_built.specs.declared.strategy.Strategy.TheVariants.{One, Best, Auto, Cones, Merge}
+use Rattle.compare_built.specs.declared.strategy.Strategy.TheVariants.{One, Computed, Best, Auto, Cones, Merge}
 use Rattle.compare_built.specs.declared.pair_filter.PairFilter.{PairFilter}
 use Rattle.compare_built.specs.declared.settings.Difference.{Difference}
 use Rattle.compare_built.specs.declared.settings.Difference.TheVariants.{Least, AnyOne}
 use Rattle.compare_built.specs.declared.settings.Settings.{Settings}
 use Rattle.compare_built.specs.declared.subject.Subject.{Subject}
 use Rattle.compare_built.specs.Details.{details_in, unsized}
-use Rattle.compare_built.specs.Attempts.{IsBudget, IsChosen, IsGivenUpWithin, first_whole_limit, order_of, reported_kind}
+use Rattle.compare_built.specs.Attempts.{IsAttemptGivenUp, IsBudget, IsChosen, first_whole_limit, reported_kind}
 use Rattle.explain_report.specs.Causing.{AreCauses}
 use Rattle.compare_built.specs.Check.{Gives, HaveTooManyVariables, HaveNaming, IsJudged}
 use Rattle.compare_built.specs.Cones.{AreConeVerdicts, FitByCones, IsUndecided, cone_limit}
@@ -47,9 +48,10 @@ pub record IsJudgedByCones (input : DeviceTexts) (s : Settings) (bound : Option 
 -- variables than a pairing has, or any difference is asked for.
 abbrev pub MayTakeCones : DeviceTexts → Settings → (bound : Option ℕ) → Strategy → Type 0
 MayTakeCones input s bound (One o) = ⊥
+MayTakeCones input s bound (Computed c) = ⊥
 MayTakeCones input s bound Best = ⊥
 MayTakeCones input s bound Auto =
-    ((budget : ℕ) → IsBudget (first_whole_limit s.limit) budget → (c : Candidate) → IsGivenUpWithin input s.matching budget bound (order_of c))
+    ((budget : ℕ) → IsBudget (first_whole_limit s.limit) budget → (c : Candidate) → IsAttemptGivenUp input s.matching budget bound (tried_orders.Computed c))
     ⊎ HaveTooManyVariables input s.matching ⊎ (s.difference ≡ AnyOne)
 MayTakeCones input s bound Cones = ⊤
 MayTakeCones input s bound Merge = ⊤
@@ -66,9 +68,10 @@ is_open AnyOne (Differs role name at first second extras) = false
 -- the whole was given up in declared order as well, within the whole limit, or if the whole has more variables than a pairing has.
 abbrev pub HasLastAttempt : DeviceTexts → Settings → (bound : Option ℕ) → Strategy → Found → Type 0
 HasLastAttempt input s bound (One o) found = ⊤
+HasLastAttempt input s bound (Computed c) found = ⊤
 HasLastAttempt input s bound Best found = ⊤
 HasLastAttempt input s bound Auto found = list_any (is_open s.difference) found.verdicts ≡ true →
-    IsGivenUpWithin input s.matching s.limit bound orders.Declared ⊎ HaveTooManyVariables input s.matching
+    IsAttemptGivenUp input s.matching s.limit bound tried_orders.Declared ⊎ HaveTooManyVariables input s.matching
 HasLastAttempt input s bound Cones found = ⊤
 HasLastAttempt input s bound Merge found = ⊤
 

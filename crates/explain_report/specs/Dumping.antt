@@ -14,10 +14,9 @@ use Rattle.report_text.specs.declared.verdict.Verdict.TheVariants.{Equal, Differ
 use Rattle.report_text.specs.Lines.{Found}
 use Rattle.compare_built.specs.declared.strategy.Attempt.{Attempt}
 use Rattle.compare_built.specs.declared.settings.Settings.{Settings}
-use Rattle.compare_built.specs.Check.{HaveNaming}
 use Rattle.explain_report.specs.Deciding.{IsReportBy}
 use Rattle.compare_built.specs.Devices.{DeviceTexts}
-use Rattle.explain_report.specs.Explaining.{reported_order}
+use Rattle.explain_report.specs.Explaining.{HaveReportedNaming}
 
 -- the assignment that a verdict tells: that of a pair that differs
 abbrev pub difference_of : Verdict → Option (List Bool)
@@ -48,7 +47,7 @@ pub record HasVcd (input : DeviceTexts) (s : Settings) (tried : Option Attempt) 
   pub b : Net
   pub c : Option Circuit
   pub p : NamingModel
-  pub named : HaveNaming input s.matching (reported_order s.order tried) (circuit a) (circuit b) c p
+  pub named : HaveReportedNaming input s tried (circuit a) (circuit b) c p
   -- the bits of the assignment are those of the variables of this naming
   pub variables : found.variables ≡ p.names
   pub vcd : IsVcdAt a b p at bytes

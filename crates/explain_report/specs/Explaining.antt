@@ -4,6 +4,7 @@ use Rattle.std.specs.Prelude.{bytes_eq, codes}
 use Rattle.net_bench.specs.Circuit.{Circuit, IsNet, Net, circuit}
 use Rattle.net_explain.specs.Explaining.{ExplanationModel, IsExplanation}
 use Rattle.net_explain.specs.Text.{explanation_text}
+use Rattle.net_order.specs.declared.order.Match.{Match}
 use Rattle.net_order.specs.declared.order.Order.{Order}
 use Rattle.net_order.specs.declared.order.Order.TheVariants as orders
 use Rattle.net_order.specs.Order.{NamingModel, name_of, registers_of}
@@ -16,17 +17,20 @@ use Rattle.report_text.specs.Findings.{VerdictsModel}
 use Rattle.report_text.specs.Lines.{Found, subject_text}
 use Rattle.compare_built.specs.declared.strategy.Attempt.{Attempt}
 use Rattle.compare_built.specs.declared.strategy.Strategy.{Strategy}
-use Rattle.compare_built.specs.declared.strategy.Strategy.TheVariants.{One, Best, Auto, Cones, Merge}
+use Rattle.compare_built.specs.declared.strategy.Strategy.TheVariants.{One, Computed, Best, Auto, Cones, Merge}
+use Rattle.compare_built.specs.declared.strategy.AttemptOrder.TheVariants as tried_orders
 use Rattle.compare_built.specs.declared.fault.CheckFault.{CheckFault}
 use Rattle.compare_built.specs.declared.fault.CheckFault.TheVariants.{Explain}
 use Rattle.compare_built.specs.declared.settings.Settings.{Settings}
 use Rattle.compare_built.specs.declared.subject.Subject.{Subject}
 use Rattle.compare_built.specs.declared.task.Task.{Task}
-use Rattle.compare_built.specs.Attempts.{IsAllowed, order_of}
+use Rattle.compare_built.specs.Attempts.{IsAllowed}
+use Rattle.compare_built.specs.Candidates.{IsOrderOf}
 use Rattle.compare_built.specs.Check.{AreGiven, HaveNaming, IsCheckFault}
 use Rattle.compare_built.specs.Devices.{DeviceTexts}
 use Rattle.compare_built.specs.PairSelection.{is_among}
 use Rattle.compare_built.specs.Report.{subjects}
+use Rattle.net_order.specs.Order.{condition}
 use Rattle.order_search.specs.Tasks.{OfTask}
 use Rattle.order_search.specs.Trials.{IsNamingIn}
 
@@ -108,18 +112,25 @@ AreExplained a b p verdicts (t ∷ ts) bytes = (one rest : List ℕ) × IsExplai
 
 -- ---- behind a report
 
--- the order in which a report tells the variables
-abbrev pub reported_order : Strategy → Option Attempt → Order
-reported_order (One o) tried = o
-reported_order Best (Some t) = order_of t.order
-reported_order Best None = orders.Declared
-reported_order Auto tried = orders.Declared
-reported_order Cones tried = orders.Declared
-reported_order Merge tried = orders.Declared
+-- the order in which a report has the variables of two netlists
+abbrev pub IsReportedOrder : Strategy → Option Attempt → Match → Circuit → Circuit → Option Circuit → Order → Type 0
+IsReportedOrder (One o) tried how a b c order = order ≡ o
+IsReportedOrder (Computed k) tried how a b c order = IsOrderOf how a b c (tried_orders.Computed k) order
+IsReportedOrder Best (Some t) how a b c order = IsOrderOf how a b c t.order order
+IsReportedOrder Best None how a b c order = order ≡ orders.Declared
+IsReportedOrder Auto tried how a b c order = order ≡ orders.Declared
+IsReportedOrder Cones tried how a b c order = order ≡ orders.Declared
+IsReportedOrder Merge tried how a b c order = order ≡ orders.Declared
+
+-- the devices gave these netlists, and this is their naming in the order in which the report of this attempt has the variables
+abbrev pub HaveReportedNaming : DeviceTexts → Settings → Option Attempt → Circuit → Circuit → Option Circuit → NamingModel → Type 0
+HaveReportedNaming input s tried a b c p =
+    (order : Order) × IsReportedOrder s.order tried s.matching a b c order × HaveNaming input s.matching order a b c p
 
 -- the naming of these verdicts is that of the task's netlists, in the order in which the report of this attempt has the variables
 abbrev pub HaveReportNaming : {H : Type 0} → Task H → Option Attempt → VerdictsModel → Type 0
-HaveReportNaming task tried v = IsNamingIn task (reported_order task.settings.now.order tried) v.naming
+HaveReportNaming task tried v = (order : Order) × IsReportedOrder task.settings.now.order tried task.settings.now.matching
+    (circuit task.first.now) (circuit task.second.now) (condition task.given) order × IsNamingIn task order v.naming
 
 -- this holds of a task as `OfTask` says, and of each attempt whose report these verdicts have the naming of
 abbrev pub OfReport : {H : Type 0} → Task H → VerdictsModel → (DeviceTexts → Settings → Option Attempt → Type 0) → Type 0
@@ -134,7 +145,7 @@ pub record HaveExplanations (input : DeviceTexts) (s : Settings) (tried : Option
   -- their ranks, which order inner signals, are those of their gates
   pub first_sound : IsNet a
   pub second_sound : IsNet b
-  pub named : HaveNaming input s.matching (reported_order s.order tried) (circuit a) (circuit b) c p
+  pub named : HaveReportedNaming input s tried (circuit a) (circuit b) c p
   -- the bits of an assignment are those of the variables of this naming
   pub variables : found.variables ≡ p.names
   pub known : AreTargetsIn (circuit a) s.explain.items

@@ -1,4 +1,5 @@
 pub mod Reporting
+pub mod Ordering
 pub mod Rounds
 pub mod Budgets
 pub mod Namings

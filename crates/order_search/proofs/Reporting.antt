@@ -7,7 +7,7 @@ use Rattle.net_order.specs.declared.order.OrderFault.TheVariants.{TooManyInputs}
 use Rattle.net_order.specs.Order.{max_variables, variables_in}
 use Rattle.compare_built.specs.Devices.{DeviceTexts}
 use Rattle.compare_built.specs.declared.strategy.Strategy.{Strategy}
-use Rattle.compare_built.specs.declared.strategy.Strategy.TheVariants.{One, Best, Auto, Cones, Merge}
+use Rattle.compare_built.specs.declared.strategy.Strategy.TheVariants.{One, Computed, Best, Auto, Cones, Merge}
 use Rattle.compare_built.specs.declared.fault.CheckFault.{CheckFault}
 use Rattle.compare_built.specs.declared.fault.CheckFault.TheVariants as faults
 use Rattle.compare_built.specs.Attempts.{MayGoByCones}
@@ -36,6 +36,7 @@ late_whole e late is = subst IsComparisonFault is late
 -- few variables are few for any choice
 pub few_for : (choice : Strategy) (how : Match) (a b : Circuit) (c : Option Circuit) → length (variables_in how a b c) ≤ max_variables → AreVariablesFewFor choice how a b c
 few_for (One o) how a b c few = few
+few_for (Computed k) how a b c few = few
 few_for Best how a b c few = few
 few_for Auto how a b c few = tt
 few_for Cones how a b c few = tt
@@ -44,6 +45,7 @@ few_for Merge how a b c few = tt
 -- where pairs may be judged by their cones, any number is
 pub any_for : (choice : Strategy) (how : Match) (a b : Circuit) (c : Option Circuit) → MayGoByCones choice → AreVariablesFewFor choice how a b c
 any_for (One o) how a b c may = absurd may
+any_for (Computed k) how a b c may = absurd may
 any_for Best how a b c may = absurd may
 any_for Auto how a b c may = tt
 any_for Cones how a b c may = tt

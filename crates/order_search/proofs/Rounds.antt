@@ -11,6 +11,7 @@ use Rattle.std.specs.List.Sorted.{IsPermutation}
 use Rattle.net_bench.specs.Circuit.{Circuit, circuit}
 use Rattle.net_order.specs.declared.order.Match.{Match}
 use Rattle.net_order.specs.declared.order.Order.{Order}
+use Rattle.net_order.specs.declared.order.Order.TheVariants as orders
 use Rattle.net_order.specs.declared.order.OrderFault.{OrderFault}
 use Rattle.net_order.specs.Order.{NamingModel, IsPairing, HasLevels, condition, own, names_by}
 use Rattle.expand_work.specs.Bounds.{most_of}
@@ -18,13 +19,16 @@ use Rattle.expand_work.specs.declared.fault.WaveFault.TheVariants.{OutOfMemory a
 use Rattle.compare_built.specs.Details.{details_in}
 use Rattle.compare_built.specs.declared.strategy.Attempt.{Attempt}
 use Rattle.compare_built.specs.declared.strategy.Candidate.{Candidate}
-use Rattle.compare_built.specs.declared.strategy.Candidate.TheVariants.{Interleave, Force, Index, Depth, Declared}
+use Rattle.compare_built.specs.declared.strategy.Candidate.TheVariants.{MsbFirst, Weights, ForceGroups}
+use Rattle.compare_built.specs.declared.strategy.AttemptOrder.{AttemptOrder}
+use Rattle.compare_built.specs.declared.strategy.AttemptOrder.TheVariants.{Computed, Declared}
 use Rattle.compare_built.specs.declared.strategy.Strategy.{Strategy}
 use Rattle.compare_built.specs.declared.fault.CheckFault.{CheckFault}
 use Rattle.compare_built.specs.declared.fault.CheckFault.TheVariants.{Order as OrderRefused, Wave, GivenUp, OutOfMemory}
 use Rattle.compare_built.specs.declared.task.Task.{Task}
 use Rattle.order_search.specs.declared.trials.Trial.{Trial}
-use Rattle.compare_built.specs.Attempts.{AllBefore, AreGivenUp, IsGivenUpWithin, first_budget, order_of}
+use Rattle.compare_built.specs.Attempts.{AllBefore, AreGivenUp, IsAttemptGivenUp, IsGivenUpWithin, first_budget}
+use Rattle.compare_built.specs.Candidates.{InOrderOf, IsOrderIn, IsOrderOf}
 use Rattle.report_text.specs.declared.verdict.Verdict.{Verdict}
 use Rattle.report_text.specs.Lines.{Found}
 use Rattle.compare_built.specs.Check.{AreAccepted, AreVariablesFewFor, AreGiven, IsCheckFault, IsJudged, IsComparisonFault}
@@ -32,9 +36,10 @@ use Rattle.compare_built.specs.Report.{AreVerdicts}
 use Rattle.compare_built.specs.Devices.{DeviceTexts}
 use Rattle.compare_built.specs.Limits.{AreBeyond, AreWithin, Exceeds, FitsWithin}
 use Rattle.order_search.proofs.Budgets.{each_smaller}
+use Rattle.order_search.proofs.Ordering.{declared_pairing}
 use Rattle.compare_built.specs.Widths.{IsTooWide}
 use Rattle.order_search.proofs.Reporting.{few_for, late_fault}
-use Rattle.order_search.specs.Trials.{AreGivenUpTrials, AreCandidatesGivenUp, AreEarlierGivenUp, AreTrials, AsksMore, EndsAtOnce, IsCandidateFault, IsDecided, IsFull, IsNamingIn, IsPairingIn, IsCandidateGivenUp, IsTrial, IsTrialFault, IsTried, NeedsMore, WasGivenUp}
+use Rattle.order_search.specs.Trials.{AreGivenUpTrials, AreCandidatesGivenUp, AreEarlierGivenUp, AreTrials, AsksMore, EndsAtOnce, IsCandidateFault, IsDecided, IsFull, IsNamingIn, IsOrderGivenUp, IsPairedBy, IsPairingIn, IsCandidateGivenUp, IsTrial, IsTrialFault, IsTried, NeedsMore, WasGivenUp}
 use Rattle.order_search.specs.Trials.{reported_pairing}
 
 -- ---- orders
@@ -61,35 +66,37 @@ same_pairing how a b given o k p q one other same =
 
 -- ---- candidates in turn
 
--- what holds of each candidate before one, by their places, holds of all before it
-pub all_before : (P Q : Candidate → Type 0) → ((c : Candidate) → P c → Q c) → (c : Candidate) → AllBefore c P → AllBefore c Q
-all_before P Q f Interleave h = tt
-all_before P Q f Force h = f Interleave h
-all_before P Q f Index h = (f Interleave h.0, f Force h.1)
-all_before P Q f Depth h = (f Interleave h.0, f Force h.1, f Index h.2)
-all_before P Q f Declared h = (f Interleave h.0, f Force h.1, f Index h.2, f Depth h.3)
+-- what holds of each candidate before an order, by their places, holds of all before it
+pub all_before : (P Q : Candidate → Type 0) → ((c : Candidate) → P c → Q c) → (o : AttemptOrder) → AllBefore o P → AllBefore o Q
+all_before P Q f (Computed MsbFirst) h = tt
+all_before P Q f (Computed Weights) h = f MsbFirst h
+all_before P Q f (Computed ForceGroups) h = (f MsbFirst h.0, f Weights h.1)
+all_before P Q f Declared h = (f MsbFirst h.0, f Weights h.1, f ForceGroups h.2)
 
-pub each_candidate : (P : Candidate → Type 0) → P Interleave → P Force → P Index → P Depth → P Declared → (c : Candidate) → P c
-each_candidate P i f x d e Interleave = i
-each_candidate P i f x d e Force = f
-each_candidate P i f x d e Index = x
-each_candidate P i f x d e Depth = d
-each_candidate P i f x d e Declared = e
+-- and so does what holds of each candidate
+pub before_any : (P : Candidate → Type 0) (o : AttemptOrder) → ((c : Candidate) → P c) → AllBefore o P
+before_any P (Computed MsbFirst) h = tt
+before_any P (Computed Weights) h = h MsbFirst
+before_any P (Computed ForceGroups) h = (h MsbFirst, h Weights)
+before_any P Declared h = (h MsbFirst, h Weights, h ForceGroups)
+
+pub each_candidate : (P : Candidate → Type 0) → P MsbFirst → P Weights → P ForceGroups → (c : Candidate) → P c
+each_candidate P m w f MsbFirst = m
+each_candidate P m w f Weights = w
+each_candidate P m w f ForceGroups = f
 
 -- the same in the order in which they are tried
 abbrev pub candidates : List Candidate
-candidates = Interleave ∷ Force ∷ Index ∷ Depth ∷ Declared ∷ []
+candidates = MsbFirst ∷ Weights ∷ ForceGroups ∷ []
 
-pub each_at : (P : Candidate → Type 0) (d : Candidate) → ((j : ℕ) → j < 5 → P (get_or candidates j d)) → (c : Candidate) → P c
-each_at P d h = each_candidate P (h 0 (lit< tt)) (h 1 (lit< tt)) (h 2 (lit< tt)) (h 3 (lit< tt)) (h 4 (lit< tt))
+pub each_at : (P : Candidate → Type 0) (d : Candidate) → ((j : ℕ) → j < 3 → P (get_or candidates j d)) → (c : Candidate) → P c
+each_at P d h = each_candidate P (h 0 (lit< tt)) (h 1 (lit< tt)) (h 2 (lit< tt))
 
-pub before_at : (P : Candidate → Type 0) (k : ℕ) (d : Candidate) → k < 5 → ((j : ℕ) → j < k → P (get_or candidates j d)) → AllBefore (get_or candidates k d) P
+pub before_at : (P : Candidate → Type 0) (k : ℕ) (d : Candidate) → k < 3 → ((j : ℕ) → j < k → P (get_or candidates j d)) → AllBefore (Computed (get_or candidates k d)) P
 before_at P zero d lt h = tt
 before_at P (suc zero) d lt h = h 0 (lit< tt)
 before_at P (suc (suc zero)) d lt h = (h 0 (lit< tt), h 1 (lit< tt))
-before_at P (suc (suc (suc zero))) d lt h = (h 0 (lit< tt), h 1 (lit< tt), h 2 (lit< tt))
-before_at P (suc (suc (suc (suc zero)))) d lt h = (h 0 (lit< tt), h 1 (lit< tt), h 2 (lit< tt), h 3 (lit< tt))
-before_at P (suc (suc (suc (suc (suc k))))) d lt h = absurd (omega (arith, lt))
+before_at P (suc (suc (suc k))) d lt h = absurd (omega (arith, lt))
 
 -- ---- given up
 
@@ -118,38 +125,53 @@ module _ {H : Type 0} (task : Task H) (input : DeviceTexts) (given : AreGiven in
   pub beyond : (o : Order) (p : NamingModel) (budget : ℕ) → IsPairingIn task o p → Exceeds budget (circuit task.first.now) (circuit task.second.now) (condition task.given) p → AreBeyond input task.settings.now.matching o budget
   beyond o p budget is more = (circuit task.first.now, circuit task.second.now, condition task.given, p, record { netlists = given; pairing = is }, more)
 
-  pub given_up_fault : (o : Order) (p : NamingModel) (fault : CheckFault) → IsPairingIn task o p → (fault ≡ Wave Full) ⊎ (fault ≡ GivenUp) → IsCheckFault input ⊥ ⊥ ⊥ task.settings.now.order task.settings.now.matching o fault
-  given_up_fault o p fault is (inl e) = subst (IsCheckFault input ⊥ ⊥ ⊥ task.settings.now.order task.settings.now.matching o) (sym e) (accepted_paired task.settings.now.order o p is)
-  given_up_fault o p fault is (inr e) = subst (IsCheckFault input ⊥ ⊥ ⊥ task.settings.now.order task.settings.now.matching o) (sym e) (accepted_paired task.settings.now.order o p is)
+  -- where there is a pairing in the order of an attempt, declared order is accepted
+  pub accepted_by : (choice : Strategy) (o : AttemptOrder) (p : NamingModel) → IsPairedBy task o p → AreAccepted input choice task.settings.now.matching orders.Declared
+  accepted_by choice o p is =
+      let d = declared_pairing task.settings.now.matching (circuit task.first.now) (circuit task.second.now) (condition task.given) o p is in
+      accepted_paired choice orders.Declared d.0 d.1
 
-  pub given_up_in_input : (budget : ℕ) (bound : Option ℕ) (c : Candidate) → IsCandidateGivenUp task budget bound c → IsGivenUpWithin input task.settings.now.matching budget bound (order_of c)
-  given_up_in_input budget bound c p = by p.cause
+  pub given_up_fault : (o : AttemptOrder) (p : NamingModel) (fault : CheckFault) → IsPairedBy task o p → (fault ≡ Wave Full) ⊎ (fault ≡ GivenUp) →
+      IsCheckFault input ⊥ ⊥ ⊥ task.settings.now.order task.settings.now.matching orders.Declared fault
+  given_up_fault o p fault is (inl e) = subst (IsCheckFault input ⊥ ⊥ ⊥ task.settings.now.order task.settings.now.matching orders.Declared) (sym e) (accepted_by task.settings.now.order o p is)
+  given_up_fault o p fault is (inr e) = subst (IsCheckFault input ⊥ ⊥ ⊥ task.settings.now.order task.settings.now.matching orders.Declared) (sym e) (accepted_by task.settings.now.order o p is)
+
+  -- the order of an attempt at a task is that at what the devices gave
+  pub order_in_input : (o : AttemptOrder) (k : Order) → IsOrderOf task.settings.now.matching (circuit task.first.now) (circuit task.second.now) (condition task.given) o k → IsOrderIn input task.settings.now.matching o k
+  order_in_input o k is = (circuit task.first.now, circuit task.second.now, condition task.given, given, is)
+
+  pub given_up_in_input : (budget : ℕ) (bound : Option ℕ) (o : AttemptOrder) → IsOrderGivenUp task budget bound o → IsAttemptGivenUp input task.settings.now.matching budget bound o
+  given_up_in_input budget bound o g = (g.paired.0, order_in_input o g.paired.0 g.paired.1, by g.cause)
     where
-      by : NeedsMore task budget p.pairing ⊎ AsksMore task budget bound p.pairing → IsGivenUpWithin input task.settings.now.matching budget bound (order_of c)
-      by (inl more) = inl (circuit task.first.now, circuit task.second.now, condition task.given, p.pairing, record { netlists = given; pairing = p.paired }, more)
-      by (inr wide) = inr (circuit task.first.now, circuit task.second.now, condition task.given, p.pairing, record { netlists = given; pairing = p.paired }, wide)
+      by : NeedsMore task budget g.pairing ⊎ AsksMore task budget bound g.pairing → IsGivenUpWithin input task.settings.now.matching budget bound g.paired.0
+      by (inl more) = inl (circuit task.first.now, circuit task.second.now, condition task.given, g.pairing, record { netlists = given; pairing = g.paired.2 }, more)
+      by (inr wide) = inr (circuit task.first.now, circuit task.second.now, condition task.given, g.pairing, record { netlists = given; pairing = g.paired.2 }, wide)
 
-  pub beyond_in_input : (budget : ℕ) (c : Candidate) → IsFull task budget c → AreBeyond input task.settings.now.matching (order_of c) budget
-  beyond_in_input budget c p = (circuit task.first.now, circuit task.second.now, condition task.given, p.pairing, record { netlists = given; pairing = p.paired }, p.exceeds)
+  pub beyond_in_input : (budget : ℕ) (c : Candidate) → IsFull task budget c → InOrderOf input task.settings.now.matching (Computed c) (λ k. AreBeyond input task.settings.now.matching k budget)
+  beyond_in_input budget c g = (
+    g.paired.0,
+    order_in_input (Computed c) g.paired.0 g.paired.1,
+    (circuit task.first.now, circuit task.second.now, condition task.given, g.pairing, record { netlists = given; pairing = g.paired.2 }, g.exceeds),
+  )
 
   pub earlier_in_input : (limit : ℕ) (bound : Option ℕ) (t : Attempt) → AreEarlierGivenUp task limit bound t → AreGivenUp input task.settings.now.matching limit bound t
   earlier_in_input limit bound t p = record {
-    smaller = λ budget is lt c. given_up_in_input budget bound c (p.smaller budget is lt c);
-    first = λ e. all_before (IsCandidateGivenUp task t.budget bound) (λ c. IsGivenUpWithin input task.settings.now.matching t.budget bound (order_of c)) (given_up_in_input t.budget bound) t.order (p.first e);
+    smaller = λ budget is lt c. given_up_in_input budget bound (Computed c) (p.smaller budget is lt c);
+    first = λ e. all_before (IsCandidateGivenUp task t.budget bound) (λ c. IsAttemptGivenUp input task.settings.now.matching t.budget bound (Computed c)) (λ c. given_up_in_input t.budget bound (Computed c)) t.order (p.first e);
   }
 
 -- ---- rounds
 
 module _ {H : Type 0} (task : Task H) where
-  -- a candidate whose trial was given up
-  pub passed_by : (budget : ℕ) (bound : Option ℕ) (full : Bool) (trials : List Trial) (c : Candidate) → AreGivenUpTrials task budget bound full trials → IsTried task trials c → IsCandidateGivenUp task budget bound c
-  passed_by budget bound full trials c g t = record {
+  -- an order whose trial was given up
+  pub passed_by : (budget : ℕ) (bound : Option ℕ) (full : Bool) (trials : List Trial) (o : AttemptOrder) → AreGivenUpTrials task budget bound full trials → IsTried task trials o → IsOrderGivenUp task budget bound o
+  passed_by budget bound full trials o g t = record {
     pairing = t.trial.pairing;
     paired = t.paired;
     cause = All-contains (λ (t : Trial). NeedsMore task budget t.pairing ⊎ AsksMore task budget bound t.pairing) trials t.trial g.causes t.among;
   }
 
-  pub full_by : (budget : ℕ) (bound : Option ℕ) (full : Bool) (trials : List Trial) (c : Candidate) → AreGivenUpTrials task budget bound full trials → full ≡ true → IsTried task trials c → IsFull task budget c
+  pub full_by : (budget : ℕ) (bound : Option ℕ) (full : Bool) (trials : List Trial) (c : Candidate) → AreGivenUpTrials task budget bound full trials → full ≡ true → IsTried task trials (Computed c) → IsFull task budget c
   full_by budget bound full trials c g e t = record {
     pairing = t.trial.pairing;
     paired = t.paired;
@@ -157,21 +179,26 @@ module _ {H : Type 0} (task : Task H) where
   }
 
   -- the candidates of a round whose trials were all given up
-  pub all_passed : (budget : ℕ) (bound : Option ℕ) (full : Bool) (trials : List Trial) → AreGivenUpTrials task budget bound full trials → ((c : Candidate) → IsTried task trials c) → AreCandidatesGivenUp task budget bound full trials
+  pub all_passed : (budget : ℕ) (bound : Option ℕ) (full : Bool) (trials : List Trial) → AreGivenUpTrials task budget bound full trials → ((c : Candidate) → IsTried task trials (Computed c)) → AreCandidatesGivenUp task budget bound full trials
   all_passed budget bound full trials g each = record {
     trials_of = record { own = g.own; each = each };
-    each = λ c. passed_by budget bound full trials c g (each c);
+    each = λ c. passed_by budget bound full trials (Computed c) g (each c);
     nodes = λ e c. full_by budget bound full trials c g e (each c);
   }
 
   -- a trial that is like one before
-  pub tried_before : (trials : List Trial) (c : Candidate) (p : NamingModel) → All (IsTrial task) trials → IsPairingIn task (order_of c) p → (t : Trial) × Contains trials t × (t.pairing.names ≡ p.names) → IsTried task trials c
-  tried_before trials c p own is (t, among, same) = record {
-    trial = t;
-    among = among;
-    paired = same_pairing task.settings.now.matching (circuit task.first.now) (circuit task.second.now) (condition task.given) (order_of t.candidate) (order_of c) t.pairing p
-        (All-contains (IsTrial task) trials t own among) is same;
-  }
+  pub tried_before : (trials : List Trial) (o : AttemptOrder) (p : NamingModel) → All (IsTrial task) trials → IsPairedBy task o p → (t : Trial) × Contains trials t × (t.pairing.names ≡ p.names) → IsTried task trials o
+  tried_before trials o p own is (t, among, same) =
+      let of = All-contains (IsTrial task) trials t own among in
+      record {
+        trial = t;
+        among = among;
+        paired = (
+          is.0,
+          is.1,
+          same_pairing task.settings.now.matching (circuit task.first.now) (circuit task.second.now) (condition task.given) of.0 is.0 t.pairing p of.2 is.2 same,
+        );
+      }
 
   -- one more trial, which was given up
   and_left : (all full : Bool) → all && full ≡ true → all ≡ true
@@ -235,10 +262,10 @@ module _ {H : Type 0} (task : Task H) where
   and_true budget bound true trials g = g
   and_true budget bound false trials g = g
 
-  pub tried_last : (trials : List Trial) (t : Trial) → IsTrial task t → IsTried task (trials ++ t ∷ []) t.candidate
+  pub tried_last : (trials : List Trial) (t : Trial) → IsTrial task t → IsTried task (trials ++ t ∷ []) t.order
   tried_last trials t is = record { trial = t; among = Contains-push trials t; paired = is }
 
-  pub tried_still : (trials : List Trial) (t : Trial) (k : Candidate) → IsTried task trials k → IsTried task (trials ++ t ∷ []) k
+  pub tried_still : (trials : List Trial) (t : Trial) (k : AttemptOrder) → IsTried task trials k → IsTried task (trials ++ t ∷ []) k
   tried_still trials t k h = record { trial = h.trial; among = Contains-append_left trials (t ∷ []) h.trial h.among; paired = h.paired }
 
   -- trials in another order
@@ -282,10 +309,9 @@ module _ {H : Type 0} (task : Task H) where
   -- such a fault has its cause in the trial's order
   pub trial_cause : (budget : ℕ) (bound : Option ℕ) (t : Trial) (fault : CheckFault) → IsTrial task t → IsTrialFault task budget bound t.pairing fault → IsCandidateFault task fault
   trial_cause budget bound t fault is h = λ input given.
-      let order = order_of t.candidate in
       let how = task.settings.now.matching in
       let choice = task.settings.now.order in
-      (t.candidate, late_fault input ⊥ ⊥ ⊥ choice how order fault (accepted_paired task input given choice order t.pairing is) (of_comparison budget bound t.pairing fault h))
+      late_fault input ⊥ ⊥ ⊥ choice how orders.Declared fault (accepted_by task input given choice t.order t.pairing is) (of_comparison budget bound t.pairing fault h)
 
   -- and verdicts decide
   pub trial_decides : {V : Type 0} (items : V → List Verdict) (declared : Option (Bor NamingModel)) (budget : ℕ) (t : Trial) (r : Result V CheckFault) → IsTrial task t →

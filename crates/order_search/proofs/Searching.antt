@@ -7,9 +7,12 @@ use Rattle.net_order.specs.Order.{NamingModel}
 use Rattle.compare_built.specs.declared.fault.CheckFault.{CheckFault}
 use Rattle.compare_built.specs.declared.fault.CheckFault.TheVariants.{Wave, GivenUp, Only, Write}
 use Rattle.compare_built.specs.declared.strategy.Candidate.{Candidate}
-use Rattle.compare_built.specs.declared.strategy.Candidate.TheVariants.{Interleave, Declared}
+use Rattle.compare_built.specs.declared.strategy.Candidate.TheVariants.{MsbFirst}
+use Rattle.compare_built.specs.declared.strategy.AttemptOrder.{AttemptOrder}
+use Rattle.compare_built.specs.declared.strategy.AttemptOrder.TheVariants.{Computed, Declared}
+use Rattle.net_order.specs.declared.order.Order.TheVariants as orders
 use Rattle.compare_built.specs.declared.task.Task.{Task}
-use Rattle.compare_built.specs.Attempts.{AllBefore, IsBudget, first_budget, order_of}
+use Rattle.compare_built.specs.Attempts.{AllBefore, IsBudget, first_budget}
 use Rattle.compare_built.specs.Check.{IsCheckFault}
 use Rattle.order_search.specs.declared.attempts.Decided.{Decided as DecidedValue}
 use Rattle.order_search.specs.declared.attempts.Round.{Round}
@@ -48,15 +51,15 @@ never_gives_up fault ends (inr given_up) = subst EndsAtOnce given_up ends
 
 module _ {H : Type 0} (task : Task H) (declared : Option (Bor NamingModel)) (limit : ℕ) (bound : Option ℕ) where
   -- an attempt within the first budget decides
-  pub found_first : (budget : ℕ) (d : DecidedValue) → budget ≡ first_budget limit → Decides task declared budget d → AllBefore d.trial.candidate (IsCandidateGivenUp task budget bound) →
+  pub found_first : (budget : ℕ) (d : DecidedValue) → budget ≡ first_budget limit → Decides task declared budget d → AllBefore d.trial.order (IsCandidateGivenUp task budget bound) →
       IsFoundWithin task declared limit bound d
   found_first budget d first decides before =
       let own : d.budget ≡ first_budget limit = decides.1 ∙ first in
       record {
         decided = subst (λ n. IsDecided task declared n d.trial d.verdicts.items) (sym decides.1) decides.0;
         budget = first_is_one limit d.budget own;
-        earlier_given_up = passed_first task limit bound (record { order = d.trial.candidate; budget = d.budget }) own
-            (subst (λ n. AllBefore d.trial.candidate (IsCandidateGivenUp task n bound)) (sym decides.1) before);
+        earlier_given_up = passed_first task limit bound (record { order = d.trial.order; budget = d.budget }) own
+            (subst (λ n. AllBefore d.trial.order (IsCandidateGivenUp task n bound)) (sym decides.1) before);
       }
 
   -- and one within a later budget
@@ -65,7 +68,7 @@ module _ {H : Type 0} (task : Task H) (declared : Option (Bor NamingModel)) (lim
   found_later k budget d most within more is tried decides = record {
     decided = subst (λ n. IsDecided task declared n d.trial d.verdicts.items) (sym decides.1) decides.0;
     budget = subst (IsBudget limit) (sym decides.1) is;
-    earlier_given_up = passed_at task limit bound k budget (record { order = d.trial.candidate; budget = d.budget }) most within more tried decides.1;
+    earlier_given_up = passed_at task limit bound k budget (record { order = d.trial.order; budget = d.budget }) most within more tried decides.1;
   }
 
   -- every attempt was given up, the last within the limit
@@ -74,7 +77,7 @@ module _ {H : Type 0} (task : Task H) (declared : Option (Bor NamingModel)) (lim
   all_given_up full trials fault last all which nodes = record {
     full = λ e. last.nodes (nodes e);
     given_up = λ _. all;
-    cause = λ input given. (Interleave, given_up_fault task input given (order_of Interleave) (last.each Interleave).pairing fault (last.each Interleave).paired which);
+    cause = λ input given. given_up_fault task input given (Computed MsbFirst) (last.each MsbFirst).pairing fault (last.each MsbFirst).paired which;
     ends = giving_up_ends fault which;
   }
 
@@ -102,7 +105,7 @@ module _ {H : Type 0} (task : Task H) (declared : Option (Bor NamingModel)) (bud
       none k lt = let no : k < 0 = subst (λ ts. k < length ts) e lt in omega (arith, no)
 
   -- after the attempt in another order, that in declared order decides or is given up as well
-  pub last_of : (furthest : Candidate) (all : Bool) (old new : List Trial) (r : Result Round CheckFault) → AreGivenUpTrials task budget bound all old → IsTried task old furthest →
+  pub last_of : (furthest : AttemptOrder) (all : Bool) (old new : List Trial) (r : Result Round CheckFault) → AreGivenUpTrials task budget bound all old → IsTried task old furthest →
       IfOk r (IsFirstAttempt task declared budget bound Declared old new) → IfOk r (IsLastRound task declared furthest budget bound)
   last_of furthest all old new (Ok (rounds.Decided d)) given tried turn = turn.0
   last_of furthest all old new (Ok (rounds.GivenUp full)) given tried turn =
@@ -125,7 +128,7 @@ module _ {H : Type 0} (task : Task H) (declared : Option (Bor NamingModel)) (lim
   pub found_says : (r : Result DecidedValue CheckFault) → IfOk r (IsFoundWithin task declared limit bound) →
       IfOk r (λ d. IsDecided task declared d.budget d.trial d.verdicts.items)
       × IfOk r (λ d. IsBudget limit d.budget)
-      × IfOk r (λ d. AreEarlierGivenUp task limit bound (record { order = d.trial.candidate; budget = d.budget }))
+      × IfOk r (λ d. AreEarlierGivenUp task limit bound (record { order = d.trial.order; budget = d.budget }))
   found_says (Ok d) h = (h.decided, h.budget, h.earlier_given_up)
   found_says (Err fault) h = (tt, tt, tt)
 
@@ -133,7 +136,7 @@ module _ {H : Type 0} (task : Task H) (declared : Option (Bor NamingModel)) (lim
   pub fault_says : (r : Result DecidedValue CheckFault) → IfErr r (IsSearchFault task limit bound) →
       (r ≡ Err (Wave Full) → (c : Candidate) → IsFull task limit c)
       × IfErr r (λ fault. IsGivingUp fault → AreAllGivenUp task limit bound)
-      × OfTask task (λ input s. IfErr r (λ fault. (c : Candidate) × IsCheckFault input ⊥ ⊥ ⊥ s.order s.matching (order_of c) fault))
+      × OfTask task (λ input s. IfErr r (IsCheckFault input ⊥ ⊥ ⊥ s.order s.matching orders.Declared))
       × IfErr r EndsSearch
   fault_says (Ok d) h = (λ e. absurd (let never : ⊥ = cc in never), tt, λ input given. tt, tt)
   fault_says (Err fault) h = (λ e. h.full (let same : fault ≡ Wave Full = cc in same), h.given_up, h.cause, h.ends)

@@ -6,6 +6,7 @@ use Rattle.expand_work.specs.Bounds.{most_of}
 use Rattle.expand_work.specs.declared.fault.WaveFault.TheVariants.{OutOfMemory as NoWaveMemory, Full, TooManyRequests, NoWorker}
 use Rattle.net_bench.specs.Circuit.{circuit}
 use Rattle.net_order.specs.declared.order.Order.{Order}
+use Rattle.net_order.specs.declared.order.Order.TheVariants as orders
 use Rattle.net_order.specs.Order.{NamingModel, IsNaming, IsPairing, condition, max_variables, variables_in}
 use Rattle.report_text.specs.declared.verdict.Verdict.{Verdict}
 use Rattle.order_search.specs.declared.attempts.Decided.{Decided as DecidedValue}
@@ -14,13 +15,15 @@ use Rattle.order_search.specs.declared.attempts.Ended.TheVariants as endings
 use Rattle.order_search.specs.declared.attempts.Round.{Round}
 use Rattle.order_search.specs.declared.attempts.Round.TheVariants as rounds
 use Rattle.compare_built.specs.declared.strategy.Attempt.{Attempt}
+use Rattle.compare_built.specs.declared.strategy.AttemptOrder.{AttemptOrder}
+use Rattle.compare_built.specs.declared.strategy.AttemptOrder.TheVariants.{Computed, Declared}
 use Rattle.compare_built.specs.declared.strategy.Candidate.{Candidate}
-use Rattle.compare_built.specs.declared.strategy.Candidate.TheVariants as candidates
 use Rattle.compare_built.specs.declared.fault.CheckFault.{CheckFault}
 use Rattle.compare_built.specs.declared.fault.CheckFault.TheVariants.{Order as OrderRefused, Wave, GivenUp, OutOfMemory}
 use Rattle.compare_built.specs.declared.task.Task.{Task}
 use Rattle.order_search.specs.declared.trials.Trial.{Trial}
-use Rattle.compare_built.specs.Attempts.{AllBefore, IsBudget, first_budget, order_of}
+use Rattle.compare_built.specs.Attempts.{AllBefore, IsBudget, first_budget}
+use Rattle.compare_built.specs.Candidates.{IsPairingBy}
 use Rattle.compare_built.specs.Check.{IsCheckFault}
 use Rattle.compare_built.specs.Limits.{FitsWithin, Exceeds}
 use Rattle.compare_built.specs.Details.{details_in}
@@ -45,20 +48,24 @@ abbrev pub HasTooManyVariables : {H : Type 0} → Task H → Type 0
 HasTooManyVariables task = max_variables < length (variables_in task.settings.now.matching (circuit task.first.now) (circuit task.second.now)
     (condition task.given))
 
--- a trial has the pairing in its candidate's order
-abbrev pub IsTrial : {H : Type 0} → Task H → Trial → Type 0
-IsTrial task t = IsPairingIn task (order_of t.candidate) t.pairing
+-- the pairing in the order of an attempt
+abbrev pub IsPairedBy : {H : Type 0} → Task H → AttemptOrder → NamingModel → Type 0
+IsPairedBy task o p = IsPairingBy task.settings.now.matching (circuit task.first.now) (circuit task.second.now) (condition task.given) o p
 
--- One of the trials has the pairing in this candidate's order.
-pub record IsTried {H : Type 0} (task : Task H) (trials : List Trial) (c : Candidate) : Type 0 where
+-- a trial has the pairing in its order
+abbrev pub IsTrial : {H : Type 0} → Task H → Trial → Type 0
+IsTrial task t = IsPairedBy task t.order t.pairing
+
+-- One of the trials has the pairing in the order of this attempt.
+pub record IsTried {H : Type 0} (task : Task H) (trials : List Trial) (o : AttemptOrder) : Type 0 where
   pub trial : Trial
   pub among : Contains trials trial
-  pub paired : IsPairingIn task (order_of c) trial.pairing
+  pub paired : IsPairedBy task o trial.pairing
 
 -- Each candidate has its trial, and each trial its pairing.
 pub record AreTrials {H : Type 0} (task : Task H) (trials : List Trial) : Type 0 where
   pub own : All (IsTrial task) trials
-  pub each : (c : Candidate) → IsTried task trials c
+  pub each : (c : Candidate) → IsTried task trials (Computed c)
 
 -- where verdicts are told in another order than the attempt's, this is a pairing in it, and no sizes are asked for
 abbrev pub IsReportedIn : {H : Type 0} → Task H → Option (Bor NamingModel) → Type 0
@@ -81,11 +88,11 @@ pub record IsDecided {H : Type 0} (task : Task H) (declared : Option (Bor Naming
       (reported_pairing declared t.pairing)
       (record { variables = (reported_pairing declared t.pairing).names; verdicts = verdicts })
 
--- In a candidate's order no more nodes are needed than so many.
+-- In the order of an attempt no more nodes are needed than so many.
 pub record IsDecidedWithin {H : Type 0} (task : Task H) (budget : ℕ) : Type 0 where
-  pub candidate : Candidate
+  pub order : AttemptOrder
   pub pairing : NamingModel
-  pub paired : IsPairingIn task (order_of candidate) pairing
+  pub paired : IsPairedBy task order pairing
   pub fit : FitsWithin budget (circuit task.first.now) (circuit task.second.now) (condition task.given) pairing
 
 -- the nodes that a pairing needs are more
@@ -121,16 +128,20 @@ IsEnded task declared budget bound t (endings.GivenUp full) = WasGivenUp task bu
 
 -- ---- candidates
 
--- An attempt in a candidate's order was given up within so many nodes.
-pub record IsCandidateGivenUp {H : Type 0} (task : Task H) (budget : ℕ) (bound : Option ℕ) (c : Candidate) : Type 0 where
+-- An attempt in this order was given up within so many nodes.
+pub record IsOrderGivenUp {H : Type 0} (task : Task H) (budget : ℕ) (bound : Option ℕ) (o : AttemptOrder) : Type 0 where
   pub pairing : NamingModel
-  pub paired : IsPairingIn task (order_of c) pairing
+  pub paired : IsPairedBy task o pairing
   pub cause : NeedsMore task budget pairing ⊎ AsksMore task budget bound pairing
+
+-- the same of a candidate's order
+abbrev pub IsCandidateGivenUp : {H : Type 0} → Task H → (budget : ℕ) → (bound : Option ℕ) → Candidate → Type 0
+IsCandidateGivenUp task budget bound c = IsOrderGivenUp task budget bound (Computed c)
 
 -- The same, for its nodes.
 pub record IsFull {H : Type 0} (task : Task H) (budget : ℕ) (c : Candidate) : Type 0 where
   pub pairing : NamingModel
-  pub paired : IsPairingIn task (order_of c) pairing
+  pub paired : IsPairedBy task (Computed c) pairing
   pub exceeds : NeedsMore task budget pairing
 
 -- ---- rounds: the attempts within one budget
@@ -156,17 +167,17 @@ abbrev pub IsRound : {H : Type 0} → Task H → Option (Bor NamingModel) → (b
 IsRound task declared budget bound trials (rounds.Decided d) = Decides task declared budget d
 IsRound task declared budget bound trials (rounds.GivenUp full) = AreCandidatesGivenUp task budget bound full trials
 
--- what the turn of one candidate came to in the first round: what holds of the trials before holds with it, and it is tried
-abbrev pub IsFirstAttempt : {H : Type 0} → Task H → Option (Bor NamingModel) → (budget : ℕ) → (bound : Option ℕ) → Candidate → (old new : List Trial)
+-- what the turn of one order came to in the first round: what holds of the trials before holds with it, and it is tried
+abbrev pub IsFirstAttempt : {H : Type 0} → Task H → Option (Bor NamingModel) → (budget : ℕ) → (bound : Option ℕ) → AttemptOrder → (old new : List Trial)
     → Round → Type 0
-IsFirstAttempt task declared budget bound c old new (rounds.Decided d) = Decides task declared budget d × (d.trial.candidate ≡ c)
-IsFirstAttempt task declared budget bound c old new (rounds.GivenUp full) =
+IsFirstAttempt task declared budget bound o old new (rounds.Decided d) = Decides task declared budget d × (d.trial.order ≡ o)
+IsFirstAttempt task declared budget bound o old new (rounds.GivenUp full) =
     ((all : Bool) → AreGivenUpTrials task budget bound all old → AreGivenUpTrials task budget bound (all && full) new)
-    × IsTried task new c × ((k : Candidate) → IsTried task old k → IsTried task new k)
+    × IsTried task new o × ((k : AttemptOrder) → IsTried task old k → IsTried task new k)
 
 -- in the first round the candidates before the one that decides were given up
 abbrev pub IsFirstRound : {H : Type 0} → Task H → (budget : ℕ) → (bound : Option ℕ) → Round → Type 0
-IsFirstRound task budget bound (rounds.Decided d) = AllBefore d.trial.candidate (IsCandidateGivenUp task budget bound)
+IsFirstRound task budget bound (rounds.Decided d) = AllBefore d.trial.order (IsCandidateGivenUp task budget bound)
 IsFirstRound task budget bound (rounds.GivenUp full) = ⊤
 
 -- ---- the search
@@ -185,19 +196,19 @@ pub record IsFoundWithin {H : Type 0} (task : Task H) (declared : Option (Bor Na
     (d : DecidedValue) : Type 0 where
   pub decided : IsDecided task declared d.budget d.trial d.verdicts.items
   pub budget : IsBudget limit d.budget
-  pub earlier_given_up : AreEarlierGivenUp task limit bound (record { order = d.trial.candidate; budget = d.budget })
+  pub earlier_given_up : AreEarlierGivenUp task limit bound (record { order = d.trial.order; budget = d.budget })
 
 -- What the last attempts come to: one decides, or the order that came furthest and declared order were both given up.
-abbrev pub IsLastRound : {H : Type 0} → Task H → Option (Bor NamingModel) → (furthest : Candidate) → (budget : ℕ) → (bound : Option ℕ) → Round → Type 0
+abbrev pub IsLastRound : {H : Type 0} → Task H → Option (Bor NamingModel) → (furthest : AttemptOrder) → (budget : ℕ) → (bound : Option ℕ) → Round → Type 0
 IsLastRound task declared furthest budget bound (rounds.Decided d) = Decides task declared budget d
 IsLastRound task declared furthest budget bound (rounds.GivenUp full) =
-    IsCandidateGivenUp task budget bound furthest × IsCandidateGivenUp task budget bound candidates.Declared
+    IsOrderGivenUp task budget bound furthest × IsOrderGivenUp task budget bound Declared
 
 -- ---- faults
 
--- the fault has its cause in the order of a candidate
+-- the fault has its cause in declared order, from which the orders of the candidates are made
 abbrev pub IsCandidateFault : {H : Type 0} → Task H → CheckFault → Type 0
-IsCandidateFault task fault = OfTask task (λ input s. (c : Candidate) × IsCheckFault input ⊥ ⊥ ⊥ s.order s.matching (order_of c) fault)
+IsCandidateFault task fault = OfTask task (λ input s. IsCheckFault input ⊥ ⊥ ⊥ s.order s.matching orders.Declared fault)
 
 -- the fault of a search whose attempts were all given up
 abbrev pub IsGivingUp : CheckFault → Type 0

@@ -3,7 +3,7 @@ ghost use Rattle.std.specs.Prelude.{◌≡◌, ◌≢◌, true, false, IfOk, IfE
 ghost use Rattle.order_search.specs.Trials.{IsGivingUp};
 
 use compare_built::fault::CheckFault;
-use compare_built::strategy::Candidate;
+use compare_built::strategy::AttemptOrder;
 use expand_work::{AttemptEnd, WaveFault};
 
 /// Whether an attempt with this fault is given up for its nodes, or for a wave's requests. Any other fault ends the search.
@@ -21,7 +21,7 @@ pub(crate) fn give_up_reason(fault: CheckFault) -> Result<bool, CheckFault>
 }
 
 /// How an attempt that was given up has ended, for its nodes or not.
-pub(crate) fn end_of(order: Candidate, full: bool) -> AttemptEnd {
+pub(crate) fn end_of(order: AttemptOrder, full: bool) -> AttemptEnd {
     let order = order.name();
     if full {
         AttemptEnd::MoreNodes { order }

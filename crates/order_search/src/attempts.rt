@@ -5,10 +5,10 @@ ghost use Rattle.order_search.specs.Trials.{IsReportedIn, IsRound, IsTrial, IsTr
 
 use crate::attempt_end::{end_of, give_up_reason};
 use crate::bounded_monitor::BoundedMonitor;
-use crate::trials::{Trial, is_tried, keep, paired, put_furthest_first};
+use crate::trials::{Trial, is_tried, keep, paired_by, put_furthest_first};
 use compare_built::comparison::{compare, compare_as_declared};
 use compare_built::fault::CheckFault;
-use compare_built::strategy::Candidate;
+use compare_built::strategy::{AttemptOrder, Candidate};
 use compare_built::task::Task;
 use expand_work::{AttemptEnd, Monitor};
 use net_order::pairing::Pairing;
@@ -21,12 +21,10 @@ use std::thread::Threads;
 const REQUESTS: u64 = 8;
 
 /// The candidates, in the order in which they are tried within the first budget.
-const CANDIDATES: [Candidate; 5] = [
-    Candidate::Interleave,
-    Candidate::Force,
-    Candidate::Index,
-    Candidate::Depth,
-    Candidate::Declared,
+const CANDIDATES: [Candidate; 3] = [
+    Candidate::MsbFirst,
+    Candidate::Weights,
+    Candidate::ForceGroups,
 ];
 
 /// The attempt that decides a comparison: its trial, its verdicts, and the nodes that it was to need.
@@ -96,23 +94,23 @@ fn attempt<H: Threads + Wait + Sync, G: Monitor>(
     };
     match verdicts_by(task, declared, trial, budget, &bounded) {
         Ok(verdicts) => {
-            let order = trial.candidate.name();
+            let order = trial.order.name();
             monitor.at_attempt(budget, AttemptEnd::Decided { order });
             Ok(Ended::Decided(verdicts))
         }
         Err(fault) => {
             let full = give_up_reason(fault)?;
-            monitor.at_attempt(budget, end_of(trial.candidate, full));
+            monitor.at_attempt(budget, end_of(trial.order, full));
             Ok(Ended::GivenUp { full })
         }
     }
 }
 
-/// The first attempt in the order of a candidate. One that is the order of a trial before is that trial's.
+/// The first attempt in an order. One that is the order of a trial before is that trial's.
 pub(crate) fn try_candidate<H: Threads + Wait + Sync, G: Monitor>(
     task: &Task<'_, H>,
     declared: Option<&Pairing>,
-    candidate: Candidate,
+    order: AttemptOrder,
     trials: &mut Vec<Trial>,
     budget: u64,
     monitor: &G,
@@ -120,16 +118,16 @@ pub(crate) fn try_candidate<H: Threads + Wait + Sync, G: Monitor>(
     requires small { budget < 2 ^ 32 }
     requires verdict_order { IsReportedIn task.now declared }
     requires own { All (IsTrial task.now) trials.old.items }
-    ensures first_attempt { IfOk result (IsFirstAttempt task.now declared.entry budget (G.bound monitor.now) candidate trials.old.items trials.new.items) }
+    ensures first_attempt { IfOk result (IsFirstAttempt task.now declared.entry budget (G.bound monitor.now) order trials.old.items trials.new.items) }
     ensures fault { IfErr result (IsCandidateFault task.now) }
     ensures ends { IfErr result EndsAtOnce }
 {
-    let pairing = paired(task, &candidate.order())?;
+    let pairing = paired_by(task, order)?;
     if is_tried(trials.as_slice(), pairing.names()) {
         return Ok(Round::GivenUp { full: true });
     }
     let trial = Trial {
-        candidate,
+        order,
         pairing,
         reached: AtomicU32::new(0),
     };
@@ -164,7 +162,8 @@ pub fn try_first<H: Threads + Wait + Sync, G: Monitor>(
 {
     let mut all_full = true;
     for candidate in CANDIDATES {
-        match try_candidate(task, declared, candidate, trials, budget, monitor)? {
+        let order = AttemptOrder::Computed(candidate);
+        match try_candidate(task, declared, order, trials, budget, monitor)? {
             Round::Decided(decided) => return Ok(Round::Decided(decided)),
             Round::GivenUp { full } => all_full &= full,
         }

@@ -5,7 +5,7 @@ ghost use Rattle.order_search.specs.Trials.{EndsAtOnce, IsCandidateFault, IsLast
 use crate::attempts::{Round, try_candidate};
 use crate::trials::Trial;
 use compare_built::fault::CheckFault;
-use compare_built::strategy::Candidate;
+use compare_built::strategy::AttemptOrder;
 use compare_built::task::Task;
 use expand_work::Monitor;
 use net_order::pairing::Pairing;
@@ -13,26 +13,26 @@ use std::sync::Wait;
 use std::sync::atomic::Ordering;
 use std::thread::Threads;
 
-/// The candidate whose last attempt came furthest, by the rank that it reached; declared order, if there was no attempt.
-pub fn furthest_of(trials: &[Trial]) -> Candidate {
-    let mut furthest = Candidate::Declared;
+/// The order whose last attempt came furthest, by the rank that it reached; declared order, if there was no attempt.
+pub fn furthest_of(trials: &[Trial]) -> AttemptOrder {
+    let mut furthest = AttemptOrder::Declared;
     let mut most = 0;
     for trial in trials {
         let reached = trial.reached.load(Ordering::SeqCst);
         if reached > most {
-            furthest = trial.candidate;
+            furthest = trial.order;
             most = reached;
         }
     }
     furthest
 }
 
-/// Compares within so many nodes in the order of a candidate, which came furthest in a search that has given up, and if that is given up
+/// Compares within so many nodes in the order that came furthest in a search that has given up, and if that is given up
 /// too, in declared order.
 pub fn try_last<H: Threads + Wait + Sync, G: Monitor>(
     task: &Task<'_, H>,
     declared: Option<&Pairing>,
-    furthest: Candidate,
+    furthest: AttemptOrder,
     budget: u64,
     monitor: &G,
 ) -> Result<Round, CheckFault>
@@ -50,7 +50,7 @@ pub fn try_last<H: Threads + Wait + Sync, G: Monitor>(
     try_candidate(
         task,
         declared,
-        Candidate::Declared,
+        AttemptOrder::Declared,
         &mut trials,
         budget,
         monitor,

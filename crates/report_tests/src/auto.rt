@@ -1,7 +1,9 @@
 //! Reports by an order that is found, and what is told where none is.
 use crate::devices::{End, new_writer};
 use crate::failing::AMPLE;
-use check_report::{CheckFault, Context, Difference, PairFilter, Settings, Strategy, check};
+use check_report::{
+    Candidate, CheckFault, Context, Difference, PairFilter, Settings, Strategy, check,
+};
 use expand_work::{NoMonitor, WaveFault};
 use net_bench::device::StdDevice;
 use net_order::order::{Match, Order};
@@ -10,16 +12,19 @@ use std::test::Fail;
 use std::thread::Threads;
 
 static CROSSED: &str =
-    "INPUT(a)\nINPUT(b)\nINPUT(c)\nOUTPUT(o)\nx = XOR(b, c, a)\nn = NOT(c)\no = AND(x, n)\n";
+    "INPUT(a1)\nINPUT(b2)\nINPUT(c3)\nOUTPUT(o)\nx = XOR(b2, c3, a1)\nn = NOT(c3)\no = AND(x, n)\n";
 
 /// The same inputs, and an output that is never 1.
-static NEVER: &str = "INPUT(a)\nINPUT(b)\nINPUT(c)\nOUTPUT(o)\no = XOR(b, b)\n";
+static NEVER: &str = "INPUT(a1)\nINPUT(b2)\nINPUT(c3)\nOUTPUT(o)\no = XOR(b2, b2)\n";
 
 static AS_DECLARED: &str =
-    "DIFFER o at a=0 b=1 c=0 first=1 second=0\n0 equal, 1 different, 0 unmatched\n";
+    "DIFFER o at a1=0 b2=1 c3=0 first=1 second=0\n0 equal, 1 different, 0 unmatched\n";
 
 static INTERLEAVED: &str =
-    "DIFFER o at b=0 c=0 a=1 first=1 second=0\n0 equal, 1 different, 0 unmatched\n";
+    "DIFFER o at b2=0 c3=0 a1=1 first=1 second=0\n0 equal, 1 different, 0 unmatched\n";
+
+static MSB_FIRST: &str =
+    "DIFFER o at c3=0 b2=0 a1=1 first=1 second=0\n0 equal, 1 different, 0 unmatched\n";
 
 /// A pattern shows a difference, which is made small.
 static NOT_THE_LEAST: &str =
@@ -64,7 +69,8 @@ fn reported<R: AllocGlobal + Threads + Wait + Sync>(
 fn found_order_and_declared_report(rt: HostRuntime) -> Result<(), Fail> {
     for (order, wanted) in [
         (Strategy::One(Order::Interleave), INTERLEAVED),
-        (Strategy::Best, INTERLEAVED),
+        (Strategy::Computed(Candidate::MsbFirst), MSB_FIRST),
+        (Strategy::Best, MSB_FIRST),
         (Strategy::One(Order::Declared), AS_DECLARED),
         (Strategy::Auto, AS_DECLARED),
         (Strategy::Cones, AS_DECLARED),

@@ -2,11 +2,13 @@
 ghost use Rattle.std.specs.Prelude.{◌<◌, ◌≤◌};
 
 use crate::failing::C17;
-use check_report::{CheckFault, Context, Difference, PairFilter, Settings, Strategy, judge};
+use check_report::{
+    Candidate, CheckFault, Context, Difference, PairFilter, Settings, Strategy, judge,
+};
 use dd_store::Watch;
 use expand_work::{AttemptEnd, Monitor};
 use net_bench::device::StdDevice;
-use net_order::order::{Match, Order};
+use net_order::order::Match;
 use std::alloc::{AllocError, Global};
 use std::sync::Wait;
 use std::sync::atomic::{AtomicU64, AtomicUsize, Ordering};
@@ -166,7 +168,7 @@ fn counts_of_a_bounded_attempt(rt: HostRuntime) -> Result<(), Fail> {
         &rt,
         rt.alloc(),
         C17,
-        Strategy::One(Order::Interleave),
+        Strategy::Computed(Candidate::MsbFirst),
         70_000,
         CALLER_ONLY,
     )?;
@@ -201,12 +203,12 @@ fn workers_in_an_attempt(rt: HostRuntime) -> Result<(), Fail> {
 }
 
 /// So many nodes are enough in each order that is tried.
-const LIMIT: u32 = 3_500;
+const LIMIT: u32 = 4_000;
 
 /// Each of two products compares so many pairs of inputs.
-const COMPARED: usize = 7;
+const COMPARED: usize = 8;
 
-/// Puts the inputs of these letters in, one behind the other, between two texts.
+/// Puts the inputs whose names begin so in, one behind the other, between two texts.
 fn add_list(
     text: &mut String,
     alloc: Global,
@@ -223,20 +225,27 @@ fn add_list(
     text.push_str(back)
 }
 
-/// Two products that exclude each other, of comparisons of inputs that stand far apart where they are met as by the deepest output.
+/// Two products that exclude each other, of sums of two inputs that are far apart by falling number at the end of their names, and next to
+/// each other as they are declared.
 fn far_apart(alloc: Global) -> Result<String, AllocError> {
     let mut text = String::new(alloc);
-    text.push_str("OUTPUT(p)\nOUTPUT(o)\nINPUT(z)\ny = NOT(z)\no = AND(f, g)\n")?;
+    text.push_str("OUTPUT(p)\nOUTPUT(o)\nINPUT(z0)\ny = NOT(z0)\no = AND(f, g)\n")?;
     for place in 0..COMPARED {
-        for letter in ["a", "b", "c", "d"] {
+        for letter in ["a4", "b2", "c3", "d1"] {
             text.push_str(&format!(in alloc; "INPUT({letter}{place})\n")?)?;
         }
-        text.push_str(&format!(in alloc; "e{place} = XNOR(a{place}, b{place})\n")?)?;
-        text.push_str(&format!(in alloc; "h{place} = XNOR(c{place}, d{place})\n")?)?;
+        text.push_str(&format!(in alloc; "e{place} = OR(a4{place}, b2{place})\n")?)?;
+        text.push_str(&format!(in alloc; "h{place} = OR(c3{place}, d1{place})\n")?)?;
     }
-    add_list(&mut text, alloc, "q = XOR(", &["a", "c", "b", "d"], "z)\n")?;
+    add_list(
+        &mut text,
+        alloc,
+        "q = XOR(",
+        &["a4", "c3", "b2", "d1"],
+        "z0)\n",
+    )?;
     text.push_str("r = NOT(q)\ns = NOT(r)\nt = NOT(s)\np = NOT(t)\n")?;
-    add_list(&mut text, alloc, "f = AND(", &["e"], "z)\n")?;
+    add_list(&mut text, alloc, "f = AND(", &["e"], "z0)\n")?;
     add_list(&mut text, alloc, "g = AND(", &["h"], "y)\n")?;
     Ok(text)
 }
@@ -250,7 +259,7 @@ fn requests_for_each_node(rt: HostRuntime) -> Result<(), Fail> {
         &rt,
         rt.alloc(),
         &text,
-        Strategy::One(Order::Interleave),
+        Strategy::Computed(Candidate::MsbFirst),
         LIMIT,
         CALLER_ONLY,
     )?;

@@ -10,7 +10,7 @@ use Rattle.net_order.specs.declared.order.Match.TheVariants.{Name, Position}
 use Rattle.net_order.specs.declared.order.Order.{Order}
 use Rattle.net_order.specs.declared.order.Order.TheVariants as orders
 use Rattle.report_text.specs.declared.order_kind.OrderKind.{OrderKind}
-use Rattle.report_text.specs.declared.order_kind.OrderKind.TheVariants.{Declared, Depth, Interleave, Index, Force, File, Auto, Cones, Merge}
+use Rattle.report_text.specs.declared.order_kind.OrderKind.TheVariants.{Declared, Depth, Interleave, Index, Force, MsbFirst, Weights, ForceGroups, File, Auto, Cones, Merge}
 use Rattle.report_text.specs.declared.outcome.Outcome.{Outcome}
 use Rattle.report_text.specs.declared.outcome.PairKind.{PairKind}
 use Rattle.report_text.specs.declared.outcome.PairKind.TheVariants.{Output, NextState}
@@ -48,6 +48,9 @@ order_word Depth = codes "depth"
 order_word Interleave = codes "interleave"
 order_word Index = codes "index"
 order_word Force = codes "force"
+order_word MsbFirst = codes "msb-first"
+order_word Weights = codes "weights"
+order_word ForceGroups = codes "force-groups"
 order_word File = codes "file"
 order_word Auto = codes "auto"
 order_word Cones = codes "cones"

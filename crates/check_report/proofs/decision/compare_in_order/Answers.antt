@@ -3,12 +3,12 @@ use Rattle.std.proofs.lemmas.Result.{err_from_is_err_and}
 use Rattle.net_bench.specs.Circuit.{circuit}
 use Rattle.net_order.specs.Order.{NamingModel, condition}
 use Rattle.report_text.specs.Findings.{VerdictsModel, found_of}
-use Rattle.compare_built.specs.Attempts.{IsAllowed, IsChosen, MayGoByCones, NamesOrder}
+use Rattle.compare_built.specs.Attempts.{InEachOrder, IsAllowed, IsChosen, IsNamedIn, MayGoByCones, NamesOrder}
 use Rattle.compare_built.specs.Check.{IsComparisonFault}
 use Rattle.compare_built.specs.Limits.{AreBeyond}
 use Rattle.compare_built.proofs.Widening.{wide_given}
 use Rattle.explain_report.specs.Deciding.IsFoundBy.{in_order}
-use Rattle.explain_report.specs.Explaining.{reported_order}
+use Rattle.explain_report.specs.Explaining.{IsReportedOrder}
 use Rattle.order_search.specs.Trials.{EndsAtOnce, IsNamingIn}
 use Rattle.order_search.proofs.Reporting.{late_fault}
 use Rattle.order_search.proofs.Rounds.{accepted_paired, beyond, judged, order_ends, within}
@@ -31,8 +31,11 @@ returns-clause-decision g c = λ input ga.
 pub returns-clause-named : goal.returns-clause-named
 returns-clause-named g c =
     let task = c.args.task.now in
-    let naming = subst (IsNamingIn task c.args.order.now) (sym (ap (λ (v : VerdictsModel). v.naming) c.of.ensures ∙ c.into_naming.ensures)) c.in_ok-pairing.ensures.paired.naming in
-    subst (λ choice. IsNamingIn task (reported_order choice None) c.of.result.naming) (sym c.requires.named) naming
+    let naming = subst (IsNamingIn task c.args.order.now) (sym (ap (λ (v : VerdictsModel). v.naming) c.of.ensures ∙ c.into_naming.ensures)) c.in_ok-pairing.ensures.paired.naming in (
+      c.args.order.now,
+      subst (λ choice. IsReportedOrder choice None task.settings.now.matching (circuit task.first.now) (circuit task.second.now) (condition task.given) c.args.order.now) (sym c.requires.named) refl,
+      naming,
+    )
 
 pub returns-in_err-pairing-clause-no_decision : goal.returns-in_err-pairing-clause-no_decision
 returns-in_err-pairing-clause-no_decision g c = λ input ga.
@@ -61,16 +64,14 @@ returns-in_err-verdicts-clause-no_decision g c = λ input ga.
     rw (e.1, e.2) (record {
       cause = (o, allowed, late_fault input ⊥ ⊥ ⊥ s.order s.matching o fault (accepted_paired task input ga s.order o p is) has.err);
       answer = from_each input s bound fault (record {
-        full = λ full k other.
-            let same : k ≡ o = subst (λ choice. IsAllowed choice k) c.requires.named other in
-            subst (λ k. AreBeyond input s.matching k s.limit) (sym same) (beyond task input ga o p s.limit is (has.full (ap Err full)));
+        full = λ full. subst (λ choice. InEachOrder input s.matching choice (λ k. AreBeyond input s.matching k s.limit)) (sym c.requires.named) (beyond task input ga o p s.limit is (has.full (ap Err full)));
         given_up = λ none. absurd (subst IsComparisonFault none has.err);
         by_cones = λ may. absurd (subst MayGoByCones c.requires.named may);
         any_number_of_inputs = λ may. absurd (subst MayGoByCones c.requires.named may);
         only = λ none. absurd (subst IsComparisonFault none has.err);
         past = λ past. (
           o,
-          allowed,
+          subst (λ choice. IsNamedIn input s.matching choice o) (sym c.requires.named) refl,
           wide_given input s.matching o (circuit task.first.now) (circuit task.second.now) (condition task.given) p (record { netlists = ga; pairing = is }) bound (has.past (ap Err past)),
         );
         needs_no_thread = λ less none. has.needs_no_thread less (ap Err none);

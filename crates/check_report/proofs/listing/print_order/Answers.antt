@@ -2,8 +2,7 @@ use Rattle.std.proofs.Common.{subst}
 use Rattle.std.proofs.lemmas.Result.{err_from_is_err_and}
 use Rattle.std.specs.Io.KnownBytes.{Appends}
 use Rattle.report_text.specs.Writing.{AppendsFront}
-use Rattle.check_report.proofs.Printing.{found_allowed}
-use Rattle.explain_report.proofs.Trying.{accepted_in}
+use Rattle.check_report.proofs.Printing.{listed_accepted}
 use Rattle.check_report.proofs.listing.print_order.Goals as goal
 
 pub returns-in-Ok-clause-order : goal.returns-in-Ok-clause-order
@@ -13,7 +12,7 @@ returns-in-Ok-clause-order g c =
 pub returns-clause-fault : goal.returns-clause-fault
 returns-clause-fault g c =
     let w = c.in_ok-text.ensures.text in
-    (w.0, found_allowed _ _ _ _ c.in_ok-text.tried w.0 w.2, accepted_in _ _ _ w.0 w.1.a w.1.b w.1.c w.1.p w.1.paired)
+    listed_accepted _ _ _ _ c.in_ok-text.tried w.0 w.1.a w.1.b w.1.c w.1.p w.1.paired w.2
 
 pub returns-clause-unwritten : goal.returns-clause-unwritten
 returns-clause-unwritten g c = λ _.

@@ -1,7 +1,7 @@
 use Rattle.std.proofs.Common.{◌∙◌, ◌++◌, ℕ, List, [], ap, sym, subst}
 use Rattle.std.specs.Prelude.{codes, decimal}
 use Rattle.std.proofs.lemmas.List.{append_assoc}
-use Rattle.compare_built.specs.Attempts.{candidate_text}
+use Rattle.compare_built.specs.Attempts.{attempt_text}
 use Rattle.check_tool.specs.Ending.{Written, Says, IsAttemptSaid}
 use Rattle.check_tool.proofs.verbose.say_attempt.Goals as goal
 
@@ -15,7 +15,7 @@ returns g c =
     } in
     let t = c.in-Some.attempt in
     let name = ap (λ n. codes "bddcheck: order " ++ (n ++ (codes " decided within " ++ (c.format.result.now ++ (codes " nodes\n" ++ []))))) c.name.ensures in
-    let number = ap (λ n. codes "bddcheck: order " ++ (candidate_text t.order ++ (codes " decided within " ++ (n ++ codes " nodes\n")))) c.format.ensures.text in
-    let front : List ℕ = candidate_text t.order ++ codes " decided within " in
-    let line = ap (λ l. codes "bddcheck: order " ++ l) (sym (append_assoc front (decimal t.budget) (codes " nodes\n") ∙ append_assoc (candidate_text t.order) (codes " decided within ") (decimal t.budget ++ codes " nodes\n"))) in
+    let number = ap (λ n. codes "bddcheck: order " ++ (attempt_text t.order ++ (codes " decided within " ++ (n ++ codes " nodes\n")))) c.format.ensures.text in
+    let front : List ℕ = attempt_text t.order ++ codes " decided within " in
+    let line = ap (λ l. codes "bddcheck: order " ++ l) (sym (append_assoc front (decimal t.budget) (codes " nodes\n") ∙ append_assoc (attempt_text t.order) (codes " decided within ") (decimal t.budget ++ codes " nodes\n"))) in
     subst (λ a. IsAttemptSaid a w) (sym c.in-Some.is) (subst (Says w) (name ∙ number ∙ line) c.say_parts.ensures)

@@ -9,7 +9,7 @@ use Rattle.check_tool.proofs.verbose.say_undecided.Goals as goal
 -- the parts of the line
 abbrev line : (pairs nodes larger : List ℕ) → List ℕ
 line pairs nodes larger =
-    codes "bddcheck: the number of undecided pairs is " ++ (pairs ++ (codes "; each has more than 4096 variables, or was given up in each of five orders within " ++ (nodes ++ (codes " nodes or eight requests for each of them; a larger " ++ (larger ++ (codes " may help\n" ++ []))))))
+    codes "bddcheck: the number of undecided pairs is " ++ (pairs ++ (codes "; each has more than 4096 variables, or was given up in each of three orders within " ++ (nodes ++ (codes " nodes or eight requests for each of them; a larger " ++ (larger ++ (codes " may help\n" ++ []))))))
 
 -- some pairs are undecided
 some : (o : Options) (n : ℕ) (w : Written) → n ≢ 0 → Says w (undecided_line o n) → IsUndecidedSaid o n w

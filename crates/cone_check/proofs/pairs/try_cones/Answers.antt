@@ -18,4 +18,4 @@ returns-in-Decided-clause-within g c =
     let t = c.in-Decided.decided in
     let d : Decides task (Some c.args.pairing) c.args.budget t =
     subst (IsRound task (Some c.args.pairing) c.args.budget (g.G.Monitor.bound c.args.monitor.now) c.try_first.new.trials.items) c.in-Decided.is c.in_ok-decided.ensures.round in
-    record { candidate = t.trial.candidate; pairing = t.trial.pairing; paired = d.0.paired; fit = d.0.within }
+    record { order = t.trial.order; pairing = t.trial.pairing; paired = d.0.paired; fit = d.0.within }

@@ -7,7 +7,6 @@ use Rattle.compare_built.specs.Report.{subjects}
 use Rattle.order_search.specs.Trials.{IsNamingIn}
 use Rattle.compare_built.proofs.Subjects.{subjects_inside}
 use Rattle.explain_report.specs.Causing.{AreFirstDifferences}
-use Rattle.explain_report.specs.Explaining.{reported_order}
 use Rattle.explain_report.proofs.FirstDifferences.{asked_for, unasked}
 use Rattle.explain_report.proofs.causes.causes.Goals as goal
 
@@ -19,10 +18,10 @@ returns-then-not-task g c = record {
 pub all_causes-requires : goal.all_causes-requires
 all_causes-requires g c =
     let task = c.args.task.now in
-    let order = reported_order task.settings.now.order c.requires.0 in
+    let order = c.requires.1.0 in
     subst (All (IsInside (circuit task.first.now) (circuit task.second.now))) (sym (c.as_slice.ensures.value ∙ c.in_ok-pairs.ensures))
     (subjects_inside task.settings.now.matching task.first.now task.second.now (condition task.given) order c.naming-naming.result.now c.inputs.ensures.sound c.inputs-2.ensures.sound
-    (subst (IsNamingIn task order) (sym c.naming-naming.ensures) c.requires.1))
+    (subst (IsNamingIn task order) (sym c.naming-naming.ensures) c.requires.1.2))
 
 pub returns : goal.returns
 returns g c = record {
@@ -40,7 +39,7 @@ returns g c = record {
         p = p;
         first_sound = c.inputs.ensures.sound;
         second_sound = c.inputs-2.ensures.sound;
-        named = record { netlists = ga; naming = subst (IsNamingIn task (reported_order task.settings.now.order tried)) (sym c.naming-naming.ensures) named };
+        named = (named.0, named.1, record { netlists = ga; naming = subst (IsNamingIn task named.0) (sym c.naming-naming.ensures) named.2 });
         variables = ap (λ (q : NamingModel). q.names) (sym c.naming-naming.ensures);
         differences = differences.0;
         are_first_differences = subst (λ vs. AreFirstDifferences task.first.now task.second.now p (subjects a b p) vs differences.0) c.as_slice-2.ensures

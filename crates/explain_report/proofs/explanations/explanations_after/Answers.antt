@@ -7,7 +7,7 @@ use Rattle.report_text.specs.Findings.{found_of}
 use Rattle.compare_built.specs.Comparing.{IsInside}
 use Rattle.order_search.specs.Trials.{IsNamingIn}
 use Rattle.compare_built.proofs.Subjects.{subjects_inside}
-use Rattle.explain_report.specs.Explaining.{AreExplained, reported_order}
+use Rattle.explain_report.specs.Explaining.{AreExplained}
 use Rattle.explain_report.proofs.Explaining.{behind_none, behind_some, no_targets, some_targets}
 use Rattle.explain_report.proofs.explanations.explanations_after.Goals as goal
 
@@ -22,8 +22,8 @@ returns-then-is_empty g c = record {
 pub explanations-requires-clause-in_range : goal.explanations-requires-clause-in_range
 explanations-requires-clause-in_range g c =
     let task = c.args.task.now in
-    let order = reported_order task.settings.now.order c.requires.named.0 in
-    let named : IsNamingIn task order c.naming-naming.result.now = subst (IsNamingIn task order) (sym c.naming-naming.ensures) c.requires.named.1 in
+    let order = c.requires.named.1.0 in
+    let named : IsNamingIn task order c.naming-naming.result.now = subst (IsNamingIn task order) (sym c.naming-naming.ensures) c.requires.named.1.2 in
     subst (All (IsInside (circuit task.first.now) (circuit task.second.now))) (sym (c.as_slice.ensures.value ∙ c.in_ok-subjects.ensures))
     (subjects_inside task.settings.now.matching task.first.now task.second.now (condition task.given) order c.naming-naming.result.now c.inputs.ensures.sound c.inputs-2.ensures.sound named)
 
@@ -41,7 +41,7 @@ returns g c = record {
         p = c.naming-naming.result.now;
         first_sound = c.inputs.ensures.sound;
         second_sound = c.inputs-2.ensures.sound;
-        named = record { netlists = ga; naming = subst (IsNamingIn task (reported_order task.settings.now.order tried)) (sym c.naming-naming.ensures) named };
+        named = (named.0, named.1, record { netlists = ga; naming = subst (IsNamingIn task named.0) (sym c.naming-naming.ensures) named.2 });
         variables = ap (λ (p : NamingModel). p.names) (sym c.naming-naming.ensures);
         known = c.requires.known;
         explained = subst (λ vs. AreExplained task.first.now task.second.now c.naming-naming.result.now vs task.settings.now.explain.items text.items) c.as_slice-2.ensures are;

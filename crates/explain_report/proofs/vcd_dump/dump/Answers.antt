@@ -3,7 +3,6 @@ use Rattle.net_order.specs.Order.{NamingModel, condition}
 use Rattle.report_text.specs.Findings.{found_of}
 use Rattle.order_search.specs.Trials.{IsNamingIn}
 use Rattle.explain_report.specs.Dumping.{first_difference_at}
-use Rattle.explain_report.specs.Explaining.{reported_order}
 use Rattle.explain_report.proofs.Differences.{none_differs, one_differs, unwanted}
 use Rattle.explain_report.proofs.vcd_dump.dump.Goals as goal
 
@@ -28,7 +27,7 @@ returns g c = record {
         b = task.second.now;
         c = condition task.given;
         p = c.naming.result.now;
-        named = record { netlists = ga; naming = subst (IsNamingIn task (reported_order task.settings.now.order tried)) (sym c.naming.ensures) named };
+        named = (named.0, named.1, record { netlists = ga; naming = subst (IsNamingIn task named.0) (sym c.naming.ensures) named.2 });
         variables = ap (λ (p : NamingModel). p.names) (sym c.naming.ensures);
         vcd = c.in_ok-text.ensures;
       });

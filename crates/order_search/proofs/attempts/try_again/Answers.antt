@@ -1,5 +1,5 @@
-use Rattle.std.proofs.Common.{◌<◌, subst, arith, length}
-use Rattle.order_search.specs.Trials.{IsEnded, WasGivenUp}
+use Rattle.std.proofs.Common.{◌<◌, subst, sym, arith, length}
+use Rattle.order_search.specs.Trials.{IsEnded, IsTrial, WasGivenUp}
 use Rattle.order_search.proofs.Rounds.{causes_more, moved, nodes_more, whole_round}
 use Rattle.order_search.proofs.attempts.try_again.Goals as goal
 
@@ -9,6 +9,12 @@ loop-place-init g c = record {
   causes = λ k d lt. absurd (omega (arith, lt));
   nodes = λ e k d lt. absurd (omega (arith, lt));
 }
+
+pub attempt-requires-clause-trial : goal.attempt-requires-clause-trial
+attempt-requires-clause-trial g c κs within =
+    let trials = c.loop-place.trials.items in
+    let lt : c.loop-place.place < length trials = omega arith in
+    subst (IsTrial c.args.task.now) (sym c.index.ensures) (c.loop-place.invariant.trials.own c.loop-place.place c.index.result.now lt)
 
 pub loop-place-preserved : goal.loop-place-preserved
 loop-place-preserved g c =

@@ -1,10 +1,8 @@
 use Rattle.std.proofs.Common.{◌≡◌, refl, subst, sym, rules, List, Contains}
 use Rattle.std.proofs.lemmas.Result.{err_from_is_err_and}
 use Rattle.order_search.specs.declared.trials.Trial.{Trial}
-use Rattle.compare_built.specs.Attempts.{order_of}
-use Rattle.compare_built.specs.Check.{IsCheckFault}
-use Rattle.order_search.specs.Trials.{AreGivenUpTrials, IsEnded, IsPairingIn, IsTried}
-use Rattle.order_search.proofs.Rounds.{accepted_paired, and_true, one_more, order_ends, tried_before, tried_last, tried_still}
+use Rattle.order_search.specs.Trials.{AreGivenUpTrials, IsEnded, IsTried}
+use Rattle.order_search.proofs.Rounds.{accepted_by, and_true, one_more, order_ends, tried_before, tried_last, tried_still}
 use Rattle.order_search.proofs.attempts.try_candidate.Goals as goal
 
 -- ---- no pairing
@@ -12,7 +10,7 @@ use Rattle.order_search.proofs.attempts.try_candidate.Goals as goal
 pub returns-in_err-pairing-clause-fault : goal.returns-in_err-pairing-clause-fault
 returns-in_err-pairing-clause-fault g c =
     let e = err_from_is_err_and c.from_residual.result c.from_residual.ensures.1 in
-    rw (e.1, e.2) (λ input ga. (c.args.candidate, subst (λ o. IsCheckFault input ⊥ ⊥ ⊥ c.args.task.now.settings.now.order c.args.task.now.settings.now.matching o c.in_err-pairing.field-0.0) c.order.ensures (c.in_err-pairing.ensures.fault input ga)))
+    rw (e.1, e.2) (λ input ga. c.in_err-pairing.ensures.fault input ga)
 
 pub returns-in_err-pairing-clause-ends : goal.returns-in_err-pairing-clause-ends
 returns-in_err-pairing-clause-ends g c =
@@ -26,9 +24,9 @@ returns-then-is_tried-clause-first_attempt g c =
     let task = c.args.task.now in
     let old = c.args.trials.now.items in
     let bound = g.G.Monitor.bound c.args.monitor.now in
-    let is : IsPairingIn task (order_of c.args.candidate) c.in_ok-pairing.pairing = subst (λ o. IsPairingIn task o c.in_ok-pairing.pairing) c.order.ensures c.in_ok-pairing.ensures.paired in
+    let is = c.in_ok-pairing.ensures.paired in
     let same : (t : Trial) × Contains old t × (t.pairing.names ≡ c.in_ok-pairing.pairing.names) = (let h = c.is_tried.ensures.tried c.if-is_tried.true in search rules) in
-    (λ all gs. and_true task c.args.budget bound all old gs, tried_before task old c.args.candidate c.in_ok-pairing.pairing c.requires.own is same, λ k h. h)
+    (λ all gs. and_true task c.args.budget bound all old gs, tried_before task old c.args.order c.in_ok-pairing.pairing c.requires.own is same, λ k h. h)
 
 -- ---- an attempt
 
@@ -42,11 +40,11 @@ returns-in_ok-keep-in-GivenUp-clause-first_attempt g c =
     let task = c.args.task.now in
     let old = c.args.trials.now.items in
     let bound = g.G.Monitor.bound c.args.monitor.now in
-    let is : IsPairingIn task (order_of c.args.candidate) c.in_ok-pairing.pairing = subst (λ o. IsPairingIn task o c.in_ok-pairing.pairing) c.order.ensures c.in_ok-pairing.ensures.paired in
+    let is = c.in_ok-pairing.ensures.paired in
     let kept = c.in_ok-keep-in-GivenUp.ensures in (
       λ all gs. subst (AreGivenUpTrials task c.args.budget bound _) (sym {A = List Trial} kept)
           (one_more task c.args.budget bound all c.in-GivenUp.full old _ is (subst (IsEnded task c.args.declared c.args.budget bound _) c.in-GivenUp.is c.in_ok-verdicts.ensures.ended) gs),
-      subst (λ ts. IsTried task ts c.args.candidate) (sym {A = List Trial} kept) (tried_last task old _ is),
+      subst (λ ts. IsTried task ts c.args.order) (sym {A = List Trial} kept) (tried_last task old _ is),
       λ k h. subst (λ ts. IsTried task ts k) (sym {A = List Trial} kept) (tried_still task old _ k h),
     )
 
@@ -55,6 +53,6 @@ returns-in_ok-keep-in-GivenUp-clause-first_attempt g c =
 pub returns-in_err-keep-in-GivenUp-clause-fault : goal.returns-in_err-keep-in-GivenUp-clause-fault
 returns-in_err-keep-in-GivenUp-clause-fault g c =
     let task = c.args.task.now in
-    let is : IsPairingIn task (order_of c.args.candidate) c.in_ok-pairing.pairing = subst (λ o. IsPairingIn task o c.in_ok-pairing.pairing) c.order.ensures c.in_ok-pairing.ensures.paired in
+    let is = c.in_ok-pairing.ensures.paired in
     let e = err_from_is_err_and c.from_residual-in_err-keep-in-GivenUp.result c.from_residual-in_err-keep-in-GivenUp.ensures.1 in
-    rw (e.1, e.2) (λ input ga. (c.args.candidate, accepted_paired task input ga task.settings.now.order (order_of c.args.candidate) c.in_ok-pairing.pairing is))
+    rw (e.1, e.2) (λ input ga. accepted_by task input ga task.settings.now.order c.args.order c.in_ok-pairing.pairing is)

@@ -24,7 +24,7 @@ returns-in-Decided-clause-found g c =
     let d = c.in-Decided.decided in
     let decides : Decides task c.args.declared c.min-budget.result d =
     subst (IsRound task c.args.declared c.min-budget.result bound c.try_first.new.trials.items) c.in-Decided.is c.in_ok-decided.ensures.round in
-    let before : AllBefore d.trial.candidate (IsCandidateGivenUp task c.min-budget.result bound) = subst (IsFirstRound task c.min-budget.result bound) c.in-Decided.is c.in_ok-decided.ensures.first in
+    let before : AllBefore d.trial.order (IsCandidateGivenUp task c.min-budget.result bound) = subst (IsFirstRound task c.min-budget.result bound) c.in-Decided.is c.in_ok-decided.ensures.first in
     found_first task c.args.declared c.args.limit bound c.min-budget.result d c.min-budget.ensures decides before
 
 pub returns-in-GivenUp-clause-fault : goal.returns-in-GivenUp-clause-fault
