@@ -22,25 +22,33 @@ A part goes on after the results that it has, if program, machine and settings a
 measure again what was measured beside other work; --anew measures all again. The tables go to standard output, and how long each part
 took to standard error. The status is 1 if a part failed.
 """
+from __future__ import annotations
+
 import argparse
 import concurrent.futures
 import pathlib
 import subprocess
 import sys
 import time
+from typing import Any
 
 HERE = pathlib.Path(__file__).resolve().parent
 CONES = ["rr128", "rv32_ex_pipe", "add128_ripple_csel", "alu64", "constmul16", "ff4000"]
 WIDE = ["mul9", "mul10", "pairs18", "pairs20"]
 SIDE_BY_SIDE = 3
+# By name the script of a part and its arguments.
+Parts = dict[str, list[Any]]
 
 
-def parts_of(settings):
+def parts_of(settings: argparse.Namespace) -> tuple[Parts, Parts]:
     """The two groups of parts, each with its script and arguments."""
     folders = [settings.designs, *settings.folders]
-    circuits = lambda names: [settings.circuits / name for name in names if (settings.circuits / name / "order").exists()]
+
+    def circuits(names: list[str]) -> list[pathlib.Path]:
+        return [settings.circuits / name for name in names if (settings.circuits / name / "order").exists()]
+
     cones = [folder / name for name in CONES for folder in folders if (folder / name / "a.bench").exists()]
-    timed = {
+    timed: Parts = {
         "workers": ["workers.py", settings.circuits],
         "cones": ["cones.py", *cones],
         "threads": ["threads.py", *circuits(WIDE)],
@@ -48,7 +56,7 @@ def parts_of(settings):
         "turns": ["turns.py", *folders],
         "designs": ["designs.py", *folders],
     }
-    counted = {
+    counted: Parts = {
         "hindsight": ["designs.py", *folders, "--hindsight", "--seconds", "2"],
         "nodes": ["orders.py", settings.circuits],
         "reader": ["reader.py", "--abc"],
@@ -58,7 +66,7 @@ def parts_of(settings):
     return timed, counted
 
 
-def measured(name, script, arguments, is_timed, settings):
+def measured(name: str, script: str, arguments: list[Any], is_timed: bool, settings: argparse.Namespace) -> bool:
     """Whether a part was measured. Its tables are printed together when it is over."""
     begun = time.monotonic()
     added = ["--anew"] * settings.anew + ["--idle"] * (settings.idle and is_timed)
@@ -72,20 +80,23 @@ def measured(name, script, arguments, is_timed, settings):
     return done.returncode == 0
 
 
-def main():
+def main() -> None:
     parser = argparse.ArgumentParser(description=__doc__, formatter_class=argparse.RawDescriptionHelpFormatter)
-    parser.add_argument("program", type=pathlib.Path)
-    parser.add_argument("circuits", type=pathlib.Path)
-    parser.add_argument("designs", type=pathlib.Path)
-    parser.add_argument("folders", nargs="*", type=pathlib.Path)
-    parser.add_argument("--only", type=lambda text: text.split(","))
-    parser.add_argument("--idle", action="store_true")
-    parser.add_argument("--anew", action="store_true")
+    parser.add_argument("program", type=pathlib.Path, help="This is the bddcheck that is measured.")
+    parser.add_argument("circuits", type=pathlib.Path, help="This folder has folders of pairs with their order files.")
+    parser.add_argument("designs", type=pathlib.Path, help="This folder has folders of pairs of designs.")
+    parser.add_argument("folders", nargs="*", type=pathlib.Path, help="This folder has more folders of pairs of designs.")
+    parser.add_argument("--only", type=lambda text: text.split(","), help="Only these parts are measured, with commas between them.")
+    parser.add_argument("--idle", action="store_true", help="What was measured beside other work is measured again.")
+    parser.add_argument("--anew", action="store_true", help="What the files of results have is measured again.")
     settings = parser.parse_args()
     timed, counted = parts_of(settings)
     if unknown := set(settings.only or []) - {*timed, *counted}:
         sys.exit(f"no such part: {', '.join(sorted(unknown))}")
-    wanted = lambda group: [(name, *words) for name, words in group.items() if not settings.only or name in settings.only]
+
+    def wanted(group: Parts) -> list[tuple[Any, ...]]:
+        return [(name, *words) for name, words in group.items() if not settings.only or name in settings.only]
+
     fine = [measured(name, script, words, True, settings) for name, script, *words in wanted(timed)]
     with concurrent.futures.ThreadPoolExecutor(SIDE_BY_SIDE) as pool:
         running = [pool.submit(measured, name, script, words, False, settings) for name, script, *words in wanted(counted)]

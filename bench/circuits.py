@@ -17,8 +17,11 @@ products    the sum of SIZE products of two inputs: by one OR, and by a tree of 
 xors        SIZE gates in a chain over 64 inputs, in two orders of the inputs
 steps       SIZE gates in a chain over 64 inputs, by turns AND and OR, and the same by De Morgan's laws
 """
+from __future__ import annotations
+
+import argparse
 import pathlib
-import sys
+from collections.abc import Callable
 
 FAMILIES = {
     "adder": [8, 16, 32, 64],
@@ -31,47 +34,58 @@ FAMILIES = {
 class Netlist:
     """A netlist in the making. A gate is known by the name of its signal."""
 
-    def __init__(self):
-        self.ports = []
-        self.gates = []
+    def __init__(self) -> None:
+        self.ports: list[str] = []
+        self.gates: list[str] = []
 
-    def input(self, name):
+    def input(self, name: str) -> str:
         self.ports.append(f"INPUT({name})")
         return name
 
-    def inputs(self, letter, size):
+    def inputs(self, letter: str, size: int) -> list[str]:
         return [self.input(f"{letter}{i}") for i in range(size)]
 
-    def gate(self, kind, *operands):
+    def gate(self, kind: str, *operands: str) -> str:
         name = f"n{len(self.gates)}"
         self.gates.append(f"{name} = {kind}({', '.join(operands)})")
         return name
 
-    def output(self, name, signal):
+    def output(self, name: str, signal: str) -> None:
         self.ports.append(f"OUTPUT({name})")
         self.gates.append(f"{name} = BUFF({signal})")
 
-    def outputs(self, letter, signals):
+    def outputs(self, letter: str, signals: list[str]) -> None:
         for i, signal in enumerate(signals):
             self.output(f"{letter}{i}", signal)
 
-    def text(self):
+    def text(self) -> str:
         return "\n".join(self.ports + self.gates) + "\n"
 
 
-def half_adder(net, a, b):
+# The ways to build a circuit from the signals of its inputs. `Add` gives the bits of a sum and its carry. Where there is no carry,
+# its name is empty.
+Sum = tuple[list[str], str]
+Add = Callable[[Netlist, list[str], list[str]], Sum]
+Multiply = Callable[[Netlist, list[str], list[str]], list[str]]
+Join = Callable[[Netlist, list[str]], str]
+JoinTwo = Callable[[Netlist, list[str], list[str]], str]
+SelectFunction = Callable[[Netlist, list[str], list[str], list[str]], list[str]]
+Link = Callable[[Netlist, list[str], int], str]
+
+
+def half_adder(net: Netlist, a: str, b: str) -> tuple[str, str]:
     """Sum and carry."""
     return net.gate("XOR", a, b), net.gate("AND", a, b)
 
 
-def full_adder(net, a, b, c):
+def full_adder(net: Netlist, a: str, b: str, c: str) -> tuple[str, str]:
     """Sum and carry."""
     half = net.gate("XOR", a, b)
     both = net.gate("AND", a, b)
     return net.gate("XOR", half, c), net.gate("OR", both, net.gate("AND", half, c))
 
 
-def ripple(net, a, b, carry=None):
+def ripple(net: Netlist, a: list[str], b: list[str], carry: str = "") -> Sum:
     """The bits of a + b, lowest first, and the carry at the end."""
     bits = []
     for x, y in zip(a, b):
@@ -80,7 +94,7 @@ def ripple(net, a, b, carry=None):
     return bits, carry
 
 
-def carry_terms(net, generate, propagate, carry, place):
+def carry_terms(net: Netlist, generate: list[str], propagate: list[str], carry: str, place: int) -> str:
     """The carry after `place` of a block, as one OR of ANDs over the block's own carry-in."""
     terms = []
     for start in range(place, -1, -1):
@@ -91,7 +105,7 @@ def carry_terms(net, generate, propagate, carry, place):
     return net.gate("OR", *terms) if len(terms) > 1 else terms[0]
 
 
-def look_ahead(net, a, b, carry=None):
+def look_ahead(net: Netlist, a: list[str], b: list[str], carry: str = "") -> Sum:
     """As `ripple`, with the carries of each block of four from its carry-in at once."""
     bits = []
     for start in range(0, len(a), 4):
@@ -105,99 +119,99 @@ def look_ahead(net, a, b, carry=None):
     return bits, carry
 
 
-def adder(net, size, add):
+def adder(net: Netlist, size: int, add: Add) -> None:
     a, b = net.inputs("a", size), net.inputs("b", size)
     bits, carry = add(net, a, b)
     net.outputs("s", bits)
     net.output("c", carry)
 
 
-def array(net, a, b):
+def array(net: Netlist, a: list[str], b: list[str]) -> list[str]:
     """The product's bits: each row of partial products is added to the sum of those above."""
     rows = [[net.gate("AND", x, y) for x in a] for y in b]
     bits, above = [rows[0][0]], rows[0][1:]
     for row in rows[1:]:
-        sums, carry = [], None
+        sums, carry = [], ""
         for i, bit in enumerate(row):
-            if i < len(above):
-                parts = [bit, above[i]] + ([carry] if carry else [])
-            else:
-                parts = [bit, carry]
-            bit, carry = (full_adder if len(parts) == 3 else half_adder)(net, *parts)
+            parts = [bit, *above[i : i + 1], *([carry] if carry else [])]
+            bit, carry = added(net, parts)
             sums.append(bit)
         bits.append(sums[0])
-        above = sums[1:] + [carry]
+        above = [*sums[1:], carry]
     return bits + above
 
 
-def wallace_round(net, columns):
+def added(net: Netlist, parts: list[str]) -> tuple[str, str]:
+    """Sum and carry of two or three bits."""
+    return full_adder(net, *parts) if len(parts) == 3 else half_adder(net, *parts)
+
+
+def wallace_round(net: Netlist, columns: list[list[str]]) -> list[list[str]]:
     """One round of full and half adders over the columns of a Wallace tree."""
-    after = [[] for _ in range(len(columns) + 1)]
+    after: list[list[str]] = [[] for _ in range(len(columns) + 1)]
     for place, column in enumerate(columns):
         for i in range(0, len(column), 3):
             part = column[i : i + 3]
             if len(part) == 1 or (len(part) == 2 and len(column) == 2):
                 after[place] += part
                 continue
-            bit, carry = (full_adder if len(part) == 3 else half_adder)(net, *part)
+            bit, carry = added(net, part)
             after[place].append(bit)
             after[place + 1].append(carry)
     return after if after[-1] else after[:-1]
 
 
-def wallace(net, a, b):
+def wallace(net: Netlist, a: list[str], b: list[str]) -> list[str]:
     """The product's bits: columns of partial products are thinned in rounds, and the last two rows added."""
-    columns = [[] for _ in range(len(a) + len(b) - 1)]
+    columns: list[list[str]] = [[] for _ in range(len(a) + len(b) - 1)]
     for i, x in enumerate(a):
         for j, y in enumerate(b):
             columns[i + j].append(net.gate("AND", x, y))
     while max(map(len, columns)) > 2:
         columns = wallace_round(net, columns)
-    bits, carry = [], None
+    bits: list[str] = []
+    carry = ""
     for column in columns:
         parts = column + ([carry] if carry else [])
-        carry = None
+        carry = ""
         if len(parts) == 1:
             bits += parts
         else:
-            bit, carry = (full_adder if len(parts) == 3 else half_adder)(net, *parts)
+            bit, carry = added(net, parts)
             bits.append(bit)
     return bits + ([carry] if carry else [])
 
 
-def multiplier(net, size, multiply):
+def multiplier(net: Netlist, size: int, multiply: Multiply) -> None:
     a, b = net.inputs("a", size), net.inputs("b", size)
     net.outputs("p", multiply(net, a, b)[: 2 * size])
 
 
-def chain(net, signals):
+def chain(net: Netlist, signals: list[str]) -> str:
     result = signals[0]
     for signal in signals[1:]:
         result = net.gate("XOR", result, signal)
     return result
 
 
-def tree(net, signals):
+def tree(net: Netlist, signals: list[str]) -> str:
     while len(signals) > 1:
         pairs = zip(signals[::2], signals[1::2])
         signals = [net.gate("XOR", x, y) for x, y in pairs] + signals[len(signals) // 2 * 2 :]
     return signals[0]
 
 
-def parity(net, size, join):
+def parity(net: Netlist, size: int, join: Join) -> None:
     net.output("p", join(net, net.inputs("x", size)))
 
 
 LOGIC = ["AND", "OR", "XOR", "NAND", "NOR", "XNOR"]
 
 
-def and_or_alu(net, a, b, code):
+def and_or_alu(net: Netlist, a: list[str], b: list[str], code: list[str]) -> list[str]:
     """One adder, whose second operand is complemented to subtract; the function is chosen by a decoded code."""
     inverse = [net.gate("NOT", bit) for bit in code]
-    chosen = [
-        net.gate("AND", *[(code if number >> i & 1 else inverse)[i] for i in range(3)])
-        for number in range(8)
-    ]
+    chosen = [net.gate("AND", *[(code if number >> i & 1 else inverse)[i] for i in range(3)]) for number in range(8)]
     sums, _ = ripple(net, a, [net.gate("XOR", y, chosen[1]) for y in b], chosen[1])
     adds = net.gate("OR", chosen[0], chosen[1])
     bits = []
@@ -209,11 +223,11 @@ def and_or_alu(net, a, b, code):
     return bits
 
 
-def choose(net, bit, zero, one):
+def choose(net: Netlist, bit: str, zero: str, one: str) -> str:
     return net.gate("OR", net.gate("AND", net.gate("NOT", bit), zero), net.gate("AND", bit, one))
 
 
-def tree_alu(net, a, b, code):
+def tree_alu(net: Netlist, a: list[str], b: list[str], code: list[str]) -> list[str]:
     """An adder and a subtracter; the function is chosen by a tree of multiplexers."""
     sums, _ = look_ahead(net, a, b)
     one = net.gate("NAND", code[0], net.gate("NOT", code[0]))
@@ -227,22 +241,22 @@ def tree_alu(net, a, b, code):
     return bits
 
 
-def alu(net, size, build):
+def alu(net: Netlist, size: int, build: SelectFunction) -> None:
     code = net.inputs("f", 3)
     a, b = net.inputs("a", size), net.inputs("b", size)
     net.outputs("r", build(net, a, b, code))
 
 
-def products(net, size, join):
+def products(net: Netlist, size: int, join: JoinTwo) -> None:
     x, y = net.inputs("x", size), net.inputs("y", size)
     net.output("o", join(net, x, y))
 
 
-def one_or(net, x, y):
+def one_or(net: Netlist, x: list[str], y: list[str]) -> str:
     return net.gate("OR", *[net.gate("AND", a, b) for a, b in zip(x, y)])
 
 
-def nand_tree(net, x, y):
+def nand_tree(net: Netlist, x: list[str], y: list[str]) -> str:
     """NAND over complemented products by twos, and OR gates above in a tree."""
     terms = [net.gate("NAND", a, b) for a, b in zip(x, y)]
     terms = [net.gate("NAND", *terms[i : i + 2]) for i in range(0, len(terms), 2)]
@@ -254,26 +268,26 @@ def nand_tree(net, x, y):
 CHAIN_INPUTS = 64
 
 
-def long_chain(net, size, link):
+def long_chain(net: Netlist, size: int, link: Link) -> None:
     net.output("o", link(net, net.inputs("x", CHAIN_INPUTS), size))
 
 
-def xors(net, inputs, size):
+def xors(net: Netlist, inputs: list[str], size: int) -> str:
     return chain(net, [inputs[i % len(inputs)] for i in range(size + 1)])
 
 
-def xors_backward(net, inputs, size):
+def xors_backward(net: Netlist, inputs: list[str], size: int) -> str:
     return chain(net, [inputs[i % len(inputs)] for i in range(size, -1, -1)])
 
 
-def and_or_steps(net, inputs, size):
+def and_or_steps(net: Netlist, inputs: list[str], size: int) -> str:
     result = inputs[0]
     for i in range(1, size + 1):
         result = net.gate(("AND", "OR")[i % 2], result, inputs[i * 7 % len(inputs)])
     return result
 
 
-def or_and_steps(net, inputs, size):
+def or_and_steps(net: Netlist, inputs: list[str], size: int) -> str:
     """As `and_or_steps`: each gate is the complement of that one's."""
     inverse = [net.gate("NOT", x) for x in inputs]
     result = inverse[0]
@@ -282,7 +296,8 @@ def or_and_steps(net, inputs, size):
     return net.gate("NOT", result)
 
 
-BUILDERS = {
+# By family the function that makes inputs and outputs, and the two ways that it takes.
+BUILDERS: dict[str, tuple[Callable[..., None], Callable[..., object], Callable[..., object]]] = {
     "adder": (adder, ripple, look_ahead),
     "multiplier": (multiplier, array, wallace),
     "parity": (parity, chain, tree),
@@ -293,7 +308,7 @@ BUILDERS = {
 }
 
 
-def write_pair(folder, family, size):
+def write_pair(folder: pathlib.Path, family: str, size: int) -> list[pathlib.Path]:
     """The paths of the two netlists."""
     build, first, second = BUILDERS[family]
     paths = []
@@ -305,7 +320,7 @@ def write_pair(folder, family, size):
     return paths
 
 
-def write_folder(folder, family, size, order):
+def write_folder(folder: pathlib.Path, family: str, size: int, order: list[str]) -> pathlib.Path:
     """A folder with the two netlists, as a.bench and b.bench, and the names of the order, a line for each."""
     folder.mkdir(parents=True)
     for path, kept in zip(write_pair(folder, family, size), ("a.bench", "b.bench")):
@@ -314,8 +329,10 @@ def write_folder(folder, family, size, order):
     return folder
 
 
-def main():
-    folder = pathlib.Path(sys.argv[1])
+def main() -> None:
+    parser = argparse.ArgumentParser(description=__doc__, formatter_class=argparse.RawDescriptionHelpFormatter)
+    parser.add_argument("folder", type=pathlib.Path, help="The folder of the netlists, which is made if it is not there.")
+    folder = parser.parse_args().folder
     folder.mkdir(parents=True, exist_ok=True)
     for family, sizes in FAMILIES.items():
         for size in sizes:

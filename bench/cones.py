@@ -9,6 +9,8 @@ Markdown has, of the least of each: one worker's seconds on the clock, the N wor
 processor time as a ratio to one worker's, the share of N processors that they left idle, and an N-th of the runs at once as a ratio.
 The last line has the geometric means of the N workers' least and of the runs at once.
 """
+from __future__ import annotations
+
 import argparse
 import os
 import pathlib
@@ -17,13 +19,13 @@ import subprocess
 import sys
 import time
 
-from measure import geometric_mean, say
-from results import Results, options
+from measure import geometric_mean, say, shown
+from results import Results, Row, parser_of
 
 HEAD = "| netlist | pairs | one worker s | least | medians | work | idle | runs at once |\n|---|---:|---:|---:|---:|---:|---:|---:|"
 
 
-def seconds(words, bound, copies=1):
+def seconds(words: list[str], bound: float, copies: int = 1) -> tuple[float, float]:
     """The clock's seconds until all copies have ended, and their processor time."""
     begun, before = time.monotonic(), os.times()
     running = [subprocess.Popen(words, stdout=subprocess.DEVNULL) for _ in range(copies)]
@@ -41,16 +43,16 @@ def seconds(words, bound, copies=1):
     return time.monotonic() - begun, sum(after[2:4]) - sum(before[2:4])
 
 
-def measured(folder, settings):
+def measured(folder: pathlib.Path, settings: argparse.Namespace) -> Row:
     files = [str(folder / "a.bench"), str(folder / "b.bench")]
     words = {n: [settings.program, "--order", "cones", "--workers", str(n), *files] for n in (1, settings.workers)}
     report = subprocess.run(words[1], stdout=subprocess.PIPE, text=True).stdout
-    runs = [[], [], []]
+    runs: list[list[tuple[float, float]]] = [[], [], []]
     for _ in range(settings.repeats):
         runs[0].append(seconds(words[1], settings.seconds))
         runs[1].append(seconds(words[settings.workers], settings.seconds))
         runs[2].append(seconds(words[1], settings.seconds, settings.workers))
-    one, many, apart = map(min, runs)
+    one, many, apart = (min(column) for column in runs)
     medians = [statistics.median(clock for clock, _ in column) for column in runs]
     row = {
         "pairs": len(report.splitlines()) - 1,
@@ -64,12 +66,12 @@ def measured(folder, settings):
     return {name: round(value, 4) for name, value in row.items()}
 
 
-def main():
-    parser = argparse.ArgumentParser(description=__doc__, formatter_class=argparse.RawDescriptionHelpFormatter)
-    parser.add_argument("program")
-    parser.add_argument("folders", nargs="+", type=pathlib.Path)
-    parser.add_argument("--workers", type=int, default=4)
-    options(parser, seconds=60, repeats=3)
+def main() -> None:
+    parser = parser_of(__doc__, seconds=60, repeats=3)
+    parser.add_argument(
+        "folders", metavar="FOLDER", nargs="+", type=pathlib.Path, help="This folder has a pair: a.bench, b.bench and perhaps an order."
+    )
+    parser.add_argument("--workers", type=int, default=4, help="One worker is compared with so many; the default is 4.")
     settings = parser.parse_args()
     said = {"workers": settings.workers, "repeats": settings.repeats}
     what = "Pairs by their cones: one worker's seconds on the clock, and several workers' as ratios to these"
@@ -85,7 +87,7 @@ def main():
         cells = [f"{row[name]:.2f}" for name in ("one", "least", "medians", "work", "idle", "at once")]
         print(f"| {row['key']} | {row['pairs']} | {' | '.join(cells)} |")
     means = [geometric_mean([row[name] for row in results.rows.values()]) for name in ("least", "at once")]
-    print("\nin the geometric mean {:.2f} of the least, the runs at once {:.2f}".format(*means))
+    print(f"\nin the geometric mean {shown(means[0])} of the least, the runs at once {shown(means[1])}")
 
 
 if __name__ == "__main__":

@@ -16,13 +16,16 @@ With --hindsight it measures what the default order costs instead, and writes re
 single order ends within N seconds of processor time, with one worker, the order that took least and its processor time, that of the
 bare command, how many times as much that is, and the budget that decided.
 """
+from __future__ import annotations
+
 import argparse
 import pathlib
 import re
 import sys
+from collections.abc import Iterator
 
-from measure import Column, Launcher, by_turns, figures, geometric_mean, say, shown, table
-from results import Results, first_line, options, package
+from measure import Column, Launcher, Run, by_turns, figures, geometric_mean, say, shown, table
+from results import Results, Row, first_line, package, parser_of
 
 ABC = "berkeley-abc"
 KINDS = ("EQUAL", "DIFFER", "ONLY", "UNDECIDED")
@@ -32,37 +35,37 @@ LARGE = 1 << 18
 UNBOUNDED = 2_000_000_000
 
 
-def counted(report):
+def counted(report: str) -> list[int]:
     """How many lines of each kind a report has."""
     return [sum(line.startswith(kind + " ") for line in report.splitlines()) for kind in KINDS]
 
 
-def has_report(run):
+def has_report(run: Run) -> bool:
     return run.status in (0, 1, 3) and any(counted(run.output))
 
 
-def said_by_cec(run):
+def said_by_cec(run: Run) -> str:
     for words, meaning in (("are equivalent", "equal"), ("NOT EQUIVALENT", "different"), ("Miter computation has failed", "refused")):
         if words in run.output:
             return meaning
     return "undecided"
 
 
-def has_answer(run):
+def has_answer(run: Run) -> bool:
     return said_by_cec(run) in ("equal", "different")
 
 
-def abc_version():
+def abc_version() -> str:
     """What abc says of itself when it is started without a command, and its package."""
     return f"{first_line([ABC], r'(?<=ABC )[0-9.]+')} (package {ABC} {package(ABC)})"
 
 
-def pairs_in(path):
+def pairs_in(path: pathlib.Path) -> int:
     """As many pairs as a netlist has outputs and registers."""
     return len(re.findall(r"(?mi)^\s*OUTPUT\s*\(|=\s*DFF\s*\(", path.read_text()))
 
 
-def comparisons(folders, letters="bc", only=""):
+def comparisons(folders: list[pathlib.Path], letters: str = "bc", only: str = "") -> Iterator[tuple[str, list[pathlib.Path]]]:
     """Each design's name with the letter of its second file, and the two files."""
     for design in sorted(path.parent for folder in folders for path in folder.glob("*/a.bench")):
         for other in (design / f"{letter}.bench" for letter in letters):
@@ -70,7 +73,7 @@ def comparisons(folders, letters="bc", only=""):
                 yield f"{design.name} {other.stem}", [design / "a.bench", other]
 
 
-def copies(files, scratch):
+def copies(files: list[pathlib.Path], scratch: pathlib.Path) -> Iterator[pathlib.Path]:
     """The netlists for cec: each with the inputs that only the other one has, unless such a name is a signal here."""
     texts = [path.read_text() for path in files]
     inputs = [re.findall(r"(?mi)^\s*INPUT\s*\(\s*(.*?)\s*\)", text) for text in texts]
@@ -82,7 +85,7 @@ def copies(files, scratch):
         yield path
 
 
-def compared(launcher, files, scratch, settings):
+def compared(launcher: Launcher, files: list[pathlib.Path], scratch: pathlib.Path, settings: argparse.Namespace) -> Row:
     bounds = {"seconds": settings.seconds}
     cec = f"cec -T {settings.seconds} -C {UNBOUNDED} {' '.join(map(str, copies(files, scratch)))}"
     ours = [settings.program, *([] if "--workers" in settings.options else ["--workers", "1"]), *settings.options.split(), *files]
@@ -91,7 +94,7 @@ def compared(launcher, files, scratch, settings):
         columns.append(Column([ABC, "-c", cec], bounds, has_answer))
     runs = by_turns(launcher, columns, settings.repeats, fewest=1, enough=1.0)
     counts = counted(runs[0][-1].output) if has_report(runs[0][-1]) else [0, 0, 0, pairs_in(files[0])]
-    row = dict(zip(("equal", "differ", "only", "undecided"), counts))
+    row: Row = dict(zip(("equal", "differ", "only", "undecided"), counts))
     found = [figures(column, done) for column, done in zip(columns, runs)]
     row["bddcheck"], row["cec"] = found if len(found) == 2 else (*found, None)
     row["cec says"] = said_by_cec(runs[1][-1]) if len(found) == 2 else "not run"
@@ -101,11 +104,11 @@ def compared(launcher, files, scratch, settings):
     return row
 
 
-def is_decided(row):
+def is_decided(row: Row) -> bool:
     return bool(row["bddcheck"]) and not row["undecided"]
 
 
-def count_verdicts(settings):
+def count_verdicts(settings: argparse.Namespace) -> None:
     said = {"seconds": settings.seconds, "memory": settings.memory, "options": settings.options, "repeats": settings.repeats}
     peers = {"abc": abc_version()}
     what = "Each comparison by the bare command with one worker, and by abc's cec: verdicts, seconds, peak memory"
@@ -129,11 +132,13 @@ def count_verdicts(settings):
     decided = sum(row["equal"] + row["differ"] + row["only"] for row in rows)
     print(f"\n{decided} of {decided + sum(row['undecided'] for row in rows)} pairs have a verdict")
     by_cec = [row["cec says"] for row in rows]
-    print(f"of {len(rows)} comparisons bddcheck decides {sum(map(is_decided, rows))}, cec {by_cec.count('equal') + by_cec.count('different')}")
+    print(
+        f"of {len(rows)} comparisons bddcheck decides {sum(map(is_decided, rows))}, cec {by_cec.count('equal') + by_cec.count('different')}"
+    )
     print(f"cec refuses {by_cec.count('refused')}")
 
 
-def best_order(launcher, files, settings):
+def best_order(launcher: Launcher, files: list[pathlib.Path], settings: argparse.Namespace) -> tuple[float, str] | None:
     """The least processor time of the single orders that report all pairs in time, with the order; none if no order does."""
     times = []
     for order in ORDERS:
@@ -143,13 +148,13 @@ def best_order(launcher, files, settings):
     return min(times, default=None)
 
 
-def last_budget(said):
+def last_budget(said: str) -> int | None:
     """The budget of the attempt that decided; none if cones did."""
     found = re.findall(r"^bddcheck: order \w+ decided within (\d+) nodes$", said, re.M)
     return int(found[-1]) if found else None
 
 
-def looked_back(launcher, files, settings):
+def looked_back(launcher: Launcher, files: list[pathlib.Path], settings: argparse.Namespace) -> Row:
     best = best_order(launcher, files, settings)
     if best is None:
         return {"order": None}
@@ -159,7 +164,7 @@ def looked_back(launcher, files, settings):
     return {"order": best[1], "seconds": round(best[0], 4), "bare": round(bare.processor, 4), "budget": last_budget(bare.errors)}
 
 
-def look_back(settings):
+def look_back(settings: argparse.Namespace) -> None:
     said = {"seconds": settings.seconds}
     what = "Seconds of processor time of the best single order in hindsight and of the bare command, one worker"
     results = Results("hindsight", what, settings, said)
@@ -173,7 +178,10 @@ def look_back(settings):
         results.keep_only(keys)
     rows = [results.rows[key] for key in keys if results.rows[key]["order"]]
     times = {row["key"]: row["bare"] / max(row["seconds"], 0.001) for row in rows}
-    cells = [[row["key"], row["order"], shown(row["seconds"], 3), shown(row["bare"], 3), shown(times[row["key"]]), str(row["budget"] or "cones")] for row in rows]
+    cells = [
+        [row["key"], row["order"], shown(row["seconds"], 3), shown(row["bare"], 3), shown(times[row["key"]]), str(row["budget"] or "cones")]
+        for row in rows
+    ]
     print(table(["comparison", "best order", "s", "bare command s", "times", "budget"], cells))
     if rows:
         large = [times[row["key"]] for row in rows if row["budget"] is None or row["budget"] > LARGE]
@@ -183,19 +191,17 @@ def look_back(settings):
         print(f"{len(more)} of them within {EASY} s by an order: up to {shown(max(more, default=None), 3)} s more")
 
 
-def main():
-    parser = argparse.ArgumentParser(description=__doc__, formatter_class=argparse.RawDescriptionHelpFormatter)
-    parser.add_argument("program")
-    parser.add_argument("folders", nargs="+", type=pathlib.Path)
-    parser.add_argument("--memory", type=int, default=4000)
-    parser.add_argument("--options", default="")
-    parser.add_argument("--only", default="")
-    parser.add_argument("--without-cec", action="store_true")
-    parser.add_argument("--hindsight", action="store_true")
-    options(parser, seconds=10, repeats=3)
+def main() -> None:
+    parser = parser_of(__doc__, seconds=10, repeats=3)
+    parser.add_argument("folders", metavar="FOLDER", nargs="+", type=pathlib.Path, help="This folder has folders of pairs.")
+    parser.add_argument("--memory", type=int, default=4000, help="A run of bddcheck has so many megabytes; the default is 4000.")
+    parser.add_argument("--options", default="", help="These options are those of each run of bddcheck.")
+    parser.add_argument("--only", default="", help="Only pairs with this text in their names are measured.")
+    parser.add_argument("--without-cec", action="store_true", help="Only bddcheck is run.")
+    parser.add_argument("--hindsight", action="store_true", help="The bare command is compared with the best single order.")
     settings = parser.parse_args()
     look_back(settings) if settings.hindsight else count_verdicts(settings)
 
 
 if __name__ == "__main__":
-    sys.exit(main())
+    main()

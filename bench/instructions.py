@@ -9,15 +9,16 @@ instructions and does not see that some of them wait for memory. The table in Ma
 
 It needs valgrind; the product does not.
 """
-import argparse
+from __future__ import annotations
+
 import collections
 import pathlib
 import re
 import subprocess
 import tempfile
 
-from measure import say, shown, table
-from results import Results, first_line, options
+from measure import say, table
+from results import Results, Row, first_line, parser_of
 
 # By the first part of a function's name: what it is counted as.
 PARTS = {
@@ -47,35 +48,40 @@ PARTS = {
 OTHER = "memory, library, system"
 
 
-def self_costs(words, scratch):
+def self_costs(words: list[object], scratch: pathlib.Path) -> collections.Counter[str]:
     """Instructions by function, without those of the functions that it calls."""
     note = scratch / "note"
     valgrind = ["valgrind", "-q", "--tool=callgrind", f"--callgrind-out-file={note}"]
     subprocess.run([*valgrind, *map(str, words)], stdout=subprocess.DEVNULL, check=True)
-    said = subprocess.run(["callgrind_annotate", "--threshold=100", "--auto=no", note], stdout=subprocess.PIPE, text=True, check=True).stdout
-    found = collections.Counter()
+    said = subprocess.run(
+        ["callgrind_annotate", "--threshold=100", "--auto=no", note], stdout=subprocess.PIPE, text=True, check=True
+    ).stdout
+    found = collections.Counter[str]()
     for line in said.splitlines():
         if cost := re.match(r"\s*([\d,]+) \(\s*[\d.]+%\)\s+[^:]*:(.*?)(?:\s+\[.*\])?$", line):
             found[cost.group(2)] += int(cost.group(1).replace(",", ""))
     return found
 
 
-def measured(program, folder, scratch):
+def measured(program: str, folder: pathlib.Path, scratch: pathlib.Path) -> Row:
     words = [program, "--workers", "1", "--order-file", *(folder / name for name in ("order", "a.bench", "b.bench"))]
     costs = self_costs(words, scratch)
-    total, parts = sum(costs.values()), collections.Counter()
+    total, parts = sum(costs.values()), collections.Counter[str]()
     for name, cost in costs.items():
         parts[PARTS.get(re.split(r"::|[<. ]", name)[0], OTHER)] += cost
-    share = lambda counter: [[name, round(100 * cost / total, 1)] for name, cost in counter.most_common() if cost >= total / 1000]
+
+    def share(counter: collections.Counter[str]) -> list[tuple[str, float]]:
+        return [(name, round(100 * cost / total, 1)) for name, cost in counter.most_common() if cost >= total / 1000]
+
     return {"instructions": total, "shares": share(parts), "functions": [one for one in share(costs) if one[1] >= 1]}
 
 
-def main():
-    parser = argparse.ArgumentParser(description=__doc__, formatter_class=argparse.RawDescriptionHelpFormatter)
-    parser.add_argument("program")
-    parser.add_argument("folders", nargs="+", type=pathlib.Path)
-    parser.add_argument("--all", action="store_true")
-    options(parser, seconds=60, repeats=1)
+def main() -> None:
+    parser = parser_of(__doc__, seconds=60, repeats=1)
+    parser.add_argument(
+        "folders", metavar="FOLDER", nargs="+", type=pathlib.Path, help="This folder has a pair: a.bench, b.bench and perhaps an order."
+    )
+    parser.add_argument("--all", action="store_true", help="The table also has the functions.")
     settings = parser.parse_args()
     what = "Shares of instructions, of 100, by part of the program and by function; one worker, under callgrind"
     peers = {"valgrind": first_line(["valgrind", "--version"], r"[0-9.]+")}
@@ -87,7 +93,9 @@ def main():
                 results.add(folder.name, measured(settings.program, folder, pathlib.Path(name)))
                 say(folder.name)
     results.keep_only([folder.name for folder in settings.folders])
-    rows = [[row["key"], *map(str, one)] for row in results.rows.values() for one in row["shares"] + (row["functions"] if settings.all else [])]
+    rows = [
+        [row["key"], *map(str, one)] for row in results.rows.values() for one in row["shares"] + (row["functions"] if settings.all else [])
+    ]
     print(table(["pair", "part", "of 100"], rows))
 
 

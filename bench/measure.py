@@ -1,4 +1,6 @@
 """Runs programs within bounds of time and memory, and reports what they took."""
+from __future__ import annotations
+
 import math
 import pathlib
 import statistics
@@ -6,8 +8,9 @@ import subprocess
 import sys
 import tempfile
 import time
-from collections.abc import Callable
+from collections.abc import Callable, Iterable, Sequence
 from dataclasses import dataclass
+from typing import Any
 
 HERE = pathlib.Path(__file__).resolve().parent
 
@@ -30,12 +33,12 @@ class Run:
 class Launcher:
     """Runs programs by once.c, one after the other."""
 
-    def __init__(self):
+    def __init__(self) -> None:
         self.folder = tempfile.TemporaryDirectory()
         self.once, self.note = (pathlib.Path(self.folder.name) / name for name in ("once", "note"))
         subprocess.run(["cc", "-O2", "-o", self.once, HERE / "once.c"], check=True)
 
-    def run(self, words, seconds, clock=None, megabytes=0):
+    def run(self, words: Sequence[object], seconds: float, clock: float | None = None, megabytes: int = 0) -> Run:
         """One run within so many seconds of processor time, and on the clock (four times as many if that is not given)."""
         bounds = [self.note, math.ceil(seconds), math.ceil(clock or 4 * seconds), megabytes]
         child = subprocess.run([str(word) for word in [self.once, *bounds, *words]], capture_output=True, check=True)
@@ -48,18 +51,20 @@ class Launcher:
 class Column:
     """What is run by turns with others: a command, its bounds as `Launcher.run` takes them, and whether a run has a right answer."""
 
-    words: list
-    bounds: dict
+    words: Sequence[object]
+    bounds: dict[str, Any]
     is_right: Callable[[Run], bool]
 
 
-def by_turns(launcher, columns, repeats, fewest=3, enough=1.0, rest=0.0):
+def by_turns(
+    launcher: Launcher, columns: Sequence[Column], repeats: int, fewest: int = 3, enough: float = 1.0, rest: float = 0.0
+) -> list[list[Run]]:
     """Runs the columns in turn, one after the other, and again, up to `repeats` times; gives the runs of each.
 
     A column whose run has no right answer is not run again. After `fewest` turns it is enough if the runs of some column have taken
     `enough` seconds on the clock together.
     """
-    runs = [[] for _ in columns]
+    runs: list[list[Run]] = [[] for _ in columns]
     for turn in range(repeats):
         if turn >= fewest and max(sum(run.clock for run in one) for one in runs) > enough:
             break
@@ -71,11 +76,11 @@ def by_turns(launcher, columns, repeats, fewest=3, enough=1.0, rest=0.0):
     return runs
 
 
-def figures(column, runs):
+def figures(column: Column, runs: list[Run]) -> dict[str, Any] | None:
     """The least and the median of each measure over the runs of a column; none if its last run has no right answer."""
     if not runs or not column.is_right(runs[-1]):
         return None
-    found = {"runs": len(runs)}
+    found: dict[str, Any] = {"runs": len(runs)}
     for measure, digits in (("clock", 4), ("processor", 4), ("megabytes", 1)):
         numbers = [getattr(run, measure) for run in runs]
         found[measure] = round(min(numbers), digits)
@@ -83,13 +88,18 @@ def figures(column, runs):
     return found
 
 
-def needed_nodes(launcher, program, words, seconds, most=(1 << 32) - 1, part=0):
+def needed_nodes(
+    launcher: Launcher, program: object, words: Sequence[object], seconds: float, most: int = (1 << 32) - 1, part: float = 0
+) -> int | None:
     """The least node limit with which a run ends with its report, or one that is at most a `part` of it too large.
 
     None if that is more than `most`, or if a run within it takes more than its seconds.
     """
+
+    def is_within(nodes: int) -> bool:
+        return launcher.run([program, "--limit", nodes, *words], seconds).status in (0, 1)
+
     few, many = 0, min(1 << 10, most)
-    is_within = lambda nodes: launcher.run([program, "--limit", nodes, *words], seconds).status in (0, 1)
     while not is_within(many):
         if many == most:
             return None
@@ -100,25 +110,25 @@ def needed_nodes(launcher, program, words, seconds, most=(1 << 32) - 1, part=0):
     return many
 
 
-def geometric_mean(numbers):
+def geometric_mean(numbers: Iterable[float | None]) -> float | None:
     known = [number for number in numbers if number]
     return math.exp(sum(map(math.log, known)) / len(known)) if known else None
 
 
-def shown(number, digits=2):
+def shown(number: float | None, digits: int = 2) -> str:
     return "-" if number is None else f"{number:.{digits}f}"
 
 
-def ratio(this, that):
+def ratio(this: float | None, that: float | None) -> float | None:
     """The first number by the second, if both are known."""
     return None if this is None or not that else this / that
 
 
-def table(head, rows):
+def table(head: list[str], rows: Iterable[list[str]]) -> str:
     """The rows as a table in Markdown."""
     lines = [head, ["---"] + ["---:"] * (len(head) - 1), *rows]
     return "\n".join("| " + " | ".join(line) + " |" for line in lines)
 
 
-def say(*words):
+def say(*words: object) -> None:
     print(*words, file=sys.stderr, flush=True)

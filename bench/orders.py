@@ -8,16 +8,18 @@ its report, found by halving until it is at most a part P (0.01) too large; with
 N (8,000,000) nodes, or more than so many seconds (60) of processor time, is `more`. The numbers are the same on every machine and with
 every number of workers. It prints a table in Markdown.
 """
+from __future__ import annotations
+
 import argparse
 import pathlib
 
 from measure import Launcher, needed_nodes, say, table
-from results import Results, options
+from results import Results, Row, parser_of
 
 ORDERS = ["declared", "depth", "interleave", "index", "force"]
 
 
-def measured(launcher, place, settings):
+def measured(launcher: Launcher, place: pathlib.Path, settings: argparse.Namespace) -> Row:
     found = {}
     for order in ORDERS:
         words = ["--order", order, "--workers", "1", place / "a.bench", place / "b.bench"]
@@ -25,14 +27,12 @@ def measured(launcher, place, settings):
     return found
 
 
-def main():
-    parser = argparse.ArgumentParser(description=__doc__, formatter_class=argparse.RawDescriptionHelpFormatter)
-    parser.add_argument("program")
-    parser.add_argument("folders", nargs="+", type=pathlib.Path)
-    parser.add_argument("--limit", type=int, default=8_000_000)
-    parser.add_argument("--part", type=float, default=0.01)
-    parser.add_argument("--only", default="")
-    options(parser, seconds=60, repeats=1)
+def main() -> None:
+    parser = parser_of(__doc__, seconds=60, repeats=1)
+    parser.add_argument("folders", metavar="FOLDER", nargs="+", type=pathlib.Path, help="This folder has folders of pairs.")
+    parser.add_argument("--limit", type=int, default=8_000_000, help="More nodes than these are not counted; the default is 8000000.")
+    parser.add_argument("--part", type=float, default=0.01, help="A number may be too large by this part of it; the default is 0.01.")
+    parser.add_argument("--only", default="", help="Only pairs with this text in their names are measured.")
     settings = parser.parse_args()
     said = {"limit": settings.limit, "part": settings.part, "seconds": settings.seconds}
     what = "Nodes that a comparison needs in each order; null: more than the limit"
@@ -47,7 +47,10 @@ def main():
             say(place.name, results.add(place.name, measured(launcher, place, settings)))
     if not settings.only:
         results.keep_only(keys)
-    shown = lambda nodes: "more" if nodes is None else f"{nodes:,}"
+
+    def shown(nodes: int | None) -> str:
+        return "more" if nodes is None else f"{nodes:,}"
+
     rows = [[key, *(shown(results.rows[key][order]) for order in ORDERS)] for key in keys]
     print(table(["pair", *ORDERS], rows))
 

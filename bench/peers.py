@@ -16,15 +16,19 @@ BuDDy, their geometric means and the worst of them.
 
 It needs cc, g++ and BuDDy (Debian: libbdd-dev); the product needs none of these.
 """
+from __future__ import annotations
+
 import argparse
 import pathlib
 import subprocess
 import sys
 import tempfile
+from collections.abc import Iterable, Iterator
+from typing import Any
 
 import circuits
-from measure import HERE, Column, Launcher, by_turns, figures, geometric_mean, ratio, say, shown, table
-from results import Results, first_line, options, package
+from measure import HERE, Column, Launcher, Run, by_turns, figures, geometric_mean, ratio, say, shown, table
+from results import Results, Row, first_line, numbers, package, parser_of
 
 MEASURES = [
     ("clock", "Seconds on the clock", 3),
@@ -34,28 +38,28 @@ MEASURES = [
 BUDDY = "BuDDy"
 
 
-def compiled_driver(folder):
+def compiled_driver(folder: pathlib.Path) -> str:
     """The driver over BuDDy."""
     driver = folder / "depth_first"
     subprocess.run(["g++", "-O2", "-o", driver, HERE / "depth_first.cpp", "-lbdd"], check=True)
     return str(driver)
 
 
-def verdicts(output):
+def verdicts(output: str) -> list[list[str]]:
     """What a program says of each output, without assignments and sums."""
     lines = [line.split()[:2] for line in output.splitlines()]
     return sorted(line for line in lines if line and line[0] in ("EQUAL", "DIFFER"))
 
 
-def is_right(run):
+def is_right(run: Run) -> bool:
     return run.status in (0, 1)
 
 
-def words_of(program, workers, folder):
+def words_of(program: str, workers: int, folder: pathlib.Path) -> list[object]:
     return [program, "--workers", workers, "--order-file", *(folder / name for name in ("order", "a.bench", "b.bench"))]
 
 
-def measured(folder, launcher, driver, settings):
+def measured(folder: pathlib.Path, launcher: Launcher, driver: str, settings: argparse.Namespace) -> Row:
     """The figures of each column: the program by each number of workers, and BuDDy."""
     commands = [words_of(settings.program, workers, folder) for workers in settings.workers]
     commands.append([driver, *(folder / name for name in ("a.bench", "b.bench", "order"))])
@@ -71,11 +75,11 @@ def measured(folder, launcher, driver, settings):
 # Generated pairs.
 
 
-def interleaved(letters, size):
+def interleaved(letters: str, size: int) -> list[str]:
     return [f"{letter}{i}" for i in range(size) for letter in letters]
 
 
-def one_after_the_other(letters, size):
+def one_after_the_other(letters: str, size: int) -> list[str]:
     return [f"{letter}{i}" for letter in letters for i in range(size)]
 
 
@@ -94,12 +98,12 @@ GENERATED = {
 }
 
 
-def generate(folder, name):
+def generate(folder: pathlib.Path, name: str) -> pathlib.Path:
     family, size, order = GENERATED[name]
     return circuits.write_folder(folder / name, family, size, order)
 
 
-def pairs(folder, settings):
+def pairs(folder: pathlib.Path, settings: argparse.Namespace) -> Iterator[pathlib.Path]:
     for given in settings.folders:
         for place in sorted(given.iterdir()):
             if (place / "order").exists() and settings.only in place.name:
@@ -113,11 +117,11 @@ def pairs(folder, settings):
 # The tables.
 
 
-def value(row, column, measure):
+def value(row: Row, column: str, measure: str) -> Any:
     return row[column][measure] if row[column] else None
 
 
-def rows_of(rows, names, measure, digits):
+def rows_of(rows: Iterable[Row], names: list[str], measure: str, digits: int) -> Iterator[list[str]]:
     ratios = []
     for row in rows:
         ratios.append([ratio(value(row, name, measure), value(row, BUDDY, measure)) for name in names[:-1]])
@@ -129,28 +133,28 @@ def rows_of(rows, names, measure, digits):
     yield ["worst", *blank, *(shown(max((one for one in column if one), default=None)) for column in columns)]
 
 
-def print_tables(rows, settings):
+def print_tables(rows: Iterable[Row], settings: argparse.Namespace) -> None:
     names = [*map(str, settings.workers), BUDDY]
     heads = [f"{name} worker{'s' * (name != '1')}" for name in names[:-1]] + [BUDDY]
-    print(f"The least of {settings.repeats} runs of each, one after the other; `-`: refused, or over {settings.seconds} s of processor time.")
+    print(
+        f"The least of {settings.repeats} runs of each, one after the other; `-`: refused, or over {settings.seconds} s of processor time."
+    )
     for measure, title, digits in MEASURES:
         print(f"\n{title}:\n")
         print(table(["pair", *heads, *(f"{head} / {BUDDY}" for head in heads[:-1])], rows_of(rows, names, measure, digits)))
 
 
-def read_options():
-    parser = argparse.ArgumentParser(usage=__doc__.split("usage: ")[1].split("\n")[0])
-    parser.add_argument("program")
-    parser.add_argument("folders", nargs="*", type=pathlib.Path)
-    parser.add_argument("--workers", type=lambda text: list(map(int, text.split(","))), default=[1, 2, 4])
-    parser.add_argument("--rest", type=float, default=0.0)
-    parser.add_argument("--only", default="")
-    parser.add_argument("--no-generated", dest="generated", action="store_false")
-    options(parser, seconds=60, repeats=7)
+def read_options() -> argparse.Namespace:
+    parser = parser_of(__doc__, seconds=60, repeats=7)
+    parser.add_argument("folders", metavar="FOLDER", nargs="*", type=pathlib.Path, help="This folder has folders of pairs.")
+    parser.add_argument("--workers", type=numbers, default=[1, 2, 4], help="These are the numbers of workers; the default is 1,2,4.")
+    parser.add_argument("--rest", type=float, default=0.0, help="So many seconds are between two runs; the default is 0.")
+    parser.add_argument("--only", default="", help="Only pairs with this text in their names are measured.")
+    parser.add_argument("--no-generated", dest="generated", action="store_false", help="Only the pairs in folders are measured.")
     return parser.parse_args()
 
 
-def main():
+def main() -> None:
     settings = read_options()
     launcher = Launcher()
     with tempfile.TemporaryDirectory() as name:

@@ -13,42 +13,52 @@ workers       time on the clock by 2 and 4 workers             workers.json, con
 designs       time on the clock of designs by 4 workers        turns.json
 instructions  where the instructions of a run go               instructions.json
 """
+from __future__ import annotations
+
 import argparse
 import html
 import json
 import math
 import pathlib
+from collections.abc import Callable
+from typing import Any
 
 HERE = pathlib.Path(__file__).resolve().parent
 DARK, LIGHT, OTHER, GREY, PALE = "#1f4e79", "#8fb3d9", "#c8691c", "#606060", "#e4e4e4"
 WIDE = 760
 SMALL = 11
+# A file of results: its head, its date and its rows.
+Measured = dict[str, Any]
+# From a value to a place in a drawing.
+Scale = Callable[[float], float]
 
 
 class Drawing:
     """An SVG in the making: shapes in the order in which they are drawn."""
 
-    def __init__(self, title):
-        self.title, self.parts, self.high = title, [], 0
+    def __init__(self, title: str) -> None:
+        self.title, self.parts, self.high = title, list[str](), 0.0
 
-    def add(self, part):
+    def add(self, part: str) -> None:
         self.parts.append(part)
 
-    def text(self, x, y, words, anchor="start", size=13, colour="#000000", more=""):
+    def text(
+        self, x: float, y: float, words: object, anchor: str = "start", size: int = 13, colour: str = "#000000", more: str = ""
+    ) -> None:
         words = html.escape(str(words), quote=False)
         self.add(f'<text x="{x:.1f}" y="{y:.1f}" text-anchor="{anchor}" font-size="{size}" fill="{colour}"{more}>{words}</text>')
 
-    def rect(self, x, y, wide, high, colour):
+    def rect(self, x: float, y: float, wide: float, high: float, colour: str) -> None:
         self.add(f'<rect x="{x:.1f}" y="{y:.1f}" width="{wide:.1f}" height="{high:.1f}" fill="{colour}"/>')
 
-    def line(self, x1, y1, x2, y2, colour=GREY, more=""):
+    def line(self, x1: float, y1: float, x2: float, y2: float, colour: str = GREY, more: str = "") -> None:
         self.add(f'<path d="M{x1:.1f} {y1:.1f} L{x2:.1f} {y2:.1f}" stroke="{colour}" fill="none"{more}/>')
 
-    def path(self, points, colour, wide=2, more=""):
+    def path(self, points: list[tuple[float, float]], colour: str, wide: float = 2, more: str = "") -> None:
         steps = " L".join(f"{x:.1f} {y:.1f}" for x, y in points)
         self.add(f'<path d="M{steps}" stroke="{colour}" stroke-width="{wide}" fill="none"{more}/>')
 
-    def shape(self, kind, x, y, colour, r=4.0):
+    def shape(self, kind: str, x: float, y: float, colour: str, r: float = 4.0) -> None:
         """A point of a kind of its own, so that colours are not needed to keep the kinds apart."""
         corners = {
             "square": [(-r, -r), (r, -r), (r, r), (-r, r)],
@@ -63,7 +73,7 @@ class Drawing:
             fill = colour if kind == "dot" else "#ffffff"
             self.add(f'<circle cx="{x:.1f}" cy="{y:.1f}" r="{r:.1f}" fill="{fill}" stroke="{colour}"/>')
 
-    def svg(self):
+    def svg(self) -> str:
         return "\n".join(
             [
                 f'<svg xmlns="http://www.w3.org/2000/svg" viewBox="0 0 {WIDE} {self.high:.0f}" font-family="sans-serif" role="img">',
@@ -75,14 +85,14 @@ class Drawing:
         )
 
 
-def number(value):
+def number(value: float) -> str:
     """A number with two or three digits."""
     if value >= 100 or value == int(value):
         return f"{value:,.0f}"
     return f"{value:.1f}" if value >= 10 else f"{value:.2f}"
 
 
-def footer(drawing, y, *files, counted=None):
+def footer(drawing: Drawing, y: float, *files: Measured, counted: str | None = None) -> None:
     """With which versions, where and when a plot's figures were measured, in two lines; or what is `counted` there, not timed."""
     head = files[0]["head"]
     peers = [f"{name} {head[name]}" for name in ("BuDDy", "abc", "valgrind") if name in head]
@@ -91,29 +101,36 @@ def footer(drawing, y, *files, counted=None):
     busy = [row["others"] for file in files for row in file["rows"]]
     mean = sum(busy) / len(busy)
     beside = "nothing else ran" if mean < 0.25 else f"other processes kept {mean:.1f} of them busy"
-    drawing.text(10, y, "; ".join([f"{head['program']}, proved and built by {head['kit'].split(' of ')[0]}", *peers]), size=SMALL, colour=GREY)
+    drawing.text(
+        10, y, "; ".join([f"{head['program']}, proved and built by {head['kit'].split(' of ')[0]}", *peers]), size=SMALL, colour=GREY
+    )
     place = f"{machine['processor']}{virtual}, {machine['processors']} processors, {machine['memory']}; {files[0]['date']}"
     words = f"{files[0]['date']}; {counted}" if counted else f"{place}; {beside}"
     drawing.text(10, y + 15, words, size=SMALL, colour=GREY)
     drawing.high = y + 27
 
 
-def logarithmic(low, high, left, right):
+def logarithmic(low: float, high: float, left: float, right: float) -> Scale:
     """A scale from a value to a place."""
     unit = (right - left) / math.log10(high / low)
     return lambda value: left + unit * math.log10(value / low)
 
 
-def geometric_mean(numbers):
+def geometric_mean(numbers: list[float]) -> float:
     return math.exp(sum(map(math.log, numbers)) / len(numbers))
 
 
 # Bars against BuDDy.
 
 
-def bars(drawing, left, wide, top, rows, most, unit):
+def bars(
+    drawing: Drawing, left: float, wide: float, top: float, rows: list[tuple[str, float, float]], most: float, unit: Callable[[float], str]
+) -> None:
     """A panel: of each row its ratio as a bar, and both figures in words."""
-    x = lambda value: left + wide * min(value, most) / most
+
+    def x(value: float) -> float:
+        return left + wide * min(value, most) / most
+
     bottom = top + 19 * len(rows)
     for tick in (0.25, 0.5, 0.75, 1.0):
         drawing.line(x(tick), top - 4, x(tick), bottom, GREY if tick == 1.0 else PALE)
@@ -127,10 +144,10 @@ def bars(drawing, left, wide, top, rows, most, unit):
         drawing.text(left + 306, y + 14, f"{unit(this)} of {unit(that)}", "end", SMALL, GREY)
 
 
-def draw_buddy(peers):
+def draw_buddy(peers: Measured) -> Drawing:
     drawing = Drawing("Time and memory of one worker over BuDDy's")
     rows = [row for row in peers["rows"] if row["1"] and row["BuDDy"]]
-    rows.sort(key=lambda row: row["1"]["processor"] / row["BuDDy"]["processor"])
+    rows.sort(key=lambda row: float(row["1"]["processor"] / row["BuDDy"]["processor"]))
     top = 66
     drawing.text(110, 22, "Processor time of one worker over BuDDy's")
     drawing.text(445, 22, "Peak memory of one worker over BuDDy's")
@@ -148,7 +165,7 @@ def draw_buddy(peers):
 # Pairs of netlists decided over time.
 
 
-def steps(times, x, y, first, last):
+def steps(times: list[float], x: Scale, y: Scale, first: float, last: float) -> list[tuple[float, float]]:
     """The steps of a count that grows at each time, from one time to another."""
     points = [(x(first), y(0))]
     for count, time in enumerate(sorted(times)):
@@ -157,7 +174,7 @@ def steps(times, x, y, first, last):
     return points + [(x(last), y(len(times)))]
 
 
-def draw_decided(designs):
+def draw_decided(designs: Measured) -> Drawing:
     drawing = Drawing("Pairs of netlists decided over time, beside abc's cec")
     rows, bound = designs["rows"], designs["head"]["settings"]["seconds"]
     ours = [row["bddcheck"]["processor"] for row in rows if row["bddcheck"] and not row["undecided"]]
@@ -165,7 +182,10 @@ def draw_decided(designs):
     left, right, top, bottom = 60, 640, 40, 340
     low = 0.003
     scale = logarithmic(low, bound, left, right)
-    height = lambda count: bottom - (bottom - top) * count / len(rows)
+
+    def height(count: float) -> float:
+        return bottom - (bottom - top) * count / len(rows)
+
     drawing.text(left, 22, f"Of {len(rows)} pairs of netlists so many are decided, each within so many seconds of processor time")
     for tick in [tick for tick in (0.003, 0.01, 0.03, 0.1, 0.3, 1, 3, 10, 30, 100, 300) if tick <= bound]:
         drawing.line(scale(tick), top, scale(tick), bottom, PALE)
@@ -199,11 +219,15 @@ SHAPES = {
 }
 
 
-def draw_nodes(nodes):
+def draw_nodes(nodes: Measured) -> Drawing:
     drawing = Drawing("Nodes that a comparison needs in each order of the variables")
     limit = nodes["head"]["settings"]["limit"]
     rows = [row for row in nodes["rows"] if any(row[order] for order in SHAPES)]
-    spread = lambda row: max(row[order] or 4 * limit for order in SHAPES) / min(row[order] for order in SHAPES if row[order])
+
+    def spread(row: dict[str, Any]) -> float:
+        most, least = max(row[order] or 4 * limit for order in SHAPES), min(row[order] for order in SHAPES if row[order])
+        return float(most / least)
+
     rows.sort(key=lambda row: (-spread(row), row["key"]))
     left, right, top, step = 120, 640, 84, 30
     low = 10 ** math.floor(math.log10(min(row[order] for row in rows for order in SHAPES if row[order])))
@@ -235,11 +259,11 @@ def draw_nodes(nodes):
 # Workers.
 
 
-def draw_workers(workers, cones):
+def draw_workers(workers: Measured, cones: Measured | None) -> Drawing:
     drawing = Drawing("Time on the clock by two and four workers, over one worker's")
     counts = [str(count) for count in workers["head"]["settings"]["workers"] if count != 1]
     colours = dict(zip(counts, (LIGHT, DARK, GREY)))
-    lines = []
+    lines: list[tuple[str, float | None, dict[str, float]]] = []
     for way, title in (("order file", "In a named order"), ("declared", None), ("bare command", "By the bare command")):
         found = [row for row in workers["rows"] if row["way"] == way and row["1"]]
         if found and title:
@@ -252,7 +276,10 @@ def draw_workers(workers, cones):
         for row in cones["rows"]:
             lines.append((row["key"], row["one"], {str(cones["head"]["settings"]["workers"]): row["least"]}))
     left, right, top = 190, 600, 66
-    scale = lambda value: left + (right - left) * min(value, 1.3) / 1.3
+
+    def scale(value: float) -> float:
+        return left + (right - left) * min(value, 1.3) / 1.3
+
     y = top
     places = []
     for name, seconds, ratios in lines:
@@ -282,7 +309,7 @@ def draw_workers(workers, cones):
 # Designs by four workers.
 
 
-def draw_designs(turns):
+def draw_designs(turns: Measured) -> Drawing:
     these, those = turns["head"]["settings"]["columns"]
     drawing = Drawing("Time on the clock of designs by the bare command, four workers over one")
     rows = [row for row in turns["rows"] if row[these] and row[those]]
@@ -290,7 +317,10 @@ def draw_designs(turns):
     longest = 10 ** math.ceil(math.log10(max(row[those]["clock"] for row in rows)))
     scale = logarithmic(0.001, longest, left, right)
     highest = max(1.4, max(row[these]["clock"] / row[those]["clock"] for row in rows))
-    height = lambda value: bottom - (bottom - top) * value / highest
+
+    def height(value: float) -> float:
+        return bottom - (bottom - top) * value / float(highest)
+
     drawing.text(left, 22, f"Each of {len(rows)} comparisons: time on the clock by {these} workers, over that of one worker")
     tick = 0.001
     while tick <= longest * 1.001:
@@ -302,7 +332,7 @@ def draw_designs(turns):
         value = step / 4
         drawing.line(left, height(value), right, height(value), GREY if value == 1 else PALE)
         drawing.text(left - 8, height(value) + 4, f"{value:g}", "end", SMALL, GREY)
-    for row in sorted(rows, key=lambda row: row["key"]):
+    for row in sorted(rows, key=lambda row: str(row["key"])):
         kind = "dot" if row[those]["clock"] >= 0.05 else "ring"
         drawing.shape(kind, scale(max(row[those]["clock"], 0.001)), height(row[these]["clock"] / row[those]["clock"]), DARK, 3.5)
     footer(drawing, bottom + 56, turns)
@@ -312,7 +342,7 @@ def draw_designs(turns):
 # Where instructions go.
 
 
-def draw_instructions(found):
+def draw_instructions(found: Measured) -> Drawing:
     drawing = Drawing("Where a run's instructions go")
     left, right, y = 260, 690, 44
     drawing.text(10, 22, "Instructions of one worker, of 100")
@@ -330,7 +360,8 @@ def draw_instructions(found):
     return drawing
 
 
-PLOTS = {
+# By name the function that draws a plot, the files of results that it needs, and those that it takes if they are there.
+PLOTS: dict[str, tuple[Callable[..., Drawing], list[str], list[str]]] = {
     "buddy": (draw_buddy, ["peers"], []),
     "decided": (draw_decided, ["designs"], []),
     "nodes": (draw_nodes, ["nodes"], []),
@@ -340,16 +371,23 @@ PLOTS = {
 }
 
 
-def main():
+def main() -> None:
     parser = argparse.ArgumentParser(description=__doc__, formatter_class=argparse.RawDescriptionHelpFormatter)
-    parser.add_argument("folder", nargs="?", type=pathlib.Path, default=HERE.parent / "docs")
-    parser.add_argument("--results", type=pathlib.Path, default=HERE / "results")
+    plots = "The plots are written into this folder; the default is docs."
+    parser.add_argument("folder", nargs="?", type=pathlib.Path, default=HERE.parent / "docs", help=plots)
+    results = "The files of results are in this folder; the default is bench/results."
+    parser.add_argument("--results", type=pathlib.Path, default=HERE / "results", help=results)
     settings = parser.parse_args()
-    read = lambda name: json.loads((settings.results / f"{name}.json").read_text())
-    is_there = lambda name: (settings.results / f"{name}.json").exists()
+
+    def path(name: str) -> pathlib.Path:
+        return pathlib.Path(settings.results / f"{name}.json")
+
+    def read(name: str) -> Measured:
+        return dict(json.loads(path(name).read_text()))
+
     for name, (draw, needed, wanted) in PLOTS.items():
-        if all(map(is_there, needed)):
-            files = [read(file) for file in needed] + [read(file) if is_there(file) else None for file in wanted]
+        if all(path(file).exists() for file in needed):
+            files = [read(file) for file in needed] + [read(file) if path(file).exists() else None for file in wanted]
             (settings.folder / f"plot-{name}.svg").write_text(draw(*files).svg())
 
 

@@ -13,22 +13,25 @@ runs with a stack without limit.
 With --texts the chains are left out, and each of these texts is read in their place: so many copies of it, with names of their own in
 each, as make 4 MB, since the reading of a small text takes less time than the start of a program. Nothing is written then.
 """
+from __future__ import annotations
+
 import argparse
 import pathlib
 import re
 import sys
 import tempfile
+from collections.abc import Callable, Iterator
 
 import chains
 from designs import ABC, abc_version
 from measure import Column, Launcher, by_turns, figures, say, shown, table
-from results import Results, options
+from results import Results, Row, parser_of
 
 TEXT_BYTES = 4_000_000
 SIZES = [999999 >> shift for shift in range(3, -1, -1)]
 
 
-def measured(launcher, path, bad, settings):
+def measured(launcher: Launcher, path: pathlib.Path, bad: pathlib.Path, settings: argparse.Namespace) -> Row:
     bounds = {"seconds": settings.seconds}
     columns = [Column([settings.program, path, bad], bounds, lambda run: run.status == 2)]
     if settings.abc:
@@ -39,7 +42,7 @@ def measured(launcher, path, bad, settings):
     return {**row, **{name: figures(column, done) for name, column, done in zip(("bddcheck", "abc"), columns, runs)}}
 
 
-def copies(text):
+def copies(text: str) -> str:
     """As many copies of the text as make TEXT_BYTES, the names of each with its number after them."""
     whole = []
     for number in range(TEXT_BYTES // len(text) + 1):
@@ -48,7 +51,7 @@ def copies(text):
     return "\n".join(whole)
 
 
-def texts(folder, settings):
+def texts(folder: pathlib.Path, settings: argparse.Namespace) -> Iterator[tuple[str, Callable[[], pathlib.Path]]]:
     """The name of each text that is read, and a function that writes it and gives its path."""
     if settings.texts:
         for text in map(pathlib.Path, settings.texts):
@@ -60,18 +63,16 @@ def texts(folder, settings):
             yield f"{order} {count + 1}", lambda: write_chain(folder, order, count)
 
 
-def write_chain(folder, order, count):
+def write_chain(folder: pathlib.Path, order: str, count: int) -> pathlib.Path:
     lines = chains.gates(count)
     chains.write_chain(folder, order, count, lines if order == "forward" else lines[::-1])
     return folder / f"{order}_{count}.bench"
 
 
-def main():
-    parser = argparse.ArgumentParser(description=__doc__, formatter_class=argparse.RawDescriptionHelpFormatter)
-    parser.add_argument("program")
-    parser.add_argument("--abc", action="store_true")
-    parser.add_argument("--texts", nargs="+")
-    options(parser, seconds=60, repeats=3)
+def main() -> None:
+    parser = parser_of(__doc__, seconds=60, repeats=3)
+    parser.add_argument("--abc", action="store_true", help="The texts are read by abc as well.")
+    parser.add_argument("--texts", metavar="TEXT", nargs="+", help="Copies of these netlists are read, in place of chains.")
     settings = parser.parse_args()
     peers = {"abc": abc_version()} if settings.abc else {}
     with tempfile.TemporaryDirectory() as name:

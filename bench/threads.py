@@ -11,7 +11,8 @@ microseconds one waits for its first step, and the pages that they touch first.
 
 It compiles threads.c, which is preloaded, with cc.
 """
-import argparse
+from __future__ import annotations
+
 import os
 import pathlib
 import subprocess
@@ -19,11 +20,11 @@ import tempfile
 import time
 
 from measure import HERE, shown, table
-from results import Results, options
+from results import Results, Row, parser_of
 from workers import words_of
 
 
-def noted(program, workers, way, folder, scratch):
+def noted(program: str, workers: int, way: str, folder: pathlib.Path, scratch: pathlib.Path) -> tuple[float, list[list[str]]]:
     """The milliseconds of a run, and the lines that threads.c wrote of it."""
     note = scratch / "note"
     note.write_text("")
@@ -35,7 +36,7 @@ def noted(program, workers, way, folder, scratch):
     return clock, [line.split() for line in note.read_text().splitlines()]
 
 
-def figures_of(clock, lines):
+def figures_of(clock: float, lines: list[list[str]]) -> Row:
     threads = [list(map(float, words)) for kind, *words in lines if kind == "thread"]
     rounds = [list(map(float, words)) for kind, *words in lines if kind == "together"]
     row = {
@@ -49,19 +50,19 @@ def figures_of(clock, lines):
     return {**{name: round(value, 1) for name, value in row.items()}, **counts}
 
 
-def cells_of(row):
+def cells_of(row: Row) -> list[str]:
     parts = f"{shown(row['with threads'], 0)} ({row['rounds']})"
     busy = shown(row["busy"] / max(row["with threads"], 1e-9), 2)
     return [row["key"], shown(row["clock"], 0), parts, busy, *(shown(row[name], 0) for name in ("busy", "off", "start")), str(row["pages"])]
 
 
-def main():
-    parser = argparse.ArgumentParser(description=__doc__, formatter_class=argparse.RawDescriptionHelpFormatter)
-    parser.add_argument("program")
-    parser.add_argument("folders", nargs="+", type=pathlib.Path)
-    parser.add_argument("--workers", type=int, default=4)
-    parser.add_argument("--bare", action="store_true")
-    options(parser, seconds=60, repeats=5)
+def main() -> None:
+    parser = parser_of(__doc__, seconds=60, repeats=5)
+    parser.add_argument(
+        "folders", metavar="FOLDER", nargs="+", type=pathlib.Path, help="This folder has a pair: a.bench, b.bench and perhaps an order."
+    )
+    parser.add_argument("--workers", type=int, default=4, help="Each pair is compared by so many workers; the default is 4.")
+    parser.add_argument("--bare", action="store_true", help="The pairs are compared by the bare command, and not by their order files.")
     settings = parser.parse_args()
     what = "Threads beside the caller's, of the fastest run: milliseconds, microseconds of a start, starts and pages"
     said = {"workers": settings.workers, "repeats": settings.repeats}

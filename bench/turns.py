@@ -10,19 +10,21 @@ least of each counts, since small times waver. It prints a table in Markdown, th
 medians, processor time as a ratio, and both peaks of memory; and then the geometric mean, what is above 1.05 although it took 0.05 s
 or more, and which comparisons neither or only one of the columns ended.
 """
+from __future__ import annotations
+
 import argparse
 import pathlib
 import sys
 
 from designs import comparisons, has_report
 from measure import Column, Launcher, by_turns, figures, geometric_mean, say, shown, table
-from results import Results, options, program_of
+from results import Results, Row, parser_of, program_of
 
 SLOWER = 1.05
 MEASURABLE = 0.05
 
 
-def measured(launcher, files, settings):
+def measured(launcher: Launcher, files: list[pathlib.Path], settings: argparse.Namespace) -> Row:
     columns = []
     for _, program, workers in settings.columns:
         bounds = {"seconds": workers * settings.seconds, "clock": settings.seconds}
@@ -34,39 +36,41 @@ def measured(launcher, files, settings):
     return {name: figures(column, done) for (name, _, _), column, done in zip(settings.columns, columns, runs)}
 
 
-def compared(row, names):
+def compared(row: Row, names: list[str]) -> list[float] | None:
     """The ratios of the first column to the second one: least and median on the clock, and least processor time."""
     these, those = (row[name] for name in names)
     return [these[measure] / those[measure] for measure in ("clock", "median_clock", "processor")] if these and those else None
 
 
-def print_table(rows, names):
-    ended = [row for row in rows if compared(row, names)]
-    ended.sort(key=lambda row: -compared(row, names)[0])
+def print_table(rows: list[Row], names: list[str]) -> None:
+    ended = [(row, ratios) for row, ratios in ((row, compared(row, names)) for row in rows) if ratios]
+    ended.sort(key=lambda one: -one[1][0])
     cells = []
-    for row in ended:
+    for row, ratios in ended:
         these, those = (row[name] for name in names)
         clocks = [shown(one["clock"], 3) for one in (these, those)]
-        cells.append([row["key"], *clocks, *map(shown, compared(row, names)), *(shown(one["megabytes"], 0) for one in (these, those))])
+        cells.append([row["key"], *clocks, *map(shown, ratios), *(shown(one["megabytes"], 0) for one in (these, those))])
     print(table(["comparison", *(f"{name} s" for name in names), "least", "medians", "work", *(f"{name} MB" for name in names)], cells))
-    print(f"\n{len(ended)} of {len(rows)} comparisons end by both: {shown(geometric_mean([compared(row, names)[0] for row in ended]))} in the geometric mean")
-    longer = [row for row in ended if row[names[1]]["clock"] >= MEASURABLE]
-    print(f"{len(longer)} of them take {MEASURABLE} s or more: {shown(geometric_mean([compared(row, names)[0] for row in longer]))} in the geometric mean")
-    slower = [row["key"] for row in longer if compared(row, names)[0] > SLOWER]
+    print(
+        f"\n{len(ended)} of {len(rows)} comparisons end by both: {shown(geometric_mean(ratios[0] for _, ratios in ended))} in the geometric mean"
+    )
+    longer = [(row, ratios) for row, ratios in ended if row[names[1]]["clock"] >= MEASURABLE]
+    print(
+        f"{len(longer)} of them take {MEASURABLE} s or more: {shown(geometric_mean(ratios[0] for _, ratios in longer))} in the geometric mean"
+    )
+    slower = [row["key"] for row, ratios in longer if ratios[0] > SLOWER]
     print(f"above {SLOWER} of these: {', '.join(slower) or 'none'}")
     for here, there in (names, names[::-1]):
         only = [row["key"] for row in rows if row[here] and not row[there]]
         print(f"ended only by {here}: {', '.join(only) or 'none'}")
 
 
-def main():
-    parser = argparse.ArgumentParser(description=__doc__, formatter_class=argparse.RawDescriptionHelpFormatter)
-    parser.add_argument("program")
-    parser.add_argument("folders", nargs="+", type=pathlib.Path)
-    parser.add_argument("--before")
-    parser.add_argument("--workers", type=int, default=4)
-    parser.add_argument("--only", default="")
-    options(parser, seconds=10, repeats=9)
+def main() -> None:
+    parser = parser_of(__doc__, seconds=10, repeats=9)
+    parser.add_argument("folders", metavar="FOLDER", nargs="+", type=pathlib.Path, help="This folder has folders of pairs.")
+    parser.add_argument("--before", metavar="PROGRAM", help="This program is the second column, in place of one worker.")
+    parser.add_argument("--workers", type=int, default=4, help="The first column has so many workers; the default is 4.")
+    parser.add_argument("--only", default="", help="Only pairs with this text in their names are measured.")
     settings = parser.parse_args()
     second = ("before", settings.before, settings.workers) if settings.before else ("1", settings.program, 1)
     settings.columns = [(str(settings.workers), settings.program, settings.workers), second]

@@ -17,19 +17,28 @@ median, then for each other column both as ratios to these, the same for process
 means. --before measures another program beside the first one, with the same numbers of workers. With --busy N other processes run all
 the while, which never wait; then nothing is written.
 """
+from __future__ import annotations
+
 import argparse
 import contextlib
 import pathlib
 import subprocess
 import sys
 import tempfile
+from collections.abc import Iterator
 
 import circuits
-from measure import Column, Launcher, by_turns, figures, geometric_mean, say, shown, table
+from measure import Column, Launcher, Run, by_turns, figures, geometric_mean, say, shown, table
 from peers import one_after_the_other
-from results import Results, options, program_of
+from results import Results, Row, numbers, parser_of, program_of
 
-MADE = {"mul9": ("multiplier", 9), "mul10": ("multiplier", 10), "mul12": ("multiplier", 12), "pairs18": ("products", 18), "pairs20": ("products", 20)}
+MADE = {
+    "mul9": ("multiplier", 9),
+    "mul10": ("multiplier", 10),
+    "mul12": ("multiplier", 12),
+    "pairs18": ("products", 18),
+    "pairs20": ("products", 20),
+}
 # Each pair with the way in which it is run.
 RUNS = [
     ("mul9", "order file"),
@@ -44,7 +53,7 @@ RUNS = [
 ]
 
 
-def write_wave(folder, size):
+def write_wave(folder: pathlib.Path, size: int) -> pathlib.Path:
     """A pair of equal netlists whose last gate is one wave over all variables."""
     folder.mkdir()
     names = one_after_the_other("xy", size)
@@ -58,7 +67,7 @@ def write_wave(folder, size):
     return folder
 
 
-def folder_of(name, scratch, given):
+def folder_of(name: str, scratch: pathlib.Path, given: pathlib.Path | None) -> pathlib.Path:
     """The pair's folder: the one that was given, or one that is made."""
     if given and (given / name / "order").exists():
         return given / name
@@ -71,18 +80,22 @@ def folder_of(name, scratch, given):
     return circuits.write_folder(scratch / name, family, size, one_after_the_other(letters, size))
 
 
-def words_of(program, workers, way, folder):
-    ways = {"order file": ["--order-file", folder / "order"], "declared": ["--order", "declared"], "bare command": []}
+def words_of(program: str, workers: int, way: str, folder: pathlib.Path) -> list[object]:
+    ways: dict[str, list[object]] = {
+        "order file": ["--order-file", folder / "order"],
+        "declared": ["--order", "declared"],
+        "bare command": [],
+    }
     return [program, "--workers", workers, *ways[way], folder / "a.bench", folder / "b.bench"]
 
 
-def has_report(run):
+def has_report(run: Run) -> bool:
     """That there is a report, in which pairs may be undecided."""
     return run.status in (0, 3) and "EQUAL" in run.output
 
 
 @contextlib.contextmanager
-def others(count):
+def others(count: int) -> Iterator[None]:
     """So many processes that never wait."""
     running = [subprocess.Popen([sys.executable, "-c", "while True: pass"]) for _ in range(count)]
     try:
@@ -93,9 +106,11 @@ def others(count):
             one.wait()
 
 
-def measured(launcher, folder, way, settings):
-    bounds = lambda workers: {"seconds": workers * settings.seconds, "clock": settings.seconds}
-    columns = [Column(words_of(program, workers, way, folder), bounds(workers), has_report) for _, program, workers in settings.columns]
+def measured(launcher: Launcher, folder: pathlib.Path, way: str, settings: argparse.Namespace) -> Row:
+    columns = []
+    for _, program, workers in settings.columns:
+        bounds = {"seconds": workers * settings.seconds, "clock": settings.seconds}
+        columns.append(Column(words_of(program, workers, way, folder), bounds, has_report))
     runs = by_turns(launcher, columns, settings.repeats, fewest=1, enough=20.0, rest=settings.rest)
     reports = [run.output for done in runs for run in done if has_report(run)]
     if any(report != reports[0] for report in reports):
@@ -104,7 +119,7 @@ def measured(launcher, folder, way, settings):
     return {**row, "undecided": sum(line.startswith("UNDECIDED") for line in reports[0].splitlines()) if reports else None}
 
 
-def ratios(row, names, measure):
+def ratios(row: Row, names: list[str], measure: str) -> Iterator[tuple[float, float] | None]:
     """Each column's least and median by those of the first column."""
     first = row[names[0]]
     for name in names[1:]:
@@ -112,8 +127,10 @@ def ratios(row, names, measure):
         yield (one[measure] / first[measure], one[f"median_{measure}"] / first[f"median_{measure}"]) if one and first else None
 
 
-def cells_of(row, names):
-    pair = lambda numbers, digits=2: "-" if numbers is None else ", ".join(shown(number, digits) for number in numbers)
+def cells_of(row: Row, names: list[str]) -> list[str]:
+    def pair(numbers: tuple[float, float] | None, digits: int = 2) -> str:
+        return "-" if numbers is None else ", ".join(shown(number, digits) for number in numbers)
+
     first = row[names[0]]
     cells = [row["key"], pair(first and (first["clock"], first["median_clock"]), 3)]
     for measure in ("clock", "processor"):
@@ -121,7 +138,7 @@ def cells_of(row, names):
     return cells + [shown(row[name] and row[name]["megabytes"], 0) for name in names] + [str(row["others"])]
 
 
-def print_table(rows, names):
+def print_table(rows: list[Row], names: list[str]) -> None:
     head = ["pair", f"{names[0]} s"] + [f"{name} / {names[0]}" for name in names[1:]] + [f"work of {name}" for name in names[1:]]
     print(table(head + [f"MB of {name}" for name in names] + ["others busy"], [cells_of(row, names) for row in rows]))
     for way in sorted({row["way"] for row in rows}):
@@ -130,24 +147,21 @@ def print_table(rows, names):
         print(f"\n{way}: least on the clock over {names[0]}, geometric mean: {'; '.join(means)}")
 
 
-def read_options():
-    numbers = lambda text: list(map(int, text.split(",")))
-    parser = argparse.ArgumentParser(usage=__doc__.split("usage: ")[1].split("\n")[0])
-    parser.add_argument("program")
-    parser.add_argument("folder", nargs="?", type=pathlib.Path)
-    parser.add_argument("--before")
-    parser.add_argument("--workers", type=numbers, default=[1, 2, 4])
-    parser.add_argument("--rest", type=float, default=0.5)
-    parser.add_argument("--busy", type=int, default=0)
-    parser.add_argument("--only", default="")
-    options(parser, seconds=120, repeats=5)
+def read_options() -> argparse.Namespace:
+    parser = parser_of(__doc__, seconds=120, repeats=5)
+    parser.add_argument("folder", metavar="FOLDER", nargs="?", type=pathlib.Path, help="This folder has folders of pairs.")
+    parser.add_argument("--before", metavar="PROGRAM", help="This program is measured beside the first one.")
+    parser.add_argument("--workers", type=numbers, default=[1, 2, 4], help="These are the numbers of workers; the default is 1,2,4.")
+    parser.add_argument("--rest", type=float, default=0.5, help="So many seconds are between two runs; the default is 0.5.")
+    parser.add_argument("--busy", type=int, default=0, help="So many other processes run all the while, which never wait.")
+    parser.add_argument("--only", default="", help="Only pairs with this text in their names are measured.")
     settings = parser.parse_args()
     programs = [("", settings.program)] + ([("before, ", settings.before)] if settings.before else [])
     settings.columns = [(f"{when}{workers}", program, workers) for when, program in programs for workers in settings.workers]
     return settings
 
 
-def main():
+def main() -> None:
     settings = read_options()
     names = [name for name, _, _ in settings.columns]
     said = {"workers": settings.workers, "seconds": settings.seconds, "repeats": settings.repeats, "rest": settings.rest}

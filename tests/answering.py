@@ -8,9 +8,9 @@ import itertools
 import re
 from dataclasses import dataclass
 
-from judging import Unpaired, Paired, Refusal, judge, levels
+from judging import Judged, Pair, Paired, Refusal, Unpaired, judge, levels
 from harness import Run
-from reading import Fault, Netlist, read, read_names, split
+from reading import Fault, Netlist, below, read, read_names, split
 
 # Each of these is tried within a budget: the cases here are far below the first one, so only the limit counts. Best is the first that
 # fits. Auto takes the same for the diagrams, and reports as by declared order; if each was given up, and by cones and merge at once, each
@@ -48,20 +48,20 @@ class Case:
     # Which variables of an assignment are reported: the word of --assignment, where there is one.
     assignment: str | None = None
     # What is picked: names, or the number of a share and how many there are.
-    only: list | None = None
-    share: tuple | None = None
+    only: list[str] | None = None
+    share: tuple[int, int] | None = None
     # Any difference is enough.
     is_any: bool = False
 
 
-def read_text(place, text):
+def read_text(place: str, text: bytes) -> Netlist:
     try:
         return read(text)
     except Fault as fault:
         raise Refusal(f"{place}: {fault}") from None
 
 
-def parts_of(case):
+def parts_of(case: Case) -> tuple[bytes, bytes]:
     """The texts as the program gets them: on standard input the first line `%%` divides them, wherever it stands."""
     if case.divider is None:
         return case.first, case.second
@@ -71,16 +71,18 @@ def parts_of(case):
     return parts
 
 
-def paired_of(case):
+def paired_of(case: Case) -> tuple[Paired, str | list[str]]:
     """The paired netlists of the case, and its order: a word or names; a refusal where it must be refused."""
     first, second = parts_of(case)
-    order = case.order
-    if isinstance(order, bytes):
+    order: str | list[str]
+    if isinstance(case.order, bytes):
         try:
-            order = read_names(order)
+            order = read_names(case.order)
         except Fault as fault:
             raise Refusal(f"order: {fault}") from None
-    nets = [read_text("first", first), read_text("second", second)]
+    else:
+        order = case.order
+    nets = read_text("first", first), read_text("second", second)
     given: Netlist | None = None
     if case.given is not None:
         given = read_text("given", case.given)
@@ -93,46 +95,34 @@ def paired_of(case):
 # Attempts.
 
 
-def fits(judged, budget):
-    return judged.nodes <= budget
+def fits(judged: Judged, budget: int | None) -> bool:
+    return budget is None or judged.nodes <= budget
 
 
-def must_fit(judged, budget):
+def must_fit(judged: Judged, budget: int | None) -> bool:
     """No wave can be given up for its requests."""
-    return fits(judged, budget) and judged.requests() <= 8 * budget
+    return budget is None or (judged.nodes <= budget and judged.requests() <= 8 * budget)
 
 
 # Pairs by their cones.
 
 
-def below(net, root):
-    """The signals below the root, itself among them."""
-    met, waiting = set(), [root]
-    while waiting:
-        signal = waiting.pop()
-        if signal not in met:
-            met.add(signal)
-            if signal in net.gates:
-                waiting += net.gates[signal][1]
-    return met
-
-
-def cone(paired, net, root):
+def cone(paired: Paired, net: Netlist, root: str) -> Netlist:
     """The cone of a signal as a netlist, whose variables have their paired names."""
-    met = below(net, root)
+    met = below(net.gates, root)
     inputs = {s: "v" + paired.name(net, s) for s in [*net.inputs, *net.registers] if s in met}
     called = inputs | {s: "g" + s for s in net.gates if s in met}
     gates = {called[s]: (word, [called[o] for o in operands]) for s, (word, operands) in net.gates.items() if s in met}
     return Netlist(list(inputs.values()), ["o"], gates | {"o": ("BUFF", [called[root]])}, {})
 
 
-def cones(paired, pair):
+def cones(paired: Paired, pair: Pair) -> Paired:
     given = paired.given and cone(paired, paired.given, paired.given.outputs[0])
     parts = cone(paired, paired.first, pair.first), cone(paired, paired.second, pair.second)
     return Paired(*parts, "name", given)
 
 
-def may_be_reported(paired, pair, limit):
+def may_be_reported(paired: Paired, pair: Pair, limit: int | None) -> tuple[bool, bool]:
     """Whether the pair may be decided within the limit, and whether it may not be."""
     if limit is None:
         return True, False
@@ -145,11 +135,11 @@ def may_be_reported(paired, pair, limit):
     return may_be_decided, True
 
 
-def gates_below(net, root):
-    return sum(signal in net.gates for signal in below(net, root))
+def gates_below(net: Netlist, root: str) -> int:
+    return sum(signal in net.gates for signal in below(net.gates, root))
 
 
-def shares(paired, pairs, of):
+def shares(paired: Paired, pairs: list[Pair], of: int) -> list[int]:
     """By place, the share of each pair: they are dealt in serpentine order by falling number of gates, equal ones as they stand."""
     weights = [gates_below(paired.first, pair.first) + gates_below(paired.second, pair.second) for pair in pairs]
     order = sorted(range(len(pairs)), key=lambda place: -weights[place])
@@ -158,14 +148,14 @@ def shares(paired, pairs, of):
     return [dealt[place] for place in range(len(pairs))]
 
 
-def picked(paired, case, result):
+def picked(paired: Paired, case: Case, result: Judged) -> tuple[list[Pair], list[Unpaired]]:
     """The pairs that are judged, and what is reported to have no partner."""
     if case.only is not None:
         known = {*paired.first.outputs, *paired.first.registers}
         if not known.issuperset(case.only):
             raise Refusal(UNKNOWN)
         of_first = [unmatched for unmatched in result.unmatched if unmatched.side == "FIRST"]
-        return [[one for one in these if one.name in case.only] for these in (result.pairs, of_first)]
+        return [one for one in result.pairs if one.name in case.only], [one for one in of_first if one.name in case.only]
     if case.share is not None:
         number, of = case.share
         dealt = shares(paired, result.pairs, of)
@@ -174,12 +164,12 @@ def picked(paired, case, result):
     return result.pairs, result.unmatched
 
 
-def shown_line(pair):
+def shown_line(pair: Pair) -> str:
     """What stands here for each line of a difference of the pair that may not be the least."""
     return f"DIFFER {pair.label}{pair.name}{NOT_LEAST.decode()}"
 
 
-def by_cones(paired, case):
+def by_cones(paired: Paired, case: Case) -> list[Run]:
     """The reports that may come of a case by cones: those of all choices, where an attempt may be given up for its requests."""
     result = judge(paired, "declared", False)
     pairs, unmatched = picked(paired, case, result)
@@ -196,7 +186,7 @@ def by_cones(paired, case):
 # Reports.
 
 
-def report(reported: list, unmatched: list[Unpaired], share=None):
+def report(reported: list[str], unmatched: list[Unpaired], share: tuple[int, int] | None = None) -> Run:
     """The run that tells these lines of pairs, and what has no partner."""
     equal, different, undecided = (sum(line.startswith(word) for line in reported) for word in ("EQUAL ", "DIFFER ", "UNDECIDED "))
     last = f"{equal} equal, {different} different, {len(unmatched)} unmatched"
@@ -207,22 +197,22 @@ def report(reported: list, unmatched: list[Unpaired], share=None):
     return Run(status, "".join(line + "\n" for line in lines).encode(), b"")
 
 
-def report_of(result):
+def report_of(result: Judged) -> Run:
     return report([pair.line for pair in result.pairs], result.unmatched)
 
 
-def run_of(refusal):
+def run_of(refusal: Refusal) -> Run:
     return Run(refusal.status, b"", f"bddcheck: {refusal}\n".encode())
 
 
-def order_of(paired, order):
+def order_of(paired: Paired, order: str | list[str]) -> Run:
     return Run(0, "".join(name + "\n" for name in levels(paired, order)).encode(), b"")
 
 
 # The whole run.
 
 
-def attempts(paired, case):
+def attempts(paired: Paired, case: Case) -> tuple[list[tuple[str, Judged]], bool, bool]:
     """What may come of the whole where orders are tried: the orders whose attempt may decide it, whether none may, and whether each
     needs more nodes than the limit."""
     found, over = [], True
@@ -236,14 +226,14 @@ def attempts(paired, case):
     return found, True, over
 
 
-def best(paired, case):
+def best(paired: Paired, case: Case) -> list[Run]:
     found, may_be_none, over = attempts(paired, case)
     runs = [order_of(paired, order) if case.print_order else report_of(result) for order, result in found]
     runs += [run_of(Refusal(FULL, 3))] if over else []
     return runs + ([run_of(Refusal(GIVEN_UP, 3))] if may_be_none else [])
 
 
-def auto(paired, case):
+def auto(paired: Paired, case: Case) -> list[Run]:
     found, may_be_none, _ = attempts(paired, case)
     declared = judge(paired, "declared", False)
     runs = [report_of(declared)] if found else []
@@ -256,7 +246,7 @@ def auto(paired, case):
     return runs
 
 
-def judged(case):
+def judged(case: Case) -> Judged:
     """What the case must give in one order; a refusal where it must be refused."""
     paired, order = paired_of(case)
     result = judge(paired, order, case.sizes)
@@ -268,13 +258,13 @@ def judged(case):
 DIFFER = re.compile(rb"DIFFER ((?:NEXT )?\S+) at((?: [^\s=]+=[01])*)( first=[01] second=[01].*)")
 
 
-def reported(case, paired, seen):
+def reported(case: Case, paired: Paired, seen: Run) -> Run:
     """The run with the variables that the case tells of assignments."""
     if case.assignment not in ("ones", "support"):
         return seen
     supports = judge(paired, "declared", False).supports if case.assignment == "support" else {}
 
-    def line(found):
+    def line(found: re.Match[bytes]) -> bytes:
         label, bits, values = found.groups()
         among = supports.get(label.decode(), ())
         kept = [bit for bit in bits.split() if (bit[:-2].decode() in among if case.assignment == "support" else bit.endswith(b"=1"))]
@@ -283,15 +273,15 @@ def reported(case, paired, seen):
     return Run(seen.status, DIFFER.sub(line, seen.out), seen.err)
 
 
-def is_difference(pair, names, bits, values):
+def is_difference(pair: Pair, names: list[str], bits: list[bytes], values: bytes) -> bool:
     """Whether the condition holds at an assignment, and the two functions have these values there, which differ."""
     ones = {bit[:-2].decode() for bit in bits if bit.endswith(b"=1")}
     place = sum((name in ones) << (len(names) - 1 - level) for level, name in enumerate(names))
     first, second, holds = (table >> place & 1 for table in pair.tables)
-    return holds and first != second and values == f" first={first} second={second}".encode()
+    return bool(holds) and first != second and values == f" first={first} second={second}".encode()
 
 
-def checked(case, seen):
+def checked(case: Case, seen: Run) -> Run:
     """The run with one line for each difference that may not be the least, if it is a difference; its assignment is not predicted."""
     if NOT_LEAST not in seen.out:
         return seen
@@ -307,12 +297,15 @@ def checked(case, seen):
     return Run(seen.status, b"\n".join(lines), seen.err)
 
 
-def answers(case):
+def answers(case: Case) -> list[Run]:
     """The runs that the program may make of the case: one, and more where orders are tried within a limit."""
     try:
         paired, order = paired_of(case)
-        if order in TRIED:
-            return [reported(case, paired, seen) for seen in {"best": best, "auto": auto, "cones": by_cones, "merge": by_cones}[order](paired, case)]
+        if isinstance(order, str) and order in TRIED:
+            return [
+                reported(case, paired, seen)
+                for seen in {"best": best, "auto": auto, "cones": by_cones, "merge": by_cones}[order](paired, case)
+            ]
         return [order_of(paired, order) if case.print_order else reported(case, paired, report_of(judged(case)))]
     except Refusal as refusal:
         return [run_of(refusal)]

@@ -9,13 +9,25 @@ import select
 import shutil
 import subprocess
 import time
+from typing import Any
 
 COMMANDS = ("chromium", "chromium-browser", "google-chrome")
 # As root Chromium has no sandbox. The rest is that it asks no server of its own, and shares no memory with other processes.
 ARGUMENTS = [
-    "--headless=new", "--no-sandbox", "--disable-gpu", "--disable-dev-shm-usage", "--no-first-run", "--disable-background-networking",
-    "--disable-component-update", "--disable-sync", "--remote-debugging-pipe",
+    "--headless=new",
+    "--no-sandbox",
+    "--disable-gpu",
+    "--disable-dev-shm-usage",
+    "--no-first-run",
+    "--disable-background-networking",
+    "--disable-component-update",
+    "--disable-sync",
+    "--remote-debugging-pipe",
 ]
+
+
+# A message of the protocol, or a part of one.
+JsonObject = dict[str, Any]
 
 
 def command() -> str | None:
@@ -32,17 +44,26 @@ class Browser:
 
     def __init__(self, place: str, seconds: float = 60) -> None:
         self.seconds, self.number, self.rest = seconds, 0, b""
-        self.events: list[dict] = []
+        self.events: list[JsonObject] = []
         self.log = pathlib.Path(place) / "browser.log"
         reads, self.send = os.pipe()
         self.receive, writes = os.pipe()
         # The browser reads commands from descriptor 3 and writes answers to 4.
-        words = ["sh", "-c", f'exec 3<&{reads} 4>&{writes} "$@"', "sh", command(), *ARGUMENTS, f"--user-data-dir={place}/profile", "about:blank"]
+        words = [
+            "sh",
+            "-c",
+            f'exec 3<&{reads} 4>&{writes} "$@"',
+            "sh",
+            command() or COMMANDS[0],
+            *ARGUMENTS,
+            f"--user-data-dir={place}/profile",
+            "about:blank",
+        ]
         with open(self.log, "wb") as log:
             self.child = subprocess.Popen(words, pass_fds=(reads, writes), stdin=subprocess.DEVNULL, stdout=log, stderr=log)
         os.close(reads)
         os.close(writes)
-        self.session = None
+        self.session: str | None = None
 
     def __enter__(self) -> Browser:
         targets = self.call("Target.getTargets")["targetInfos"]
@@ -52,7 +73,7 @@ class Browser:
             self.call(f"{domain}.enable")
         return self
 
-    def __exit__(self, *_) -> None:
+    def __exit__(self, *_: object) -> None:
         try:
             self.session = None
             self.call("Browser.close")
@@ -63,7 +84,7 @@ class Browser:
         os.close(self.send)
         os.close(self.receive)
 
-    def message(self, end: float) -> dict:
+    def message(self, end: float) -> JsonObject:
         """The next message."""
         while b"\0" not in self.rest:
             if not select.select([self.receive], [], [], max(0.0, end - time.monotonic()))[0]:
@@ -73,9 +94,9 @@ class Browser:
                 raise Fault(f"the browser has ended: {self.log.read_text(errors='replace')[-1000:]}")
             self.rest += more
         text, self.rest = self.rest.split(b"\0", 1)
-        return json.loads(text)
+        return dict(json.loads(text))
 
-    def call(self, method: str, **parameters) -> dict:
+    def call(self, method: str, **parameters: Any) -> JsonObject:
         """What a method answers. Events that come before are kept."""
         self.number += 1
         request = {"id": self.number, "method": method, "params": parameters}
@@ -88,7 +109,7 @@ class Browser:
             if message.get("id") == self.number:
                 if "error" in message:
                     raise Fault(f"{method}: {message['error']}")
-                return message["result"]
+                return dict(message["result"])
             self.events.append(message)
 
     def open(self, address: str) -> None:
@@ -107,14 +128,14 @@ class Browser:
                 raise Fault(f"it does not become true: {script}")
             time.sleep(0.02)
 
-    def value(self, script: str):
+    def value(self, script: str) -> Any:
         """The value of an expression in the page."""
         answer = self.call("Runtime.evaluate", expression=script, returnByValue=True, awaitPromise=True)
         if "exceptionDetails" in answer:
             raise Fault(f"{script}: {answer['exceptionDetails']}")
         return answer["result"].get("value")
 
-    def faults(self) -> list:
+    def faults(self) -> list[JsonObject]:
         """What the page has complained about since it was opened."""
         kinds = ("Runtime.exceptionThrown", "Log.entryAdded", "Runtime.consoleAPICalled")
         return [event["params"] for event in self.events if event.get("method") in kinds]
@@ -129,7 +150,9 @@ class Browser:
         text = {"Enter": "\r", " ": " "}.get(key, "")
         more = {"text": text, "unmodifiedText": text} if text else {}
         for kind in ("keyDown" if text else "rawKeyDown", "keyUp"):
-            self.call("Input.dispatchKeyEvent", type=kind, key=key, code=key, windowsVirtualKeyCode=code, **(more if kind == "keyDown" else {}))
+            self.call(
+                "Input.dispatchKeyEvent", type=kind, key=key, code=key, windowsVirtualKeyCode=code, **(more if kind == "keyDown" else {})
+            )
 
     def look(self, width: int, height: int, is_dark: bool = False) -> None:
         """The size of the window, and the colours that the user prefers."""

@@ -5,16 +5,22 @@ usage: tests/edits.py
 
 Nothing is proved here. The tool is tried on a small repository, with a command `rt` that says what a check would say.
 """
+from __future__ import annotations
+
 import os
 import pathlib
 import shutil
 import sys
+from collections.abc import Sequence
 
 import harness
-from harness import TOP, Tally, run
+from harness import TOP, Run, Tally, run
 
 sys.path.insert(0, str(TOP / "tools"))
 from edit_files import BadEdit, read_edit  # noqa: E402
+
+# By the name of an edit its text, and what the tool has to say of it.
+Edits = dict[str, tuple[str, str]]
 
 KINDS = ("must-fail", "planted-bugs")
 MOST_OF_A_CRATE, MOST = 6, 100
@@ -108,7 +114,7 @@ CALLERS = {
 }
 
 
-def written(place, source, edits):
+def written(place: pathlib.Path, source: str, edits: Edits) -> pathlib.Path:
     """A repository with one crate, and the tool."""
     crate = place / "crates" / "one"
     (crate / "src").mkdir(parents=True)
@@ -116,7 +122,7 @@ def written(place, source, edits):
     (place / "tools").mkdir()
     (place / "bin").mkdir()
     (place / "scratch").mkdir()
-    for name in ("edit_files.py", "planted_bugs.py", "planted_bugs.sh"):
+    for name in ("crates_txt.py", "edit_files.py", "machine.py", "planted_bugs.py", "planted_bugs.sh"):
         shutil.copy(TOP / "tools" / name, place / "tools")
     (place / "crates.txt").write_text("# Crates.\none:\n")
     (crate / "src" / "lib.rt").write_text(source)
@@ -127,13 +133,13 @@ def written(place, source, edits):
     return place
 
 
-def tried(place, words):
+def tried(place: pathlib.Path, words: Sequence[str]) -> Run:
     path = f"{place / 'bin'}{os.pathsep}{os.environ['PATH']}"
     return run([place / "tools" / "planted_bugs.sh", *words], environment={"PATH": path, "TMPDIR": str(place / "scratch")})
 
 
-def check_tool(tally, name, source, edits, words=("one",)):
-    """That the tool says of each edit what it has to, counts them, and leaves nothing behind."""
+def check_tool(tally: Tally, name: str, source: str, edits: Edits, words: Sequence[str] = ("one",)) -> None:
+    """That the tool says of each edit what it has to, counts them, and leaves no file."""
     with harness.folder() as scratch:
         place = written(pathlib.Path(scratch), source, edits)
         seen = tried(place, ["--jobs", "2", *words])
@@ -148,7 +154,7 @@ def check_tool(tally, name, source, edits, words=("one",)):
         tally.check(f"{name}: nothing is left", not list((place / "scratch").iterdir()), list((place / "scratch").iterdir()))
 
 
-def check_since(tally):
+def check_since(tally: Tally) -> None:
     """That the tool takes the crates that changed since a commit, by default the one before the last."""
     with harness.folder() as scratch:
         place = written(pathlib.Path(scratch), SOURCE, {})
@@ -159,7 +165,8 @@ def check_since(tally):
             edit.write_text(text) if text else None
             run([*git, "add", "crates", "crates.txt", "tools"])
             run([*git, "commit", "--quiet", "--message", "edits"])
-        for words, wanted in (([], 1), (["--since", "HEAD"], 0), (["--all"], 1)):
+        cases: tuple[tuple[list[str], int], ...] = (([], 1), (["--since", "HEAD"], 0), (["--all"], 1))
+        for words, wanted in cases:
             seen = tried(place, words)
             tally.check(f"since: {words}", seen.out.endswith(b"%d refused, 0 failed\n" % wanted) and seen.status == 0, seen)
         seen = tried(place, ["--since", "no-such-commit"])
@@ -168,7 +175,7 @@ def check_since(tally):
         tally.check("a crate that is not there", seen.status not in (0, None) and b"two" in seen.err, seen)
 
 
-def check_only(tally):
+def check_only(tally: Tally) -> None:
     """That --only takes the edits whose names have a word, and passes no word that none has."""
     with harness.folder() as scratch:
         place = written(pathlib.Path(scratch), SOURCE, EDITS)
@@ -183,7 +190,7 @@ def check_only(tally):
             tally.check(f"only: no edit {words[2]}", seen.status not in (0, None) and b"no-such-word" in seen.err, seen)
 
 
-def check_edits(tally):
+def check_edits(tally: Tally) -> None:
     """The planted bugs of the repository."""
     crates = sorted(it.parent for it in (TOP / "crates").glob("*/src"))
     of_gate = {crate.name: len(list((crate / "must-fail").glob("*.edit"))) for crate in crates}
@@ -206,7 +213,7 @@ def check_edits(tally):
     tally.check("the gate tries none of the program", of_gate["bddcheck"] == 0, of_gate["bddcheck"])
 
 
-def main():
+def main() -> None:
     tally = Tally("edits")
     check_edits(tally)
     check_tool(tally, "each kind", SOURCE, EDITS)
@@ -216,8 +223,7 @@ def main():
     check_tool(tally, "a crate that is not proved", SOURCE.replace("u8 = 1", "u8 = WRONG"), unproved)
     check_since(tally)
     check_only(tally)
-    tally.end()
-    sys.exit(tally.failed > 0)
+    tally.finish()
 
 
 if __name__ == "__main__":

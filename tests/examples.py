@@ -5,73 +5,76 @@ usage: tests/examples.py PROGRAM
 
 A row that stands in the README and not here, or here and not there, fails.
 """
+from __future__ import annotations
+
 import re
 import shlex
-import sys
+from collections.abc import Callable, Iterator
 
-from harness import TOP, Run, Tally, lines, run, unhelped
+from harness import TOP, Run, Tally, lines, program_of, run, unhelped
 
 
-def equal(*names, sizes=None):
+def equal(*names: str, sizes: list[int] | None = None) -> Run:
     reported = [f"EQUAL {name}" + (f" size {sizes[i]}" if sizes else "") for i, name in enumerate(names)]
     return Run(0, lines(*reported, f"{len(names)} equal, 0 different, 0 unmatched"), b"")
 
 
-def refused(text, status=2):
+def refused(text: str, status: int = 2) -> Callable[[Run], bool]:
     """That a run is refused by this line; a second one says what helps."""
     return lambda seen: unhelped(seen) == Run(status, b"", lines("bddcheck: " + text))
 
 
-
-
-def adders_equal(seen):
+def adders_equal(seen: Run) -> bool:
     return seen.status == 0 and seen.out.count(b"EQUAL ") == 9 and seen.out.endswith(b"9 equal, 0 different, 0 unmatched\n")
 
 
-def twenty_three(seen):
+def twenty_three(seen: Run) -> bool:
     sizes = [int(size) for size in re.findall(rb" size (\d+)\n", seen.out)]
     return seen.status == 0 and len(sizes) == 9 and max(sizes) == 23
 
 
-def eight_and_fifty_six(seen):
+def eight_and_fifty_six(seen: Run) -> bool:
     """The first assignment that is reported is that of 8 and 56."""
     bits = dict(word.split("=") for word in seen.out.split(b"DIFFER", 1)[1].decode().split("\n")[0].split() if "=" in word)
-    number = lambda letter: sum(int(bits[f"{letter}{i}"]) << i for i in range(8))
+
+    def number(letter: str) -> int:
+        return sum(int(bits[f"{letter}{i}"]) << i for i in range(8))
+
     return seen.status == 1 and {number("a"), number("b")} == {8, 56}
 
 
-def one_differs(seen):
+def one_differs(seen: Run) -> bool:
     return seen.status == 1 and seen.out.count(b"DIFFER") == 1 and b"1 equal, 1 different, 0 unmatched" in seen.out
 
 
-def explained(seen):
+def explained(seen: Run) -> bool:
     return one_differs(seen) and b"\n  19 first=0 second=1 line 11 line 11\n" in seen.out
 
 
-def differ_at_both(seen):
+def differ_at_both(seen: Run) -> bool:
     return seen.status == 1 and b" a=1 b=1 " in seen.out and seen.out.count(b"\n") == 2
 
 
-def no_partner(seen):
+def no_partner(seen: Run) -> bool:
     return seen.status == 1 and b"ONLY FIRST 23\nONLY SECOND 24\n" in seen.out
 
 
-def of_four(seen):
-    """A variable that only one netlist has stands among the others."""
+def of_four(seen: Run) -> bool:
+    """A variable that only one netlist has is among the others."""
     return seen.status == 1 and b"DIFFER 23 at" in seen.out and b" 7=" in seen.out
 
 
-def wires(seen):
+def wires(seen: Run) -> bool:
     return seen.status == 1 and b"DIFFER" in seen.out and b"EQUAL" not in seen.out
 
 
-def machine(last, status):
+def machine(last: list[str], status: int) -> Run:
     """s27's output and the first two next states are equal."""
     out = lines("EQUAL G17", "EQUAL NEXT G5", "EQUAL NEXT G6", *last)
     return Run(status, out, b"")
 
 
-def register_alone(seen):
+def register_alone(seen: Run) -> bool:
     return seen.status == 1 and b"ONLY FIRST NEXT G7\nONLY SECOND NEXT R7\n" in seen.out and b" R7=" in seen.out
 
 
@@ -105,28 +108,25 @@ SEEN = {
 MORE = {
     "--match position examples/c17.bench examples/c17c.bench": equal("22", "23"),
     "--sizes --order-file examples/pairs_apart.order examples/pairs.bench examples/pairs.bench": equal("o", sizes=[14]),
-    "--match position examples/s27.bench examples/s27_renamed.bench": machine(
-        ["EQUAL NEXT G7", "4 equal, 0 different, 0 unmatched"], 0
-    ),
+    "--match position examples/s27.bench examples/s27_renamed.bench": machine(["EQUAL NEXT G7", "4 equal, 0 different, 0 unmatched"], 0),
     "--match position examples/wire.bench examples/buffer.bench": equal("a"),
 }
 
 
-def rows():
+def rows() -> Iterator[str]:
     """The words of the table's rows."""
     for line in (TOP / "examples" / "README.md").read_text().split("\n"):
         if line.startswith("| `"):
             yield line.split("`")[1]
 
 
-def main():
-    tally, stand = Tally("examples"), list(rows())
-    tally.check("each row is tried", stand == list(SEEN), set(stand) ^ set(SEEN))
+def main() -> None:
+    program, tally, listed = program_of(__doc__), Tally("examples"), list(rows())
+    tally.check("each row is tried", listed == list(SEEN), set(listed) ^ set(SEEN))
     for words, wanted in [*SEEN.items(), *MORE.items()]:
-        seen = run([sys.argv[1], *shlex.split(words)], cwd=TOP)
+        seen = run([program, *shlex.split(words)], cwd=TOP)
         tally.check(words, wanted(seen) if callable(wanted) else seen == wanted, seen)
-    tally.end()
-    sys.exit(tally.failed > 0)
+    tally.finish()
 
 
 if __name__ == "__main__":

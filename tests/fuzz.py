@@ -6,18 +6,21 @@ usage: tests/fuzz.py PROGRAM [--seconds S] [--seed N] [--case KIND:I] [--jobs J]
 It takes S seconds (120) by J processes (2). The seed is printed; with it each case is made again, and --case makes one
 alone. The files of a case that fails are kept, and reported.
 """
-import argparse
+from __future__ import annotations
+
 import itertools
 import random
 import string
 import sys
 import time
+from collections.abc import Sequence
 from dataclasses import replace
+from typing import NamedTuple
 
 import harness
 from answering import BY_CONES, CANDIDATES, TRIED, Case, answers, checked, cones, judged, paired_of
 from judging import ORDERS, Refusal, judge
-from harness import Tally, run, say
+from harness import Run, Tally, run, say
 
 WORDS = ["AND", "NAND", "OR", "NOR", "XOR", "XNOR", "NOT", "BUFF", "BUF"]
 WIDE = WORDS[:6]
@@ -28,10 +31,18 @@ ODD_NAMES = ["INPUT", "OUTPUT", "and", "NOT", "DFF", "x[0]", "x[1]", "%%", "a.b"
 ODD_NAMES += ["n18446744073709551616", "m18446744073709551615", "k99999999999999999999", "k7", "j7", "j007"]
 
 
-# Netlists as lists of statements: ("INPUT", name), ("OUTPUT", name) or (word, name, operands).
+class Statement(NamedTuple):
+    """A statement of a netlist: INPUT or OUTPUT with a name, or a gate's word with its name and operands."""
+
+    word: str
+    name: str
+    operands: Sequence[str] = ()
+
+    def is_port(self) -> bool:
+        return not self.operands
 
 
-def names(rng, count, odd):
+def names(rng: random.Random, count: int, odd: bool) -> list[str]:
     pool = list(ODD_NAMES) if odd else []
     pool += [letter + str(i) for letter in "abxy" for i in range(10)]
     if odd and rng.random() < 0.05:
@@ -40,8 +51,8 @@ def names(rng, count, odd):
     return chosen + [f"s{i}" for i in range(count - len(chosen))]
 
 
-def random_netlist(rng, inputs, gate_count, output_count):
-    signals, statements = list(inputs), [("INPUT", name) for name in inputs]
+def random_netlist(rng: random.Random, inputs: list[str], gate_count: int, output_count: int) -> list[Statement]:
+    signals, statements = list(inputs), [Statement("INPUT", name) for name in inputs]
     odd = rng.random() < 0.3
     new = [name for name in names(rng, gate_count + len(inputs), odd) if name not in inputs][:gate_count]
     registers = new[: rng.randrange(3)] if rng.random() < 0.5 else []
@@ -52,20 +63,21 @@ def random_netlist(rng, inputs, gate_count, output_count):
         word = rng.choice(WORDS)
         recent = signals[-rng.choice([4, 8, 100]) :]
         operands = rng.choices(recent, k=rng.choice([1, 2, 2, 2, 3, 5]) if word in WIDE else 1)
-        statements.append((word, name, operands))
+        statements.append(Statement(word, name, operands))
         signals.append(name)
-    statements += [("DFF", name, [rng.choice(signals)]) for name in registers]
+    statements += [Statement("DFF", name, [rng.choice(signals)]) for name in registers]
     for _ in range(output_count if signals else 0):
         # Late signals are the interesting ones; inputs and repeated outputs come as well.
-        statements.append(("OUTPUT", rng.choice(signals[-6:] if rng.random() < 0.8 else signals)))
+        statements.append(Statement("OUTPUT", rng.choice(signals[-6:] if rng.random() < 0.8 else signals)))
     return statements
 
 
-def rewritten(rng, statements):
+def rewritten(rng: random.Random, statements: list[Statement]) -> list[Statement]:
     """The same functions by other gates."""
-    made, count = [], 0
+    made: list[Statement] = []
+    count = 0
     for statement in statements:
-        if len(statement) == 2 or statement[0] == "DFF" or rng.random() < 0.4:
+        if statement.is_port() or statement.word == "DFF" or rng.random() < 0.4:
             made.append(statement)
             continue
         word, name, operands = statement
@@ -73,24 +85,24 @@ def rewritten(rng, statements):
         inner = f"r.{count}"
         count += 1
         if way == 0:
-            made += [(OPPOSITE[word], inner, operands), ("NOT", name, [inner])]
+            made += [Statement(OPPOSITE[word], inner, operands), Statement("NOT", name, [inner])]
         elif way == 1 and word in WIDE:
-            made.append((word, name, rng.sample(operands, len(operands))))
+            made.append(Statement(word, name, rng.sample(operands, len(operands))))
         elif way == 2 and word in ("AND", "NAND", "OR", "NOR"):
             turned = {"AND": "NOR", "NAND": "OR", "OR": "NAND", "NOR": "AND"}[word]
-            made += [("NOT", f"{inner}.{i}", [operand]) for i, operand in enumerate(operands)]
-            made.append((turned, name, [f"{inner}.{i}" for i in range(len(operands))]))
+            made += [Statement("NOT", f"{inner}.{i}", [operand]) for i, operand in enumerate(operands)]
+            made.append(Statement(turned, name, [f"{inner}.{i}" for i in range(len(operands))]))
         elif way == 3 and word in WIDE and len(operands) > 2:
             plain = word if word in ("AND", "OR", "XOR") else OPPOSITE[word]
-            made += [(plain, inner, operands[:2]), (word, name, [inner, *operands[2:]])]
+            made += [Statement(plain, inner, operands[:2]), Statement(word, name, [inner, *operands[2:]])]
         else:
             made.append(statement)
     return made
 
 
-def changed(rng, statements):
+def changed(rng: random.Random, statements: list[Statement]) -> list[Statement]:
     """Some gate is another one, or some register has another next state."""
-    places = [i for i, statement in enumerate(statements) if len(statement) == 3 and statement[0] in [*WIDE, "DFF"]]
+    places = [i for i, statement in enumerate(statements) if statement.word in [*WIDE, "DFF"]]
     if not places:
         return statements
     place = rng.choice(places)
@@ -98,66 +110,61 @@ def changed(rng, statements):
     if word != "DFF" and rng.random() < 0.5:
         word = rng.choice(WIDE)
     else:
-        inputs = [statement[1] for statement in statements if statement[0] == "INPUT" and len(statement) == 2]
+        inputs = [statement.name for statement in statements if statement.word == "INPUT"]
         operands = [*operands[:-1], rng.choice(inputs or operands)]
-    return [*statements[:place], (word, name, operands), *statements[place + 1 :]]
+    return [*statements[:place], Statement(word, name, operands), *statements[place + 1 :]]
 
 
-def renamed(rng, statements, match):
+def renamed(rng: random.Random, statements: list[Statement], match: str) -> list[Statement]:
     """Other names, and ports in another order where names pair them; at times a port too many or too few."""
     if rng.random() < 0.3:
         statements = rng.sample(statements, len(statements)) if match == "name" else statements
     if match == "position" and rng.random() < 0.7:
-        ports = {statement[1] for statement in statements}
-        called = {name: f"q{i}" if rng.random() < 0.7 else name for i, name in enumerate(sorted(ports))}
-        if len(set(called.values())) == len(called) and not ports & {f"q{i}" for i in range(len(ports))}:
-            change = lambda name: called.get(name, name)
-            statements = [
-                (s[0], change(s[1])) if len(s) == 2 else (s[0], change(s[1]), [change(o) for o in s[2]]) for s in statements
-            ]
+        known = {statement.name for statement in statements}
+        called = {name: f"q{i}" if rng.random() < 0.7 else name for i, name in enumerate(sorted(known))}
+        if len(set(called.values())) == len(called) and not known & {f"q{i}" for i in range(len(known))}:
+            statements = [Statement(s.word, called[s.name], [called.get(o, o) for o in s.operands]) for s in statements]
     if rng.random() < 0.1:
-        ports = [i for i, statement in enumerate(statements) if statement[0] == "OUTPUT"]
+        ports = [i for i, statement in enumerate(statements) if statement.word == "OUTPUT"]
         if ports:
             place = rng.choice(ports)
             statements = statements[:place] + statements[place + 1 :]
     if rng.random() < 0.1:
         # A register is forgotten: its signal is an input.
-        forgotten = rng.choice([None, *(statement[1] for statement in statements if statement[0] == "DFF")])
-        statements = [("INPUT", s[1]) if s[0] == "DFF" and s[1] == forgotten else s for s in statements]
+        forgotten = rng.choice([None, *(statement.name for statement in statements if statement.word == "DFF")])
+        statements = [Statement("INPUT", s.name) if s.word == "DFF" and s.name == forgotten else s for s in statements]
     if rng.random() < 0.1:
-        statements = [("INPUT", "more"), *statements, ("OUTPUT", "more")]
+        statements = [Statement("INPUT", "more"), *statements, Statement("OUTPUT", "more")]
     return statements
 
 
 # Layout.
 
 
-def blank(rng, needed=False):
+def blank(rng: random.Random, needed: bool = False) -> str:
     if rng.random() < 0.8:
         return " " if needed else ""
     return rng.choice([" ", "\t", "  ", "\n", "\r\n", " # a comment, with ( and \xff\n", "#\n"])
 
 
-def cased(rng, word):
+def cased(rng: random.Random, word: str) -> str:
     return rng.choice([word, word, word.lower(), word.capitalize()])
 
 
-def laid_out(rng, statements, plain):
+def laid_out(rng: random.Random, statements: list[Statement], plain: bool) -> bytes:
     """The text of a netlist, by turns as tools write it and with all freedom of the format."""
     end = "\r\n" if rng.random() < 0.15 else "\n"
     text = []
     for statement in statements:
-        gap = (lambda: "") if plain else (lambda: blank(rng))
-        if len(statement) == 2:
-            words = [cased(rng, statement[0]), "(", statement[1], ")"]
+        if statement.is_port():
+            words = [cased(rng, statement.word), "(", statement.name, ")"]
         else:
-            word, name, operands = statement
-            words = [name, "=", cased(rng, word), "("]
-            words += [part for operand in operands for part in (operand, ",")][:-1] + [")"]
+            words = [statement.name, "=", cased(rng, statement.word), "("]
+            words += [part for operand in statement.operands for part in (operand, ",")][:-1] + [")"]
         if plain:
             text.append("".join(words).replace("=", " = ").replace(",", ", ") + end)
         else:
-            text.append("".join(word + gap() for word in words) + rng.choice([end, end, " ", ""]))
+            text.append("".join(word + blank(rng) for word in words) + rng.choice([end, end, " ", ""]))
     if rng.random() < 0.1:
         text.insert(0, "# a netlist" + end)
     return "".join(text).encode("latin-1")
@@ -166,7 +173,7 @@ def laid_out(rng, statements, plain):
 DAMAGE = b"(),=#% \n\r\tA1x\x00\x7f\x80\xff"
 
 
-def damaged(rng, text):
+def damaged(rng: random.Random, text: bytes) -> bytes:
     """A text with a few bytes or lines changed, dropped, doubled or exchanged."""
     for _ in range(rng.choice([1, 1, 1, 2, 3])):
         way = rng.randrange(8)
@@ -186,7 +193,7 @@ def damaged(rng, text):
     return text
 
 
-def damaged_lines(rng, text, way):
+def damaged_lines(rng: random.Random, text: bytes, way: int) -> bytes:
     parts = text.split(b"\n")
     i, j = rng.randrange(len(parts)), rng.randrange(len(parts))
     if way == 5:
@@ -208,11 +215,15 @@ WRONG = [
 # Cases by kind.
 
 
-def sources_of(statements):
-    return [s[1] for s in statements if s[0] == "INPUT" or s[0] == "DFF"]
+def sources_of(statements: list[Statement]) -> list[str]:
+    return [s.name for s in statements if s.word in ("INPUT", "DFF")]
 
 
-def pair_of_netlists(rng, match, most_inputs):
+def ends_of(statements: list[Statement]) -> list[str]:
+    return [s.name for s in statements if s.word in ("OUTPUT", "DFF")]
+
+
+def pair_of_netlists(rng: random.Random, match: str, most_inputs: int) -> tuple[list[Statement], list[Statement]]:
     inputs = names(rng, rng.randrange(most_inputs + 1), rng.random() < 0.2)
     first = random_netlist(rng, inputs, rng.randrange(1, 25), rng.randrange(6))
     way = rng.random()
@@ -226,7 +237,7 @@ def pair_of_netlists(rng, match, most_inputs):
     return first, renamed(rng, second, match)
 
 
-def listed(rng, first, second, match):
+def listed(rng: random.Random, first: list[Statement], second: list[Statement], match: str) -> bytes:
     """An order file: mostly right, at times with a name too many, too few, or damaged."""
     wanted = list(dict.fromkeys(sources_of(first) + (sources_of(second) if match == "name" else [])))
     rng.shuffle(wanted)
@@ -241,14 +252,19 @@ def listed(rng, first, second, match):
     return damaged(rng, text) if way > 0.9 else text
 
 
-def make_case(kind, rng):
+def make_case(kind: str, rng: random.Random) -> Case:
     match = "position" if kind == "position" else rng.choice(["name", "name", "name", "position"])
     first, second = pair_of_netlists(rng, match, 10 if rng.random() < 0.1 else 6)
     plain = rng.random() < 0.4
-    texts = [laid_out(rng, first, plain), laid_out(rng, second, plain)]
-    case = Case(*texts, match=match, workers=rng.choice([1, 2, 3, 4, 16]))
+    case = Case(laid_out(rng, first, plain), laid_out(rng, second, plain), match, workers=rng.choice([1, 2, 3, 4, 16]))
     case.is_any = kind == "any" or (kind in BY_CONES and rng.random() < 0.2)
-    case.order = rng.choice(BY_CONES) if kind in ("coned", "any") else rng.choice(list(ORDERS)) if kind in ("position", "damaged", "input", "limit", "print") else kind
+    case.order = (
+        rng.choice(BY_CONES)
+        if kind in ("coned", "any")
+        else rng.choice(list(ORDERS))
+        if kind in ("position", "damaged", "input", "limit", "print")
+        else kind
+    )
     if kind == "list" or (kind in ("position", "limit", "print") and rng.random() < 0.3):
         case.order = listed(rng, first, second, match)
         case.extend = rng.random() < 0.4
@@ -278,15 +294,14 @@ def make_case(kind, rng):
     return case
 
 
-def pick(rng, case, kind, first, second):
+def pick(rng: random.Random, case: Case, kind: str, first: list[Statement], second: list[Statement]) -> None:
     """Names of outputs and registers, mostly the first netlist's, or one of some shares; at times within a limit."""
     case.order = "cones"
     if kind == "only":
-        ends = lambda statements: [s[1] for s in statements if s[0] in ("OUTPUT", "DFF")]
-        known = ends(first) or ["nobody"]
-        others = [*known, *ends(second), *sources_of(first), "nobody"]
+        known = ends_of(first) or ["nobody"]
+        others = [*known, *ends_of(second), *sources_of(first), "nobody"]
         case.only = rng.choices(known if rng.random() < 0.8 else others, k=rng.choice([1, 1, 2, 3]))
-        both = [s[1] for s in first if s[0] == "DFF" and s[1] in sources_of(second)]
+        both = [s.name for s in first if s.word == "DFF" and s.name in sources_of(second)]
         if both and rng.random() < 0.3:
             # The second netlist alone has an output of this name.
             case.only = both[:1]
@@ -298,7 +313,7 @@ def pick(rng, case, kind, first, second):
         case.limit = rng.choice([rng.randrange(1, 9), rng.randrange(1, 200), 4 * rng.randrange(1, 60)])
 
 
-def damage(rng, case):
+def damage(rng: random.Random, case: Case) -> None:
     for place in ("first", "second"):
         if rng.random() < 0.6:
             text = getattr(case, place)
@@ -319,20 +334,20 @@ LIMITED = ("limit", "coned", "any")
 # Running.
 
 
-def is_picking(case):
+def is_picking(case: Case) -> bool:
     return case.only is not None or case.share is not None
 
 
-def default_of(case):
+def default_of(case: Case) -> str:
     """The order where no word and no file names one."""
     if is_picking(case):
         return "cones"
     return "declared" if case.sizes or case.print_order or case.limit is not None else "auto"
 
 
-def words_of(program, case, place):
+def words_of(program: str, case: Case, place: str) -> list[object]:
     """The words of the case, whose files are written."""
-    words = [program, "--workers", str(case.workers)]
+    words: list[object] = [program, "--workers", str(case.workers)]
     if case.match != "name":
         words += ["--match", case.match]
     if isinstance(case.order, bytes):
@@ -365,13 +380,13 @@ def words_of(program, case, place):
     return words
 
 
-def needs_of(case):
+def needs_of(case: Case) -> set[int]:
     """The nodes that are needed in the orders of the case, and four times those of a few pairs by their cones."""
     if case.order not in TRIED:
         return {judged(case).nodes}
     paired, _ = paired_of(case)
     whole = [judge(paired, order, False) for order in [*CANDIDATES, "declared"]]
-    needs = set() if case.order == "cones" else {result.nodes for result in whole}
+    needs = set[int]() if case.order == "cones" else {result.nodes for result in whole}
     if case.order in BY_CONES:
         for pair in whole[0].pairs[:3]:
             alone = cones(paired, pair)
@@ -379,7 +394,7 @@ def needs_of(case):
     return needs
 
 
-def limits_of(case):
+def limits_of(case: Case) -> list[int | None]:
     """A kind of its own: the nodes that are needed are enough, and one less is not."""
     try:
         needs = sorted(needs_of(case))
@@ -388,7 +403,7 @@ def limits_of(case):
     return [limit for need in needs for limit in (need, need - 1) if limit >= 1] or [1]
 
 
-def taken_again(program, case, order, place):
+def taken_again(program: str, case: Case, order: bytes, place: str) -> tuple[Run, Run]:
     """What the case gives where it is compared, and what it gives with the order file that was printed."""
     plain = replace(case, print_order=False)
     listed_again = replace(plain, order=order)
@@ -396,7 +411,7 @@ def taken_again(program, case, order, place):
     return run(words_of(program, plain, place), given), run(words_of(program, listed_again, place), given)
 
 
-def try_case(program, seed, kind, index, place):
+def try_case(program: str, seed: str, kind: str, index: int, place: str) -> str | None:
     """None where the answers agree, and else what is reported."""
     case = make_case(kind, random.Random(f"{seed}:{kind}:{index}"))
     for limit in limits_of(case) if kind in LIMITED else [case.limit]:
@@ -418,9 +433,12 @@ def try_case(program, seed, kind, index, place):
     return None
 
 
-def try_many(program, seed, kinds, begin, step, until):
+def try_many(
+    program: str, seed: str, kinds: list[str], begin: int, step: int, until: float
+) -> tuple[dict[str, int], list[tuple[str, str]]]:
     """Cases of all kinds by turns, until the time is over: how many, and the failed ones by kind."""
-    tried, failed = {kind: 0 for kind in kinds}, []
+    tried = {kind: 0 for kind in kinds}
+    failed: list[tuple[str, str]] = []
     with harness.folder() as place:
         for index in itertools.count(begin, step):
             for kind in kinds:
@@ -432,10 +450,12 @@ def try_many(program, seed, kinds, begin, step, until):
                     failed.append((kind, reported))
                     if len(failed) > 20:
                         return tried, failed
+    return tried, failed
 
 
-def fuzz(program, tally, seed, seconds, jobs):
-    tried, failed = {kind: 0 for kind in KINDS}, []
+def fuzz(program: str, tally: Tally, seed: str, seconds: float, jobs: int) -> None:
+    tried = {kind: 0 for kind in KINDS}
+    failed: list[tuple[str, str]] = []
     until = time.monotonic() + seconds
     with harness.pool(jobs) as pool:
         parts = [pool.submit(try_many, program, seed, KINDS, job, jobs, until) for job in range(jobs)]
@@ -451,13 +471,13 @@ def fuzz(program, tally, seed, seconds, jobs):
     tally.figures(f"{sum(tried.values())} cases with seed {seed}: {counted}")
 
 
-def main():
-    parser = argparse.ArgumentParser(usage=__doc__.split("usage: ")[1].split("\n")[0])
-    parser.add_argument("program")
-    parser.add_argument("--seconds", type=float, default=120)
-    parser.add_argument("--seed", default=str(random.SystemRandom().randrange(1 << 32)))
-    parser.add_argument("--case")
-    parser.add_argument("--jobs", type=int, default=2)
+def main() -> None:
+    parser = harness.parser_with_program(__doc__)
+    parser.add_argument("--seconds", type=float, default=120, help="Cases are tried for so long; the default is 120.")
+    seed = "The cases are drawn by this text; without it a number is chosen, which is printed."
+    parser.add_argument("--seed", default=str(random.SystemRandom().randrange(1 << 32)), help=seed)
+    parser.add_argument("--case", metavar="KIND:I", help="Only this case is tried.")
+    parser.add_argument("--jobs", type=int, default=2, help="So many processes try cases at the same time; the default is 2.")
     settings = parser.parse_args()
     if settings.case:
         kind, index = settings.case.split(":")
@@ -467,8 +487,7 @@ def main():
     tally = Tally("fuzz")
     say(f"fuzz: seed {settings.seed}")
     fuzz(settings.program, tally, settings.seed, settings.seconds, settings.jobs)
-    tally.end()
-    sys.exit(tally.failed > 0)
+    tally.finish()
 
 
 if __name__ == "__main__":

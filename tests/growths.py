@@ -8,14 +8,14 @@ in the crate's out/. Of each test below the N-th growth or start is refused for 
 no refusal. Each run must end in time: the test has passed, or it has failed with want of memory or of a worker; never an
 assertion, a fault or a hang. A test whose program is missing or older than a source is skipped.
 """
-import argparse
+from __future__ import annotations
+
 import os
 import pathlib
 import re
-import sys
 
 import harness
-from harness import Tally, run
+from harness import Run, Tally, run
 from refusals import compiled
 
 # Crates, and their tests by name.
@@ -28,7 +28,7 @@ TESTS = [
     # Three operations over three levels: by a core, on the caller's thread and with workers. What was there is found after a refusal,
     # and the same wave then gives the right diagrams.
     ("wave_tests", "refused::refused_wave"),
-    # A wave within its bound and one past it, by four threads: where a start is refused the answers are the same.
+    # A wave within its bound and one past it, by four threads: if a start is refused, the answers are the same.
     ("wave_tests", "bounds::bound_without_a_thread"),
 ]
 # How a test says that it was refused something.
@@ -39,7 +39,7 @@ IN_A_ROW = 5
 MOST = 5_000
 
 
-def is_newer_than_sources(program, crates):
+def is_newer_than_sources(program: pathlib.Path, crates: pathlib.Path) -> bool:
     """Whether the program is there, and no source is newer."""
     if not program.is_file():
         return False
@@ -48,7 +48,7 @@ def is_newer_than_sources(program, crates):
     return all(file.stat().st_mtime <= built for file in sources)
 
 
-def run_refused(program, test, library, place, at):
+def run_refused(program: pathlib.Path, test: str, library: str, place: str, at: int) -> tuple[Run, bool]:
     """A run with the N-th growth or start refused, and whether it met that."""
     note = os.path.join(place, f"note.{os.getpid()}")
     seen = run([program, test], b"", HANGS, {"LD_PRELOAD": library, "REFUSE": "gs", "AT": str(at), "MET": note})
@@ -58,7 +58,7 @@ def run_refused(program, test, library, place, at):
     return seen, has_met
 
 
-def fault_of(seen, has_met):
+def fault_of(seen: Run, has_met: bool) -> str | None:
     """What is wrong with a run, or None."""
     said = seen.out + seen.err
     if seen.status == 0 and b"test result: ok" in said:
@@ -68,7 +68,7 @@ def fault_of(seen, has_met):
     return str(seen)
 
 
-def try_test(program, test, library, place):
+def try_test(program: pathlib.Path, test: str, library: str, place: str) -> tuple[int, int, int, str | None]:
     """How many runs of a test there were, how many met a refusal, how many of these passed, and what was wrong."""
     tried = met = passed = row = 0
     for at in range(1, MOST):
@@ -83,10 +83,10 @@ def try_test(program, test, library, place):
     return tried, met, passed, "each run met a refusal"
 
 
-def main():
-    parser = argparse.ArgumentParser(usage=__doc__.split("usage: ")[1].split("\n")[0])
-    parser.add_argument("crates", type=pathlib.Path)
-    parser.add_argument("--jobs", type=int, default=2)
+def main() -> None:
+    parser = harness.parser_of(__doc__)
+    parser.add_argument("crates", metavar="FOLDER", type=pathlib.Path, help="This is the folder of the crates.")
+    parser.add_argument("--jobs", type=int, default=2, help="So many tests are tried at the same time; the default is 2.")
     settings = parser.parse_args()
     tally, tasks = Tally("growths"), []
     with harness.folder() as place, harness.pool(settings.jobs) as pool:
@@ -101,8 +101,7 @@ def main():
             tried, met, passed, fault = task.result()
             tally.check(f"{test}: {tried} runs", fault is None and met > 0, fault or "nothing was refused")
             tally.figures(f"{test}: {tried} runs, {met} met a refusal, {passed} of these passed")
-    tally.end()
-    sys.exit(tally.failed > 0)
+    tally.finish()
 
 
 if __name__ == "__main__":

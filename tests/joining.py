@@ -5,8 +5,12 @@ usage: tests/joining.py
 
 The reports here are written by hand; the program is not run.
 """
+from __future__ import annotations
+
 import json
 import sys
+from collections.abc import Sequence
+from typing import Any
 
 import harness
 from harness import TOP, Run, Tally, folder, lines, run, written
@@ -52,32 +56,46 @@ X = lines("EQUAL x", "1 equal, 0 different, 0 unmatched, share 2 of 2")
 W = lines("EQUAL w", "1 equal, 0 different, 0 unmatched, share 1 of 2")
 
 
-def json_report(number, of, *verdicts, variables=("a",), order="cones", **counts):
+JsonObject = dict[str, Any]
+
+
+def json_report(
+    number: int, of: int, *verdicts: JsonObject, variables: Sequence[str] = ("a",), order: str = "cones", **counts: int
+) -> bytes:
     """The report of a share as JSON."""
     found = {"equal": 0, "different": 0, "unmatched": 0, **counts}
-    report = {"match": "name", "order": order, "variables": list(variables), "verdicts": list(verdicts), **found, "share": [number, of]}
+    report: JsonObject = {
+        "match": "name",
+        "order": order,
+        "variables": list(variables),
+        "verdicts": list(verdicts),
+        **found,
+        "share": [number, of],
+    }
     return json.dumps(report, separators=(",", ":")).encode() + b"\n"
 
 
-def verdict(kind, name, of="output", **more):
+def verdict(kind: str, name: str, of: str = "output", **more: Any) -> JsonObject:
     return {"verdict": kind, "of": of, "name": name, **more}
 
 
-def join(first, *shares):
+def join(first: bytes, *shares: bytes) -> Run:
     with folder() as place:
         paths = [written(place, "first.bench", first), *(written(place, f"share{i}", share) for i, share in enumerate(shares))]
         seen = run([sys.executable, TOP / "tools" / "join.py", *paths])
         return Run(seen.status, seen.out, seen.err.replace(f"{place}/".encode(), b""))
 
 
-def joined(tally):
+def joined(tally: Tally) -> None:
     for name, shares in {"in order": [ONE, TWO, THREE], "in another order": [THREE, ONE, TWO]}.items():
         tally.check(name, (seen := join(FIRST, *shares)) == Run(1, WHOLE, b""), seen)
     seen = join(TWO_OUTPUTS, X, W)
     tally.check("all equal", seen == Run(0, lines("EQUAL x", "EQUAL w", "2 equal, 0 different, 0 unmatched"), b""), seen)
     undecided = lines("UNDECIDED w", "0 equal, 0 different, 0 unmatched, 1 undecided, share 1 of 2")
     seen = join(TWO_OUTPUTS, X, undecided)
-    tally.check("one undecided", seen == Run(3, lines("EQUAL x", "UNDECIDED w", "1 equal, 0 different, 0 unmatched, 1 undecided"), b""), seen)
+    tally.check(
+        "one undecided", seen == Run(3, lines("EQUAL x", "UNDECIDED w", "1 equal, 0 different, 0 unmatched, 1 undecided"), b""), seen
+    )
     seen = join(TWO_OUTPUTS, lines("EQUAL x", "EQUAL w", "2 equal, 0 different, 0 unmatched, share 1 of 1"))
     tally.check("one share", seen == Run(0, lines("EQUAL x", "EQUAL w", "2 equal, 0 different, 0 unmatched"), b""), seen)
     empty = lines("0 equal, 0 different, 0 unmatched, share 2 of 2")
@@ -85,10 +103,13 @@ def joined(tally):
     tally.check("an empty share", seen.status == 0, seen)
     at_at = lines("DIFFER NEXT at at at=1 first=0 second=1", "0 equal, 1 different, 0 unmatched, share 1 of 1")
     seen = join(b"at = DFF(at)\n", at_at)
-    ones = [lines("DIFFER x at a=1 first=0 second=1", "0 equal, 1 different, 0 unmatched, share 1 of 2"),
-            lines("DIFFER w at first=0 second=1", "0 equal, 1 different, 0 unmatched, share 2 of 2")]
-    wanted = lines("DIFFER x at a=1 first=0 second=1", "DIFFER w at first=0 second=1", "0 equal, 2 different, 0 unmatched")
-    tally.check("variables that are 1 alone", (told_ones := join(TWO_OUTPUTS, *ones)) == Run(1, wanted, b""), told_ones)
+    ones = [
+        lines("DIFFER x at a=1 first=0 second=1", "0 equal, 1 different, 0 unmatched, share 1 of 2"),
+        lines("DIFFER w at first=0 second=1", "0 equal, 1 different, 0 unmatched, share 2 of 2"),
+    ]
+    both = lines("DIFFER x at a=1 first=0 second=1", "DIFFER w at first=0 second=1", "0 equal, 2 different, 0 unmatched")
+    seen_ones = join(TWO_OUTPUTS, *ones)
+    tally.check("variables that are 1 alone", seen_ones == Run(1, both, b""), seen_ones)
     shown = "DIFFER w at a=1 first=0 second=1 (may not be the least)"
     seen_shown = join(TWO_OUTPUTS, X, lines(shown, "0 equal, 1 different, 0 unmatched, share 1 of 2"))
     wanted = Run(1, lines("EQUAL x", shown, "1 equal, 1 different, 0 unmatched"), b"")
@@ -96,7 +117,7 @@ def joined(tally):
     tally.check("a register at", seen == Run(1, at_at.replace(b", share 1 of 1", b""), b""), seen)
 
 
-def joined_json(tally):
+def joined_json(tally: Tally) -> None:
     one = json_report(1, 2, verdict("UNDECIDED", "w"), undecided=1)
     two = json_report(2, 2, verdict("EQUAL", "x"), equal=1)
     whole = (
@@ -122,15 +143,17 @@ def joined_json(tally):
         refused(tally, f"JSON: {name}", TWO_OUTPUTS, one, other)
 
 
-def refused(tally, name, *texts, says=b""):
+def refused(tally: Tally, name: str, *texts: bytes, says: bytes = b"") -> None:
     seen = join(*texts)
     is_right = seen.status == 2 and not seen.out and seen.err.startswith(b"join: ") and seen.err.count(b"\n") == 1 and says in seen.err
     tally.check(name, is_right, seen)
 
 
-def refusals(tally):
+def refusals(tally: Tally) -> None:
     refused(tally, "a missing share", FIRST, ONE, THREE, says=b"2 of 3 shares are there")
-    refused(tally, "a missing share of very many", TWO_OUTPUTS, X.replace(b"2 of 2", b"2 of 999999999999"), says=b"1 of 999999999999 shares")
+    refused(
+        tally, "a missing share of very many", TWO_OUTPUTS, X.replace(b"2 of 2", b"2 of 999999999999"), says=b"1 of 999999999999 shares"
+    )
     refused(tally, "a share twice", FIRST, ONE, TWO, THREE, TWO, says=b"both are share 2")
     refused(tally, "a share of another number of shares", TWO_OUTPUTS, X.replace(b"2 of 2", b"2 of 3"), W, says=b"it is of 3 shares")
     refused(tally, "a share beyond the last", TWO_OUTPUTS, X.replace(b"2 of 2", b"3 of 2"), W, says=b"no share 3 of 2")
@@ -141,7 +164,15 @@ def refusals(tally):
     refused(tally, "a pair of another netlist", TWO_OUTPUTS, X.replace(b" x", b" v"), W, says=b"output v is none of the first netlist")
     refused(tally, "a next state that is an output", TWO_OUTPUTS, X.replace(b" x", b" NEXT x"), W, says=b"the next state of x is none")
     refused(tally, "a pair in two shares", TWO_OUTPUTS, X, W.replace(b" w", b" x"), says=b"output x stood in share1 before")
-    refused(tally, "a pair in no share", FIRST, ONE, TWO, lines("0 equal, 0 different, 0 unmatched, share 3 of 3"), says=b"the next state of q stands in no share")
+    refused(
+        tally,
+        "a pair in no share",
+        FIRST,
+        ONE,
+        TWO,
+        lines("0 equal, 0 different, 0 unmatched, share 3 of 3"),
+        says=b"the next state of q stands in no share",
+    )
     refused(tally, "a count", TWO_OUTPUTS, X.replace(b"1 equal", b"2 equal"), W, says=b"its counts")
     refused(tally, "undecided that is not counted", TWO_OUTPUTS, X.replace(b"EQUAL", b"UNDECIDED"), W, says=b"its counts")
     lone = lines("EQUAL x", "ONLY SECOND v", "1 equal, 0 different, 1 unmatched, share 2 of 2")
@@ -159,13 +190,12 @@ def refusals(tally):
     tally.check("a file that is not there", seen.status == 2 and not seen.out and seen.err.startswith(b"join: "), seen)
 
 
-def main():
+def main() -> None:
     tally = Tally("joining")
     joined(tally)
     joined_json(tally)
     refusals(tally)
-    tally.end()
-    sys.exit(tally.failed > 0)
+    tally.finish()
 
 
 if __name__ == "__main__":

@@ -5,9 +5,11 @@ No code is shared with the product, and nothing here is a decision diagram: a fu
 from __future__ import annotations
 
 import re
+from collections.abc import Callable, Collection, Iterable, Mapping, Sequence
 from dataclasses import dataclass
 
 import order_reference
+from reading import Netlist
 
 MOST_VARIABLES = 4096
 COUNTS_DIFFER = "the netlists have different numbers of inputs, outputs or registers"
@@ -16,12 +18,12 @@ COUNTS_DIFFER = "the netlists have different numbers of inputs, outputs or regis
 class Refusal(Exception):
     """A fault line without its end, and the status."""
 
-    def __init__(self, text, status=2):
+    def __init__(self, text: str, status: int = 2) -> None:
         super().__init__(text)
         self.status = status
 
 
-def distinct(names):
+def distinct(names: Iterable[str]) -> list[str]:
     return list(dict.fromkeys(names))
 
 
@@ -31,21 +33,21 @@ def distinct(names):
 class Paired:
     """Two netlists under one naming of variables: by position the second's sources are called as the first's."""
 
-    def __init__(self, first, second, match, given):
+    def __init__(self, first: Netlist, second: Netlist, match: str, given: Netlist | None) -> None:
         self.first, self.second, self.given = first, second, given
         self.by_position = match == "position"
         if self.by_position and counts(first) != counts(second):
             raise Refusal("order: " + COUNTS_DIFFER)
-        names = lambda net: [*net.inputs, *net.registers]
-        self.called = dict(zip(names(second), names(first))) if self.by_position else {}
+        sources = [*second.inputs, *second.registers], [*first.inputs, *first.registers]
+        self.called = dict(zip(*sources)) if self.by_position else {}
 
-    def name(self, net, signal):
+    def name(self, net: Netlist, signal: str) -> str:
         return self.called.get(signal, signal) if net is self.second else signal
 
-    def names(self, net, signals):
+    def names(self, net: Netlist, signals: Iterable[str]) -> list[str]:
         return [self.name(net, signal) for signal in signals]
 
-    def declared(self):
+    def declared(self) -> list[str]:
         return distinct(
             [
                 *self.names(self.first, self.first.inputs),
@@ -55,42 +57,43 @@ class Paired:
             ]
         )
 
-    def by_depth(self):
+    def by_depth(self) -> list[str]:
         met = []
         for net in (self.first, self.second):
             met += self.names(net, leaves(net, [*net.outputs, *net.registers.values()]))
         return distinct(met + self.declared())
 
-    def interleaved(self):
+    def interleaved(self) -> list[str]:
         """A variable that a walk meets for the first time goes right behind the one that the walk met before it."""
-        order = []
+        order: list[str] = []
         for net in (self.first, self.second):
-            rank = ranks(net).get
+            rank = ranks(net).__getitem__
             for root in falling([*net.outputs, *net.registers.values()], rank):
-                last = None
+                last: str | None = None
                 for name in self.names(net, leaves(net, [root], rank)):
                     if name not in order:
                         order.insert(order.index(last) + 1 if last is not None else 0, name)
                     last = name
         return distinct(order + self.declared())
 
-    def of_condition(self):
+    def of_condition(self) -> list[str]:
         return [*self.given.inputs, *self.given.registers] if self.given else []
 
-    def extended(self, names):
+    def extended(self, names: Collection[str]) -> list[str]:
         """Those of the names that are variables, then the others as declared, a condition's last."""
         variables = [*self.declared(), *self.of_condition()]
         return distinct([*(name for name in names if name in variables), *variables])
 
-    def by_index(self):
+    def by_index(self) -> list[str]:
         """By the number at the end of a name; a condition's variables stand among the others."""
         return sorted(distinct([*self.declared(), *self.of_condition()]), key=index_key)
 
-    def by_force(self):
+    def by_force(self) -> list[str]:
         """From where the rounds end, the last one first: the gates of all netlists, a condition's too, draw at their variables."""
         variables = self.by_index()
         number = {name: i for i, name in enumerate(variables)}
-        edges, rank = [], [0] * len(variables)
+        rank = [0] * len(variables)
+        edges: list[list[int]] = []
         for net in filter(None, (self.first, self.second, self.given)):
             vertex = {s: number[self.name(net, s)] for s in [*net.inputs, *net.registers]}
             vertex |= {s: len(rank) + i for i, s in enumerate(net.gates)}
@@ -100,14 +103,14 @@ class Paired:
         return [variables[v] for v in reversed(moved(len(variables), edges, rank)) if v < len(variables)]
 
 
-def counts(net):
+def counts(net: Netlist) -> tuple[int, int, int]:
     return len(net.inputs), len(net.outputs), len(net.registers)
 
 
 MOST_NUMBER = 10**18
 
 
-def index_key(name):
+def index_key(name: str) -> int:
     """0 where no number is at the end of a name, else one more than it; marks may follow it, and letters may not."""
     found = re.fullmatch(r".*?([0-9]+)[^0-9A-Za-z]*", name)
     return 1 + min(int(found[1]), MOST_NUMBER) if found else 0
@@ -118,7 +121,7 @@ def index_key(name):
 PARTS, WHOLE = 65_536, 16_777_216
 
 
-def moved(variables, edges, rank):
+def moved(variables: int, edges: list[list[int]], rank: list[int]) -> list[int]:
     """Where two rounds end. They begin with each gate right behind the last variable below it."""
     by_rank = sorted(range(len(rank)), key=rank.__getitem__)
     last = list(range(variables)) + [0] * len(edges)
@@ -128,17 +131,17 @@ def moved(variables, edges, rank):
     return settled(edges, settled(edges, sorted(by_rank, key=last.__getitem__)))
 
 
-def mean(total, count):
+def mean(total: int, count: int) -> int:
     """In whole numbers, by a share that is rounded down."""
     return total * (WHOLE // count) // WHOLE
 
 
-def settled(edges, order):
+def settled(edges: list[list[int]], order: list[int]) -> list[int]:
     """One round. In each of its steps each vertex goes to the mean of its edges' centres, and without edges it stays; behind them it
     stands by its place, equal places as they stood."""
     place = {vertex: PARTS * i for i, vertex in enumerate(order)}
     for _ in range(max(10, min(40, 524_288 // (len(order) + 1)))):
-        centres = {vertex: [] for vertex in order}
+        centres: dict[int, list[int]] = {vertex: [] for vertex in order}
         for edge in edges:
             centre = mean(sum(place[vertex] for vertex in edge), len(edge))
             for vertex in edge:
@@ -147,12 +150,12 @@ def settled(edges, order):
     return sorted(order, key=place.__getitem__)
 
 
-def falling(signals, rank):
+def falling(signals: Iterable[str], rank: Callable[[str], int]) -> list[str]:
     """By falling rank, equal ranks from left to right."""
     return sorted(signals, key=rank, reverse=True)
 
 
-def ranks(net):
+def ranks(net: Netlist) -> dict[str, int]:
     """The length of the longest chain of gates below each signal."""
     known = {signal: 0 for signal in [*net.inputs, *net.registers]}
     while len(known) < len(net.inputs) + len(net.registers) + len(net.gates):
@@ -162,7 +165,7 @@ def ranks(net):
     return known
 
 
-def leaves(net, roots, rank=None):
+def leaves(net: Netlist, roots: Sequence[str], rank: Callable[[str], int] | None = None) -> list[str]:
     """The sources below the roots, each at its first place: operands from left to right, or by falling rank."""
     met, seen, path = [], set(), list(reversed(roots))
     while path:
@@ -178,13 +181,14 @@ def leaves(net, roots, rank=None):
     return met
 
 
-# The orders by their words. A new order is one line here, from the paired netlists to a list of names.
-# `best` is one of them.
-def by_rule(rule):
+def by_rule(rule: Callable[[order_reference.Pair], list[str]]) -> Callable[[Paired], list[str]]:
+    """An order of order_reference.py, of paired netlists."""
     return lambda paired: rule(order_reference.Pair.of(paired))
 
 
-ORDERS = {
+# The orders by their words. A new order is one line here, from the paired netlists to a list of names.
+# `best` is one of them.
+ORDERS: dict[str, Callable[[Paired], list[str]]] = {
     "declared": Paired.declared,
     "depth": Paired.by_depth,
     "best": by_rule(order_reference.msb_first),
@@ -200,7 +204,7 @@ ORDERS = {
 }
 
 
-def levels(paired, order):
+def levels(paired: Paired, order: str | list[str]) -> list[str]:
     """The names of the variables in level order. `order` is a word, or a list of names."""
     variables = distinct([*paired.declared(), *paired.of_condition()])
     if len(variables) > MOST_VARIABLES:
@@ -218,7 +222,7 @@ def levels(paired, order):
 # Functions. Bit i of a table is the value at the assignment whose level 0 is the highest bit of i.
 
 
-def variable_tables(count):
+def variable_tables(count: int) -> list[int]:
     size = 1 << count
     tables = []
     for level in range(count):
@@ -231,14 +235,16 @@ def variable_tables(count):
     return tables
 
 
-def support(tables, count):
+def support(tables: Iterable[int], count: int) -> set[int]:
     """The levels on which one of these functions depends."""
     ones = variable_tables(count)
-    parted = [(table & ones[level], table & (ones[level] >> (1 << (count - 1 - level))), level) for table in tables for level in range(count)]
+    parted = [
+        (table & ones[level], table & (ones[level] >> (1 << (count - 1 - level))), level) for table in tables for level in range(count)
+    ]
     return {level for high, low, level in parted if high >> (1 << (count - 1 - level)) != low}
 
 
-FOLDS = {
+FOLDS: dict[str, Callable[[int, int], int]] = {
     "AND": lambda a, b: a & b,
     "NAND": lambda a, b: a & b,
     "OR": lambda a, b: a | b,
@@ -252,8 +258,10 @@ COMPLEMENTED = {"NAND", "NOR", "XNOR", "NOT"}
 class Functions:
     """The tables of all signals of a netlist, of the folds that build them, and the pairs that these are asked of."""
 
-    def __init__(self, net, paired, tables, whole):
-        self.whole, self.folds, self.asked = whole, [], []
+    def __init__(self, net: Netlist, paired: Paired, tables: Mapping[str, int], whole: int) -> None:
+        self.whole = whole
+        self.folds: list[int] = []
+        self.asked: list[tuple[int, int]] = []
         self.known = {s: tables[paired.name(net, s)] for s in [*net.inputs, *net.registers]}
         waiting = dict(net.gates)
         while waiting:
@@ -262,7 +270,7 @@ class Functions:
                     self.known[signal] = self.gate(word, [self.known[operand] for operand in operands])
                     del waiting[signal]
 
-    def gate(self, word, values):
+    def gate(self, word: str, values: list[int]) -> int:
         result = values[0]
         for i, value in enumerate(values[1:], 2):
             self.asked.append((result, value))
@@ -276,10 +284,10 @@ class Functions:
         return result
 
 
-def node_count(functions, count):
+def node_count(functions: Iterable[int], count: int) -> int:
     """The nodes of the shared reduced ordered diagrams of functions of so many variables."""
 
-    def kept(tables, bits):
+    def kept(tables: Iterable[int], bits: int) -> set[int]:
         """With marks a function and its complement are one."""
         return {min(t, t ^ bits) for t in tables}
 
@@ -293,7 +301,7 @@ def node_count(functions, count):
     return nodes
 
 
-def reached(pair, count):
+def reached(pair: tuple[int, int], count: int) -> int:
     """No fewer requests than a fold of two functions of so many variables reaches: the pairs of their cofactors where one depends on
     the level, and the first pair."""
     at_level, requests = {pair}, 1
@@ -316,7 +324,7 @@ class Pair:
     first: str
     second: str
     line: str
-    tables: tuple = ()
+    tables: tuple[int, ...] = ()
 
 
 @dataclass
@@ -333,19 +341,19 @@ class Judged:
     """What the report says, how many nodes are needed for it, of which pairs of functions folds are asked, and on which variables the two
     functions of a pair that differs depend, by its label."""
 
-    pairs: list
-    unmatched: list
+    pairs: list[Pair]
+    unmatched: list[Unpaired]
     nodes: int
-    asked: list
+    asked: list[tuple[int, int]]
     count: int
-    supports: dict
+    supports: dict[str, set[str]]
 
-    def requests(self):
+    def requests(self) -> int:
         """No wave reaches more."""
         return sum(reached(pair, self.count) for pair in self.asked)
 
 
-def paired_outputs(first, second, by_position):
+def paired_outputs(first: list[str], second: list[str], by_position: bool) -> tuple[list[tuple[str, str]], list[str], list[str]]:
     """The pairs of two lists of names, and those without a partner."""
     if by_position:
         return list(zip(first, second)), [], []
@@ -353,7 +361,7 @@ def paired_outputs(first, second, by_position):
     return pairs, [name for name in first if name not in second], [name for name in second if name not in first]
 
 
-def judge(paired, order, sizes):
+def judge(paired: Paired, order: str | list[str], sizes: bool) -> Judged:
     names = levels(paired, order)
     count = len(names)
     whole = (1 << (1 << count)) - 1
@@ -362,10 +370,10 @@ def judge(paired, order, sizes):
     first, second, *given = known = [Functions(net, paired, tables, whole) for net in nets]
     built = [*tables.values(), *(fold for functions in known for fold in functions.folds)]
     asked = [pair for functions in known for pair in functions.asked]
-    condition = given[0].known[paired.given.outputs[0]] if given else whole
+    condition = given[0].known[paired.given.outputs[0]] if paired.given else whole
     compared, supports = [], {}
 
-    def line(what, name, f, g):
+    def line(what: str, name: str, f: int, g: int) -> str:
         if given:
             asked.extend([(f, condition), (g, condition)])
         f, g = f & condition, g & condition
@@ -378,7 +386,8 @@ def judge(paired, order, sizes):
         reported = f"DIFFER {what}{name} at {' '.join([*bits, f'first={f >> place & 1}', f'second={g >> place & 1}'])}"
         return reported + (f" sizes {node_count([f], count)} {node_count([g], count)}" if sizes else "")
 
-    pairs, alone = [], [[], []]
+    pairs: list[Pair] = []
+    alone: tuple[list[Unpaired], list[Unpaired]] = [], []
     for what, parts in (("", outputs), ("NEXT ", next_states)):
         both, *only = paired_outputs(parts(paired.first), parts(paired.second), paired.by_position)
         for a, b in both:
@@ -392,13 +401,13 @@ def judge(paired, order, sizes):
     return Judged(pairs, [*alone[0], *alone[1]], node_count(built, count), asked, count, supports)
 
 
-def outputs(net):
+def outputs(net: Netlist) -> list[str]:
     return net.outputs
 
 
-def next_states(net):
+def next_states(net: Netlist) -> list[str]:
     return list(net.registers)
 
 
-def signal(what, net, name):
+def signal(what: str, net: Netlist, name: str) -> str:
     return net.registers[name] if what else name

@@ -4,25 +4,35 @@ crate that the program links.
 
 usage: tests/linked.py
 """
+from __future__ import annotations
+
 import re
 import sys
+from collections.abc import Mapping
 
 import harness
 from harness import TOP, Tally
 
+sys.path.append(str(TOP / "tools"))
+import crates_txt  # noqa: E402
+
 PROGRAM = "bddcheck"
-CRATES = ("crossbeam_queue", "crossbeam_utils", "rayon", "indexmap", "lru", "thiserror", "clap", "itoa", "json",
-          "rand_xoshiro", "rand_core")
+CRATES = (
+    "crossbeam_queue",
+    "crossbeam_utils",
+    "rayon",
+    "indexmap",
+    "lru",
+    "thiserror",
+    "clap",
+    "itoa",
+    "json",
+    "rand_xoshiro",
+    "rand_core",
+)
 
 
-def named_by(text):
-    """By crate of the repository the crates that its line names."""
-    lines = (line.split("#")[0] for line in text.splitlines())
-    rows = (line.split(":", 1) for line in lines if ":" in line)
-    return {left.split()[0]: right.split() for left, right in rows}
-
-
-def linked(names, program):
+def linked(names: Mapping[str, list[str]], program: str) -> set[str]:
     """The crates of the repository that a program is made of, itself among them."""
     found, ahead = set(), [program]
     while ahead:
@@ -33,23 +43,22 @@ def linked(names, program):
     return found
 
 
-def uses(crate, name):
+def uses(crate: str, name: str) -> bool:
     """Whether the code of a crate names another one."""
     path = re.compile(rf"^(?!\s*//).*\b{name}::", re.MULTILINE)
     return any(path.search(file.read_text()) for file in sorted((TOP / "crates" / crate / "src").rglob("*.rt")))
 
 
-def main():
+def main() -> None:
     tally = Tally("linked")
-    names = named_by((TOP / "crates.txt").read_text())
+    names = crates_txt.named()
     crates = linked(names, PROGRAM)
     tally.check("the program is in crates.txt", crates, PROGRAM)
     for name in CRATES:
         listed = sorted(crate for crate in crates if name in names[crate])
         tally.check(f"{name} is named by a crate that the program links", listed, "by none")
         tally.check(f"{name} is used by the code of such a crate", any(uses(crate, name) for crate in listed), listed)
-    tally.end()
-    sys.exit(tally.failed > 0)
+    tally.finish()
 
 
 if __name__ == "__main__":

@@ -19,6 +19,8 @@ yosys flows,shipped yosys
 berkeley-abc flows berkeley-abc|yosys-abc|abc
 chromium page chromium|chromium-browser|google-chrome
 graphviz page dot
+black scripts black
+mypy scripts mypy
 parallel cluster parallel
 munge cluster munged
 slurm-wlm cluster slurmctld

@@ -6,11 +6,18 @@ program prints with them.
 """
 from __future__ import annotations
 
-import sys
+import argparse
+import itertools
+import pathlib
+from collections.abc import Sequence
 from dataclasses import dataclass
 from fractions import Fraction
+from typing import TYPE_CHECKING
 
 import reading
+
+if TYPE_CHECKING:
+    from judging import Paired
 
 CAP_OF_NUMBERS = 10**18
 CAP_OF_VISITS = 1_000_000
@@ -25,13 +32,13 @@ class Side:
     """A netlist: its gates by name, its roots, and the rank of each signal."""
 
     net: reading.Netlist
-    variables: set
-    roots: list
-    rank: dict
-    rising: list
+    variables: set[str]
+    roots: list[str]
+    rank: dict[str, int]
+    rising: list[str]
 
     @staticmethod
-    def of(net):
+    def of(net: reading.Netlist) -> Side:
         variables = set(net.inputs) | set(net.registers)
         rank = dict.fromkeys(variables, 0)
         for start in net.gates:
@@ -45,36 +52,36 @@ class Side:
                 if signal not in rank:
                     rank[signal] = 1 + max(rank[s] for s in net.gates[signal][1])
                 todo.pop()
-        rising = sorted(net.gates, key=rank.get)
+        rising = sorted(net.gates, key=rank.__getitem__)
         return Side(net, variables, net.outputs + list(net.registers.values()), rank, rising)
 
-    def operands(self, gate):
+    def operands(self, gate: str) -> list[str]:
         return self.net.gates[gate][1]
 
 
 class Pair:
     """Two netlists, or three with a condition, and the variables of all, as they are declared. A variable has one name in all of them."""
 
-    def __init__(self, nets, variables):
+    def __init__(self, nets: Sequence[reading.Netlist], variables: list[str]) -> None:
         self.sides = [Side.of(net) for net in nets]
         self.variables = variables
         self.level = {name: level for level, name in enumerate(variables)}
 
     @staticmethod
-    def of_texts(first, second):
+    def of_texts(first: bytes, second: bytes) -> Pair:
         nets = [reading.read(text) for text in (first, second)]
         inputs = [name for net in nets for name in net.inputs]
         registers = [name for net in nets for name in net.registers]
         return Pair(nets, list(dict.fromkeys(inputs + registers)))
 
     @staticmethod
-    def of(paired):
+    def of(paired: Paired) -> Pair:
         """The pair of netlists whose variables have a naming: judging's."""
         nets = [named(paired, net) for net in (paired.first, paired.second, paired.given) if net]
         return Pair(nets, list(dict.fromkeys([*paired.declared(), *paired.of_condition()])))
 
 
-def named(paired, net):
+def named(paired: Paired, net: reading.Netlist) -> reading.Netlist:
     """A netlist whose variables have their paired names. A gate has a name that no variable has."""
     called = {s: paired.name(net, s) for s in [*net.inputs, *net.registers]} | {s: "= " + s for s in net.gates}
     gates = {called[s]: (word, [called[o] for o in operands]) for s, (word, operands) in net.gates.items()}
@@ -82,7 +89,7 @@ def named(paired, net):
     return reading.Netlist([called[s] for s in net.inputs], [called[s] for s in net.outputs], gates, registers)
 
 
-def number_of(name):
+def number_of(name: str) -> int | None:
     """The number at the end of a name, signs after it passed over; None without one. Long numbers are cut to one greatest."""
     end = len(name)
     while end and not name[end - 1].isalnum():
@@ -93,10 +100,10 @@ def number_of(name):
     return min(int(name[begin:end]), CAP_OF_NUMBERS) if begin < end else None
 
 
-def by_number(pair, falling):
+def by_number(pair: Pair, falling: bool) -> list[str]:
     """Names without a number first, then by their numbers; equal ones as they are declared."""
 
-    def key(name):
+    def key(name: str) -> tuple[int, int]:
         number = number_of(name)
         return (0, 0) if number is None else (1, -number if falling else number)
 
@@ -106,7 +113,7 @@ def by_number(pair, falling):
 # ---- selectors
 
 
-def uses(side):
+def uses(side: Side) -> dict[str, int]:
     """How many operands of gates with two operands or more stand for each variable."""
     stands = {name: name for name in side.variables}
     count = dict.fromkeys(side.variables, 0)
@@ -122,7 +129,7 @@ def uses(side):
     return count
 
 
-def selectors(pair):
+def selectors(pair: Pair) -> set[str]:
     """The variables above the first widest gap in the upper half of all fan-outs, if one is twice the next at least."""
     counts = [uses(side) for side in pair.sides]
     fan_out = {name: max(count.get(name, 0) for count in counts) for name in pair.variables}
@@ -138,7 +145,7 @@ def selectors(pair):
 # ---- groups
 
 
-def value(word, bits):
+def value(word: str, bits: Sequence[bool]) -> bool:
     """What a gate computes."""
     if word in ("AND", "NAND"):
         result = all(bits)
@@ -151,22 +158,28 @@ def value(word, bits):
     return result != (word in ("NAND", "NOR", "XNOR", "NOT"))
 
 
-def joined_by_xor(side):
+# A function of one variable or of two: its variables, and its value by theirs.
+Small = tuple[tuple[str, ...], dict[tuple[bool, ...], bool]]
+
+
+def joined_by_xor(side: Side) -> set[tuple[str, ...]]:
     """The pairs of variables of which some gate over just these two is the exclusive or, or its complement."""
-    small = {name: ((name,), {(False,): False, (True,): True}) for name in side.variables}
-    found = set()
+    small: dict[str, Small] = {name: ((name,), {(False,): False, (True,): True}) for name in side.variables}
+    found: set[tuple[str, ...]] = set()
     for gate in side.rising:
         word, operands = side.net.gates[gate]
-        names = set()
+        below: set[str] = set()
+        is_small = True
         for operand in operands:
-            names.update(small[operand][0] if operand in small else (None,))
-            if None in names or len(names) > 2:
+            is_small = operand in small
+            below.update(small[operand][0] if is_small else ())
+            if not is_small or len(below) > 2:
                 break
-        if None in names or len(names) > 2:
+        if not is_small or len(below) > 2:
             continue
-        names = tuple(sorted(names))
-        table = {}
-        for row in [(a,) for a in (False, True)] if len(names) == 1 else [(a, b) for a in (False, True) for b in (False, True)]:
+        names = tuple(sorted(below))
+        table: dict[tuple[bool, ...], bool] = {}
+        for row in itertools.product((False, True), repeat=len(names)):
             at = dict(zip(names, row))
             table[row] = value(word, [small[s][1][tuple(at[n] for n in small[s][0])] for s in operands])
         small[gate] = (names, table)
@@ -175,7 +188,7 @@ def joined_by_xor(side):
     return found
 
 
-def groups(pair):
+def groups(pair: Pair) -> dict[str, list[str]]:
     """Of each variable its group: what pairs without hubs join."""
     pairs = set().union(*(joined_by_xor(side) for side in pair.sides))
     degree = dict.fromkeys(pair.variables, 0)
@@ -193,16 +206,16 @@ def groups(pair):
     return group
 
 
-def grouped(pair, order):
+def grouped(pair: Pair, order: list[str]) -> list[str]:
     """Each group where its first variable is, in the order's order."""
     group = groups(pair)
-    first = {}
+    first: dict[int, int] = {}
     for place, name in enumerate(order):
         first.setdefault(id(group[name]), place)
     return sorted(order, key=lambda name: first[id(group[name])])
 
 
-def steered(pair, order):
+def steered(pair: Pair, order: list[str]) -> list[str]:
     chosen = selectors(pair)
     return [name for name in order if name in chosen] + [name for name in order if name not in chosen]
 
@@ -210,20 +223,23 @@ def steered(pair, order):
 # ---- the three orders
 
 
-def msb_first(pair):
+def msb_first(pair: Pair) -> list[str]:
     return steered(pair, grouped(pair, by_number(pair, falling=True)))
 
 
 class Weighing:
     """Dynamic weight assignment: which variables are placed, and how often gates were visited."""
 
-    def __init__(self, pair):
-        self.pair, self.order, self.placed, self.visits = pair, [], set(), 0
+    def __init__(self, pair: Pair) -> None:
+        self.pair, self.visits = pair, 0
+        self.order: list[str] = []
+        self.placed: set[str] = set()
 
-    def side(self, side):
+    def side(self, side: Side) -> None:
         dead = {name for name in side.variables if name in self.placed}
         for root in sorted(side.roots, key=lambda root: -side.rank[root]):
-            cone, todo = set(), [root]
+            cone: set[str] = set()
+            todo = [root]
             while todo:
                 signal = todo.pop()
                 if signal not in cone and signal not in dead:
@@ -232,9 +248,9 @@ class Weighing:
             self.root(side, root, dead, cone)
             dead |= cone
 
-    def root(self, side, root, dead, cone):
+    def root(self, side: Side, root: str, dead: set[str], cone: set[str]) -> None:
         gates = sorted((s for s in cone if s not in side.variables), key=lambda s: -side.rank[s])
-        live = sorted((s for s in cone if s in side.variables), key=self.pair.level.get)
+        live = sorted((s for s in cone if s in side.variables), key=self.pair.level.__getitem__)
         while live:
             for gate in reversed(gates):
                 if all(operand in dead for operand in side.operands(gate)):
@@ -245,12 +261,12 @@ class Weighing:
             # A gate counts once, and once more for each 32 operands that were not placed by an earlier root.
             self.visits += sum(1 + sum(operand in cone for operand in side.operands(gate)) // 32 for gate in gates)
             taken = live if self.visits >= CAP_OF_VISITS else live[:1]
-            live = live[len(taken):]
+            live = live[len(taken) :]
             dead.update(taken)
             self.placed.update(taken)
             self.order.extend(taken)
 
-    def weights(self, side, root, dead, gates):
+    def weights(self, side: Side, root: str, dead: set[str], gates: list[str]) -> dict[str, int]:
         weight = {root: ROOT_WEIGHT}
         for gate in gates:
             alive = [operand for operand in side.operands(gate) if operand not in dead]
@@ -259,7 +275,7 @@ class Weighing:
         return weight
 
 
-def weights(pair):
+def weights(pair: Pair) -> list[str]:
     weighing = Weighing(pair)
     for side in sorted(pair.sides[:2], key=lambda side: len(side.net.gates)):
         weighing.side(side)
@@ -270,7 +286,7 @@ def weights(pair):
 class Force:
     """FORCE whose edges have no selectors. Vertices are the variables by rising number, then the gates of both netlists."""
 
-    def __init__(self, pair, begun, chosen):
+    def __init__(self, pair: Pair, begun: list[str], chosen: set[str]) -> None:
         self.count = len(begun)
         vertex = {name: place for place, name in enumerate(begun)}
         self.rank, self.edges = [0] * self.count, []
@@ -282,15 +298,15 @@ class Force:
             for gate in side.net.gates:
                 self.edges.append([own[s] for s in side.operands(gate) + [gate] if s not in chosen or s not in side.variables])
 
-    def begin(self):
+    def begin(self) -> list[int]:
         """Each gate right after the last variable below it."""
         by_rank = sorted(range(len(self.rank)), key=self.rank.__getitem__)
         last = list(range(self.count)) + [0] * len(self.edges)
-        for vertex in by_rank[self.count:]:
+        for vertex in by_rank[self.count :]:
             last[vertex] = max(last[other] for other in self.edges[vertex - self.count])
         return sorted(by_rank, key=last.__getitem__)
 
-    def step(self, place, degree):
+    def step(self, place: list[int], degree: list[int]) -> list[int]:
         total = [0] * len(place)
         for edge in self.edges:
             centre = sum(place[vertex] for vertex in edge) * (SHARE // len(edge)) // SHARE
@@ -298,7 +314,7 @@ class Force:
                 total[vertex] += centre
         return [t * (SHARE // d) // SHARE if d else p for t, d, p in zip(total, degree, place)]
 
-    def order(self):
+    def order(self) -> list[int]:
         """The variables' vertices, from the last one back."""
         degree = [0] * len(self.rank)
         for edge in self.edges:
@@ -315,7 +331,7 @@ class Force:
         return [vertex for vertex in reversed(order) if vertex < self.count]
 
 
-def force_groups(pair):
+def force_groups(pair: Pair) -> list[str]:
     chosen, begun = selectors(pair), by_number(pair, falling=False)
     moved = [begun[vertex] for vertex in Force(pair, begun, chosen).order()]
     return grouped(pair, [name for name in begun if name in chosen] + [name for name in moved if name not in chosen])
@@ -324,11 +340,13 @@ def force_groups(pair):
 ORDERS = {"msb-first": msb_first, "weights": weights, "force-groups": force_groups}
 
 
-def main():
-    first, second, name = sys.argv[1:]
-    with open(first, "rb") as one, open(second, "rb") as other:
-        pair = Pair.of_texts(one.read(), other.read())
-    for variable in ORDERS[name](pair):
+def main() -> None:
+    parser = argparse.ArgumentParser(description=__doc__, formatter_class=argparse.RawDescriptionHelpFormatter)
+    for which in ("first", "second"):
+        parser.add_argument(which, type=pathlib.Path, help=f"This is the file of the {which} netlist.")
+    parser.add_argument("order", choices=list(ORDERS), help="This is the order whose names are printed.")
+    given = parser.parse_args()
+    for variable in ORDERS[given.order](Pair.of_texts(given.first.read_bytes(), given.second.read_bytes())):
         print(variable)
 
 

@@ -7,10 +7,12 @@ The orders are those of `order_reference.py`. The pairs are some of examples/, c
 some inputs select and XOR gates join others, and N (200) drawn ones, which have names with numbers of all kinds. Where a FOLDER is given,
 they are those of its folders NAME/ in their place: a.bench with b.bench.
 """
-import argparse
+from __future__ import annotations
+
 import pathlib
 import random
 import sys
+from collections.abc import Iterator
 
 import fuzz
 import harness
@@ -24,7 +26,7 @@ EXAMPLES = [("adder8_ripple", "adder8_lookahead"), ("s27", "s27_wrong"), ("c17",
 SIZES = {"adder": [8, 33], "multiplier": [4, 9], "parity": [24], "alu": [4, 16], "products": [9], "xors": [40], "steps": [50]}
 
 
-def chosen_words(size, words):
+def chosen_words(size: int, words: int) -> bytes:
     """A word of some is chosen by inputs that count, each bit by gates of its own."""
     net = circuits.Netlist()
     select = net.inputs("s", (words - 1).bit_length())
@@ -38,7 +40,7 @@ def chosen_words(size, words):
     return net.text().encode()
 
 
-def matched_key(size, entries):
+def matched_key(size: int, entries: int) -> bytes:
     """A key is compared with entries: its bits are in as many pairs as there are entries."""
     net = circuits.Netlist()
     key = net.inputs("k", size)
@@ -50,7 +52,7 @@ def matched_key(size, entries):
     return net.text().encode()
 
 
-def written_exclusive_ors(size):
+def written_exclusive_ors(size: int) -> bytes:
     """Equality of two words, whose exclusive ors are NAND gates, and whose bits count down in one of them."""
     net = circuits.Netlist()
     bits = []
@@ -62,7 +64,7 @@ def written_exclusive_ors(size):
     return net.text().encode()
 
 
-def own_pairs(place):
+def own_pairs(place: pathlib.Path) -> Iterator[tuple[str, list[pathlib.Path]]]:
     for first, second in EXAMPLES:
         yield first, [TOP / "examples" / f"{name}.bench" for name in (first, second)]
     for family, sizes in SIZES.items():
@@ -74,38 +76,43 @@ def own_pairs(place):
         "a matched key": (matched_key(8, 8), matched_key(8, 3)),
         "exclusive ors of NAND gates": (written_exclusive_ors(9), matched_key(4, 2)),
         "nothing": (b"", b""),
-        "a wide gate": (netlist("; ".join(f"INPUT(i{i})" for i in range(300)) + "; OUTPUT(o); o = OR(" + ", ".join(f"i{i}" for i in range(300)) + ")"), b""),
+        "a wide gate": (
+            netlist("; ".join(f"INPUT(i{i})" for i in range(300)) + "; OUTPUT(o); o = OR(" + ", ".join(f"i{i}" for i in range(300)) + ")"),
+            b"",
+        ),
     }
     for number, (name, texts) in enumerate(made.items()):
         yield name, [written(place, f"made{number}{side}.bench", text) for side, text in zip("ab", texts)]
 
 
-def drawn_pairs(place, seed, cases):
+def drawn_pairs(place: pathlib.Path, seed: str, cases: int) -> Iterator[tuple[str, list[pathlib.Path]]]:
     for case in range(cases):
         rng = random.Random(f"{seed}:{case}")
         texts = [fuzz.laid_out(rng, side, True) for side in fuzz.pair_of_netlists(rng, "name", 12)]
         yield f"--seed {seed}, case {case}", [written(place, f"drawn{side}.bench", text) for side, text in zip("ab", texts)]
 
 
-def folder_pairs(folders):
+def folder_pairs(folders: list[pathlib.Path]) -> Iterator[tuple[str, list[pathlib.Path]]]:
     for folder in folders:
         for inside in sorted(folder.iterdir()):
             yield inside.name, [inside / "a.bench", inside / "b.bench"]
 
 
-def compared(program, tally, name, paths):
-    pair = order_reference.Pair.of_texts(*(path.read_bytes() for path in paths))
+def compared(program: str, tally: Tally, name: str, paths: list[pathlib.Path]) -> None:
+    first, second = paths
+    pair = order_reference.Pair.of_texts(first.read_bytes(), second.read_bytes())
     for word, order in order_reference.ORDERS.items():
         wanted = harness.lines(*order(pair))
         tally.same(f"{name}, {word}", run([program, "--print-order", "--order", word, *paths]), 0, wanted, b"")
 
 
-def main():
-    parser = argparse.ArgumentParser(usage=__doc__.split("usage: ")[1].split("\n")[0])
-    parser.add_argument("program")
-    parser.add_argument("folders", nargs="*", type=pathlib.Path)
-    parser.add_argument("--seed", default=str(random.randrange(10**6)))
-    parser.add_argument("--cases", type=int, default=200)
+def main() -> None:
+    parser = harness.parser_with_program(__doc__)
+    folders = "The pairs in these folders are compared, in place of those that this script makes."
+    parser.add_argument("folders", metavar="FOLDER", nargs="*", type=pathlib.Path, help=folders)
+    seed = "The netlists are drawn by this text; without it a number is chosen."
+    parser.add_argument("--seed", default=str(random.randrange(10**6)), help=seed)
+    parser.add_argument("--cases", type=int, default=200, help="So many pairs are drawn; the default is 200.")
     settings = parser.parse_args()
     tally = Tally("orders")
     with harness.folder() as folder:
@@ -115,8 +122,7 @@ def main():
             compared(settings.program, tally, name, paths)
         for name, paths in drawn_pairs(place, settings.seed, 0 if settings.folders else settings.cases):
             compared(settings.program, tally, name, paths)
-    tally.end()
-    sys.exit(tally.failed > 0)
+    tally.finish()
 
 
 if __name__ == "__main__":

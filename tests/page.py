@@ -9,19 +9,19 @@ FOLDER gets a picture of each kind of page, to look at.
 """
 from __future__ import annotations
 
-import argparse
 import json
-import os
 import pathlib
 import random
 import re
 import shutil
 import sys
+from collections.abc import Callable, Sequence
+from typing import Any
 
 import browser
 import harness
 from browser import Browser
-from explained import changed, random_net
+from explained import Net, changed, random_net
 from harness import C17, C17B, TOP, Tally
 from objects import BUSES
 
@@ -31,11 +31,13 @@ RENAMED = TOP / "examples" / "s27_renamed.bench"
 # Names that HTML, JSON and Graphviz have to escape.
 ODD = {b"10": b"</script><b>", b"11": b'"\\N&lt;', b"19": b"<!--", b"23": b"\\"}
 MANY = 4000
+# A report, or a part of one or of a page's data.
+JsonObject = dict[str, Any]
 
 
-def data_of(path: pathlib.Path) -> dict:
+def data_of(path: pathlib.Path) -> JsonObject:
     """What a page has of its report."""
-    return json.loads(path.read_text().split('<script type="application/json" id="report">')[1].split("</script>")[0])
+    return dict(json.loads(path.read_text().split('<script type="application/json" id="report">')[1].split("</script>")[0]))
 
 
 class Maker:
@@ -44,21 +46,22 @@ class Maker:
     def __init__(self, tally: Tally, program: str, place: str) -> None:
         self.tally, self.program, self.place = tally, program, pathlib.Path(place)
 
-    def report(self, name: str, files: list, *words: str) -> pathlib.Path:
+    def report(self, name: str, files: Sequence[object], *words: str) -> pathlib.Path:
         seen = harness.run([self.program, "--format", "json", *words, *files])
         self.tally.check(f"{name}: there is a report", seen.status in (0, 1, 3), seen)
         return harness.written(self.place, f"{name}.json", seen.out)
 
-    def page(self, name: str, report: pathlib.Path, *words: str | pathlib.Path) -> pathlib.Path:
+    def page(self, name: str, report: pathlib.Path, *words: object) -> pathlib.Path:
         """The page of a report."""
         out = self.place / f"{name}.html"
         seen = harness.run([sys.executable, PAGE, report, "-o", out, *words], seconds=300)
         self.tally.same(f"{name}: there is a page", seen, 0, b"", b"")
         return out
 
-    def both(self, name: str, first: pathlib.Path, second: pathlib.Path, *words: str) -> pathlib.Path:
+    def both(self, name: str, files: Sequence[pathlib.Path], *words: str) -> pathlib.Path:
         """The page of two netlists, with causes."""
-        report = self.report(name, [first, second], "--causes", *words)
+        first, second = files
+        report = self.report(name, files, "--causes", *words)
         return self.page(name, report, "--first", first, "--second", second)
 
 
@@ -74,7 +77,7 @@ def check_refusals(tally: Tally, place: pathlib.Path, report: pathlib.Path, firs
     loop = harness.written(place, "loop.bench", C17.replace(b"NAND(1, 3)", b"NAND(1, 22)"))
     both = ["--first", first, "--second", second]
     other = "page: the netlists are not those of the report: "
-    for name, status, said, words in (
+    cases: tuple[tuple[str, int, str, list[object]], ...] = (
         ("a report by lines", 2, f"page: {lines}: no report of bddcheck --format json", [lines]),
         ("a report that lacks a member", 2, f"page: {bare}: no report of bddcheck --format json: it lacks different\n", [bare]),
         ("no file", 2, "page: [Errno 2]", [place / "none"]),
@@ -86,29 +89,35 @@ def check_refusals(tally: Tally, place: pathlib.Path, report: pathlib.Path, firs
         ("a condition that is 0", 1, f"{other}the condition does not hold for 23\n", [report, *both, "--given", never]),
         ("a condition of two outputs", 2, f"page: {wide}: a condition has one output\n", [report, *both, "--given", wide]),
         ("a pair that is equal", 2, "page: no such pair differs: 22\n", [report, *both, "--draw", "22"]),
-    ):
+    )
+    for name, status, said, words in cases:
         out = place / "refused.html"
         seen = harness.run([sys.executable, PAGE, "-o", out, *words])
         is_right = (seen.status, seen.out) == (status, b"") and seen.err.decode().startswith(said)
         tally.check(f"refused: {name}", is_right and not out.exists(), seen)
 
 
-def explained_rows(program: str, words: list, label: str) -> list[list]:
+def explained_rows(program: str, words: Sequence[object], label: str) -> list[list[str | int]]:
     """The inner signals that --explain lists, as a page has them."""
     seen = harness.run([program, f"--explain={label}", *words])
     found = re.findall(r"^  (\S+) first=([01]) second=([01]) line (\d+) line (\d+)$", seen.out.decode(), re.M)
     return [[name, *map(int, numbers)] for name, *numbers in found]
 
 
-def check_gates(tally: Tally, name: str, drawings: list[dict], nets: tuple, pair: dict) -> None:
+def check_gates(tally: Tally, name: str, drawings: list[JsonObject], nets: Sequence[Net], pair: JsonObject) -> None:
     """The gates of small cones are all drawn, with the values that they have here."""
     for drawing, net, root in zip(drawings, nets, pair["details"]["roots"]):
         at = {variable: int(bit == "1") for variable, bit in zip(pair["variables"], pair["bits"])}
         values, below = net.values({**dict.fromkeys([*net.inputs, *net.registers], 0), **at}), net.below(root)
         cone = {gate for gate in net.gates if gate in below}
-        shown = {gate: int(bit) for gate, bit in (re.match(r"(\S+) = .*  # ([01]), line", line).groups() for line in drawing["text"])}
+        lines = (re.match(r"(\S+) = .*  # ([01]), line", line) for line in drawing["text"])
+        shown = {line[1]: int(line[2]) for line in lines if line}
         is_right = shown == {gate: values[gate] for gate in cone} and (drawing["gates"], drawing["total"]) == (len(cone), len(cone))
         tally.check(f"{name}: the gates of {root}", is_right, (drawing, cone))
+
+
+# Which variables assignments have.
+ASSIGNMENTS: list[list[str]] = [[], ["--assignment", "ones"], ["--assignment", "support"]]
 
 
 def check_random(tally: Tally, maker: Maker, rng: random.Random) -> None:
@@ -118,8 +127,7 @@ def check_random(tally: Tally, maker: Maker, rng: random.Random) -> None:
         first = random_net(rng)
         second = changed(rng, first)
         files = [harness.written(maker.place, name, net.text().encode()) for name, net in (("first", first), ("second", second))]
-        words = rng.choice([[], ["--assignment", "ones"], ["--assignment", "support"]])
-        data = data_of(maker.both(f"random {turn}", *files, *words))
+        data = data_of(maker.both(f"random {turn}", files, *rng.choice(ASSIGNMENTS)))
         for pair in (pair for pair in data["pairs"] if pair["verdict"] == "DIFFER"):
             label = pair["name"] if pair["of"] == "output" else f"NEXT {pair['name']}"
             wanted = explained_rows(maker.program, files, label)
@@ -142,13 +150,15 @@ def chain(gates: int, word: bytes) -> bytes:
 def check_folded(tally: Tally, maker: Maker) -> None:
     """Of a large cone the gates next to the first that differs are drawn."""
     files = [harness.written(maker.place, name, chain(900, word)) for name, word in (("long1", b"XOR"), ("long2", b"XNOR"))]
-    (pair,) = data_of(maker.both("folded", *files))["pairs"]
+    (pair,) = data_of(maker.both("folded", files))["pairs"]
     for drawing in pair["details"]["drawings"]:
         names = {line.split(" ")[0] for line in drawing["text"]}
         wanted = {f"g{number}" for number in range(450 - 74, 450 + 26)}
         is_right = names == wanted and (drawing["gates"], drawing["total"]) == (100, 900) and "folded" in (drawing["svg"] or "")
         tally.check("folded: 75 gates up to the first signal that differs, and 25 after it", is_right, names ^ wanted)
-    tally.check("folded: the inner signals", (pair["details"]["count"], len(pair["details"]["inner"])) == (449, 200), pair["details"]["count"])
+    tally.check(
+        "folded: the inner signals", (pair["details"]["count"], len(pair["details"]["inner"])) == (449, 200), pair["details"]["count"]
+    )
 
 
 def check_wide(tally: Tally, maker: Maker) -> None:
@@ -156,17 +166,24 @@ def check_wide(tally: Tally, maker: Maker) -> None:
     names = [f"a{number}" for number in range(15)]
     texts = ["".join(f"INPUT({name})\n" for name in names) + f"OUTPUT(o)\no = {word}({', '.join(names)})\n" for word in ("AND", "XOR")]
     files = [harness.written(maker.place, f"wide{number}", text.encode()) for number, text in enumerate(texts)]
-    (pair,) = data_of(maker.both("wide", *files))["pairs"]
+    (pair,) = data_of(maker.both("wide", files))["pairs"]
     for drawing, word in zip(pair["details"]["drawings"], ("AND", "XOR")):
-        is_right = drawing["text"][0].startswith(f"o = {word}({', '.join(names[:12])}, and 3 more)") and "3 more operands" in (drawing["svg"] or "")
+        is_right = drawing["text"][0].startswith(f"o = {word}({', '.join(names[:12])}, and 3 more)") and "3 more operands" in (
+            drawing["svg"] or ""
+        )
         tally.check(f"wide: {word}", is_right and drawing["svg"].count('class="edge') == 13, drawing)
 
 
 def check_most(tally: Tally, maker: Maker, report: pathlib.Path, files: list[pathlib.Path]) -> None:
     """The pairs that have a drawing, if not all have one."""
     both = ["--first", files[0], "--second", files[1]]
-    for words, wanted in ((["--most", "0"], []), (["--most", "1"], ["G17"]), (["--most", "1", "--draw", "NEXT G6"], ["NEXT G6"]),
-                          (["--most", "2", "--draw", "NEXT G6"], ["G17", "NEXT G6"])):
+    cases: list[tuple[list[str], list[str]]] = [
+        (["--most", "0"], []),
+        (["--most", "1"], ["G17"]),
+        (["--most", "1", "--draw", "NEXT G6"], ["NEXT G6"]),
+        (["--most", "2", "--draw", "NEXT G6"], ["G17", "NEXT G6"]),
+    ]
+    for words, wanted in cases:
         data = data_of(maker.page("most", report, *both, *words))
         drawn = [("NEXT " if pair["of"] != "output" else "") + pair["name"] for pair in data["pairs"] if "details" in pair]
         tally.check(f"drawn by {' '.join(words)}", drawn == wanted, drawn)
@@ -188,12 +205,12 @@ def check_without_dot(tally: Tally, maker: Maker, report: pathlib.Path, files: l
 
 
 def heading(page: Browser) -> str:
-    return page.value("document.getElementById('chosen-title').textContent")
+    return str(page.value("document.getElementById('chosen-title').textContent"))
 
 
 def labels(page: Browser) -> list[str]:
     """The pairs in the table."""
-    return page.value("[...document.querySelectorAll('#rows tbody th')].map((cell) => cell.textContent)")
+    return list(page.value("[...document.querySelectorAll('#rows tbody th')].map((cell) => cell.textContent)"))
 
 
 def all_labels(page: Browser) -> list[str]:
@@ -220,7 +237,7 @@ def table_of(page: Browser, label: str) -> list[list[str]]:
     """The cells of a table of the chosen pair."""
     rows = f"document.querySelectorAll('#chosen table[aria-label=\"{label}\"] tbody tr')"
     cell = "[...cell.querySelectorAll('.wave span')].map((one) => one.textContent).join('>') || cell.textContent"
-    return page.value(f"[...{rows}].map((row) => [...row.cells].map((cell) => {cell}))")
+    return list(page.value(f"[...{rows}].map((row) => [...row.cells].map((cell) => {cell}))"))
 
 
 CONTRAST = """(() => {
@@ -243,9 +260,12 @@ CONTRAST = """(() => {
     return found;
 })()"""
 # Texts of a drawing are on the ground of their frames.
-DRAWN_CONTRAST = CONTRAST.replace("body *", "#chosen .node text").replace('one.closest("svg, script, .hidden, option")', "false") \
-    .replace("getComputedStyle(one).color", "getComputedStyle(one).fill") \
+DRAWN_CONTRAST = (
+    CONTRAST.replace("body *", "#chosen .node text")
+    .replace('one.closest("svg, script, .hidden, option")', "false")
+    .replace("getComputedStyle(one).color", "getComputedStyle(one).fill")
     .replace("ground(one)", "light(getComputedStyle(one.parentElement.querySelector('polygon, path')).fill)")
+)
 
 
 # Heads of tables have a scope; fields, tables, regions, buttons and drawings have a name.
@@ -313,9 +333,9 @@ def try_c17(viewer: Viewer, path: pathlib.Path) -> None:
     click(page, "#causes tbody button")
     tally.check("c17: a pair of a cause", heading(page) == "DIFFER 23", heading(page))
     viewer.done(path)
-    for address, wanted in (("#pair=22", "EQUAL 22"), ("#pair=%", "DIFFER 23"), ("#pair=none", "DIFFER 23")):
+    for address, title in (("#pair=22", "EQUAL 22"), ("#pair=%", "DIFFER 23"), ("#pair=none", "DIFFER 23")):
         page.open(path.as_uri() + address)
-        tally.check(f"c17: a pair by the address {address}", heading(page) == wanted, heading(page))
+        tally.check(f"c17: a pair by the address {address}", heading(page) == title, heading(page))
 
 
 def try_keys(viewer: Viewer, path: pathlib.Path) -> None:
@@ -349,16 +369,17 @@ def try_keys(viewer: Viewer, path: pathlib.Path) -> None:
     viewer.done(path)
 
 
-def many_report() -> dict:
+def many_report() -> JsonObject:
     """A report of 4,000 pairs of all kinds."""
     rng = random.Random(1)
     variables = [f"{bus}[{bit}]" for bus in ("address", "data") for bit in range(32)] + [f"enable{number}" for number in range(20)]
-    verdicts, causes = [], [{"signal": f"n{number}", "lines": [number, number + 1], "pairs": []} for number in range(1, 41)]
+    verdicts: list[JsonObject] = []
+    causes: list[JsonObject] = [{"signal": f"n{number}", "lines": [number, number + 1], "pairs": []} for number in range(1, 41)]
     for number in range(MANY):
         of = "next state" if number % 5 == 0 else "output"
         name = f"bus{number % 50}[{number // 50}]"
         kind = "DIFFER" if number % 4 == 1 else "UNDECIDED" if number % 40 == 2 else "ONLY" if number % 40 == 3 else "EQUAL"
-        verdict = {"verdict": kind, "of": of, "name": name}
+        verdict: JsonObject = {"verdict": kind, "of": of, "name": name}
         if kind == "ONLY":
             verdict = {"verdict": kind, "side": "second", "of": of, "name": name}
         if kind == "DIFFER":
@@ -370,24 +391,38 @@ def many_report() -> dict:
         verdicts.append(verdict)
     counts = {kind: sum(verdict["verdict"] == kind for verdict in verdicts) for kind in ("EQUAL", "DIFFER", "ONLY", "UNDECIDED")}
     return {
-        "match": "name", "order": "auto", "variables": variables, "verdicts": verdicts, "equal": counts["EQUAL"],
-        "different": counts["DIFFER"], "unmatched": counts["ONLY"], "undecided": counts["UNDECIDED"], "stopped": True,
+        "match": "name",
+        "order": "auto",
+        "variables": variables,
+        "verdicts": verdicts,
+        "equal": counts["EQUAL"],
+        "different": counts["DIFFER"],
+        "unmatched": counts["ONLY"],
+        "undecided": counts["UNDECIDED"],
+        "stopped": True,
         "causes": causes,
     }
 
 
-def natural(label: str) -> tuple:
+def natural(label: str) -> tuple[int | str, ...]:
     """By which names are sorted: numbers by their value."""
     return tuple(int(part) if part.isdigit() else part for part in re.split(r"(\d+)", label.lower()))
 
 
-def try_many(viewer: Viewer, path: pathlib.Path, report: dict) -> None:
+def label_of(verdict: JsonObject) -> str:
+    """What the page calls a pair."""
+    return ("" if verdict["of"] == "output" else "NEXT ") + str(verdict["name"])
+
+
+def try_many(viewer: Viewer, path: pathlib.Path, report: JsonObject) -> None:
     """4,000 pairs are filtered and sorted at once."""
     tally, page = viewer.tally, viewer.page
     viewer.open(path)
-    label = lambda verdict: ("" if verdict["of"] == "output" else "NEXT ") + verdict["name"]
-    in_order = [label(verdict) for verdict in report["verdicts"]]
-    of_kind = lambda *kinds: [label(verdict) for verdict in report["verdicts"] if verdict["verdict"] in kinds]
+    in_order = [label_of(verdict) for verdict in report["verdicts"]]
+
+    def of_kind(kind: str) -> list[str]:
+        return [label_of(verdict) for verdict in report["verdicts"] if verdict["verdict"] == kind]
+
     tally.check("many: a part of the table at first", labels(page) == of_kind("DIFFER")[:250], len(labels(page)))
     page.value("document.getElementById('rows').scrollTop = 1e6")
     page.wait_for("document.querySelectorAll('#rows tbody tr').length === 500")
@@ -397,7 +432,8 @@ def try_many(viewer: Viewer, path: pathlib.Path, report: dict) -> None:
     click(page, head.format(2))
     click(page, head.format(2))
     tally.check("many: in the order of the report", all_labels(page) == in_order)
-    times = page.value(f"""(() => {{
+    times = page.value(
+        f"""(() => {{
         const took = (...acts) => Math.min(...[0, 1, 2].flatMap(() => acts.map((act) => {{
             const begun = performance.now();
             act();
@@ -411,29 +447,29 @@ def try_many(viewer: Viewer, path: pathlib.Path, report: dict) -> None:
         sort();
         sort();
         return times;
-    }})()""")
+    }})()"""
+    )
     tally.figures(f"{MANY} pairs are sorted or filtered in {max(times):.0f} ms at most")
     tally.check("many: each takes less than a second", max(times) < 1000, times)
     tally.check("many: sorted by name, downwards", all_labels(page) == sorted(in_order, key=natural, reverse=True), labels(page)[:5])
-    filters(viewer, report, label)
+    filters(viewer, report)
     click(page, "#rows tbody tr button")
     viewer.done(path)
 
 
-def filters(viewer: Viewer, report: dict, label) -> None:
+def filters(viewer: Viewer, report: JsonObject) -> None:
     """Each filter by itself, and some together."""
     tally, page = viewer.tally, viewer.page
-    verdicts = sorted(report["verdicts"], key=lambda verdict: natural(label(verdict)), reverse=True)
+    verdicts = sorted(report["verdicts"], key=lambda verdict: natural(label_of(verdict)), reverse=True)
     cause = {(pair["of"], pair["name"]) for pair in report["causes"][4]["pairs"]}
-    chosen = lambda is_wanted: [label(verdict) for verdict in verdicts if is_wanted(verdict)]
 
-    def same(name: str, is_wanted) -> None:
-        wanted, shown = chosen(is_wanted), all_labels(page)
+    def same(name: str, is_wanted: Callable[[JsonObject], object]) -> None:
+        wanted, shown = [label_of(verdict) for verdict in verdicts if is_wanted(verdict)], all_labels(page)
         counted = page.value("document.getElementById('shown').textContent")
         tally.check(f"many: {name}", shown == wanted and counted == f"{len(wanted):,} of 4,000 pairs", (len(shown), len(wanted), counted))
 
     typed(page, "name", "us17[")
-    same("a part of a name", lambda verdict: "us17[" in label(verdict))
+    same("a part of a name", lambda verdict: "us17[" in label_of(verdict))
     typed(page, "name", "BUS1*[7*]")
     same("a pattern", lambda verdict: re.fullmatch(r"bus1.*\[7.*\]", verdict["name"]))
     typed(page, "name", "next *")
@@ -451,8 +487,8 @@ def filters(viewer: Viewer, report: dict, label) -> None:
     ticked(page, "DIFFER")
     ticked(page, "ONLY")
     same("no verdict", lambda verdict: False)
-    for verdict in ("EQUAL", "UNDECIDED", "DIFFER", "ONLY"):
-        ticked(page, verdict)
+    for kind in ("EQUAL", "UNDECIDED", "DIFFER", "ONLY"):
+        ticked(page, kind)
     same("all again", lambda verdict: True)
     for place, number in ((1, 0), (5, 1)):
         verdict = report["verdicts"][place]
@@ -501,7 +537,10 @@ def pages(maker: Maker) -> dict[str, pathlib.Path]:
     """A page of each kind, by its name."""
     place = maker.place
     c17, c17b = harness.written(place, "c17.bench", C17), harness.written(place, "c17b.bench", C17B)
-    odd = lambda text: re.sub(rb"\d+", lambda found: ODD.get(found[0], found[0]), text)
+
+    def odd(text: bytes) -> bytes:
+        return re.sub(rb"\d+", lambda found: ODD.get(found[0], found[0]), text)
+
     odd1, odd2 = harness.written(place, "odd1.bench", odd(C17)), harness.written(place, "odd2.bench", odd(C17B))
     buses, wider = harness.written(place, "buses1", BUSES), harness.written(place, "buses2", BUSES.replace(b"NOR", b"XOR"))
     empty = harness.written(place, "empty.bench", b"")
@@ -511,16 +550,22 @@ def pages(maker: Maker) -> dict[str, pathlib.Path]:
     plain = maker.report("plain", [buses, wider])
     many = harness.written(place, "many.json", json.dumps(many_report()).encode())
     undecided = {
-        "match": "position", "order": "cones", "variables": [], "verdicts": [{"verdict": "UNDECIDED", "of": "output", "name": "p"}], "equal": 0,
-        "different": 0, "unmatched": 0, "undecided": 1,
+        "match": "position",
+        "order": "cones",
+        "variables": [],
+        "verdicts": [{"verdict": "UNDECIDED", "of": "output", "name": "p"}],
+        "equal": 0,
+        "different": 0,
+        "unmatched": 0,
+        "undecided": 1,
     }
     return {
-        "c17": maker.both("c17", c17, c17b),
-        "s27": maker.both("s27", S27, RENAMED),
-        "odd": maker.both("odd", odd1, odd2),
-        "position": maker.both("position", S27, TOP / "examples" / "s27_wrong.bench", "--match", "position"),
-        "equal": maker.both("equal", c17, c17),
-        "empty": maker.both("empty", empty, empty),
+        "c17": maker.both("c17", [c17, c17b]),
+        "s27": maker.both("s27", [S27, RENAMED]),
+        "odd": maker.both("odd", [odd1, odd2]),
+        "position": maker.both("position", [S27, TOP / "examples" / "s27_wrong.bench"], "--match", "position"),
+        "equal": maker.both("equal", [c17, c17]),
+        "empty": maker.both("empty", [empty, empty]),
         "given": maker.page("given", given, "--first", c17, "--second", c17b, "--given", cared),
         "buses": maker.page("buses", plain),
         "many": maker.page("many", many),
@@ -543,10 +588,9 @@ def try_pages(viewer: Viewer, made: dict[str, pathlib.Path]) -> None:
 
 
 def main() -> None:
-    parser = argparse.ArgumentParser()
-    parser.add_argument("program")
-    parser.add_argument("--seed", default="1")
-    parser.add_argument("--pictures", type=pathlib.Path)
+    parser = harness.parser_with_program(__doc__)
+    parser.add_argument("--seed", default="1", help="The netlists are drawn by this text; the default is 1.")
+    parser.add_argument("--pictures", metavar="FOLDER", type=pathlib.Path, help="A picture of each page is written into this folder.")
     words = parser.parse_args()
     tally = Tally("page")
     with harness.folder() as place:
@@ -570,8 +614,7 @@ def main() -> None:
                 words.pictures.mkdir(parents=True, exist_ok=True)
             with Browser(place) as page:
                 try_pages(Viewer(tally, page, words.pictures), made)
-    tally.end()
-    sys.exit(tally.failed > 0)
+    tally.finish()
 
 
 if __name__ == "__main__":

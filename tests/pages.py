@@ -5,6 +5,7 @@ from __future__ import annotations
 import re
 import subprocess
 from dataclasses import dataclass
+from pathlib import Path
 
 from harness import TOP
 
@@ -17,14 +18,14 @@ HEADING = re.compile(r"^#{1,6}\s+(.*?)\s*#*$", re.M)
 WORDS_OF_A_TERM = 4
 
 
-def all_pages():
+def all_pages() -> list[Path]:
     """The paths of all documents that are in the repository, or that will be with the next commit."""
     words = ["git", "ls-files", "--cached", "--others", "--exclude-standard", "*.md"]
     listed = subprocess.run(words, cwd=TOP, capture_output=True, text=True, check=True).stdout.split("\n")
     return sorted(TOP / name for name in set(listed) if name and (TOP / name).exists())
 
 
-def without_blocks(text):
+def without_blocks(text: str) -> str:
     """The text without blocks of code, be they fenced or set in by four blanks after an empty line."""
     kept, fence, is_code, before = [], None, False, ""
     for line in text.split("\n"):
@@ -43,44 +44,44 @@ def without_blocks(text):
     return "\n".join(kept)
 
 
-def spans(text):
+def spans(text: str) -> list[str]:
     """What is in code spans."""
     return [" ".join(found[1].split()) for found in SPAN.findall(without_blocks(text))]
 
 
-def prose(text):
+def prose(text: str) -> str:
     """The text without code of any kind."""
     return SPAN.sub("` `", without_blocks(text))
 
 
-def links(text):
+def links(text: str) -> list[str]:
     """The targets of all links and pictures."""
     return [found[1] for found in LINK.findall(prose(text))]
 
 
-def anchor(heading):
+def anchor(heading: str) -> str:
     """What a heading is called in a link."""
     shown = LINK.sub(r"\1", heading).replace("`", "").replace("*", "").lower()
     return re.sub(r"[^\w\- ]", "", shown).replace(" ", "-")
 
 
-def anchors(text):
+def anchors(text: str) -> set[str]:
     """The names of all headings; of two that are alike the second ends in -1."""
     names = [anchor(heading) for heading in HEADING.findall(without_blocks(text))]
     return {name + (f"-{names[:at].count(name)}" if name in names[:at] else "") for at, name in enumerate(names)}
 
 
-def terms_in_italics(text):
+def terms_in_italics(text: str) -> list[str]:
     """What is set in italics, but for whole sentences."""
     shown = [" ".join(found.split()) for found in ITALIC.findall(BOLD.sub(" ", prose(text)))]
     return [term for term in shown if len(term.split()) <= WORDS_OF_A_TERM]
 
 
-def terms_in_bold(text):
+def terms_in_bold(text: str) -> list[str]:
     return [" ".join(found.split()) for found in BOLD.findall(without_blocks(text))]
 
 
-def root(term):
+def root(term: str) -> str:
     """A term without capitals, punctuation and the ending of a plural."""
     term = re.sub(r"[^\w\- ]", "", term.replace("`", "").lower()).strip()
     if term.endswith("ies"):
@@ -90,7 +91,7 @@ def root(term):
     return term[:-1] if term.endswith("s") and not term.endswith("ss") else term
 
 
-def tables(text):
+def tables(text: str) -> list[tuple[list[str], list[list[str]]]]:
     """The tables: the cells of the head, and of each row."""
     found, lines = [], without_blocks(text).split("\n")
     for at, line in enumerate(lines):
@@ -104,7 +105,7 @@ def tables(text):
     return found
 
 
-def cells(line):
+def cells(line: str) -> list[str]:
     return [cell.strip() for cell in re.split(r"(?<!\\)\|", line.strip().strip("|"))]
 
 
@@ -115,13 +116,13 @@ class Shown:
     words: str
     lines: list[str]
 
-    def is_of(self, output):
+    def is_of(self, output: str) -> bool:
         """Whether the program's output has these lines, if a line of three dots stands for any number of lines."""
         parts = [r"(?:[^\n]*\n)*?" if line == "..." else re.escape(line) + r"\n" for line in self.lines]
         return bool(re.fullmatch("".join(parts), output))
 
 
-def runs(text, command):
+def runs(text: str, command: str) -> list[Shown]:
     """The runs of a command that a page shows as `    $ COMMAND WORDS`."""
     found, current = [], None
     for line in text.split("\n"):

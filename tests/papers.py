@@ -10,15 +10,21 @@ names the logic of the kit that is here. No document has a word that the project
 
 usage: tests/papers.py PROGRAM
 """
+from __future__ import annotations
+
 import pathlib
 import re
 import shlex
 import shutil
 import sys
+from collections.abc import Iterator
 
 import decisions
 import pages
-from harness import TOP, Tally, folder, run
+from harness import TOP, Tally, folder, program_of, run
+
+sys.path.append(str(TOP / "tools"))
+import crates_txt  # noqa: E402
 
 # The logic of the kits in the README's line, as `Proved with kits 1a and 1b of the logic 0123abcd.`, and in the line of `rt version`, as
 # `rattle-kit-1a logic 0123abcd`. Kits of one logic accept the same proofs, so their own names are not compared.
@@ -61,16 +67,11 @@ OF_OTHERS = {"perf"}
 TERMS_ARE_IN = ("README.md", "docs/ARCHITECTURE.md", "docs/DEFINITIONS.md")
 
 
-def options_in(text):
+def options_in(text: str) -> set[str]:
     return set(re.findall(r"--[a-z][a-z-]*", text))
 
 
-def crates():
-    lines = [line.partition("#")[0] for line in (TOP / "crates.txt").read_text().splitlines()]
-    return {line.split(":")[0].split()[0] for line in lines if ":" in line}
-
-
-def check_options(tally, program, readme):
+def check_options(tally: Tally, program: str, readme: str) -> None:
     helped = run([program, "--help"])
     wanted = options_in(helped.out.decode())
     tally.check("help names options", len(wanted) > 5, helped)
@@ -96,9 +97,9 @@ def check_options(tally, program, readme):
     tally.check("the README has the options of --help", not missing, missing)
 
 
-def check_orders(tally, program):
+def check_orders(tally: Tally, program: str) -> None:
     """The values of --order are those of the parser, and the help has a line for each."""
-    found = re.search(r'ORDERS: \[&str; \d+\] = \[(.*?)\]', ARGUMENTS.read_text(), re.S)
+    found = re.search(r"ORDERS: \[&str; \d+\] = \[(.*?)\]", ARGUMENTS.read_text(), re.S)
     orders = set(re.findall(r'"([\w-]+)"', found[1])) if found else set()
     tally.check("the parser has orders", len(orders) > 1)
     helped = run([program, "--help"]).out.decode()
@@ -110,7 +111,7 @@ def check_orders(tally, program):
         tally.check(f"{name} has the orders of the parser", not missing, missing)
 
 
-def completed(words):
+def completed(words: list[str]) -> list[bytes]:
     """What bash completes the last of these words to."""
     script = TOP / "tools" / "completions" / "bddcheck.bash"
     steps = [
@@ -123,7 +124,7 @@ def completed(words):
     return run(["bash", "-c", "; ".join(steps)]).out.split()
 
 
-def check_completions(tally):
+def check_completions(tally: Tally) -> None:
     """A value is completed after `--order ` as after `--order=`, of which bash makes two words and zsh one."""
     if shutil.which("bash"):
         orders = completed(["--order", ""])
@@ -140,7 +141,7 @@ def check_completions(tally):
     tally.check("zsh completes values after =", valued and all(valued), text)
 
 
-def check_kit(tally, readme):
+def check_kit(tally: Tally, readme: str) -> None:
     named = LOGIC_NAMED.findall(readme)
     tally.check("the README has one line that names kits and their logic", len(named) == 1, named)
     if shutil.which("rt"):
@@ -150,7 +151,7 @@ def check_kit(tally, readme):
         tally.skip("there is no `rt`, so the logic that the README names was not compared")
 
 
-def drawn_pictures(tally):
+def drawn_pictures(tally: Tally) -> dict[str, bytes]:
     """What the scripts draw, by the path that it has in the repository."""
     drawn = {}
     for name, (script, *words) in DRAWN.items():
@@ -166,7 +167,7 @@ def drawn_pictures(tally):
     return drawn
 
 
-def check_pictures(tally):
+def check_pictures(tally: Tally) -> None:
     """Each picture is what its script draws, and none is missing."""
     drawn = drawn_pictures(tally)
     there = {str(path.relative_to(TOP)) for path in (TOP / "docs").rglob("*.svg")}
@@ -175,7 +176,7 @@ def check_pictures(tally):
         tally.check(f"{name} is there, and is what a script draws", is_drawn)
 
 
-def broken_link(page, target):
+def broken_link(page: pathlib.Path, target: str) -> str | None:
     """Why a link of a page leads nowhere; None if it does not."""
     if re.match(r"[a-z]+:", target):
         return None
@@ -188,7 +189,7 @@ def broken_link(page, target):
     return None
 
 
-def paths_in(text, names):
+def paths_in(text: str, names: set[str]) -> Iterator[tuple[str, pathlib.Path]]:
     """The paths of the repository that code spans name, as they are written there, with where they would be."""
     for word in (word for span in pages.spans(text) for word in span.split()):
         word = re.sub(r":\d+$|[.,;:]$", "", word)
@@ -200,18 +201,20 @@ def paths_in(text, names):
             yield word, TOP / "crates" / word
 
 
-def check_links(tally, texts):
-    names = crates()
+def check_links(tally: Tally, texts: dict[pathlib.Path, str]) -> None:
+    names = set(crates_txt.named())
     for page, text in texts.items():
         name = page.relative_to(TOP)
         broken = [why for target in pages.links(text) if (why := broken_link(page, target))]
         tally.check(f"{name}: each link leads somewhere", not broken, broken)
-        absent = sorted({word for word, path in paths_in(text, names) if not path.exists() and not path.with_name(path.name + ".antt").exists()})
+        absent = sorted(
+            {word for word, path in paths_in(text, names) if not path.exists() and not path.with_name(path.name + ".antt").exists()}
+        )
         tally.check(f"{name}: each path in a code span is there", not absent, absent)
 
 
-def check_crates(tally, texts):
-    names = crates()
+def check_crates(tally: Tally, texts: dict[pathlib.Path, str]) -> None:
+    names = set(crates_txt.named())
     told = set(pages.spans((TOP / "docs" / "ARCHITECTURE.md").read_text()))
     tally.check("docs/ARCHITECTURE.md names each crate", names <= told, names - told)
     for page, text in texts.items():
@@ -221,7 +224,7 @@ def check_crates(tally, texts):
                 tally.check(f"{page.relative_to(TOP)}: a table's crates are crates", not others, others)
 
 
-def words_of_the_code():
+def words_of_the_code() -> set[str]:
     """All identifiers of the sources, the definitions, the proofs, the planted bugs and the scripts."""
     files = [path for name in ("crates", "tools", "tests", "bench") for path in (TOP / name).rglob("*")]
     kinds = {".rt", ".antt", ".edit", ".py", ".sh", ".txt"}
@@ -229,7 +232,7 @@ def words_of_the_code():
     return {word for path in [*read, TOP / "crates.txt"] for word in re.findall(r"\w+", path.read_text(errors="replace"))}
 
 
-def check_names(tally, texts):
+def check_names(tally: Tally, texts: dict[pathlib.Path, str]) -> None:
     """Each name of the code in a page about the code, as `build` or `net_bench::parse_bench`, is in the code."""
     known = words_of_the_code()
     for page, text in texts.items():
@@ -240,7 +243,7 @@ def check_names(tally, texts):
             tally.check(f"{name}: each name of the code is in the code", not unknown, unknown)
 
 
-def check_terms(tally):
+def check_terms(tally: Tally) -> None:
     glossary = TOP / "docs" / "GLOSSARY.md"
     if not tally.check("docs/GLOSSARY.md is there", glossary.exists()):
         return
@@ -252,7 +255,7 @@ def check_terms(tally):
         tally.check(f"{name}: its terms in italics are in docs/GLOSSARY.md", not missing, missing)
 
 
-def check_words(tally, texts):
+def check_words(tally: Tally, texts: dict[pathlib.Path, str]) -> None:
     for page, text in texts.items():
         name, plain = page.relative_to(TOP), " ".join(pages.prose(text).split())
         for word, instead in GIVEN_UP.items():
@@ -262,18 +265,18 @@ def check_words(tally, texts):
         tally.check(f"{name}: no place is still to be filled", not open_places, open_places)
 
 
-def check_runs(tally, program, readme):
+def check_runs(tally: Tally, program: str, readme: str) -> None:
     for shown in pages.runs(readme, "tools/bddcheck.sh"):
         seen = run([program, *shlex.split(shown.words)], cwd=TOP)
         tally.check(f"the README's run of {shown.words} prints what it shows", shown.is_of(seen.out.decode()), seen)
 
 
-def main():
-    tally = Tally("papers")
+def main() -> None:
+    program, tally = program_of(__doc__), Tally("papers")
     readme = (TOP / "README.md").read_text()
     texts = {page: page.read_text() for page in pages.all_pages()}
-    check_options(tally, sys.argv[1], readme)
-    check_orders(tally, sys.argv[1])
+    check_options(tally, program, readme)
+    check_orders(tally, program)
     check_completions(tally)
     compared = run([sys.executable, TOP / "tools" / "definitions.py"], seconds=600)
     tally.check("docs/DEFINITIONS.md has what public contracts cite", compared.status == 0, compared)
@@ -286,10 +289,9 @@ def main():
     check_terms(tally)
     decisions.check_decisions(tally)
     check_words(tally, texts)
-    check_runs(tally, sys.argv[1], readme)
+    check_runs(tally, program, readme)
     check_kit(tally, readme)
-    tally.end()
-    sys.exit(tally.failed > 0)
+    tally.finish()
 
 
 if __name__ == "__main__":

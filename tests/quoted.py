@@ -7,9 +7,11 @@
 
 usage: tests/quoted.py
 """
+from __future__ import annotations
+
 import re
-import sys
 import textwrap
+from pathlib import Path
 
 from harness import TOP, Tally
 
@@ -17,31 +19,31 @@ COMMENT = re.compile(r"^<!-- (all of|from|rows of) (\S+) -->$")
 ROW = re.compile(r"\| \d+ \| .* \|$")
 
 
-def block_below(lines, at):
+def block_below(lines: list[str], at: int) -> list[str]:
     """The lines of the first fenced block after a line, without its fences."""
     start = next(number for number in range(at + 1, len(lines)) if lines[number].startswith("```"))
     end = next(number for number in range(start + 1, len(lines)) if lines[number].startswith("```"))
     return lines[start + 1 : end]
 
 
-def rows_below(lines, at):
+def rows_below(lines: list[str], at: int) -> list[str]:
     """The rows of the first table after a line, without its head."""
     start = next(number for number in range(at + 1, len(lines)) if lines[number].startswith("|"))
     end = next((number for number in range(start, len(lines)) if not lines[number].startswith("|")), len(lines))
     return lines[start + 2 : end]
 
 
-def is_within(block, text):
+def is_within(block: list[str], text: str) -> bool:
     """Whether the lines are those of some lines of a text that follow each other, but for their common indentation."""
     lines, wanted = text.splitlines(), textwrap.dedent("\n".join(block)).splitlines()
     windows = (lines[at : at + len(wanted)] for at in range(len(lines) - len(wanted) + 1))
     return bool(wanted) and any(textwrap.dedent("\n".join(window)).splitlines() == wanted for window in windows)
 
 
-def check_page(tally, page):
+def check_page(tally: Tally, page: Path) -> None:
     name = page.relative_to(TOP)
     lines = page.read_text().splitlines()
-    rows = {}
+    rows: dict[str, list[str]] = {}
     for at, line in enumerate(lines):
         comment = COMMENT.match(line)
         if not comment:
@@ -60,13 +62,12 @@ def check_page(tally, page):
         tally.check(f"{name}: its tables have the rows of {path}", wanted and sorted(found) == sorted(wanted), set(found) ^ set(wanted))
 
 
-def main():
+def main() -> None:
     tally = Tally("quoted")
     for page in sorted([*TOP.glob("*.md"), *TOP.glob("docs/**/*.md"), *TOP.glob("examples/**/*.md")]):
         check_page(tally, page)
     tally.check("something is quoted", tally.passed > 0)
-    tally.end()
-    sys.exit(tally.failed > 0)
+    tally.finish()
 
 
 if __name__ == "__main__":

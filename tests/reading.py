@@ -4,6 +4,7 @@ No code is shared with the product. It is written for plainness and takes small 
 """
 from __future__ import annotations
 
+from collections.abc import Iterator, Mapping
 from dataclasses import dataclass, field
 
 
@@ -29,15 +30,15 @@ NOT_A_NAME = "not a signal name"
 
 
 class Fault(Exception):
-    """Why a text is refused, as the program tells it."""
+    """Why a text is refused, as the program reports it."""
 
-    def __init__(self, text, line=None):
+    def __init__(self, text: str, line: int | None = None) -> None:
         super().__init__(text if line is None else f"line {line}: {text}")
 
 
 @dataclass
 class Token:
-    """A sign of the format, a name, or the end, which is an empty text. A faulty place tells its fault when it is looked at."""
+    """A sign of the format, a name, or the end, which is an empty text. A faulty place has its fault, which is raised when the reader comes to it."""
 
     text: str
     line: int
@@ -46,14 +47,14 @@ class Token:
 
 @dataclass
 class Netlist:
-    inputs: list = field(default_factory=list)
-    outputs: list = field(default_factory=list)
-    # Of each signal with a gate: the gate's word and its operands, in the order of the text. Registers stand apart.
-    gates: dict = field(default_factory=dict)
-    registers: dict = field(default_factory=dict)
+    inputs: list[str] = field(default_factory=list)
+    outputs: list[str] = field(default_factory=list)
+    # Of each signal with a gate: the gate's word and its operands, in the order of the text. Registers are not among them.
+    gates: dict[str, tuple[str, list[str]]] = field(default_factory=dict)
+    registers: dict[str, str] = field(default_factory=dict)
 
 
-def tokens(text):
+def tokens(text: bytes) -> Iterator[Token]:
     """The tokens of a text, with a fault in its place and the end at last."""
     at, line = 0, 1
     while at < len(text):
@@ -84,36 +85,38 @@ def tokens(text):
 class Reader:
     """Reads statements one after the other, and stops at the first faulty place."""
 
-    def __init__(self, text):
+    def __init__(self, text: bytes) -> None:
         self.rest = tokens(text)
         self.net = Netlist()
-        self.signals, self.operands = set(), 0
-        self.uses, self.lines = [], {}
+        self.signals: set[str] = set()
+        self.operands = 0
+        self.uses: list[Token] = []
+        self.lines: dict[str, int] = {}
 
-    def next(self):
+    def next(self) -> Token:
         token = next(self.rest)
         if token.fault:
             raise Fault(token.fault, token.line)
         return token
 
-    def name(self):
+    def name(self) -> Token:
         token = self.next()
         if token.text == "" or token.text in "(),=":
             raise Fault(BROKEN, token.line)
         return token
 
-    def sign(self, allowed):
+    def sign(self, allowed: str) -> Token:
         token = self.next()
         if token.text == "" or token.text not in allowed:
             raise Fault(BROKEN, token.line)
         return token
 
-    def count(self, name, line):
+    def count(self, name: str, line: int) -> None:
         if name not in self.signals and len(self.signals) == MOST_SIGNALS:
             raise Fault(TOO_MANY, line)
         self.signals.add(name)
 
-    def statements(self):
+    def statements(self) -> None:
         while True:
             first = self.next()
             if first.text == "":
@@ -129,7 +132,7 @@ class Reader:
             else:
                 raise Fault(BROKEN, sign.line)
 
-    def port(self, first):
+    def port(self, first: Token) -> None:
         name = self.name()
         self.count(name.text, name.line)
         self.sign(")")
@@ -143,7 +146,7 @@ class Reader:
         if name.text not in self.net.inputs:
             self.net.inputs.append(name.text)
 
-    def gate(self, first):
+    def gate(self, first: Token) -> None:
         word = self.name().text.upper()
         if word not in GATES:
             raise Fault(UNKNOWN, first.line)
@@ -161,7 +164,7 @@ class Reader:
                 break
         self.define(first, word, operands)
 
-    def define(self, first, word, operands):
+    def define(self, first: Token, word: str, operands: list[str]) -> None:
         if word in OF_ONE and len(operands) > 1:
             raise Fault(OPERANDS, first.line)
         if first.text in self.net.inputs or first.text in self.net.gates or first.text in self.net.registers:
@@ -172,7 +175,7 @@ class Reader:
             self.net.gates[first.text] = (word, operands)
             self.lines[first.text] = first.line
 
-    def whole(self):
+    def whole(self) -> None:
         """The faults of the whole text: uses without a definition, then gates that depend on a cycle."""
         net = self.net
         for use in self.uses:
@@ -189,7 +192,7 @@ class Reader:
                 raise Fault(CYCLE, self.lines[signal])
 
 
-def read(text):
+def read(text: bytes) -> Netlist:
     """The netlist of a text, or its fault."""
     if len(text) > MOST_BYTES:
         raise Fault(TOO_LONG)
@@ -199,7 +202,19 @@ def read(text):
     return reader.net
 
 
-def read_names(text):
+def below(gates: Mapping[str, tuple[str, list[str]]], root: str) -> set[str]:
+    """The signals below the root, itself among them."""
+    met: set[str] = set()
+    waiting = [root]
+    while waiting:
+        signal = waiting.pop()
+        if signal not in met:
+            met.add(signal)
+            waiting += gates[signal][1] if signal in gates else []
+    return met
+
+
+def read_names(text: bytes) -> list[str]:
     """The names of an order file, or its fault."""
     if len(text) > MOST_BYTES:
         raise Fault(TOO_LONG)
@@ -212,9 +227,9 @@ def read_names(text):
     return names
 
 
-def split(text):
-    """The texts before and behind the first line `%%`, or None."""
-    before = []
+def split(text: bytes) -> tuple[bytes, bytes] | None:
+    """The texts before and after the first line `%%`, or None."""
+    before: list[bytes] = []
     rest = text.split(b"\n")
     for i, line in enumerate(rest):
         if line in (b"%%", b"%%\r"):

@@ -11,33 +11,35 @@ what helps; or with the very report that it gives without refusals. Of a row who
 the first of these waves is refused in every run, and growths while its workers run, where the others have to be told to stop.
 If a row names no order, a thread that cannot be started costs no report: only the very report is right then.
 """
-import argparse
+from __future__ import annotations
+
 import os
 import random
 import resource
 import subprocess
 import sys
 import time
+from collections.abc import Callable, Collection, Iterable, Iterator, Sequence
+from concurrent.futures import Executor, Future
 from dataclasses import dataclass, field
 
 import harness
-from harness import C17, C17B, TOP, Tally, lines, netlist, run, say, written
+from harness import C17, C17B, TOP, Run, Tally, lines, netlist, run, say, written
 
 sys.path.append(str(TOP / "bench"))
 import circuits  # noqa: E402
 
 # Where want of memory may stand, and a worker that could not be started.
-OUT_OF_MEMORY = {
-    lines(f"bddcheck: {place}out of memory") for place in ("", "first: ", "second: ", "given: ", "order: ", "build: ")
-}
+OUT_OF_MEMORY = {lines(f"bddcheck: {place}out of memory") for place in ("", "first: ", "second: ", "given: ", "order: ", "build: ")}
 NO_WORKER = {lines("bddcheck: build: a worker could not be started")}
 # A run without refusals takes a small part of a second; a run that takes so long hangs.
 HANGS = 60
 
 
-def parity(join, count):
+def parity(join: str, count: int) -> bytes:
     """Parity as one chain, or as a tree."""
-    signals, gates = [f"x{i}" for i in range(count)], []
+    signals = [f"x{i}" for i in range(count)]
+    gates: list[str] = []
     while len(signals) > 1:
         made = f"g{len(gates)}"
         gates.append(f"{made} = XOR({signals[0]}, {signals[1]})")
@@ -45,7 +47,7 @@ def parity(join, count):
     return netlist(";".join([f"INPUT(x{i})" for i in range(count)] + ["OUTPUT(p)", *gates, f"p = BUFF({signals[0]})"]))
 
 
-def products(count, join="one"):
+def products(count: int, join: str = "one") -> bytes:
     """The sum of products of two inputs, all first factors before all second ones: a level of 2^count requests."""
     ports = [f"INPUT({letter}{i})" for letter in "xy" for i in range(count)] + ["OUTPUT(o)"]
     gates = [f"a{i} = AND(x{i}, y{i})" for i in range(count)]
@@ -57,7 +59,7 @@ def products(count, join="one"):
     return netlist(";".join(ports + gates))
 
 
-def multiplier(multiply, size):
+def multiplier(multiply: circuits.Multiply, size: int) -> bytes:
     net = circuits.Netlist()
     circuits.multiplier(net, size, multiply)
     return net.text().encode()
@@ -78,19 +80,19 @@ class Row:
     """Words that are tried under refusals. Each N is tried in the ways that `whole` has; in all others N is drawn."""
 
     name: str
-    words: list
-    whole: tuple = ()
+    words: Sequence[object]
+    whole: tuple[tuple[str, str], ...] = ()
     given: bytes = b""
     draws: int = 10
     # By how many runs its growths are counted.
     counts: int = 3
 
-    def faults(self, what):
+    def faults(self, what: str) -> set[bytes]:
         """What a run may say that was refused a growth or a start, or a start only."""
-        named = NO_WORKER if self.names_order() else set()
+        named = NO_WORKER if self.names_order() else set[bytes]()
         return named if what == "s" else OUT_OF_MEMORY | named
 
-    def names_order(self):
+    def names_order(self) -> bool:
         """Whether the words name an order, or imply the declared one."""
         words = [str(word) for word in self.words]
         if "--order" in words:
@@ -98,7 +100,7 @@ class Row:
         return any(word in words for word in ("--order-file", "--sizes", "--limit"))
 
 
-def rows(place):
+def rows(place: str) -> Iterator[Row]:
     """The rows, whose files are written."""
     c17, c17b = written(place, "c17", C17), written(place, "c17b", C17B)
     order = written(place, "order", lines("7 6 3", "2 1"))
@@ -119,7 +121,9 @@ def rows(place):
     yield Row("cones, products", ["--order", "cones", "--workers", 2, one, folded])
     # Some pairs are left by the first round, and have another turn in the second: threads are started in both.
     array, wallace = written(place, "array", multiplier(circuits.array, 7)), written(place, "wallace", multiplier(circuits.wallace, 7))
-    yield Row("cones in two rounds by 4", ["--order", "cones", "--workers", 4, array, wallace], (EACH_START, STARTS_FROM), draws=4, counts=1)
+    yield Row(
+        "cones in two rounds by 4", ["--order", "cones", "--workers", 4, array, wallace], (EACH_START, STARTS_FROM), draws=4, counts=1
+    )
     yield Row("cones of registers by a condition", ["--order", "cones", "--given", TOP / "examples" / "s27.bench", *machines])
     # By merging: pairs that are equal inside, and pairs that are left; and differences that patterns show.
     yield Row("merge", ["--order", "merge", "--workers", 1, c17, c17b], (EACH,))
@@ -154,20 +158,20 @@ def rows(place):
     yield coned_row(place, 16)
 
 
-def wide_row(place, workers):
+def wide_row(place: str, workers: int) -> Row:
     """Products whose first waves stay on the caller's thread, and whose later ones call so many workers in."""
     wider = written(place, f"wider{workers}", products(CALLED_IN))
     return Row(f"wider products by {workers}", ["--order", "declared", "--workers", workers, wider, wider], draws=2, counts=1)
 
 
-def searched_row(place, workers):
+def searched_row(place: str, workers: int) -> Row:
     """Multipliers by the bare command, some of whose attempts call so many workers in, though their waves are bounded."""
     array = written(place, f"array{workers}", multiplier(circuits.array, MULTIPLIED))
     wallace = written(place, f"wallace{workers}", multiplier(circuits.wallace, MULTIPLIED))
     return Row(f"auto, multipliers by {workers}", ["--workers", workers, array, wallace], draws=1, counts=1)
 
 
-def coned_row(place, workers):
+def coned_row(place: str, workers: int) -> Row:
     """The same by cones: fewer pairs are left in the last rounds than there are workers, so these share the workers for their waves."""
     row = searched_row(place, workers)
     return Row(f"cones, multipliers by {workers}", ["--order", "cones", *row.words], draws=1, counts=1)
@@ -181,7 +185,7 @@ class Refuser:
     library: str
     place: str
 
-    def run(self, row, what, at=0, since=0, after=0):
+    def run(self, row: Row, what: str, at: int = 0, since: int = 0, after: int = 0) -> tuple[Run, int | None, int | None]:
         """The run, and how many growths or starts it counted and was refused; nothing where it did not end by itself. Counted is
         what comes after so many starts."""
         note = os.path.join(self.place, f"note.{os.getpid()}")
@@ -204,32 +208,36 @@ class Figures:
     tried: int = 0
     refused: int = 0
     reported: int = 0
-    wrong: list = field(default_factory=list)
+    wrong: list[str] = field(default_factory=list)
 
-    def add(self, other):
+    def add(self, other: Figures) -> None:
         self.tried += other.tried
         self.refused += other.refused
         self.reported += other.reported
         self.wrong += other.wrong
 
 
-def is_refusal(said, faults):
+# What is tried, and the figures that come of it.
+Task = tuple[str, "Future[Figures]"]
+
+
+def is_refusal(said: bytes, faults: Collection[bytes]) -> bool:
     """Whether this is one of these lines of a refusal, and after it nothing, if there was no memory for it, or one line of what helps."""
     first, *rest = said.splitlines(keepends=True)
     has_help = len(rest) == 1 and rest[0].startswith(b"bddcheck: ") and rest[0].endswith(b"\n")
     return first in faults and (not rest or has_help)
 
 
-def lacks_help(seen, right):
+def lacks_help(seen: Run, right: Run) -> bool:
     """Whether a run ended as the right one does, with its fault, but without the line of what helps, or without what that line quotes, for
     want of memory."""
-    if right.status < 2 or (seen.status, seen.out) != (right.status, right.out):
+    if right.status is None or right.status < 2 or (seen.status, seen.out) != (right.status, right.out):
         return False
     said, wanted = seen.err.splitlines(), right.err.splitlines()
     return said == wanted[:1] or (len(said) == len(wanted) == 2 and said[0] == wanted[0] and wanted[1].startswith(said[1] + b": "))
 
 
-def fault_of(right, seen, refused, faults):
+def fault_of(right: Run, seen: Run, refused: int | None, faults: Collection[bytes]) -> str | None:
     """What is wrong with a run that may say one of these faults, or None."""
     if refused is None:
         return f"ended by force: {seen}"
@@ -244,7 +252,7 @@ def fault_of(right, seen, refused, faults):
     return None
 
 
-def try_places(refuser, row, what, mode, places, whole, after=0):
+def try_places(refuser: Refuser, row: Row, what: str, mode: str, places: Iterable[int], whole: bool, after: int = 0) -> Figures:
     """Tries these places of a row. Where it is to be tried whole, the last one is behind the last growth or start. A run that hangs
     is the last one."""
     right = refuser.run(row, "")[0]
@@ -264,24 +272,24 @@ def try_places(refuser, row, what, mode, places, whole, after=0):
     return figures
 
 
-def most_counted(refuser, row, what):
+def most_counted(refuser: Refuser, row: Row, what: str) -> int:
     """How many growths or starts a run asks for, at most; schedules differ."""
     return max(refuser.run(row, what)[1] or 0 for _ in range(row.counts))
 
 
-def every_place(most):
+def every_place(most: int) -> range:
     """The places up to one that no run comes to."""
     return range(1, 2 * most + 100)
 
 
-def compiled(place):
+def compiled(place: str) -> str:
     library = os.path.join(place, "refuse.so")
     source = TOP / "tests" / "refuse.c"
     subprocess.run(["cc", "-O2", "-shared", "-fPIC", "-o", library, str(source), "-ldl"], check=True)
     return library
 
 
-def whole_tasks(refuser, pool):
+def whole_tasks(refuser: Refuser, pool: Executor) -> Iterator[Task]:
     """Each N of the rows that are tried whole."""
     for row in rows(refuser.place):
         for what, mode in row.whole:
@@ -290,7 +298,7 @@ def whole_tasks(refuser, pool):
             yield name, pool.submit(try_places, refuser, row, what, mode, places, True)
 
 
-def drawn_tasks(refuser, pool, rng, most):
+def drawn_tasks(refuser: Refuser, pool: Executor, rng: random.Random, most: dict[tuple[str, str], int]) -> Iterator[Task]:
     """Some N of each row."""
     for row in rows(refuser.place):
         for what, mode in WAYS:
@@ -303,14 +311,14 @@ def drawn_tasks(refuser, pool, rng, most):
                 yield name, pool.submit(try_places, refuser, row, what, mode, places, False)
 
 
-def bounded_tasks(refuser, pool):
+def bounded_tasks(refuser: Refuser, pool: Executor) -> Iterator[Task]:
     """Rows within so much address space that the system itself refuses growths and threads."""
     for row in rows(refuser.place):
         if row.name.startswith("products"):
             yield f"{row.name}: address space from 6 MB to 1 GB", pool.submit(try_bounds, refuser, row)
 
 
-def try_workers(refuser, row, workers, places):
+def try_workers(refuser: Refuser, row: Row, workers: int, places: Iterable[int]) -> Figures:
     """Refuses each start of the first wave that calls its workers in, alone and with all behind it, and these growths behind the last
     of them. Each of these runs has to meet its refusal."""
     figures, starts = Figures(), range(1, workers + 1)
@@ -322,7 +330,7 @@ def try_workers(refuser, row, workers, places):
     return figures
 
 
-def worker_tasks(refuser, pool, rng):
+def worker_tasks(refuser: Refuser, pool: Executor, rng: random.Random) -> Iterator[Task]:
     """What is refused to the workers whom a wave calls in: a start, or a growth while the others run."""
     for made in (wide_row, searched_row):
         for workers in (2, 4):
@@ -333,7 +341,7 @@ def worker_tasks(refuser, pool, rng):
             yield name, pool.submit(try_workers, refuser, row, workers, places)
 
 
-def try_bounds(refuser, row):
+def try_bounds(refuser: Refuser, row: Row) -> Figures:
     right, figures = refuser.run(row, "")[0], Figures()
     bounds = [int(6000 * 1.25**i) for i in range(24)]
     for kib in bounds:
@@ -347,38 +355,39 @@ def try_bounds(refuser, row):
     return figures
 
 
-def starts_of(refuser, made, workers):
+def starts_of(refuser: Refuser, made: Callable[[str, int], Row], workers: int) -> int | None:
     """How many threads the run of such a row starts with so many workers."""
     return refuser.run(made(refuser.place, workers), "s")[1]
 
 
-def bound(kib):
+def bound(kib: int) -> None:
     resource.setrlimit(resource.RLIMIT_AS, (kib << 10, kib << 10))
 
 
-def named(what, mode):
+def named(what: str, mode: str) -> str:
     """A way in words."""
     return {"gs": "growths and starts", "s": "starts"}[what] + {"at": "", "since": " and all behind it"}[mode]
 
 
-def gather(results, tasks):
+def gather(results: dict[str, Figures], tasks: Iterable[Task]) -> None:
     for name, task in list(tasks):
         results.setdefault(name, Figures()).add(task.result())
 
 
-def main():
-    parser = argparse.ArgumentParser(usage=__doc__.split("usage: ")[1].split("\n")[0])
-    parser.add_argument("program")
-    parser.add_argument("--seconds", type=float, default=180)
-    parser.add_argument("--seed", default=str(random.SystemRandom().randrange(1 << 32)))
-    parser.add_argument("--jobs", type=int, default=2)
+def main() -> None:
+    parser = harness.parser_with_program(__doc__)
+    parser.add_argument("--seconds", type=float, default=180, help="Runs are tried for at least so long; the default is 180.")
+    seed = "What is refused is drawn by this text; without it a number is chosen, which is printed."
+    parser.add_argument("--seed", default=str(random.SystemRandom().randrange(1 << 32)), help=seed)
+    parser.add_argument("--jobs", type=int, default=2, help="So many runs are tried at the same time; the default is 2.")
     settings = parser.parse_args()
     say(f"refusals: seed {settings.seed}")
     tally, rng = Tally("refusals"), random.Random(settings.seed)
     begun = time.monotonic()
     with harness.folder() as place, harness.pool(settings.jobs) as pool:
         refuser = Refuser(settings.program, compiled(place), place)
-        results, most = {}, {}
+        results: dict[str, Figures] = {}
+        most: dict[tuple[str, str], int] = {}
         gather(results, whole_tasks(refuser, pool))
         gather(results, bounded_tasks(refuser, pool))
         gather(results, worker_tasks(refuser, pool, rng))
@@ -389,18 +398,21 @@ def main():
                 break
         for name, made in (("products", wide_row), ("multipliers by the bare command", searched_row)):
             starts = [starts_of(refuser, made, workers) for workers in (1, 2, 4, 16)]
-            tally.check(f"{name}: one worker starts no thread, more workers start more", starts == sorted(set(starts)) and starts[0] == 0, starts)
+            known = [count for count in starts if count is not None]
+            tally.check(
+                f"{name}: one worker starts no thread, more workers start more",
+                starts == known == sorted(set(known)) and known[0] == 0,
+                starts,
+            )
             tally.figures(f"{name}: 1, 2, 4 and 16 workers start {', '.join(map(str, starts))} threads")
     total = Figures()
     for name, figures in results.items():
         tally.check(f"{name}: {figures.tried} runs", not figures.wrong, "; ".join(figures.wrong[:3]))
         total.add(figures)
     tally.figures(
-        f"{total.tried} runs with seed {settings.seed}, {total.refused} met a refusal, "
-        f"{total.reported} of these gave the right report"
+        f"{total.tried} runs with seed {settings.seed}, {total.refused} met a refusal, " f"{total.reported} of these gave the right report"
     )
-    tally.end()
-    sys.exit(tally.failed > 0)
+    tally.finish()
 
 
 if __name__ == "__main__":

@@ -6,7 +6,7 @@
 #
 # usage: tests/run.sh [--seed N] [--long] [PART ..]
 #
-# PART is first, stored, orders, examples, explained, papers, shipped, linked, edits, joining, opened, quoted, vcd, objects, page, devices, signals, refusals, growths, workers, fuzz, second, flows or cluster; all of them where none is named. Second is a
+# PART is first, stored, orders, examples, explained, papers, shipped, linked, edits, joining, opened, quoted, scripts, vcd, objects, page, devices, signals, refusals, growths, workers, fuzz, second, flows or cluster; all of them where none is named. Second is a
 # part of these on the program as the kit's other compiler builds it, where rt ci has left that. --long goes on with
 # refusals and fuzz, by other seeds, until it is stopped or something fails. BDDCHECK names another program than the proved one.
 cd "$(dirname "$0")/.." || exit 2
@@ -19,7 +19,7 @@ while :; do
     *) break ;;
     esac
 done
-[ $# -gt 0 ] || set -- stored orders examples explained papers shipped linked edits joining opened quoted vcd objects page devices signals refusals growths workers fuzz second flows cluster first
+[ $# -gt 0 ] || set -- stored orders examples explained papers shipped linked edits joining opened quoted scripts vcd objects page devices signals refusals growths workers fuzz second flows cluster first
 
 # What the parts print goes on, and their last lines are added up. What they skipped is named again at the end.
 passed=0 failed=0 skipped=0 missed=
@@ -84,7 +84,7 @@ parts() {
     for name; do
         case $name in
         stored | examples | papers | shipped | objects | devices | signals | workers) part "$name" python3 "tests/$name.py" "$program" ;;
-        edits | linked | joining | quoted) part "$name" python3 "tests/$name.py" ;;
+        edits | linked | joining | quoted | scripts) part "$name" python3 "tests/$name.py" ;;
         opened) part opened python3 tests/opened.py ${seed:+--seed "$seed"} ;;
         first) part first python3 tests/first.py "$program" ;;
         refusals | fuzz | explained | vcd | page | orders) part "$name" python3 "tests/$name.py" "$program" ${seed:+--seed "$seed"} ;;

@@ -5,15 +5,16 @@ remedies of the program name, and each command. Then each installed command is r
 
 usage: tests/shipped.py PROGRAM
 """
+from __future__ import annotations
+
 import filecmp
 import pathlib
 import re
 import shutil
 import subprocess
-import sys
 
 import pages
-from harness import C17, C17B, TOP, Tally, folder, run, written
+from harness import TOP, Tally, folder, program_of, run, written
 
 # A path that a document of the installation names: of the folders that the repository has.
 PATH = re.compile(r"(?:tools|tests|docs|bench|examples|crates)/[\w./-]+")
@@ -22,11 +23,11 @@ COMMAND = re.compile(r"\b(?:bddcheck(?:-\w+)?|rtl2bench|rtlcheck)\b")
 OF_A_CLONE = re.compile(r"In a clone\b.*?\.(?=[\s)]|$)", re.S)
 
 
-def files_below(place):
+def files_below(place: pathlib.Path) -> list[pathlib.Path]:
     return sorted(path.relative_to(place) for path in place.rglob("*") if not path.is_dir())
 
 
-def check_installing(tally, program, place):
+def check_installing(tally: Tally, program: str, place: pathlib.Path) -> pathlib.Path:
     """The two ways to install leave the same files. What the second leaves is followed."""
     first, second = place / "first", place / "second"
     seen = run([TOP / "tools" / "install.sh", first], environment={"BDDCHECK": program, "DESTDIR": ""})
@@ -40,13 +41,14 @@ def check_installing(tally, program, place):
     tally.check("install.sh of a release", seen.status == 0 and not seen.err, seen)
     same = files_below(first) == files_below(second) and all(filecmp.cmp(first / name, second / name, False) for name in files_below(first))
     tally.check("a release installs the same", same)
-    for words in ([], ["--help"], [place / "one", place / "two"]):
+    refused: list[list[object]] = [[], ["--help"], [place / "one", place / "two"]]
+    for words in refused:
         seen = run([release / "install.sh", *words])
         tally.check(f"install.sh with the words {words} installs nothing", seen.status == 2 and not (place / "one").exists(), seen)
     return second
 
 
-def check_documents(tally, prefix):
+def check_documents(tally: Tally, prefix: pathlib.Path) -> None:
     """What the installed documents name is installed."""
     top = prefix / "share" / "doc" / "bddcheck"
     commands = {path.name for path in (prefix / "bin").iterdir()}
@@ -62,7 +64,7 @@ def check_documents(tally, prefix):
         tally.check(f"{name}: its commands", called <= commands, called - commands)
 
 
-def check_texts(tally, prefix, program, place):
+def check_texts(tally: Tally, prefix: pathlib.Path, program: str, place: pathlib.Path) -> None:
     """The documents that the manual page and the program name are installed, with the scripts' own words."""
     there = {path.name for path in (prefix / "share" / "doc" / "bddcheck").rglob("*") if path.is_file()}
     texts = {"the manual page": (prefix / "share" / "man" / "man1" / "bddcheck.1").read_text().replace("\\-", "-")}
@@ -81,8 +83,8 @@ def check_texts(tally, prefix, program, place):
         tally.check(f"{name} names no script of the repository", not absent, absent)
 
 
-def check_commands(tally, prefix):
-    """Each command does its work from where it is installed, on the installed examples."""
+def check_commands(tally: Tally, prefix: pathlib.Path) -> None:
+    """Each command does its work from its place in the installation, on the installed examples."""
     examples = prefix / "share" / "doc" / "bddcheck" / "examples"
     golden, revised = examples / "c17.bench", examples / "c17b.bench"
     whole = run([prefix / "bin" / "bddcheck", golden, revised])
@@ -112,23 +114,22 @@ def check_commands(tally, prefix):
         else:
             tally.skip("yosys is not installed (Debian: yosys), so rtl2bench and rtlcheck were not run")
         if shutil.which("man"):
-            words = ["man", "-l", prefix / "share" / "man" / "man1" / "bddcheck.1"]
-            page = subprocess.run(words, capture_output=True, env={"MANPAGER": "cat", "PATH": "/usr/bin:/bin"})
-            tally.check("man", page.returncode == 0 and b"EXIT STATUS" in page.stdout, page.stderr)
+            manual = str(prefix / "share" / "man" / "man1" / "bddcheck.1")
+            shown = subprocess.run(["man", "-l", manual], capture_output=True, env={"MANPAGER": "cat", "PATH": "/usr/bin:/bin"})
+            tally.check("man", shown.returncode == 0 and b"EXIT STATUS" in shown.stdout, shown.stderr)
         else:
             tally.skip("man is not installed (Debian: man-db), so the manual page was not shown")
 
 
-def main():
-    tally, program = Tally("shipped"), str(pathlib.Path(sys.argv[1]).resolve())
+def main() -> None:
+    tally, program = Tally("shipped"), str(pathlib.Path(program_of(__doc__)).resolve())
     with folder() as name:
         place = pathlib.Path(name).resolve()
         prefix = check_installing(tally, program, place)
         check_documents(tally, prefix)
         check_texts(tally, prefix, program, place)
         check_commands(tally, prefix)
-    tally.end()
-    sys.exit(tally.failed > 0)
+    tally.finish()
 
 
 if __name__ == "__main__":

@@ -3,26 +3,28 @@
 
 usage: tests/signals.py PROGRAM
 """
+from __future__ import annotations
+
 import os
 import signal
 import subprocess
-import sys
 import time
+from typing import BinaryIO
 
 import harness
 from harness import C17, C17B, C17_DIFFERS, Run, Tally, written
 from refusals import products
 
 
-def heed_interrupts():
+def heed_interrupts() -> None:
     """What a shell starts in the background ignores SIGINT, and so would the program."""
     signal.signal(signal.SIGINT, signal.SIG_DFL)
 
 
-def long_run(program, workers, place, out):
+def long_run(program: str, workers: int, place: str, out: BinaryIO) -> subprocess.Popen[bytes]:
     """A run that takes seconds; it is seen to be at work before this returns."""
     wide = written(place, "wide", products(21))
-    words = [program, "--order", "declared", "--workers", str(workers), wide, wide]
+    words = [program, "--order", "declared", "--workers", str(workers), str(wide), str(wide)]
     child = subprocess.Popen(words, stdout=out, stderr=subprocess.PIPE, preexec_fn=heed_interrupts)
     begun = time.monotonic()
     while processor_time(child.pid) < 0.2 and child.poll() is None and time.monotonic() - begun < 60:
@@ -30,13 +32,13 @@ def long_run(program, workers, place, out):
     return child
 
 
-def processor_time(pid):
+def processor_time(pid: int) -> float:
     with open(f"/proc/{pid}/stat") as stat:
         fields = stat.read().rsplit(")", 1)[1].split()
     return (int(fields[11]) + int(fields[12])) / os.sysconf("SC_CLK_TCK")
 
 
-def ended(program, tally, number, workers, place):
+def ended(program: str, tally: Tally, number: signal.Signals, workers: int, place: str) -> None:
     """To a file, since that shows all that was ever written."""
     path = os.path.join(place, "report")
     with open(path, "wb") as out:
@@ -55,9 +57,10 @@ def ended(program, tally, number, workers, place):
     tally.same(name, seen, -number, b"", b"")
 
 
-def continued(program, tally, place):
+def continued(program: str, tally: Tally, place: str) -> None:
     """Stopped and continued while it waits for input."""
     child = subprocess.Popen([program], stdin=subprocess.PIPE, stdout=subprocess.PIPE, stderr=subprocess.PIPE)
+    assert child.stdin
     child.stdin.write(C17)
     child.stdin.flush()
     for _ in range(3):
@@ -69,15 +72,14 @@ def continued(program, tally, place):
     tally.same("stopped and continued", Run(child.returncode, out, err), 1, C17_DIFFERS, b"")
 
 
-def main():
-    tally = Tally("signals")
+def main() -> None:
+    program, tally = harness.program_of(__doc__), Tally("signals")
     with harness.folder() as place:
         for number in (signal.SIGINT, signal.SIGTERM):
             for workers in (1, 4):
-                ended(sys.argv[1], tally, number, workers, place)
-        continued(sys.argv[1], tally, place)
-    tally.end()
-    sys.exit(tally.failed > 0)
+                ended(program, tally, number, workers, place)
+        continued(program, tally, place)
+    tally.finish()
 
 
 if __name__ == "__main__":

@@ -21,17 +21,20 @@ The file has sections, each begun by a line `== ..`. Lines before the first one,
     == texts                   lines `TEXT => SAID`: the text, written as in Python, is refused beside itself by the line SAID, and by a second
                                line with the name of the file and the number of the line; or if SAID is `netlist` it is equal to itself
 """
+from __future__ import annotations
+
 import re
 import shlex
 import sys
+from collections.abc import Iterable, Iterator
 
 import harness
-from harness import TOP, Tally, run
+from harness import TOP, Run, Tally, run
 
 
-def sections(text):
+def sections(text: str) -> Iterator[tuple[str, list[str]]]:
     """The heads and the lines of the sections."""
-    found = []
+    found: list[tuple[str, list[str]]] = []
     for line in text.split("\n"):
         if line.startswith("== "):
             found.append((line[3:], []))
@@ -43,11 +46,11 @@ def sections(text):
         yield head, body
 
 
-def joined(lines):
+def joined(lines: Iterable[str]) -> bytes:
     return "".join(line + "\n" for line in lines).encode()
 
 
-def expected(head, body):
+def expected(head: str, body: list[str]) -> tuple[int, bytes, bytes | str]:
     """The status, the output and the errors that a run must give; a word where any errors will do that have it."""
     out = [line[2:] for line in body if line.startswith("  ")]
     made = [eval(line[2:]) for line in body if line.startswith("= ")]
@@ -59,7 +62,7 @@ def expected(head, body):
     return int(status[0].split()[1]), made[0] if made else joined(out), errors[0][2:].strip() if any_errors else joined(errors)
 
 
-def compared(tally, head, body, seen):
+def compared(tally: Tally, head: str, body: list[str], seen: Run) -> None:
     status, out, errors = expected(head, body)
     if isinstance(errors, str):
         has = seen.err and errors.encode() in seen.err
@@ -68,7 +71,7 @@ def compared(tally, head, body, seen):
         tally.same(head, seen, status, out, errors)
 
 
-def try_run(program, tally, place, files, head, body):
+def try_run(program: str, tally: Tally, place: str, files: dict[str, bytes], head: str, body: list[str]) -> None:
     words = shlex.split(head)[1:]
     given = b""
     if "<" in words:
@@ -77,12 +80,12 @@ def try_run(program, tally, place, files, head, body):
     compared(tally, head, body, run([program, *words], given, cwd=place))
 
 
-def shown_of(line):
+def shown_of(line: bytes) -> str:
     """What is shown of a refused line: its first hundred bytes, with a question mark for what cannot be printed, and a note if there are more."""
     return "".join(chr(byte) if 32 <= byte < 127 else "?" for byte in line[:100]) + ("... (cut)" if len(line) > 100 else "")
 
 
-def by_input(body, files, name, which):
+def by_input(body: list[str], files: dict[str, bytes], name: str, which: str) -> list[str]:
     """The same lines if the text that they name comes from standard input: it goes by another name, and its line is not shown."""
     lines = []
     for line in body:
@@ -95,18 +98,18 @@ def by_input(body, files, name, which):
     return lines
 
 
-def try_ways(program, tally, place, files, head, body):
+def try_ways(program: str, tally: Tally, place: str, files: dict[str, bytes], head: str, body: list[str]) -> None:
     *words, first, second = shlex.split(head)[1:]
     both = files[first] + b"\n%%\r\n" + files[second]
     which = "second" if any(line.startswith("! bddcheck: second: ") for line in body) else "first"
     given_body = by_input(body, files, second if which == "second" else first, which)
-    ways = ((1, [first, second], b"", body), (2, [], both, given_body), (3, [first, second], b"", body), (16, [], both, given_body))
-    for workers, names, given, lines in ways:
+    by_files, by_one_text = ([first, second], b"", body), (list[str](), both, given_body)
+    for workers, (names, given, lines) in ((1, by_files), (2, by_one_text), (3, by_files), (16, by_one_text)):
         seen = run([program, "--workers", workers, *words, *names], given, cwd=place)
         compared(tally, f"{head}, by {workers} workers", lines, seen)
 
 
-def try_order(program, tally, place, _files, head, body):
+def try_order(program: str, tally: Tally, place: str, _files: dict[str, bytes], head: str, body: list[str]) -> None:
     words = shlex.split(head)[1:]
     names = "".join(body).split()
     tally.same(head, run([program, "--print-order", *words], cwd=place), 0, joined(names), b"")
@@ -115,15 +118,22 @@ def try_order(program, tally, place, _files, head, body):
 CANDIDATES = ("msb-first", "weights", "force-groups")
 
 
-def is_tried(program, place, words):
+# An order, the nodes that it needs, and whether it is tried.
+Need = tuple[str, int, bool]
+
+
+def is_tried(program: str, place: str, words: list[str]) -> list[bool]:
     """Whether each candidate is tried: not where its order is that of one before it."""
     orders = [run([program, "--print-order", "--order", order, *words], cwd=place).out for order in CANDIDATES]
     return [order not in orders[:number] for number, order in enumerate(orders)]
 
 
-def best_of(program, place, tally, name, limit, needs, words):
+def best_of(
+    program: str, place: str, tally: Tally, name: str, limit: int, needs: list[Need], words: list[str]
+) -> tuple[int | None, bytes, bytes]:
     """The run that the best order is to give, of those in a single order, each of which is within the limit from its need on."""
-    wanted, reported = None, []
+    wanted: tuple[int | None, bytes, bytes] | None = None
+    reported: list[str] = []
     for order, need, tried in needs:
         single = run([program, "--order", order, "--limit", limit, *words], cwd=place)
         tally.check(f"{name}: {order}", (single.status != 3) == (need <= limit), single)
@@ -135,12 +145,12 @@ def best_of(program, place, tally, name, limit, needs, words):
     return wanted or (3, b"", joined([*reported, "bddcheck: build: more nodes than the limit", f"bddcheck: {more}"]))
 
 
-def is_shown(line, old, name):
+def is_shown(line: str, old: str, name: str) -> bool:
     """Whether a line has another difference of the pair, which may not be the least."""
     return old.startswith("DIFFER ") and line.startswith(f"DIFFER {name} at ") and line.endswith(" (may not be the least)")
 
 
-def is_left(seen, wanted, limit):
+def is_left(seen: Run, wanted: Run, limit: int) -> bool:
     """Whether a report is a wanted one but for pairs that are undecided or whose difference may not be the least, and both its status and what
     it says report the former."""
     said, lines = wanted.out.decode().splitlines()[:-1], seen.out.decode().splitlines()
@@ -153,7 +163,9 @@ def is_left(seen, wanted, limit):
     reported = [line.split(";")[0] for line in seen.err.decode().splitlines() if not others.match(line)]
     if not counts[3] and "bddcheck: each pair was judged by its cones" not in reported:
         # The last attempt has decided.
-        return (seen.status, seen.out) == (wanted.status, wanted.out) and reported[1:] == [f"bddcheck: order declared decided within {limit} nodes"]
+        return (seen.status, seen.out) == (wanted.status, wanted.out) and reported[1:] == [
+            f"bddcheck: order declared decided within {limit} nodes"
+        ]
     pairs = counts[0] + counts[1] + counts[3]
     left = counts[3] + sum(line.endswith(" (may not be the least)") for line in lines)
     of_cones = f"bddcheck: {left} of {pairs} pairs are undecided by cones within {max(1, limit // 4)} nodes"
@@ -164,12 +176,12 @@ def is_left(seen, wanted, limit):
     return len(lines) == len(said) + 1 and all(kept) and (lines[-1], seen.status) == (last, status) and is_reported
 
 
-def try_best(program, tally, place, _files, head, _body):
-    *needs, words = head.split(" ", 4)[1:]
-    words = shlex.split(words)
+def try_best(program: str, tally: Tally, place: str, _files: dict[str, bytes], head: str, _body: list[str]) -> None:
+    *numbers, rest = head.split(" ", 4)[1:]
+    words = shlex.split(rest)
     plain = [word for word in words if word != "--sizes"]
     as_declared = run([program, "--order", "declared", *plain], cwd=place)
-    needs = list(zip(CANDIDATES, map(int, needs), is_tried(program, place, plain)))
+    needs = list(zip(CANDIDATES, map(int, numbers), is_tried(program, place, plain)))
     for limit in range(1, 50):
         name = f"{head}, limit {limit}"
         wanted = best_of(program, place, tally, name, limit, needs, words)
@@ -181,7 +193,7 @@ def try_best(program, tally, place, _files, head, _body):
             tally.same(f"{name}, auto", seen, as_declared.status, as_declared.out, wanted[2])
 
 
-def try_texts(program, tally, place, _files, _head, body):
+def try_texts(program: str, tally: Tally, place: str, _files: dict[str, bytes], _head: str, body: list[str]) -> None:
     for line in body:
         written, _, said = line.rpartition(" => ")
         harness.written(place, "text", written.encode().decode("unicode_escape").encode("latin-1"))
@@ -197,13 +209,14 @@ def try_texts(program, tally, place, _files, _head, body):
 TRIED = {"run": try_run, "ways": try_ways, "order": try_order, "best": try_best, "texts": try_texts}
 
 
-def main():
-    tally, files = Tally("stored"), {}
+def main() -> None:
+    program, tally = harness.program_of(__doc__), Tally("stored")
+    files: dict[str, bytes] = {}
     with harness.folder() as place:
         for head, body in sections((TOP / "tests" / "stored.txt").read_text()):
             kind, _, rest = head.partition(" ")
             if kind in TRIED:
-                TRIED[kind](sys.argv[1], tally, place, files, head, body)
+                TRIED[kind](program, tally, place, files, head, body)
                 continue
             name = rest.split()[0]
             if kind == "copy":
@@ -212,8 +225,7 @@ def main():
             else:
                 files[name] = joined(body)
             harness.written(place, name, files[name])
-    tally.end()
-    sys.exit(tally.failed > 0)
+    tally.finish()
 
 
 if __name__ == "__main__":

@@ -10,16 +10,19 @@ that the crate writes this text.
 """
 from __future__ import annotations
 
-import argparse
 import ast
 import pathlib
 import random
 import re
 import sys
+from typing import Optional
 
 import harness
 from explained import changed, random_net
 from harness import TOP, Tally
+
+# A time, which a value at the beginning lacks, and the value from then on.
+Change = tuple[Optional[int], str]
 
 SOURCE = TOP / "crates/netlist_tests/src/explanations.rt"
 # The variables as they are declared, with the bits of the test.
@@ -31,16 +34,16 @@ def literal(source: str, pattern: str) -> str:
     found = re.search(pattern, source, re.DOTALL)
     if found is None:
         sys.exit(f"vcd: {SOURCE.name} has no {pattern}")
-    return ast.literal_eval(found.group(1))
+    return str(ast.literal_eval(found.group(1)))
 
 
-def read(text: str) -> dict[str, dict[str, list[tuple[int, str]]]]:
+def read(text: str) -> dict[str, dict[str, list[Change]]]:
     """By scope and name, the values with their times."""
-    scopes: dict[str, dict[str, list[tuple[int, str]]]] = {}
+    scopes: dict[str, dict[str, list[Change]]] = {}
     names: dict[str, tuple[str, str]] = {}
     words = iter(text.split())
     path: list[str] = []
-    time = None
+    time: int | None = None
     for word in words:
         if word in ("$timescale", "$scope", "$var", "$upscope", "$enddefinitions"):
             body = []
@@ -76,18 +79,21 @@ def value(gates: dict[str, tuple[str, list[str]]], name: str) -> int:
     kind, operands = gates[name]
     bits = [value(gates, operand) for operand in operands]
     plain = {
-        "AND": min(bits), "NAND": 1 - min(bits), "OR": max(bits), "NOR": 1 - max(bits),
-        "XOR": sum(bits) % 2, "XNOR": 1 - sum(bits) % 2, "NOT": 1 - bits[0], "BUFF": bits[0],
+        "AND": min(bits),
+        "NAND": 1 - min(bits),
+        "OR": max(bits),
+        "NOR": 1 - max(bits),
+        "XOR": sum(bits) % 2,
+        "XNOR": 1 - sum(bits) % 2,
+        "NOT": 1 - bits[0],
+        "BUFF": bits[0],
     }
     return plain[kind]
 
 
-def expected(bench: str) -> dict[str, list[tuple[int, str]]]:
+def expected(bench: str) -> dict[str, list[Change]]:
     """By name, the value at time 0."""
-    gates = {
-        out: (kind, operands.replace(",", " ").split())
-        for out, kind, operands in re.findall(r"(\S+) = ([A-Z]+)\(([^)]*)\)", bench)
-    }
+    gates = {out: (kind, operands.replace(",", " ").split()) for out, kind, operands in re.findall(r"(\S+) = ([A-Z]+)\(([^)]*)\)", bench)}
     names = set(AT) | set(gates)
     return {name: [(0, str(value(gates, name)))] for name in names}
 
@@ -108,8 +114,7 @@ REPORTS: list[tuple[str, str, list[str], bytes | None]] = [
         [],
         None,
     ),
-    ("other values", NEXT.replace("first=1", "first=0"), [],
-     b"vcd: the netlists are not those of the report: the pair has other values\n"),
+    ("other values", NEXT.replace("first=1", "first=0"), [], b"vcd: the netlists are not those of the report: the pair has other values\n"),
     ("another name", NEXT, ["--of", "q"], b"vcd: no such pair differs\n"),
     ("nothing that differs", "EQUAL q\n", [], b"vcd: no such pair differs\n"),
 ]
@@ -133,15 +138,23 @@ def written(tally: Tally, first: str, second: str, text: str) -> None:
         tally.same("tools/vcd.py, no netlist", seen, 2, b"", f"vcd: {bad}: no netlist\n".encode())
 
 
-# Words beside --vcd; the last may be refused where a netlist has an input more.
-WORDS = [
-    [], ["--order", "best"], ["--order", "depth"], ["--order", "cones"], ["--workers", "1"], ["--order", "declared", "--sizes"],
-    ["--assignment", "ones"], ["--format", "json"], ["--share", "1/2"], ["--match", "position"],
+# Options beside --vcd; the last may be refused if a netlist has one more input.
+WORDS: list[list[str]] = [
+    [],
+    ["--order", "best"],
+    ["--order", "depth"],
+    ["--order", "cones"],
+    ["--workers", "1"],
+    ["--order", "declared", "--sizes"],
+    ["--assignment", "ones"],
+    ["--format", "json"],
+    ["--share", "1/2"],
+    ["--match", "position"],
 ]
 
 
 def by_script(words: list[str], files: list[pathlib.Path], report: bytes) -> bytes | None:
-    """What tools/vcd.py makes of a report; nothing where no pair differs."""
+    """What tools/vcd.py makes of a report; nothing if no pair differs."""
     matching = words if "--match" in words else []
     made = harness.run([TOP / "tools/vcd.py", *matching, *files], report)
     if made.status not in (0, 1) or (made.status == 1 and made.err != b"vcd: no such pair differs\n"):
@@ -174,7 +187,7 @@ def compared(tally: Tally, program: str, rng: random.Random) -> None:
 
 
 def refused(tally: Tally, program: str) -> None:
-    """Files that cannot be written: the report stands, and then comes the fault."""
+    """Files that cannot be written: the report is written, and then comes the fault."""
     with harness.folder() as place:
         files = [harness.written(place, "first", harness.C17), harness.written(place, "second", harness.C17B)]
         for path, helps in (
@@ -196,9 +209,8 @@ def refused(tally: Tally, program: str) -> None:
 
 
 def main() -> None:
-    parser = argparse.ArgumentParser()
-    parser.add_argument("program")
-    parser.add_argument("--seed", default="1")
+    parser = harness.parser_with_program(__doc__)
+    parser.add_argument("--seed", default="1", help="The netlists are drawn by this text; the default is 1.")
     given = parser.parse_args()
     tally = Tally("vcd")
     source = SOURCE.read_text(encoding="utf-8")
@@ -211,11 +223,11 @@ def main() -> None:
         netlists.append(bench)
         tally.check(f"the values of the {scope} netlist", found.get(scope) == expected(bench), found.get(scope))
     tally.check("two scopes and no others", set(found) == {"first", "second"}, sorted(found))
-    written(tally, *netlists, text)
+    first, second = netlists
+    written(tally, first, second, text)
     compared(tally, given.program, random.Random(given.seed))
     refused(tally, given.program)
-    tally.end()
-    sys.exit(tally.failed > 0)
+    tally.finish()
 
 
 if __name__ == "__main__":

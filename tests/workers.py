@@ -10,9 +10,11 @@ a.bench with b.bench and, if it is there, with c.bench. A run of such a pair tha
 as long, the pair is not tried in this order, and is counted. Without a FOLDER a multiplier of 12 by 11 bits is compared by the bare
 command too: its cones leave pairs undecided, and only the last attempts of the whole decide them.
 """
-import argparse
+from __future__ import annotations
+
 import pathlib
 import sys
+from collections.abc import Callable, Iterable, Iterator
 from dataclasses import dataclass
 
 import harness
@@ -25,14 +27,14 @@ WORKERS = [1, 2, 3, 4, 7, 16]
 EXAMPLES = [("adder8_ripple", "adder8_lookahead"), ("adder8_ripple", "adder8_wrong"), ("s27", "s27_wrong"), ("pairs", "pairs")]
 
 
-def made(build, *words):
+def made(build: Callable[..., object], *words: object) -> bytes:
     """The text of a circuit that bench/circuits.py builds."""
     net = circuits.Netlist()
     build(net, *words)
     return net.text().encode()
 
 
-def own_pairs(place):
+def own_pairs(place: str) -> Iterator[tuple[str, list[pathlib.Path]]]:
     """The pairs that are tried without a folder, by name."""
     texts = [
         ("c17", C17, C17B),
@@ -44,11 +46,11 @@ def own_pairs(place):
     ]
     for number, (name, first, second) in enumerate(texts):
         yield name, [written(place, f"{number}a", first), written(place, f"{number}b", second)]
-    for first, second in EXAMPLES:
-        yield f"{first} {second}", [TOP / "examples" / f"{name}.bench" for name in (first, second)]
+    for names in EXAMPLES:
+        yield " ".join(names), [TOP / "examples" / f"{name}.bench" for name in names]
 
 
-def folder_pairs(folders):
+def folder_pairs(folders: Iterable[pathlib.Path]) -> Iterator[tuple[str, list[pathlib.Path]]]:
     for folder in folders:
         for place in sorted(path.parent for path in folder.glob("*/a.bench")):
             for second in ("b.bench", "c.bench"):
@@ -56,7 +58,7 @@ def folder_pairs(folders):
                     yield f"{place.name} {second[0]}", [place / "a.bench", place / second]
 
 
-def seen(program, order, workers, pair, seconds):
+def seen(program: str, order: str, workers: int, pair: list[pathlib.Path], seconds: float) -> tuple[int | None, bytes, list[bytes]]:
     """A run: its status, its report and what it says of its attempts."""
     one = run([program, "--order", order, "--workers", workers, "--verbose", *pair], seconds=seconds)
     kept = (b": order ", b"cones", b"merging", b"patterns")
@@ -68,11 +70,11 @@ class Found:
     """What differs by the number of workers, and whether one worker took too long."""
 
     name: str
-    differs: list
+    differs: list[str]
     too_long: bool = False
 
 
-def compared(program, name, order, pair, seconds):
+def compared(program: str, name: str, order: str, pair: list[pathlib.Path], seconds: float) -> Found:
     first = seen(program, order, 1, pair, seconds)
     if first[0] is None:
         return Found(f"{name} by {order}", [], True)
@@ -81,10 +83,10 @@ def compared(program, name, order, pair, seconds):
     return Found(f"{name} by {order}", [f"{workers} workers: {other}, one: {first}" for workers, other in others.items() if other != first])
 
 
-def decided_at_last(program, place, tally):
+def decided_at_last(program: str, place: str, tally: Tally) -> None:
     """Whether the last attempts decide what each attempt before them has left."""
 
-    def product(net, multiply):
+    def product(net: circuits.Netlist, multiply: circuits.Multiply) -> None:
         net.outputs("p", multiply(net, net.inputs("a", 12), net.inputs("b", 11))[:23])
 
     pair = [written(place, f"last{way.__name__}", made(product, way)) for way in (circuits.array, circuits.wallace)]
@@ -93,17 +95,24 @@ def decided_at_last(program, place, tally):
     notes = one.err.split(b"\n")
     left = [line for line in notes if b"undecided by cones" in line]
     decided = [line for line in notes if b"decided within" in line]
-    tally.check("a pair that only the last attempts decide: its cones left some", bool(left) and not left[-1].startswith(b"bddcheck: 0 of"), one)
-    tally.check("a pair that only the last attempts decide: one attempt decided, after them", len(decided) == 1 and notes.index(decided[0]) > notes.index(left[-1]), one)
+    tally.check(
+        "a pair that only the last attempts decide: its cones left some", bool(left) and not left[-1].startswith(b"bddcheck: 0 of"), one
+    )
+    tally.check(
+        "a pair that only the last attempts decide: one attempt decided, after them",
+        len(decided) == 1 and notes.index(decided[0]) > notes.index(left[-1]),
+        one,
+    )
 
 
-def main():
-    parser = argparse.ArgumentParser(usage=__doc__.split("usage: ")[1].split("\n")[0])
-    parser.add_argument("program")
-    parser.add_argument("folders", nargs="*", type=pathlib.Path)
-    parser.add_argument("--jobs", type=int, default=2)
-    parser.add_argument("--seconds", type=float, default=120)
-    parser.add_argument("--orders", type=lambda text: text.split(","), default=["auto", "best", "cones", "merge"])
+def main() -> None:
+    parser = harness.parser_with_program(__doc__)
+    folders = "The pairs in these folders are compared, in place of those that this script makes."
+    parser.add_argument("folders", metavar="FOLDER", nargs="*", type=pathlib.Path, help=folders)
+    parser.add_argument("--jobs", type=int, default=2, help="So many pairs are compared at the same time; the default is 2.")
+    parser.add_argument("--seconds", type=float, default=120, help="A run by one worker may take so long; the default is 120.")
+    orders = "The pairs are compared in these orders, with commas between them; the default is auto,best,cones,merge."
+    parser.add_argument("--orders", type=lambda text: text.split(","), default=["auto", "best", "cones", "merge"], help=orders)
     settings = parser.parse_args()
     tally, too_long = Tally("workers"), []
     with harness.folder() as place, harness.pool(settings.jobs) as pool:
@@ -123,8 +132,7 @@ def main():
             decided_at_last(settings.program, place, tally)
     if too_long:
         tally.figures(f"one worker took longer than {settings.seconds:.0f} s, so these were not tried: {', '.join(too_long)}")
-    tally.end()
-    sys.exit(tally.failed > 0)
+    tally.finish()
 
 
 if __name__ == "__main__":

@@ -14,26 +14,42 @@ Prints each mistake, and exits 1 if there is one: an item that does not explain 
 definition that is missing, one that its file does not have, and one that nothing asks for. With --uses it prints each cited definition
 with the functions that cite it.
 """
+from __future__ import annotations
+
+import argparse
 import re
 import sys
+from collections.abc import Iterator
 from pathlib import Path
+from typing import NamedTuple
 
-TOP = Path(__file__).resolve().parent.parent
+import crates_txt
+from crates_txt import TOP
+
+CRATES = list(crates_txt.named())
 PAGE = TOP / "docs" / "DEFINITIONS.md"
 WORD = r"[A-Za-z_][A-Za-z_0-9']*"
+# A name, and the file that defines it, below crates/.
+Definition = tuple[str, str]
+# By a module's path, with slashes, the names of it that public modules pass on.
+Handed = dict[str, set[str]]
 
 
-def crates():
-    lines = (TOP / "crates.txt").read_text().splitlines()
-    return [line.split(":")[0].split()[0] for line in lines if line.strip() and not line.startswith("#")]
+class Block(NamedTuple):
+    """An `impl` of a type or a `pub trait`: its type, which the `impl` of a trait lacks, whether it is a trait, and its begin and end."""
+
+    owner: str | None
+    is_trait: bool
+    begin: int
+    end: int
 
 
-def blank_comments(text):
+def blank_comments(text: str) -> str:
     return re.sub(r"//[^\n]*", lambda m: " " * len(m.group()), text)
 
 
-def closing(text, at):
-    """The place behind the brace that closes the one at `at`."""
+def closing(text: str, at: int) -> int:
+    """The place after the brace that closes the one at `at`."""
     depth = 0
     for place in range(at, len(text)):
         depth += {"{": 1, "}": -1}.get(text[place], 0)
@@ -42,7 +58,7 @@ def closing(text, at):
     sys.exit(f"definitions.py: a brace is not closed: {text[at:at + 60]!r}")
 
 
-def names_in(group):
+def names_in(group: str) -> Iterator[tuple[str, str]]:
     """`a, b as c` as pairs of a name and the name that it goes by."""
     for part in group.strip("{} \n").split(","):
         words = part.split(" as ")
@@ -50,7 +66,7 @@ def names_in(group):
             yield words[0].strip(), words[-1].strip()
 
 
-def imports(text):
+def imports(text: str) -> dict[str, Definition]:
     """The definitions of this repository that a file brings in, by the names that they go by there."""
     found = {}
     for path, names in re.findall(r"ghost use Rattle\.([\w.]+?)\.(\{[^}]*\})", text):
@@ -61,33 +77,34 @@ def imports(text):
     return found
 
 
-def used(text):
-    """The items that `pub use` lines hand out: pairs of a module's path and a name."""
+def used(text: str) -> Iterator[tuple[str, str]]:
+    """The items that `pub use` lines make public: pairs of a module's path and a name."""
     for path, names in re.findall(r"pub use ((?:\w+::)*\w+)(?:::(\{[^}]*\}))?;", text):
         if names:
             yield from ((path, name) for name, _ in names_in(names))
         else:
-            yield tuple(path.rsplit("::", 1))
+            module, _, name = path.rpartition("::")
+            yield module, name
 
 
 class Module:
     """A module of a crate: its text, whether all its public items can be reached, and which others by name."""
 
-    def __init__(self, crate, path, source, is_public, handed):
+    def __init__(self, crate: str, path: list[str], source: Path, is_public: bool, handed: Handed) -> None:
         self.crate, self.path, self.source = crate, path, source
         self.is_public, self.handed = is_public, handed
         self.text = blank_comments(source.read_text())
 
 
-def modules(crate):
+def modules(crate: str) -> list[Module]:
     root = TOP / "crates" / crate / "src" / "lib.rt"
     is_program = not root.exists()
     if is_program:
         root = root.with_name("main.rt")
-    handed = {}
+    handed: Handed = {}
     found = []
 
-    def visit(path, source, is_public):
+    def visit(path: list[str], source: Path, is_public: bool) -> None:
         module = Module(crate, path, source, is_public, handed)
         found.append(module)
         for where, name in used(module.text):
@@ -105,7 +122,7 @@ def modules(crate):
     return found
 
 
-def clauses(text, at):
+def clauses(text: str, at: int) -> Iterator[str]:
     """The clauses of the function that begins at `at`: everything between its name and its body."""
     while True:
         brace = text.find("{", at)
@@ -120,41 +137,49 @@ def clauses(text, at):
         at = stop
 
 
-def blocks(text):
-    """Each `impl` of a type and each `pub trait`: its type, whether it is a trait, and its begin and end."""
+def word_in(text: str, pattern: str) -> str:
+    """The group of a pattern that the text has."""
+    found = re.search(pattern, text)
+    if not found:
+        sys.exit(f"definitions.py: there is no name in {text[:60]!r}")
+    return found[1]
+
+
+def blocks(text: str) -> Iterator[Block]:
+    """Each `impl` of a type and each `pub trait`."""
     for match in re.finditer(r"^(impl\b[^{;]*|pub trait\b[^{;]*)\{", text, re.M):
         head = match.group(1)
         stop = closing(text, match.end() - 1)
         if head.startswith("pub trait"):
-            yield re.search(r"trait (\w+)", head).group(1), True, match.end(), stop
+            yield Block(word_in(head, r"trait (\w+)"), True, match.end(), stop)
         else:
             target = re.sub(r"^impl\s*(<(?:[^<>]|<[^<>]*>)*>)?", "", head)
             is_trait = " for " in target
-            name = re.search(WORD, target.split(" for ")[-1].strip().lstrip("&")).group()
-            yield (None if is_trait else name), False, match.end(), stop
+            name = word_in(target.split(" for ")[-1].strip().lstrip("&"), f"({WORD})")
+            yield Block(None if is_trait else name, False, match.end(), stop)
 
 
-def functions(module):
+def functions(module: Module) -> Iterator[tuple[str, list[str]]]:
     """The public functions of a module: their names and the texts of their clauses."""
     names = module.handed.get("/".join(module.path), set())
     types = set().union(*module.handed.values())
     spans = list(blocks(module.text))
     for match in re.finditer(r"^( *)(pub )?(?:const )?fn (\w+)", module.text, re.M):
-        home = next((s for s in spans if s[2] <= match.start() < s[3]), None)
+        home = next((span for span in spans if span.begin <= match.start() < span.end), None)
         if home is None:
             reached = bool(match.group(2)) and (module.is_public or match.group(3) in names)
             owner = ""
         else:
-            reached = home[0] is not None and (module.is_public or home[0] in types)
-            reached = reached and (home[1] or bool(match.group(2)))
-            owner = f"{home[0]}::"
+            reached = home.owner is not None and (module.is_public or home.owner in types)
+            reached = reached and (home.is_trait or bool(match.group(2)))
+            owner = f"{home.owner}::"
         if reached:
             yield owner + match.group(3), list(clauses(module.text, match.end()))
 
 
-def cited():
+def cited() -> dict[Definition, set[str]]:
     """The definitions that public contracts cite, with the functions that cite them."""
-    found = {}
+    found: dict[Definition, set[str]] = {}
     for crate in CRATES:
         for module in modules(crate):
             known = imports(module.text)
@@ -165,12 +190,13 @@ def cited():
     return found
 
 
-def listed():
+def listed() -> tuple[list[Definition], list[str]]:
     """The names that the page explains, each with its file, and what is wrong with its items."""
-    rows, wrong, crate, file = [], [], "", ""
+    rows: list[Definition] = []
+    wrong, crate, file = [], "", ""
     for number, line in enumerate(PAGE.read_text().splitlines(), 1):
         if line.startswith("## "):
-            crate, file = re.match(r"## (\w+)", line).group(1), ""
+            crate, file = word_in(line, r"^## (\w+)"), ""
         elif line.startswith("**") and crate in CRATES:
             file = f"{crate}/specs/{line.split('**')[1]}.antt"
         elif line.startswith("- ") and crate in CRATES:
@@ -184,15 +210,15 @@ def listed():
     return rows, wrong
 
 
-def named():
+def named() -> set[str]:
     """The names in parentheses in the tables of docs/PROVED.md: definitions, and fields of definitions."""
     cells = re.findall(r"^\|.*\|", (TOP / "docs" / "PROVED.md").read_text(), re.M)
     groups = re.findall(r"\((`[^)]*`)\)", "\n".join(cells))
     return set(re.findall(rf"`({WORD})`", " ".join(groups)))
 
 
-def mentioned():
-    """The names of definitions that the two pages about the code have in code spans, alone or before their arguments. A name in small
+def mentioned() -> set[str]:
+    """The names of definitions that the two pages about the code have in code spans, by themselves or before their arguments. A name in small
     letters without an underscore may as well be that of a clause, so it is not counted; nor is the name of a file of specs/."""
     found = set()
     for page in ("ARCHITECTURE.md", "CALLING.md"):
@@ -202,18 +228,18 @@ def mentioned():
     return found - {path.stem for path in (TOP / "crates").glob("*/specs/*.antt")} - set(CRATES)
 
 
-def is_defined(name):
+def is_defined(name: str) -> bool:
     """Whether some file of specs/ defines the name, not only a field of it."""
     return any(defines(str(path.relative_to(TOP / "crates")), name) for path in (TOP / "crates").glob("*/specs/*.antt"))
 
 
-def block(file, name):
+def block(file: str, name: str) -> str:
     """The lines of a definition."""
     match = defines(file, name)
     return re.split(r"\n\s*\n", text_of(file)[match.start() :], maxsplit=1)[0] if match else ""
 
 
-def parts(name, file):
+def parts(name: str, file: str) -> Iterator[Definition]:
     """What the definition is made of: the names in it, each with its file."""
     text = text_of(file)
     known = {}
@@ -229,17 +255,17 @@ def parts(name, file):
             yield word, file
 
 
-def text_of(file):
+def text_of(file: str) -> str:
     path = TOP / "crates" / file
     return path.read_text() if path.exists() else ""
 
 
-def defines(file, name):
+def defines(file: str, name: str) -> re.Match[str] | None:
     return re.search(rf"^(\w+ )*pub (\w+ )*{re.escape(name)}(?![\w'-])", text_of(file), re.M)
 
 
-def origin(name, file):
-    """The name with the file that defines it, where `file` only hands it on by `pub use`."""
+def origin(name: str, file: str) -> Definition:
+    """The name with the file that defines it, if `file` only has it by `pub use`."""
     for path, names in re.findall(r"^pub use Rattle\.([\w.]+?)\.(\{[^}]*\})", text_of(file), re.M):
         crate, *rest = path.split(".")
         for there, alias in names_in(names):
@@ -248,20 +274,23 @@ def origin(name, file):
     return name, file
 
 
-def home(file, name):
+def home(file: str, name: str) -> str:
     """The name itself, or that of the data type whose case it is."""
     if defines(file, name):
         return name
     for kind, body in re.findall(r"^pub data (\w+)[^\n]*\n((?:  [^\n]*\n)*)", text_of(file), re.M):
         if re.search(rf"^  {re.escape(name)} :", body, re.M):
-            return kind
+            return str(kind)
     return name
 
 
-def main():
+def main() -> int:
+    parser = argparse.ArgumentParser(description=__doc__, formatter_class=argparse.RawDescriptionHelpFormatter)
+    parser.add_argument("--uses", action="store_true", help="Prints each cited definition with the functions that cite it.")
+    settings = parser.parse_args()
     uses = cited()
     rows, wrong = listed()
-    if "--uses" in sys.argv[1:]:
+    if settings.uses:
         for (name, file), names in sorted(uses.items(), key=lambda use: (use[0][1], use[0][0])):
             print(f"{file} {name}: {' '.join(sorted(names))}")
     asked = {name for name in named() if is_defined(name)}
@@ -281,6 +310,5 @@ def main():
     return 1 if wrong else 0
 
 
-CRATES = crates()
 if __name__ == "__main__":
     sys.exit(main())

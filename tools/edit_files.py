@@ -7,7 +7,9 @@ from __future__ import annotations
 import functools
 import pathlib
 import re
+from collections.abc import Callable, Iterator
 from dataclasses import dataclass, field
+from typing import NamedTuple
 
 WORD = r"[A-Za-z_]\w*"
 # Comments, strings and characters, in which no brace counts. A lifetime has no second quote.
@@ -20,13 +22,31 @@ CLAUSE = re.compile(r"\b(?:requires|ensures|ghost)\b[^{};]*$")
 GHOST = re.compile(r"^[ \t]*(?:pub )?ghost\b|^[ \t]*#!?\[tactic", re.M)
 
 
+class Block(NamedTuple):
+    """An `impl` or a `trait`: where it begins and ends, its type and its trait."""
+
+    begin: int
+    end: int
+    owner: str
+    trait: str
+
+
+class Change(NamedTuple):
+    """A line that an edit changes: its number, its new text, and where in the old text of the file it begins and ends to differ."""
+
+    number: int
+    line: str
+    begin: int
+    end: int
+
+
 class BadEdit(Exception):
     """Why an edit shows nothing of a contract."""
 
 
 @dataclass
 class Function:
-    """A function of a source: where it stands, by lines from 0 and by characters, and the type and the trait of its block."""
+    """A function of a source: where it is, by lines from 0 and by characters, and the type and the trait of its block."""
 
     file: str
     name: str
@@ -46,17 +66,17 @@ class Edit:
     path: pathlib.Path
     lines: dict[str, dict[int, str]] = field(default_factory=dict)
     functions: list[Function] = field(default_factory=list)
-    # Whether it also changes what stands in no function, as a constant.
+    # Whether it also changes what is in no function, such as a constant.
     is_wide: bool = False
 
 
-def blanked(text):
+def blanked(text: str) -> str:
     """The text with blanks for comments, strings and characters, each line and place as before."""
     return TEXTS.sub(lambda found: re.sub(r"[^\n]", " ", found.group()), text)
 
 
-def closing(text, at):
-    """The place behind the bracket that closes the one at `at`."""
+def closing(text: str, at: int) -> int:
+    """The place after the bracket that closes the one at `at`."""
     depth = 0
     for bracket in BRACKET.finditer(text, at):
         depth += 1 if bracket.group() in "{([" else -1
@@ -65,8 +85,8 @@ def closing(text, at):
     return len(text)
 
 
-def clauses_end(text, at):
-    """Of a function whose name ends at `at`: where its first clause begins, and where its body does, or its `;` stands."""
+def clauses_end(text: str, at: int) -> tuple[int, int]:
+    """Of a function whose name ends at `at`: where its first clause begins, and where its body begins, or where its `;` is."""
     first = None
     while at < len(text):
         stop = re.compile(r"[{(\[;]").search(text, at)
@@ -84,8 +104,8 @@ def clauses_end(text, at):
     return first or len(text), len(text)
 
 
-def without_parameters(head):
-    """The head of a block behind its list of type parameters."""
+def without_parameters(head: str) -> str:
+    """The head of a block after its list of type parameters."""
     head, depth = head.replace("->", "  "), 0
     if not head.lstrip().startswith("<"):
         return head
@@ -96,25 +116,26 @@ def without_parameters(head):
     return head
 
 
-def last_word(path):
+def last_word(path: str) -> str:
     """The name that a path ends in: `fmt::Display` names Display."""
     found = re.match(rf"\s*&?\s*(?:{WORD}::)*({WORD})", path)
     return found.group(1) if found else ""
 
 
-def blocks(text):
-    """Each `impl` and `trait`: where it begins and ends, its type and its trait."""
+def blocks(text: str) -> Iterator[Block]:
+    """Each `impl` and `trait`."""
     for match in BLOCK.finditer(text):
         head = without_parameters(match.group(2))
         trait, of, owner = head.partition(" for ")
         if "trait" in match.group(1):
-            yield match.start(), closing(text, match.end() - 1), "", last_word(head)
+            yield Block(match.start(), closing(text, match.end() - 1), "", last_word(head))
         else:
-            yield match.start(), closing(text, match.end() - 1), last_word(owner if of else head), last_word(trait) if of else ""
+            names = last_word(owner if of else head), last_word(trait) if of else ""
+            yield Block(match.start(), closing(text, match.end() - 1), *names)
 
 
 @functools.lru_cache(maxsize=None)
-def functions_of(file, text):
+def functions_of(file: str, text: str) -> list[Function]:
     """The functions with a body of a source."""
     text, found = blanked(text), []
     found_blocks = list(blocks(text))
@@ -123,15 +144,15 @@ def functions_of(file, text):
         if begin >= len(text) or text[begin] != "{":
             continue
         end = closing(text, begin)
-        owner, trait = next(((it[2], it[3]) for it in found_blocks if it[0] <= match.start() < it[1]), ("", ""))
+        owner, trait = next(((it.owner, it.trait) for it in found_blocks if it.begin <= match.start() < it.end), ("", ""))
         first, last = text.count("\n", 0, match.start()), text.count("\n", 0, end)
         found.append(Function(file, match.group(2), owner, trait, first, last, match.start(), (begin, end), (contract, begin)))
     return found
 
 
 @functools.lru_cache(maxsize=None)
-def ghosts_of(text):
-    """Where the ghost items of a source stand, and the attributes that steer proofs."""
+def ghosts_of(text: str) -> list[tuple[int, int]]:
+    """Where the ghost items of a source are, and the attributes that steer proofs."""
     text, found = blanked(text), []
     for match in GHOST.finditer(text):
         at = match.end()
@@ -141,7 +162,7 @@ def ghosts_of(text):
     return found
 
 
-def pairs_of(text):
+def pairs_of(text: str) -> Iterator[tuple[str, str, str]]:
     """The file and the two texts of each pair of an edit."""
     file, old = "", None
     for line in text.split("\n"):
@@ -162,9 +183,9 @@ def pairs_of(text):
         raise BadEdit("an 'old:' line has no 'new:' line")
 
 
-def applied(text, sources):
+def applied(text: str, sources: Callable[[str], str]) -> dict[str, str]:
     """The texts of the files that an edit changes. `sources` gives a file's own text."""
-    texts = {}
+    texts: dict[str, str] = {}
     for file, old, new in pairs_of(text):
         now = texts.get(file) or sources(file)
         if now.count(old) != 1:
@@ -175,7 +196,7 @@ def applied(text, sources):
     return texts
 
 
-def changed_places(was, now):
+def changed_places(was: str, now: str) -> list[Change]:
     """The lines that differ, and where in the first text each begins and ends to differ."""
     at, found = 0, []
     for number, (one, other) in enumerate(zip(was.split("\n"), now.split("\n"))):
@@ -183,25 +204,25 @@ def changed_places(was, now):
             most = min(len(one), len(other))
             front = next((it for it in range(most) if one[it] != other[it]), most)
             back = next((it for it in range(most - front) if one[-1 - it] != other[-1 - it]), most - front)
-            found.append((number, other, at + front, at + max(front, len(one) - back)))
+            found.append(Change(number, other, at + front, at + max(front, len(one) - back)))
         at += len(one) + 1
     return found
 
 
-def function_at(functions, ghosts, begin, end):
-    """The innermost function whose head or body this place is in, or None where it is in none."""
+def function_at(functions: list[Function], ghosts: list[tuple[int, int]], begin: int, end: int) -> Function | None:
+    """The innermost function whose head or body this place is in, or None if it is in none."""
     if any(one <= begin < other for one, other in ghosts):
         raise BadEdit("it changes what is ghost, or steers a proof: only a body shows something of a contract")
     inside = [it for it in functions if it.begin <= begin and end <= it.body[1]]
     if any(it.contract[0] <= begin < it.contract[1] for it in inside):
         raise BadEdit("it changes a contract: only a body shows something of one")
-    return max(inside, key=lambda it: it.begin, default=None)
+    return max(inside, key=lambda it: it.begin) if inside else None
 
 
-def read_edit(path, crate):
+def read_edit(path: pathlib.Path, crate: pathlib.Path) -> Edit:
     """The edit that a file has, for the crate in this folder, or BadEdit."""
 
-    def source(file):
+    def source(file: str) -> str:
         try:
             return (crate / file).read_text(encoding="utf-8")
         except OSError as error:
@@ -215,9 +236,9 @@ def read_edit(path, crate):
     for file, now in applied(text, source).items():
         was = source(file)
         functions, ghosts = functions_of(file, was), ghosts_of(was)
-        for number, line, begin, end in changed_places(was, now):
-            function = function_at(functions, ghosts, begin, end)
-            edit.lines.setdefault(file, {})[number] = line
+        for change in changed_places(was, now):
+            function = function_at(functions, ghosts, change.begin, change.end)
+            edit.lines.setdefault(file, {})[change.number] = change.line
             edit.is_wide |= function is None
             edit.functions += [function] if function and function not in edit.functions else []
     if not edit.lines:

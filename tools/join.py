@@ -16,13 +16,14 @@ import pathlib
 import re
 import sys
 from dataclasses import dataclass, field
+from typing import Any
 
 COUNTS = ("equal", "different", "unmatched", "undecided")
 KINDS = {"EQUAL": "equal", "DIFFER": "different", "ONLY": "unmatched", "UNDECIDED": "undecided"}
-# What all shares of one comparison tell alike as JSON.
+# What is the same in all shares of one comparison, as JSON.
 SETTINGS = ("match", "order", "given", "variables")
 
-# Comments and blanks are left out. A name has no mark and no blank.
+# Comments and blanks are left out. A name has no punctuation of the format and no blank.
 TOKEN = re.compile(rb"#[^\n]*|([(),=]|[^\s(),=#]+)")
 EQUAL = re.compile(r"(EQUAL|UNDECIDED) (NEXT )?(\S+)")
 DIFFER = re.compile(r"(DIFFER) (NEXT )?(\S+) at((?: [^\s=]+=[01])*) first=[01] second=[01](?: \(may not be the least\))?")
@@ -41,13 +42,13 @@ class Subject:
     is_next: bool
     name: str
 
-    def __str__(self):
+    def __str__(self) -> str:
         return f"the next state of {self.name}" if self.is_next else f"output {self.name}"
 
 
 @dataclass
 class Verdict:
-    """What a report says of one subject, as it stands there. The side is there where it has no partner."""
+    """What a report says of one subject, in its own words. The side is there if the subject has no partner."""
 
     kind: str
     subject: Subject
@@ -62,31 +63,33 @@ class Share:
     path: str
     number: int
     of: int
-    verdicts: list
-    counts: dict
-    # What is the same in all shares: the settings of JSON, or the variables of each line that tells an assignment.
-    alike: object = None
-    settings: dict = field(default_factory=dict)
+    verdicts: list[Verdict]
+    counts: dict[str, int]
+    # What is the same in all shares of JSON, with its text; or the variables of each line that has an assignment.
+    settings: dict[str, Any] = field(default_factory=dict)
+    settings_text: str = ""
+    variables: set[tuple[str, ...]] = field(default_factory=set)
 
 
-def subjects_of(text):
+def subjects_of(text: bytes) -> list[Subject]:
     """The outputs and the registers of a netlist, in their order."""
     tokens = [found.decode("latin-1") for found in TOKEN.findall(text) if found]
-    outputs, registers = {}, {}
+    outputs: dict[Subject, None] = {}
+    registers: dict[Subject, None] = {}
     for place, token in enumerate(tokens):
         behind = tokens[place + 1 : place + 4]
         starts = place == 0 or tokens[place - 1] == ")"
         if starts and token.upper() == "OUTPUT" and behind[:1] == ["("] and behind[2:] == [")"]:
-            outputs.setdefault(Subject(False, behind[1]))
+            outputs[Subject(False, behind[1])] = None
         elif starts and behind[:1] == ["="] and len(behind) == 3 and behind[1].upper() == "DFF" and behind[2] == "(":
-            registers.setdefault(Subject(True, token))
+            registers[Subject(True, token)] = None
     return list(outputs) + list(registers)
 
 
 # ---- shares by lines
 
 
-def verdict_of(path, line):
+def verdict_of(path: str, line: str) -> Verdict:
     """The verdict of a line."""
     if found := EQUAL.fullmatch(line) or DIFFER.fullmatch(line):
         return Verdict(found[1], Subject(bool(found[2]), found[3]), None, line)
@@ -95,28 +98,28 @@ def verdict_of(path, line):
     raise Refusal(f"{path}: no line of a share: {line}")
 
 
-def variables_in(lines):
-    """The variables of each line that tells an assignment; none, where all that are reported are 1, as by --assignment ones."""
+def variables_in(lines: list[str]) -> set[tuple[str, ...]]:
+    """The variables of each line that has an assignment; none if all that are reported are 1, as by --assignment ones."""
     assignments = [found[4] for found in map(DIFFER.fullmatch, lines) if found]
     if all(bit.endswith("=1") for assignment in assignments for bit in assignment.split()):
         return set()
     return {tuple(bit.split("=")[0] for bit in assignment.split()) for assignment in assignments}
 
 
-def share_by_lines(path, text):
+def share_by_lines(path: str, text: str) -> Share:
     lines = text.split("\n")
     last = LAST.fullmatch(lines[-2]) if len(lines) > 1 and not lines[-1] else None
     if not last:
         raise Refusal(f"{path}: its last line is not that of a share")
     counts = dict(zip(COUNTS, (int(count or 0) for count in last.groups()[:4])))
     verdicts = [verdict_of(path, line) for line in lines[:-2]]
-    return Share(path, int(last[5]), int(last[6]), verdicts, counts, variables_in(lines[:-2]))
+    return Share(path, int(last[5]), int(last[6]), verdicts, counts, variables=variables_in(lines[:-2]))
 
 
 # ---- shares as JSON
 
 
-def members(pairs):
+def members(pairs: list[tuple[str, Any]]) -> dict[str, Any]:
     """An object whose members have names of their own."""
     reported = dict(pairs)
     if len(reported) < len(pairs):
@@ -124,7 +127,7 @@ def members(pairs):
     return reported
 
 
-def share_by_json(path, text):
+def share_by_json(path: str, text: str) -> Share:
     try:
         reported = json.loads(text, object_pairs_hook=members)
         number, of = reported["share"]
@@ -137,7 +140,7 @@ def share_by_json(path, text):
         unknown = {one.kind for one in verdicts} - set(KINDS) or set(reported) - {*SETTINGS, *COUNTS, "verdicts", "share"}
         if unknown or not {"match", "order", "variables"} <= set(settings):
             raise ValueError("no report")
-        return Share(path, int(number), int(of), verdicts, counts, json.dumps(settings), settings)
+        return Share(path, int(number), int(of), verdicts, counts, settings, json.dumps(settings))
     except (ValueError, KeyError, TypeError, AttributeError) as fault:
         raise Refusal(f"{path}: no JSON of a share") from fault
 
@@ -145,7 +148,7 @@ def share_by_json(path, text):
 # ---- all shares
 
 
-def read_share(path):
+def read_share(path: str) -> tuple[Share, bool]:
     """A share, and whether it is JSON."""
     text = pathlib.Path(path).read_bytes().decode("latin-1")
     is_json = text.startswith("{")
@@ -162,7 +165,7 @@ def read_share(path):
     return share, is_json
 
 
-def read_shares(paths):
+def read_shares(paths: list[str]) -> tuple[list[Share], bool]:
     """All shares by their numbers, and whether they are JSON."""
     read = [read_share(path) for path in paths]
     if len({is_json for _, is_json in read}) > 1:
@@ -180,17 +183,19 @@ def read_shares(paths):
     is_json = read[0][1]
     if is_json:
         for share in shares:
-            if share.alike != shares[0].alike:
+            if share.settings_text != shares[0].settings_text:
                 raise Refusal(f"{share.path}: its settings or variables are not those of {shares[0].path}")
-    elif len(set().union(*(share.alike for share in shares))) > 1:
+    elif len({variables for share in shares for variables in share.variables}) > 1:
         raise Refusal("the shares tell assignments of different variables")
     return shares, is_json
 
 
-def ordered(subjects, shares):
+def ordered(subjects: list[Subject], shares: list[Share]) -> list[Verdict]:
     """The verdicts of all shares, in the order of the whole report."""
     places = {subject: place for place, subject in enumerate(subjects)}
-    pairs, unmatched, seen = [], [], {}
+    pairs: list[Verdict] = []
+    unmatched: list[Verdict] = []
+    seen: dict[tuple[bool, Subject], str] = {}
     for share in shares:
         last = -1
         for verdict in share.verdicts:
@@ -212,16 +217,16 @@ def ordered(subjects, shares):
     return sorted(pairs, key=lambda verdict: places[verdict.subject]) + unmatched
 
 
-def whole_text(verdicts, counts, shares, is_json):
+def whole_text(verdicts: list[Verdict], counts: dict[str, int], shares: list[Share], is_json: bool) -> str:
     """The report of the whole."""
     reported = {name: count for name, count in counts.items() if count or name != "undecided"}
     if is_json:
-        whole = {**shares[0].settings, "verdicts": [verdict.text for verdict in verdicts], **reported}
+        whole: dict[str, Any] = {**shares[0].settings, "verdicts": [verdict.text for verdict in verdicts], **reported}
         return json.dumps(whole, separators=(",", ":")) + "\n"
     return "".join(f"{verdict.text}\n" for verdict in verdicts) + ", ".join(f"{count} {name}" for name, count in reported.items()) + "\n"
 
 
-def main(words):
+def main(words: list[str]) -> int:
     if "--help" in words or "-h" in words:
         print(__doc__.strip())
         return 0

@@ -9,18 +9,19 @@ which it says yes may still be unseen.
 from __future__ import annotations
 
 import heapq
+from collections.abc import Callable, Iterable
 from dataclasses import dataclass, field
-from typing import Iterable, Union
+from typing import Any, Union
 
 # A bit of yosys's JSON: a number, or a constant ('0', '1', 'x', 'z').
 Bit = Union[int, str]
 # A place where a bit is read: the output of a gate, and the name of its port.
 Place = tuple[Bit, str]
 
-# The leaves of one table, and those that a single operand may add. If its cone has more, it is cut where that many are enough, and the
+# The leaves of one table, and those that a single operand may add. If its cone has more, it is cut at a place at which that many are enough, and the
 # smaller number leaves more to other operands; so both are tried.
 MOST_LEAVES = 14
-MOST_LEAVES_OF_ONE = (14, 5)
+MOST_LEAVES_OF_ONE: tuple[int, ...] = (14, 5)
 # The gates that are expanded for one operand, and those that an open bit is followed through.
 MOST_EXPANDED = 4000
 MOST_FOLLOWED = 2000
@@ -38,7 +39,7 @@ class Value:
 
 ANY = Value(ALL, ALL)
 OPEN = Value(ALL, ALL, ALL)
-CONSTANTS = {"0": Value(ALL, 0), "1": Value(0, ALL), "x": ANY, "z": ANY}
+CONSTANTS: dict[Bit, Value] = {"0": Value(ALL, 0), "1": Value(0, ALL), "x": ANY, "z": ANY}
 
 
 def complement(value: Value) -> Value:
@@ -59,7 +60,7 @@ def parity(a: Value, b: Value) -> Value:
     return Value(a.zero & b.zero | a.one & b.one, a.zero & b.one | a.one & b.zero, a.change | b.change)
 
 
-FOLDS = {
+FOLDS: dict[str, Callable[..., Any]] = {
     "AND": conjunction,
     "OR": disjunction,
     "XOR": parity,
@@ -102,7 +103,7 @@ class Gate:
 class Known:
     """Values of signals that do not depend on the open bit, over the leaves that were taken so far."""
 
-    values: dict[Bit, Value] = field(default_factory=lambda: dict(CONSTANTS))
+    values: dict[Bit, Value] = field(default_factory=CONSTANTS.copy)
     leaves: int = 0
 
     def copy(self) -> Known:
@@ -140,7 +141,8 @@ class OpenBits:
     def levels_of_gates(self) -> dict[Bit, int]:
         """How many gates are on the longest path to each gate. A gate of a loop, or after one, has none."""
         missing = {out: sum(bit in self.gates for bit in set(gate.ports.values())) for out, gate in self.gates.items()}
-        levels, ready = {}, [out for out, count in missing.items() if count == 0]
+        levels: dict[Bit, int] = {}
+        ready = [out for out, count in missing.items() if count == 0]
         for out in ready:
             levels[out] = 1 + max((levels.get(bit, 0) for bit in self.gates[out].ports.values()), default=0)
             for reader in self.readers.get(out, []):
@@ -156,7 +158,7 @@ class OpenBits:
     def is_seen_by(self, places: list[Place], most: int) -> bool:
         """The same, if an operand may add so many leaves. Gates that read one that changes are visited from the lowest level up. So what a
         gate reads and was not visited does not change, and nothing that is visited is below a leaf."""
-        waiting = sorted({(self.levels[out], out) for out, _ in places})
+        waiting: list[tuple[int, Any]] = sorted({(self.levels[out], out) for out, _ in places})
         known, met = self.base(self.gates[waiting[0][1]], most), {out for _, out in waiting}
         visited = 0
         while waiting and visited < MOST_FOLLOWED:
@@ -198,8 +200,9 @@ class OpenBits:
         if bit in known.values or not isinstance(bit, int):
             return
         expanded: list[Bit] = []
-        cut, deepest = {bit}, None
-        waiting = [(-self.levels[bit], bit)] if bit in self.levels else []
+        cut: set[Bit] = {bit}
+        deepest: tuple[int, set[Bit]] | None = None
+        waiting: list[tuple[int, Any]] = [(-self.levels[bit], bit)] if bit in self.levels else []
         while True:
             if len(cut) <= most:
                 deepest = (len(expanded), set(cut))

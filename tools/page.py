@@ -24,10 +24,10 @@ import subprocess
 import sys
 from dataclasses import dataclass, field
 from pathlib import Path
-from typing import Callable, Iterator
+from typing import Iterator
 
 import vcd
-from vcd import Net, Refusal, net_of
+from vcd import JsonObject, Net, Refusal, net_of
 
 TEMPLATE = Path(__file__).resolve().with_name("page.html")
 # The most gates of a cone that are drawn, of these the most below the first signal that differs, and of each gate the most operands.
@@ -44,7 +44,8 @@ MOST_SECONDS = 20
 # What the page does not need of a drawing: names, since each may be in a page only once; what the page's style says; the titles of lines and of
 # the whole.
 NOT_NEEDED = re.compile(
-    r'<!--.*?-->| (?:id|fill|stroke|stroke-dasharray|text-anchor|font-family|font-size)="[^"]*"|<title>(?:[^<]*&#45;&gt;[^<]*|%3)</title>', re.S
+    r'<!--.*?-->| (?:id|fill|stroke|stroke-dasharray|text-anchor|font-family|font-size)="[^"]*"|<title>(?:[^<]*&#45;&gt;[^<]*|%3)</title>',
+    re.S,
 )
 PLACES = re.compile(r' (?:d|points)="[^"]*"')
 # A new line in a label of Graphviz.
@@ -213,7 +214,7 @@ class Evaluated:
             made.append(Drawing(side, gates, len(cone), bits, {*inner, start, root}, start, root))
         return made
 
-    def member(self, inner: list[bytes], low: bytes | None, registers: list[tuple[bytes, bytes]]) -> dict:
+    def member(self, inner: list[bytes], low: bytes | None, registers: list[tuple[bytes, bytes]]) -> JsonObject:
         """What the page has of the netlists, but for the drawings."""
         lines = [side.net.lines for side in self.sides.both()]
         rows = [[name.decode(), self.bit(0, name), self.bit(1, name), lines[0][name], lines[1][name]] for name in inner[:MOST_INNER]]
@@ -326,7 +327,7 @@ class Drawing:
             lines.append(f"{gate}  # {self.bits[name]}, line {self.side.net.lines[name]}{differs}")
         return lines
 
-    def member(self, svg: str | None) -> dict:
+    def member(self, svg: str | None) -> JsonObject:
         return {"svg": svg, "gates": len(self.gates), "total": self.total, "text": self.text()}
 
 
@@ -334,10 +335,10 @@ class Drawing:
 
 
 # What the verdicts of each kind have.
-MEMBERS = {"EQUAL": [], "DIFFER": ["at", "first", "second"], "ONLY": ["side"], "UNDECIDED": []}
+MEMBERS: dict[str, list[str]] = {"EQUAL": [], "DIFFER": ["at", "first", "second"], "ONLY": ["side"], "UNDECIDED": []}
 
 
-def read_report(path: str) -> tuple[dict, list[dict], list[dict]]:
+def read_report(path: str) -> tuple[JsonObject, list[JsonObject], list[JsonObject]]:
     """A report, and its verdicts and causes as the page has them."""
     try:
         report = json.loads(Path(path).read_bytes())
@@ -346,12 +347,13 @@ def read_report(path: str) -> tuple[dict, list[dict], list[dict]]:
             missing |= {"of", "name", *MEMBERS[verdict["verdict"]]} - set(verdict)
         if missing:
             raise ValueError(f"it lacks {min(missing)}")
-        return report, *rows_of(report)
+        rows, causes = rows_of(report)
+        return report, rows, causes
     except (ValueError, KeyError, TypeError, AttributeError) as error:
         raise Refusal(2, f"{path}: no report of bddcheck --format json: {error}") from error
 
 
-def buses(variables: list[str]) -> list[dict]:
+def buses(variables: list[str]) -> list[JsonObject]:
     """The buses of the variables, as the report has them: a[0] to a[n], if no other name begins with a[. Each has the places of its bits."""
     found: dict[str, list[str]] = {}
     for name in variables:
@@ -364,10 +366,10 @@ def buses(variables: list[str]) -> list[dict]:
         bits = [f"{bus}[{number}]" for number in range(len(names))]
         if bus and set(bits) == set(names):
             rows.append({"name": bus, "bits": [places[bit] for bit in bits]})
-    return sorted(rows, key=lambda row: row["bits"][0])
+    return sorted(rows, key=lambda row: int(row["bits"][0]))
 
 
-def differing(report: dict) -> list[Pair]:
+def differing(report: JsonObject) -> list[Pair]:
     """The pairs that differ."""
     pairs = []
     for place, verdict in enumerate(report["verdicts"]):
@@ -377,7 +379,7 @@ def differing(report: dict) -> list[Pair]:
     return pairs
 
 
-def rows_of(report: dict) -> tuple[list[dict], list[dict]]:
+def rows_of(report: JsonObject) -> tuple[list[JsonObject], list[JsonObject]]:
     """The verdicts with their bits by place and the number of their cause, and the causes with the places of their pairs."""
     rows, variables = [], report["variables"]
     places: dict[tuple[str, str], int] = {}
@@ -396,7 +398,7 @@ def rows_of(report: dict) -> tuple[list[dict], list[dict]]:
     return rows, causes
 
 
-def chosen(pairs: list[Pair], rows: list[dict], most: int, names: list[str]) -> list[Pair]:
+def chosen(pairs: list[Pair], rows: list[JsonObject], most: int, names: list[str]) -> list[Pair]:
     """The pairs that are drawn: those that were named, then the first one of each cause, then the others, in the order of the report."""
     unknown = set(names) - {pair.label() for pair in pairs}
     if unknown:
@@ -406,11 +408,13 @@ def chosen(pairs: list[Pair], rows: list[dict], most: int, names: list[str]) -> 
     for pair in pairs:
         cause = rows[pair.place].get("cause")
         ranked.append((pair.label() not in names, cause is None or cause in seen, pair.place, pair))
-        seen |= {cause} - {None}
+        seen |= set() if cause is None else {cause}
     return [pair for *_, pair in sorted(ranked, key=lambda it: it[:3])][: max(most, len(names))]
 
 
-def details(sides: Sides, pairs: list[Pair], rows: list[dict], causes: list[dict], registers: list[tuple[bytes, bytes]]) -> None:
+def details(
+    sides: Sides, pairs: list[Pair], rows: list[JsonObject], causes: list[JsonObject], registers: list[tuple[bytes, bytes]]
+) -> None:
     """Adds to the rows of these pairs what the netlists have at their assignments."""
     drawings: list[tuple[int, list[Drawing]]] = []
     for it in sides.evaluated(pairs):
@@ -422,7 +426,7 @@ def details(sides: Sides, pairs: list[Pair], rows: list[dict], causes: list[dict
     draw(drawings, rows)
 
 
-def draw(drawings: list[tuple[int, list[Drawing]]], rows: list[dict]) -> None:
+def draw(drawings: list[tuple[int, list[Drawing]]], rows: list[JsonObject]) -> None:
     """Adds the drawings to the rows, with their gates as text. Without Graphviz they are only text."""
     has_dot = shutil.which("dot") is not None
     with concurrent.futures.ThreadPoolExecutor(os.cpu_count()) as pool:
@@ -435,7 +439,7 @@ def draw(drawings: list[tuple[int, list[Drawing]]], rows: list[dict]) -> None:
         print("page: there is no command dot (Debian: graphviz), so the page has gates as text, and no drawings", file=sys.stderr)
 
 
-def netlist_members(words: argparse.Namespace, report: dict, rows: list[dict], causes: list[dict]) -> dict:
+def netlist_members(words: argparse.Namespace, report: JsonObject, rows: list[JsonObject], causes: list[JsonObject]) -> JsonObject:
     """Adds to the rows what the netlists show. Of the variables it says which are registers, and which the netlists have."""
     condition = net_of(words.condition) if words.condition else None
     if condition and len(condition.outputs) != 1:

@@ -6,10 +6,13 @@ usage: tools/picture.py > docs/crates.svg
 A line goes down to a crate that is named and not also reached by way of another one. Crates of the kit stand within the boxes
 of those that name them. The program's crates are filled; boxes of broken lines are what it does not link, of dots tests.
 """
-import sys
-from pathlib import Path
+from __future__ import annotations
 
-TOP = Path(__file__).resolve().parent.parent
+from collections.abc import Iterator
+from typing import Union
+
+from crates_txt import Named, named
+
 PROGRAM = "bddcheck"
 HIGH, GAP, STEP, TURNS = 38, 16, 76, 60
 STYLES = {
@@ -19,73 +22,72 @@ STYLES = {
 }
 
 
-def named():
-    """By crate all that its line names."""
-    lines = (line.split("#")[0] for line in (TOP / "crates.txt").read_text().splitlines())
-    rows = (line.split(":", 1) for line in lines if ":" in line)
-    return {left.split()[0]: right.split() for left, right in rows}
+# A line's ends, the upper one first, and a row that it passes.
+Bend = tuple[str, str, int]
+# What has a place in a row: a crate, or a bend.
+Item = Union[str, Bend]
 
 
-def reached(names, crate):
-    """The crates of the repository that a crate stands on, by way of others too."""
+def reached(names: Named, crate: str) -> set[str]:
+    """The crates of the repository that a crate needs, by way of others too."""
     below = {it for it in names[crate] if it in names}
     return below.union(*(reached(names, it) for it in below))
 
 
-def drawn(names, crate):
+def drawn(names: Named, crate: str) -> list[str]:
     """Those that a line goes down to."""
     below = [it for it in names[crate] if it in names]
     return [it for it in below if not any(it in reached(names, other) for other in below)]
 
 
-def height(names, crate):
+def height(names: Named, crate: str) -> int:
     """The longest way down."""
     return max((height(names, it) + 1 for it in names[crate] if it in names), default=0)
 
 
-def kit_of(names, crate):
+def kit_of(names: Named, crate: str) -> str:
     return ", ".join(it for it in names[crate] if it not in names)
 
 
 class Chart:
-    """Boxes, and bends where lines pass a row: a bend is a pair of the line's ends and a row."""
+    """Boxes, and bends where lines pass a row."""
 
-    def __init__(self, names):
+    def __init__(self, names: Named) -> None:
         self.names = names
-        self.rows = [[] for _ in range(1 + max(height(names, it) for it in names))]
-        self.lines = []
+        self.rows: list[list[Item]] = [[] for _ in range(1 + max(height(names, it) for it in names))]
+        self.lines: list[list[Item]] = []
         for crate in names:
             self.rows[height(names, crate)].append(crate)
         for crate in names:
             for below in drawn(names, crate):
                 self.add_line(crate, below)
-        self.ends = {it: [] for row in self.rows for it in row}
+        self.ends: dict[Item, list[Item]] = {it: [] for row in self.rows for it in row}
         for line in self.lines:
-            for above, below in zip(line, line[1:]):
-                self.ends[above].append(below)
-                self.ends[below].append(above)
-        self.middle = {}
+            for upper, lower in zip(line, line[1:]):
+                self.ends[upper].append(lower)
+                self.ends[lower].append(upper)
+        self.middle: dict[Item, float] = {}
 
-    def add_line(self, crate, below):
+    def add_line(self, crate: str, below: str) -> None:
         between = range(height(self.names, crate) - 1, height(self.names, below), -1)
-        bends = [(crate, below, row) for row in between]
-        for bend in bends:
-            self.rows[bend[2]].append(bend)
+        bends: list[Item] = [(crate, below, row) for row in between]
+        for bend, row in zip(bends, between):
+            self.rows[row].append(bend)
         self.lines.append([crate, *bends, below])
 
-    def width(self, item):
+    def width(self, item: Item) -> float:
         if isinstance(item, tuple):
             return 2
         return max(8 * len(item), 5.6 * len(kit_of(self.names, item))) + 18
 
-    def wanted(self, item):
-        """Where an item would stand best: in the middle of what it is joined with."""
+    def wanted(self, item: Item) -> float:
+        """The best place of an item: in the middle of what it is joined with."""
         near = self.ends[item]
         return sum(self.middle[it] for it in near) / len(near) if near else self.middle[item]
 
-    def spread(self, row):
-        """Puts the items of a row side by side, as near as may be to where they stand best."""
-        places, end = [], 0
+    def spread(self, row: list[Item]) -> None:
+        """Puts the items of a row side by side, as near as may be to their best places."""
+        places, end = [], 0.0
         for item in row:
             left = max(end, self.wanted(item) - self.width(item) / 2)
             places.append(left + self.width(item) / 2)
@@ -94,7 +96,7 @@ class Chart:
         for item, at in zip(row, places):
             self.middle[item] = at + shift
 
-    def arrange(self):
+    def arrange(self) -> None:
         for row in self.rows:
             for number, item in enumerate(row):
                 self.middle[item] = 110 * number
@@ -107,11 +109,11 @@ class Chart:
         self.wide = max(at + self.width(it) / 2 for it, at in self.middle.items()) + GAP
         self.high = len(self.rows) * STEP
 
-    def depth(self, item):
+    def depth(self, item: Item) -> float:
         row = item[2] if isinstance(item, tuple) else height(self.names, item)
         return (len(self.rows) - 1 - row) * STEP + STEP / 2
 
-    def path(self, line):
+    def path(self, line: list[Item]) -> str:
         x, y = self.middle[line[0]], self.depth(line[0]) + HIGH / 2
         text = f"M{x:.0f} {y:.0f}"
         for item in line[1:]:
@@ -122,19 +124,19 @@ class Chart:
             text += f" L{x:.0f} {y:.0f}" if isinstance(item, tuple) else ""
         return f'<path d="{text}"/>'
 
-    def box(self, crate, style):
+    def box(self, crate: str, style: str) -> Iterator[str]:
         x, y, wide, kit = self.middle[crate], self.depth(crate), self.width(crate), kit_of(self.names, crate)
         yield f'<rect x="{x - wide / 2:.0f}" y="{y - HIGH / 2:.0f}" width="{wide:.0f}" height="{HIGH}" rx="4" {style}/>'
         yield f'<text x="{x:.0f}" y="{y + (0 if kit else 5):.0f}">{crate}</text>'
         if kit:
             yield f'<text x="{x:.0f}" y="{y + 14:.0f}" class="kit">{kit}</text>'
 
-    def style(self, crate):
+    def style(self, crate: str) -> str:
         linked = crate == PROGRAM or crate in reached(self.names, PROGRAM)
         return STYLES["linked" if linked else "tests" if crate.endswith("_tests") else "apart"]
 
 
-def main():
+def main() -> None:
     chart = Chart(named())
     chart.arrange()
     out = [
@@ -151,4 +153,4 @@ def main():
 
 
 if __name__ == "__main__":
-    sys.exit(main())
+    main()

@@ -34,16 +34,21 @@ import subprocess
 import sys
 import tempfile
 import time
+from collections.abc import Callable
 from dataclasses import dataclass
+from typing import Any, NoReturn
 
-from edit_files import BadEdit, functions_of, read_edit
+from crates_txt import TOP, Named, named_here
+from edit_files import BadEdit, Edit, Function, functions_of, read_edit
+from machine import jobs_here
 
-TOP = pathlib.Path(__file__).resolve().parent.parent
 PARTS = ("src", "specs", "proofs")
+# How a file is copied from one path to another.
+Copy = Callable[[str, str], object]
 MEMORY_OF_A_JOB = 4 << 30
 # The most edits of a batch, and the seconds that its check has, with more for each edit.
 BATCH, SECONDS, SECONDS_EACH = 10, 600, 60
-# How often an edit of which nothing is known is tried in other company before it is tried alone.
+# How often an edit of which nothing is known is tried together with others before it is tried by itself.
 ROUNDS = 3
 REFUSED, MISSED, BAD, UNSURE = "REFUSED", "NOT REFUSED", "BAD EDIT", "NOT TRIED"
 UNREADABLE = "it does not compile or read"
@@ -65,24 +70,24 @@ LIMIT = re.compile(r"antt ran out of (?:stack|the (?:steps|memory) that)|(?:outg
 
 @dataclass
 class Said:
-    """How a check ended, and its lines. The status is None where it was stopped, since it took too long."""
+    """How a check ended, and its lines. The status is None if it was stopped, since it took too long."""
 
     status: int | None
     lines: list[str]
 
-    def starts(self, word):
+    def starts(self, word: str) -> str:
         return next((line for line in self.lines if line.startswith(word)), "")
 
-    def compiles(self):
+    def compiles(self) -> bool:
         return bool(self.starts("only=") or self.starts("logic=") or self.starts("rattle: no verdict"))
 
-    def verdicts(self):
-        return dict(match.groups() for match in map(VERDICT.match, self.lines) if match)
+    def verdicts(self) -> dict[str, str]:
+        return {match[1]: match[2] for match in map(VERDICT.match, self.lines) if match}
 
-    def limit(self):
+    def limit(self) -> str:
         return next((line for line in self.lines if LIMIT.search(line)), "")
 
-    def how(self):
+    def how(self) -> str:
         return "took too long" if self.status is None else f"ended with status {self.status}"
 
 
@@ -93,15 +98,22 @@ class Stopped(Exception):
 class Runs:
     """The checks that run now, so that all of them end with this program."""
 
-    def __init__(self):
-        self.running, self.is_over = set(), False
+    def __init__(self) -> None:
+        self.running: set[subprocess.Popen[bytes]] = set()
+        self.is_over = False
 
-    def check(self, folder, words, seconds):
+    def check(self, folder: pathlib.Path, words: list[str], seconds: float) -> Said:
         if self.is_over:
             raise Stopped
         # A group of its own, which ends as a whole.
-        how = {"stdin": subprocess.DEVNULL, "stdout": subprocess.PIPE, "stderr": subprocess.STDOUT, "start_new_session": True}
-        child = subprocess.Popen(["rt", "check", *words], cwd=folder, **how)
+        child = subprocess.Popen(
+            ["rt", "check", *words],
+            cwd=folder,
+            stdin=subprocess.DEVNULL,
+            stdout=subprocess.PIPE,
+            stderr=subprocess.STDOUT,
+            start_new_session=True,
+        )
         self.running.add(child)
         try:
             if self.is_over:
@@ -114,11 +126,11 @@ class Runs:
             self.running.discard(child)
         return Said(None if is_late else child.returncode, out.decode(errors="replace").split("\n"))
 
-    def end(self, child):
+    def end(self, child: subprocess.Popen[bytes]) -> None:
         with contextlib.suppress(ProcessLookupError):
             os.killpg(child.pid, signal.SIGKILL)
 
-    def end_all(self, status, *_):
+    def end_all(self, status: int, *_: object) -> NoReturn:
         """Ends the checks, and then the program."""
         self.is_over = True
         for child in list(self.running):
@@ -126,40 +138,36 @@ class Runs:
         sys.exit(128 + status)
 
 
-def say(line):
+def say(line: str) -> None:
     """Prints a line whole, whichever thread says it."""
     sys.stdout.write(line + "\n")
     sys.stdout.flush()
 
 
-def listed():
-    """The crates, each with the libraries of this repository that it names."""
-    lines = (line.partition("#")[0].partition(":") for line in (TOP / "crates.txt").read_text().splitlines())
-    named = {line[0].split()[0]: line[2].split() for line in lines if line[1]}
-    return {crate: [library for library in libraries if library in named] for crate, libraries in named.items()}
-
-
-def below(crate, named):
-    found = []
+def below(crate: str, named: Named) -> list[str]:
+    found: list[str] = []
     for library in named[crate]:
         found += [it for it in [*below(library, named), library] if it not in found]
     return found
 
 
-def linked(one, other):
-    """A second name for a file, or a copy where a folder lies elsewhere. A check replaces such a file, and changes none."""
+def linked(one: str, other: str) -> None:
+    """A second name for a file, or a copy if the folders are on different disks. A check replaces such a file, and changes none."""
     try:
         os.link(one, other)
     except OSError:
         shutil.copy2(one, other)
 
 
-def kept(one, other):
-    """A copy of a file of kept work, by a link where it is one of what was proved."""
-    (linked if str(one).endswith(".oantt") else shutil.copy2)(one, other)
+def kept(one: str, other: str) -> None:
+    """A copy of a file of kept work, by a link if it is one of what was proved."""
+    if str(one).endswith(".oantt"):
+        linked(one, other)
+    else:
+        shutil.copy2(one, other)
 
 
-def copied(one, other, how):
+def copied(one: pathlib.Path, other: pathlib.Path, how: Copy) -> None:
     if one.is_dir():
         shutil.copytree(one, other, copy_function=how, symlinks=True)
 
@@ -167,12 +175,12 @@ def copied(one, other, how):
 class Place:
     """A copy of a crate and of those below it, in which one check runs at a time."""
 
-    def __init__(self, scratch, crate, named, runs):
+    def __init__(self, scratch: pathlib.Path, crate: str, named: Named, runs: Runs) -> None:
         self.scratch, self.crate, self.runs = scratch, crate, runs
         self.folder = scratch / "crates" / crate
         self.needs = [*below(crate, named), crate]
 
-    def fill(self, top):
+    def fill(self, top: pathlib.Path) -> None:
         """Copies the crates from a repository, with what was proved there."""
         self.scratch.mkdir()
         lines = (top / "crates.txt").read_text().splitlines()
@@ -189,14 +197,14 @@ class Place:
                 copied(one / "out" / "rlib", other / "out" / "rlib", linked)
         copied(top / "crates" / self.crate / "out" / "incremental", self.folder / "out" / "incremental", kept)
 
-    def prove_seed(self, jobs):
-        """Proves the crate as it stands. What that leaves is the seed, with which each check here begins."""
+    def prove_seed(self, jobs: int) -> Said:
+        """Proves the crate without an edit. What that leaves is the seed, with which each check here begins."""
         said = self.runs.check(self.folder, ["--jobs", str(jobs)], 10 * SECONDS)
         if said.starts("logic=proved"):
             (self.folder / "out" / "incremental").rename(self.scratch / "seed")
         return said
 
-    def check(self, edits, words):
+    def check(self, edits: list[Edit], words: list[str]) -> Said:
         """What a check says of the crate with these edits, which change no line twice."""
         shutil.rmtree(self.folder / "out" / "incremental", ignore_errors=True)
         copied(self.scratch / "seed", self.folder / "out" / "incremental", kept)
@@ -215,12 +223,12 @@ class Place:
                 (self.folder / file).write_text(was, encoding="utf-8")
 
 
-def symbol_of(function, symbols, crate):
-    """The name that a check gives a function, or None where it can be that of several."""
+def symbol_of(function: Function, symbols: list[str], crate: str) -> str | None:
+    """The name that a check gives a function, or None if it can be that of several."""
     module = [it for it in function.file[len("src/") : -len(".rt")].split("/") if it not in ("lib", "main", "mod")]
     path = [crate, *module]
 
-    def fits(words):
+    def fits(words: list[str]) -> bool:
         if words[: len(path)] != path or words[-1] != function.name:
             return False
         home = words[len(path) : -1]
@@ -228,15 +236,15 @@ def symbol_of(function, symbols, crate):
             return home == [function.owner] * bool(function.owner)
         return len(home) == 1 and home[0].startswith(function.owner) and function.trait in home[0]
 
-    def is_of_type(words):
-        """Whether this is a method of such a type: a check names it by its type's module, and it can stand in another."""
+    def is_of_type(words: list[str]) -> bool:
+        """Whether this is a method of such a type: a check names it by its type's module, and it can be in another."""
         return words[0] == crate and words[-2:] == [function.owner, function.name] and not function.trait
 
     found = [it for it in symbols if fits(it.split("::"))] or [it for it in symbols if is_of_type(it.split("::"))]
     return found[0] if len(found) == 1 else None
 
 
-def own_goals(said, function, symbol):
+def own_goals(said: Said, function: Function, symbol: str) -> list[str]:
     """What a check says of goals of this function itself that are not proved, and of its proof files, where those say more than of
     names that are gone."""
     goals, inside = [], "/".join(symbol.split("::")[1:])
@@ -250,9 +258,10 @@ def own_goals(said, function, symbol):
     return goals or ([verdict] if "`search` did not prove" in verdict else [])
 
 
-def misread(said, edits):
+def misread(said: Said, edits: list[Edit]) -> dict[Edit, str]:
     """Of each edit that the compiler or the prover cannot read: the error that says so."""
-    found, errors = {}, [match for match in map(FAULT.match, said.lines) if match and UNREAD.match(match.group(3))]
+    found: dict[Edit, str] = {}
+    errors = [match for match in map(FAULT.match, said.lines) if match and UNREAD.match(match.group(3))]
     for file, line, error in (match.groups() for match in errors):
         number = int(line) - 1
         of_line = [edit for edit in edits if number in edit.lines.get(file, {})]
@@ -266,17 +275,21 @@ def misread(said, edits):
 class Case:
     """An edit that applies, the names that a check gives the functions which it changes, and what it came to."""
 
-    edit: object
+    edit: Edit
     symbols: list[str | None]
     kind: str = ""
-    # Whether no company tells more than a check of the whole crate with this edit alone.
+    # Whether only a check of the whole crate with no other edit says what this edit comes to.
     needs_own_check: bool = False
 
-    def __post_init__(self):
+    def __post_init__(self) -> None:
         self.needs_own_check = self.edit.is_wide or None in self.symbols or not self.symbols
 
-    def meets(self, other):
-        """Whether both change one function, or one that stands in the other's."""
+    def known(self) -> list[str]:
+        """The names of its functions that a check gives no other one."""
+        return [symbol for symbol in self.symbols if symbol is not None]
+
+    def meets(self, other: Case) -> bool:
+        """Whether both change one function, or one that is inside the other's."""
         pairs = [(one, two) for one in self.edit.functions for two in other.edit.functions if one.file == two.file]
         return any(one.first <= two.last and two.first <= one.last for one, two in pairs)
 
@@ -284,17 +297,22 @@ class Case:
 class Crate:
     """The trial of the planted bugs of one crate, of those whose names have a word: the empty word is in each."""
 
-    def __init__(self, name, scratch, named, jobs, runs, word):
+    def __init__(self, name: str, scratch: pathlib.Path, named: Named, jobs: int, runs: Runs, word: str) -> None:
         self.name, self.scratch, self.named, self.jobs, self.runs, self.word = name, scratch, named, jobs, runs, word
         self.folder = TOP / "crates" / name
-        self.places, self.calls, self.checks, self.kinds = queue.Queue(), {}, 0, {}
+        self.places: queue.Queue[Place] = queue.Queue()
+        # By function those that it was seen to call.
+        self.calls: dict[str, set[str]] = {}
+        self.checks = 0
+        # By the name of an edit what it came to.
+        self.kinds: dict[str, str] = {}
 
-    def settle(self, edit, kind, why):
+    def settle(self, edit: str, kind: str, why: object) -> None:
         """Tells at once what an edit came to, which stays so."""
         self.kinds[edit] = kind
         say(f"{self.name}/{edit}: {kind}: {why}"[:MOST_OF_A_LINE])
 
-    def read(self):
+    def read(self) -> list[Edit]:
         """The edits that apply. Of the others is reported what they are."""
         edits = []
         for path in sorted((self.folder / "planted-bugs").glob("*")):
@@ -310,8 +328,8 @@ class Crate:
                 self.settle(path.name, UNSURE, f"it cannot be read: {why.strerror}")
         return edits
 
-    def prepare(self, most):
-        """Proves the crate as it stands in a copy, makes as many copies of that as serve, and returns the functions that were proved."""
+    def prepare(self, most: int) -> tuple[list[str] | None, Said]:
+        """Proves the crate without an edit in a copy, makes as many copies of that as serve, and returns the functions that were proved."""
         first = Place(self.scratch / f"{self.name}-0", self.name, self.named, self.runs)
         first.fill(TOP)
         said = first.prove_seed(self.jobs)
@@ -325,7 +343,7 @@ class Crate:
             self.places.put(place)
         return list(said.verdicts()), said
 
-    def check(self, cases, words):
+    def check(self, cases: list[Case], words: list[str]) -> Said:
         place = self.places.get()
         try:
             self.checks += 1
@@ -333,12 +351,12 @@ class Crate:
         finally:
             self.places.put(place)
 
-    def ends(self, case, kind, why):
+    def ends(self, case: Case, kind: str, why: object) -> None:
         case.kind = kind
         self.settle(case.edit.path.name, kind, why)
 
-    def try_alone(self, case):
-        """Tries an edit alone, by a check of the whole crate, which always says what the edit comes to."""
+    def try_alone(self, case: Case) -> None:
+        """Tries one edit, by a check of the whole crate, which always says what the edit comes to."""
         said = self.check([case], [])
         if not said.starts("logic=") and said.status not in (1, 3):
             said = self.check([case], [])
@@ -358,10 +376,10 @@ class Crate:
             first = next((line for line in said.lines if line), "")
             self.ends(case, UNSURE, f"its check {said.how()}: {first}")
 
-    def try_batch(self, cases):
+    def try_batch(self, cases: list[Case]) -> None:
         """Tries edits of different functions in one check. Those of which it says nothing are to be tried again."""
         while cases:
-            said = self.check(cases, [word for case in cases for symbol in case.symbols for word in ("--only", symbol)])
+            said = self.check(cases, [word for case in cases for symbol in case.known() for word in ("--only", symbol)])
             bad = misread(said, [case.edit for case in cases])
             if said.compiles() and not bad:
                 return self.judge(cases, said)
@@ -372,52 +390,53 @@ class Crate:
                 return self.halve(cases)
             cases = [case for case in cases if not case.kind]
 
-    def halve(self, cases):
+    def halve(self, cases: list[Case]) -> None:
         """Parts a batch whose check came to nothing, for which no edit of it can be named."""
         if len(cases) > 1:
             self.try_batch(cases[: len(cases) // 2])
             self.try_batch(cases[len(cases) // 2 :])
 
-    def judge(self, cases, said):
+    def judge(self, cases: list[Case], said: Said) -> None:
         verdicts = said.verdicts()
         for symbol, verdict in verdicts.items():
             for names in CALLED.findall(verdict):
                 self.calls.setdefault(symbol, set()).update(re.findall(r"`([^`]+)`", names))
         for case in cases:
-            goals = []
-            for function, symbol in zip(case.edit.functions, case.symbols):
+            goals: list[str] = []
+            for function, symbol in zip(case.edit.functions, case.known()):
                 is_open = symbol in verdicts and not verdicts[symbol].startswith(("proved", "could not tell"))
                 goals += own_goals(said, function, symbol) if is_open else []
             if goals:
                 self.ends(case, REFUSED, goals[0])
-            elif not any(CALLED.search(verdicts.get(symbol, "")) for symbol in case.symbols):
+            elif not any(CALLED.search(verdicts.get(symbol, "")) for symbol in case.known()):
                 case.needs_own_check = True
 
-    def reached(self, symbol):
+    def reached(self, symbol: str) -> set[str]:
         """The functions that were seen to be called by this one, by those too, and so on."""
-        found, waiting = set(), [symbol]
+        found: set[str] = set()
+        waiting = [symbol]
         while waiting:
             more = self.calls.get(waiting.pop(), set()) - found
             found |= more
             waiting += more
         return found
 
-    def batches(self, cases, likely):
-        """Parts cases into batches. No function stands in one twice, nor beside one that it was seen to call; of the batches that are
+    def batches(self, cases: list[Case], likely: set[tuple[str, str]]) -> list[list[Case]]:
+        """Parts cases into batches. No function is in one twice, nor beside one that it was seen to call; of the batches that are
         left a case takes one with few that it is likely to call, and then one with few edits."""
-        taken = [symbol for case in cases for symbol in case.symbols]
+        taken = [symbol for case in cases for symbol in case.known()]
         count = max([-(-len(cases) // BATCH), *map(taken.count, taken)])
-        batches = [[] for _ in range(count)]
-        for case in sorted(cases, key=lambda it: -max(map(taken.count, it.symbols))):
-            own, reached = set(case.symbols), set().union(*map(self.reached, case.symbols))
+        batches: list[list[Case]] = [[] for _ in range(count)]
+        for case in sorted(cases, key=lambda it: -max(map(taken.count, it.known()))):
+            own, reached = set(case.known()), set[str]().union(*map(self.reached, case.known()))
 
-            def fits(batch):
-                others = {symbol for other in batch for symbol in other.symbols}
+            def fits(batch: list[Case]) -> bool:
+                others = {symbol for other in batch for symbol in other.known()}
                 calls = others & reached or any(own & self.reached(symbol) for symbol in others)
                 return len(batch) < BATCH and not calls and not any(map(case.meets, batch))
 
-            def cost(batch):
-                others = {symbol for other in batch for symbol in other.symbols}
+            def cost(batch: list[Case]) -> tuple[int, int]:
+                others = {symbol for other in batch for symbol in other.known()}
                 near = sum((one, other) in likely or (other, one) in likely for one in own for other in others)
                 return near, len(batch)
 
@@ -428,9 +447,9 @@ class Crate:
             min(open_ones, key=cost).append(case)
         return [batch for batch in batches if batch]
 
-    def likely_calls(self, symbols):
+    def likely_calls(self, symbols: set[str]) -> set[tuple[str, str]]:
         """Pairs of functions of which the first is likely to call the second, itself or by others, by the words of the sources."""
-        bodies = {}
+        bodies: dict[str, set[str]] = {}
         for path in sorted((self.folder / "src").rglob("*.rt")):
             text, file = path.read_text(encoding="utf-8"), path.relative_to(self.folder).as_posix()
             for function in functions_of(file, text):
@@ -438,7 +457,8 @@ class Crate:
                 bodies.setdefault(function.name, set()).update(words)
         near = {}
         for name in bodies:
-            found, waiting = set(), [name]
+            found: set[str] = set()
+            waiting = [name]
             while waiting:
                 more = (bodies[waiting.pop()] & bodies.keys()) - found
                 found |= more
@@ -447,12 +467,12 @@ class Crate:
         last = {symbol: symbol.rpartition("::")[2] for symbol in symbols}
         return {(one, other) for one in symbols for other in symbols if last[other] in near.get(last[one], ())}
 
-    def run_all(self, pool, how, cases):
+    def run_all(self, pool: concurrent.futures.ThreadPoolExecutor, how: Callable[[Any], None], cases: list[Any]) -> None:
         for done in [pool.submit(how, it) for it in cases]:
             done.result()
 
-    def try_all(self, cases):
-        """Tries the cases by batches, those of which nothing is known then in others, and what is left alone."""
+    def try_all(self, cases: list[Case]) -> None:
+        """Tries the cases by batches, those of which nothing is known then in others, and what is left one by one."""
         likely = self.likely_calls({symbol for case in cases for symbol in case.symbols if symbol})
         with concurrent.futures.ThreadPoolExecutor(self.jobs) as pool:
             for _ in range(ROUNDS):
@@ -461,10 +481,12 @@ class Crate:
                 self.run_all(pool, self.try_batch, batches)
             self.run_all(pool, self.try_alone, [case for case in cases if not case.kind])
 
-    def run(self):
+    def run(self) -> None:
         """Tries each edit of the crate."""
         edits = self.read()
-        symbols, said = self.prepare(len(edits)) if edits else ([], None)
+        if not edits:
+            return
+        symbols, said = self.prepare(len(edits))
         if symbols is None:
             first = said.starts("note:") or next((line for line in said.lines if line), "")
             for edit in edits:
@@ -473,18 +495,18 @@ class Crate:
         self.try_all([Case(edit, [symbol_of(it, symbols, self.name) for it in edit.functions]) for edit in edits])
 
 
-def said_by_git(*words):
+def said_by_git(*words: str) -> str | None:
     ran = subprocess.run(["git", *words], cwd=TOP, stdin=subprocess.DEVNULL, stdout=subprocess.PIPE, stderr=subprocess.PIPE)
     return ran.stdout.decode(errors="replace").strip() if ran.returncode == 0 else None
 
 
-def default_commit():
+def default_commit() -> str | None:
     """Where this branch left its upstream branch, or else the commit before its last."""
     return said_by_git("merge-base", "HEAD", "@{upstream}") or said_by_git("rev-parse", "--verify", "--quiet", "HEAD~1")
 
 
-def changed(commit):
-    """The crates that differ from a commit, or None where there is no such commit."""
+def changed(commit: str) -> set[str] | None:
+    """The crates that differ from a commit, or None if there is no such commit."""
     differing = said_by_git("diff", "--name-only", commit, "--", "crates")
     new = said_by_git("ls-files", "--others", "--exclude-standard", "--", "crates")
     if differing is None or new is None:
@@ -494,20 +516,20 @@ def changed(commit):
     return {path[1] for path in paths if len(path) > 3 and path[2] in (*PARTS, "planted-bugs", "wrong-bodies")}
 
 
-def chosen(settings):
+def chosen(settings: argparse.Namespace) -> list[str]:
     """The crates to try, those below first."""
-    named = listed()
+    named = named_here()
     have = [crate for crate in named if (TOP / "crates" / crate / "planted-bugs").is_dir()]
     if settings.crates:
         lacking = [crate for crate in settings.crates if crate not in have]
         if lacking:
             sys.exit(f"planted_bugs.py: {lacking[0]} is no crate with planted bugs")
-        return settings.crates
+        return list(settings.crates)
     if settings.all:
         return have
     commit = settings.since or default_commit()
-    differing = commit and changed(commit)
-    if differing is None:
+    differing = changed(commit) if commit else None
+    if not commit or differing is None:
         sys.exit(f"planted_bugs.py: there is no commit {commit or 'before the last'}: name one by --since, or crates, or take --all")
     say(f"since {said_by_git('describe', '--always', commit) or commit}")
     found = [crate for crate in have if crate in differing]
@@ -516,22 +538,17 @@ def chosen(settings):
     return found
 
 
-def jobs_here():
-    memory = next((int(line.split()[1]) << 10 for line in open("/proc/meminfo") if line.startswith("MemAvailable:")), 0)
-    return max(1, min(len(os.sched_getaffinity(0)), memory // MEMORY_OF_A_JOB))
-
-
-def processor_seconds():
+def processor_seconds() -> float:
     """What the checks that have ended took of a processor."""
     used = resource.getrusage(resource.RUSAGE_CHILDREN)
     return used.ru_utime + used.ru_stime
 
 
-def try_crates(crates, jobs, scratch, runs, word):
+def try_crates(crates: list[str], jobs: int, scratch: pathlib.Path, runs: Runs, word: str) -> tuple[int, int]:
     """Tries crate after crate, of each the edits whose names have the word, and returns how many were refused and how many not."""
     refused = failed = 0
     for name in crates:
-        begun, used, crate = time.monotonic(), processor_seconds(), Crate(name, scratch, listed(), jobs, runs, word)
+        begun, used, crate = time.monotonic(), processor_seconds(), Crate(name, scratch, named_here(), jobs, runs, word)
         crate.run()
         took, used = time.monotonic() - begun, processor_seconds() - used
         each = used / max(1, len(crate.kinds))
@@ -544,16 +561,17 @@ def try_crates(crates, jobs, scratch, runs, word):
     return refused, failed
 
 
-def main():
-    head, usage, *more = __doc__.split("\n\n")
-    how = {"usage": usage.partition(" ")[2], "description": "\n\n".join([head, *more])}
-    parser = argparse.ArgumentParser(formatter_class=argparse.RawDescriptionHelpFormatter, **how)
+def main() -> bool:
+    head, usage, *more = (__doc__ or "").split("\n\n")
+    about = "\n\n".join([head, *more])
+    formatter = argparse.RawDescriptionHelpFormatter
+    parser = argparse.ArgumentParser(usage=usage.partition(" ")[2], description=about, formatter_class=formatter)
     which = parser.add_mutually_exclusive_group()
-    which.add_argument("--since", metavar="REV", help="the crates that differ from this commit")
-    which.add_argument("--all", action="store_true", help="each crate")
-    parser.add_argument("--only", metavar="WORD", default="", help="only edits with this word in their names")
-    parser.add_argument("--jobs", metavar="N", type=int, help="how many batches are tried at a time")
-    parser.add_argument("crates", metavar="CRATE", nargs="*", help="as crates.txt names it")
+    which.add_argument("--since", metavar="REV", help="The edits of the crates that differ from this commit are tried.")
+    which.add_argument("--all", action="store_true", help="The edits of each crate are tried.")
+    parser.add_argument("--only", metavar="WORD", default="", help="Only edits with this word in their names are tried.")
+    parser.add_argument("--jobs", metavar="N", type=int, help="So many batches are tried at the same time.")
+    parser.add_argument("crates", metavar="CRATE", nargs="*", help="The edits of this crate are tried; it has its name in crates.txt.")
     settings = parser.parse_args()
     if settings.crates and (settings.since or settings.all):
         parser.error("crates are named, or chosen by --since or --all")
@@ -563,7 +581,9 @@ def main():
     for kind in (signal.SIGINT, signal.SIGTERM):
         signal.signal(kind, runs.end_all)
     with tempfile.TemporaryDirectory(prefix="planted-bugs-") as scratch:
-        refused, failed = try_crates(crates, max(1, settings.jobs or jobs_here()), pathlib.Path(scratch), runs, settings.only)
+        refused, failed = try_crates(
+            crates, max(1, settings.jobs or jobs_here(MEMORY_OF_A_JOB)), pathlib.Path(scratch), runs, settings.only
+        )
     if settings.only and not refused + failed:
         sys.exit(f"planted_bugs.py: no edit of these crates has {settings.only} in its name")
     print(f"{refused} refused, {failed} failed")

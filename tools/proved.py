@@ -9,16 +9,31 @@ clause has no name. A function may name a module between the crate and itself wh
 Prints each function that its crate does not have, each clause that none of the function's contracts has, each definition that no file
 of specs/ has, and each row of such a table without a clause; then exits 1. Otherwise it prints how many clauses were found.
 """
+from __future__ import annotations
+
 import re
 import sys
+from collections.abc import Iterator
+from typing import NamedTuple
 
 import definitions
-from definitions import TOP
+from crates_txt import TOP
 
 PAGES = ("PROVED.md", "TESTING.md")
 
 
-def rows(page):
+class Function(NamedTuple):
+    """The names before a function's own (of its module, type and trait), and the names of its `ensures` clauses."""
+
+    owners: set[str]
+    ensured: set[str]
+
+
+# By its own name the functions of a crate.
+Contracts = dict[str, list[Function]]
+
+
+def rows(page: str) -> Iterator[tuple[int, str]]:
     """The last cells of all rows below a heading `clauses`, with the numbers of their lines."""
     inside = False
     for number, line in enumerate((TOP / "docs" / page).read_text().splitlines(), 1):
@@ -31,32 +46,32 @@ def rows(page):
             yield number, cells[-1]
 
 
-def contracts(crate):
-    """All functions of a crate, public and private, as pairs: the names before its own (module, type), and its clauses by name."""
-    found = {}
+def contracts(crate: str) -> Contracts:
+    """All functions of a crate, public and private."""
+    found: Contracts = {}
     for module in definitions.modules(crate):
         spans = list(definitions.blocks(module.text))
         for match in re.finditer(r"^ *(?:pub(?:\([a-z]+\))? )?(?:const )?fn (\w+)", module.text, re.M):
             owners = set(module.path)
-            home = next((s for s in spans if s[2] <= match.start() < s[3]), None)
+            home = next((span for span in spans if span.begin <= match.start() < span.end), None)
             if home:
-                head = module.text[module.text.rfind("\n", 0, home[2] - 1) + 1 : home[2]]
+                head = module.text[module.text.rfind("\n", 0, home.begin - 1) + 1 : home.begin]
                 owners |= set(re.findall(r"\w+", head))
-            ensured = set()
+            ensured: set[str] = set()
             for clause in definitions.clauses(module.text, match.end()):
                 before = module.text[: module.text.find(clause, match.end())]
                 ensured |= set(re.findall(r"\bensures\s+(\w*)\s*$", before))
-            found.setdefault(match.group(1), []).append((owners, ensured))
+            found.setdefault(match.group(1), []).append(Function(owners, ensured))
     return found
 
 
-def defined():
+def defined() -> set[str]:
     """The names that some file of specs/ defines, and the fields of its records."""
     texts = [path.read_text() for path in (TOP / "crates").glob("*/specs/**/*.antt")]
     return set(re.findall(rf"\bpub (?:data |record )?({definitions.WORD})", "\n".join(texts)))
 
 
-def mistakes(cell, crates, names):
+def mistakes(cell: str, crates: dict[str, Contracts], names: set[str]) -> tuple[list[str], int]:
     """What is wrong with a cell, and how many clauses it names."""
     count = 0
     wrong = []
@@ -66,7 +81,7 @@ def mistakes(cell, crates, names):
             wrong.append(f"not a function of a crate: {item.strip()}")
             continue
         crate, *owners, function = match.group(1).split("::")
-        candidates = [c for c in crates.get(crate, {}).get(function, []) if set(owners) <= c[0]]
+        candidates = [it for it in crates.get(crate, {}).get(function, []) if set(owners) <= it.owners]
         if not candidates:
             wrong.append(f"no function {match.group(1)}")
             continue
@@ -78,12 +93,12 @@ def mistakes(cell, crates, names):
         clauses = re.findall(r"`(\w+)`", re.sub(r"\([^)]*\)", "", listed))
         for clause in clauses or [""]:
             count += 1
-            if not any(clause in c[1] for c in candidates):
+            if not any(clause in it.ensured for it in candidates):
                 wrong.append(f"{match.group(1)} has no clause {clause or 'without a name'}")
     return wrong, count
 
 
-def main():
+def main() -> int:
     crates = {crate: contracts(crate) for crate in definitions.CRATES}
     names = defined()
     status, found = 0, 0

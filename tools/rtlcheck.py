@@ -21,6 +21,9 @@ import sys
 import tempfile
 from dataclasses import dataclass
 from pathlib import Path
+from typing import Any
+
+JsonObject = dict[str, Any]
 
 HERE = Path(__file__).resolve().parent
 # The statuses of bddcheck: nothing differs; something does; nothing was compared; something is missing from the answer.
@@ -50,9 +53,9 @@ class Words:
 
 
 def parser_of_options() -> argparse.ArgumentParser:
-    about = {"description": __doc__.replace(f"usage: {USAGE}\n\n", ""), "epilog": EPILOG}
+    about = (__doc__ or "").replace(f"usage: {USAGE}\n\n", "")
     formatter = argparse.RawDescriptionHelpFormatter
-    parser = argparse.ArgumentParser("rtlcheck", USAGE, **about, formatter_class=formatter, allow_abbrev=False)
+    parser = argparse.ArgumentParser("rtlcheck", USAGE, about, EPILOG, formatter_class=formatter, allow_abbrev=False)
     parser.add_argument("-g", metavar="WORDS", help="These files and options of rtl2bench are those of the golden design.")
     parser.add_argument("-r", metavar="WORDS", help="These files and options of rtl2bench are those of the revised design.")
     match = "Registers, inputs and outputs are paired by name, which is the default, or by their place in the netlists."
@@ -107,7 +110,7 @@ def registers_alike(golden: Path, revised: Path, own: argparse.Namespace) -> boo
     return status == EQUAL
 
 
-def line_of(verdict: dict) -> str:
+def line_of(verdict: JsonObject) -> str:
     """The line of a report by text."""
     subject = ("NEXT " if verdict["of"] == "next state" else "") + verdict["name"]
     if verdict["verdict"] == "DIFFER":
@@ -118,7 +121,7 @@ def line_of(verdict: dict) -> str:
     return f"{verdict['verdict']} {subject}"
 
 
-def lines_of(report: dict) -> list[str]:
+def lines_of(report: JsonObject) -> list[str]:
     """The report by text that has the same verdicts."""
     undecided = f", {report['undecided']} undecided" if "undecided" in report else ""
     counts = f"{report['equal']} equal, {report['different']} different, {report['unmatched']} unmatched{undecided}"

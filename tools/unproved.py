@@ -15,6 +15,8 @@ Status 4: no answer, and one line on standard error that says why: `rt` is missi
 1 MiB, the run needs more time than it has here, a run-time check failed, or there is no room for temporary files. If the sources
 do not compile, the compiler's own lines come before that line.
 """
+from __future__ import annotations
+
 import contextlib
 import ctypes
 import os
@@ -25,6 +27,7 @@ import signal
 import subprocess
 import sys
 import tempfile
+from typing import NoReturn
 
 TOP = pathlib.Path(__file__).resolve().parent.parent
 NO_ANSWER = 4
@@ -47,29 +50,29 @@ END_WITH_PARENT = 1
 LIBC = ctypes.CDLL(None)
 
 
-def say(text):
+def say(text: str) -> None:
     with contextlib.suppress(OSError):
         os.write(2, f"bddcheck.sh: {text}\n".encode(errors="surrogateescape"))
 
 
-def time_of_a_build():
+def time_of_a_build() -> str:
     processors = len(os.sched_getaffinity(0))
     much = "half an hour" if processors >= 4 else "an hour" if processors >= 2 else "two hours"
     return f"about {much} on the {processors} processor{'s' * (processors > 1)} here"
 
 
-def way_to_build():
+def way_to_build() -> str:
     return f"tools/build.py proves and builds the program, in {time_of_a_build()}"
 
 
-def text_asked_for(arguments):
+def text_asked_for(arguments: list[str]) -> bytes | None:
     """The text that --help or --version prints, if it is the only argument and its source has the text in the usual form."""
     if arguments in (["-h"], ["--help"]):
         found = HELP.search((SOURCES / "help.rt").read_text(encoding="utf-8"))
-        return found and found[1].encode()
+        return found[1].encode() if found else None
     if arguments in (["-V"], ["--version"]):
         found = VERSION.search((SOURCES / "reading.rt").read_text(encoding="utf-8"))
-        return found and found[1].encode() + b"\n"
+        return found[1].encode() + b"\n" if found else None
     return None
 
 
@@ -80,11 +83,14 @@ class NoAnswer(Exception):
 class Asked:
     """The arguments of a call, with a link in place of each path, and whether they ask for standard input."""
 
-    def __init__(self, arguments, place):
+    def __init__(self, arguments: list[str], place: str) -> None:
         if not all(map(is_text, arguments)):
             raise NoAnswer(f"an argument is not valid UTF-8, and the unproved sources take no such argument; {way_to_build()}")
-        self.place, self.paths = place, {}
-        self.arguments, self.texts, self.asks, self.writes = [], [], False, False
+        self.place = place
+        self.paths: dict[bytes, bytes] = {}
+        self.arguments: list[str] = []
+        self.texts: list[str] = []
+        self.asks = self.writes = False
         option, is_ended = None, False
         for argument in arguments:
             if option:
@@ -101,7 +107,7 @@ class Asked:
                 self.writes = self.writes or name == "--vcd"
                 self.arguments.append(f"{name}={self.link(value)}" if equals and name in READ else argument)
 
-    def link(self, path):
+    def link(self, path: str) -> str:
         """The path of a link to what the caller's path names. An empty argument, which can name no file, stays as it is."""
         if not path:
             return path
@@ -110,17 +116,17 @@ class Asked:
         self.paths[link.encode()] = path.encode()
         return link
 
-    def wants_input(self):
+    def wants_input(self) -> bool:
         return not self.asks and ("-" in self.texts or not self.texts)
 
-    def named(self, said):
+    def named(self, said: bytes) -> bytes:
         """What was said, with the caller's paths in place of the links."""
         for link, path in self.paths.items():
             said = said.replace(link, path)
         return said
 
 
-def is_text(argument):
+def is_text(argument: str) -> bool:
     try:
         argument.encode()
         return True
@@ -128,7 +134,7 @@ def is_text(argument):
         return False
 
 
-def followed(path):
+def followed(path: str) -> str:
     """The path from the root on. If it leads to an open file of this process, that file's path by the number of the process."""
     path = os.path.join(os.getcwd(), path)
     at = path
@@ -143,7 +149,7 @@ def followed(path):
     return path
 
 
-def take_input(to):
+def take_input(to: str) -> None:
     """Writes standard input to a file, all of it, since `rt try` does not wait for a slow writer."""
     much = 0
     with open(to, "wb") as file:
@@ -154,17 +160,19 @@ def take_input(to):
                 raise NoAnswer(f"standard input cannot be read ({error.strerror})") from error
             much += len(taken)
             if much > MOST_INPUT:
-                raise NoAnswer(f"standard input has more than {MOST_INPUT >> 20} MiB, which the unproved sources do not take; {way_to_build()}")
+                raise NoAnswer(
+                    f"standard input has more than {MOST_INPUT >> 20} MiB, which the unproved sources do not take; {way_to_build()}"
+                )
             if not taken:
                 return
             file.write(taken)
 
 
-def end_with_parent():
+def end_with_parent() -> None:
     LIBC.prctl(END_WITH_PARENT, signal.SIGTERM)
 
 
-def tried(arguments, given, place):
+def tried(arguments: list[str], given: str, place: str) -> tuple[bytes, bytes]:
     """What `rt try` writes to standard output and to standard error on these arguments."""
     environment = {**os.environ, "TMPDIR": place}
     command = ["rt", "try", "--seconds", str(SECONDS), "--", *arguments]
@@ -192,16 +200,16 @@ OF_SYSTEM = re.compile(rb"^OSError: \[Errno \d+\] ([^:\n]+).*\n\Z", re.M)
 ENDED = re.compile(rb"^run=ended status=([0-3]) .*proved=no\n\Z", re.M)
 
 
-def answered(asked, out, err):
+def answered(asked: Asked, out: bytes, err: bytes) -> tuple[int, bytes, bytes]:
     """The status of the program, its report and what it said, or why there is no answer."""
     after = AFTER.search(err)
-    ended = after and ENDED.search(err)
-    if ended:
+    ended = ENDED.search(err)
+    if after and ended:
         return int(ended[1]), out, asked.named(BEFORE.sub(b"", err[: after.start()]))
     raise NoAnswer(why_not(asked, err))
 
 
-def why_not(asked, err):
+def why_not(asked: Asked, err: bytes) -> str:
     if b"No space left on device" in err or room_in(asked.place) < 1 << 20:
         return f"there is no room for temporary files in {os.path.dirname(asked.place)}"
     fault = OF_SYSTEM.search(err)
@@ -217,12 +225,12 @@ def why_not(asked, err):
     return "`rt try` did not run the sources, as the lines above say"
 
 
-def room_in(folder):
+def room_in(folder: str) -> int:
     found = os.statvfs(folder)
     return found.f_bavail * found.f_frsize
 
 
-def answer(arguments, place):
+def answer(arguments: list[str], place: str) -> int:
     if room_in(place) < BYTES_OF_A_TRY:
         raise NoAnswer(f"there is no room for temporary files in {os.path.dirname(place)}: {BYTES_OF_A_TRY >> 20} MiB are needed")
     asked = Asked(arguments, place)
@@ -249,7 +257,7 @@ def answer(arguments, place):
     return status
 
 
-def write(to, text):
+def write(to: int, text: bytes) -> bool:
     """Whether all of a text could be written."""
     try:
         while text:
@@ -259,11 +267,11 @@ def write(to, text):
         return False
 
 
-def stopped(number, _):
+def stopped(number: int, _: object) -> NoReturn:
     sys.exit(128 + number)
 
 
-def main():
+def main() -> int:
     for number in (signal.SIGINT, signal.SIGTERM, signal.SIGHUP):
         signal.signal(number, stopped)
     if not shutil.which("rt"):

@@ -19,13 +19,23 @@ import re
 import sys
 from dataclasses import dataclass, field
 from pathlib import Path
+from typing import Any
+
+JsonObject = dict[str, Any]
 
 STATEMENT = re.compile(rb"\s*([^\s(),=#]+)\s*(?:=\s*([^\s(),=#]+)\s*)?\(([^()=]*)\)")
 REGISTER = b"DFF"
 # What joins the operands of a gate. A gate of one operand has nothing to join.
 FOLDS = {
-    b"AND": operator.and_, b"OR": operator.or_, b"XOR": operator.xor, b"BUFF": operator.or_, b"BUF": operator.or_,
-    b"NAND": operator.and_, b"NOR": operator.or_, b"XNOR": operator.xor, b"NOT": operator.or_,
+    b"AND": operator.and_,
+    b"OR": operator.or_,
+    b"XOR": operator.xor,
+    b"BUFF": operator.or_,
+    b"BUF": operator.or_,
+    b"NAND": operator.and_,
+    b"NOR": operator.or_,
+    b"XNOR": operator.xor,
+    b"NOT": operator.or_,
 }
 COMPLEMENTED = {b"NAND", b"NOR", b"XNOR", b"NOT"}
 # The end of a line whose assignment may not be the least one at which the pair differs.
@@ -127,7 +137,7 @@ def of_line(line: bytes) -> Difference:
     return Difference(role, name, dict(bits[:-2]), (bits[-2][1], bits[-1][1]))
 
 
-def of_member(verdict: dict) -> Difference:
+def of_member(verdict: JsonObject) -> Difference:
     at = {name.encode(): bit for name, bit in verdict["at"].items()}
     return Difference(verdict["of"], verdict["name"].encode(), at, (verdict["first"], verdict["second"]))
 
@@ -213,12 +223,15 @@ def asked() -> argparse.Namespace:
     parser = argparse.ArgumentParser(usage=usage.removeprefix("usage: "), description=what, epilog=more)
     parser.add_argument("--of", metavar="NAME", help="the pair: an output of FIRST, or 'NEXT name'; the default is the first that differs")
     parser.add_argument(
-        "--match", choices=["name", "position"], default="name", help="how the report paired signals: by name (the default) or by position"
+        "--match",
+        choices=["name", "position"],
+        default="name",
+        help="The report paired signals by name, which is the default, or by position.",
     )
-    parser.add_argument("-o", dest="out", metavar="OUT", help="the file to write; the default is standard output")
-    parser.add_argument("first", metavar="FIRST", help="the file of the first netlist")
-    parser.add_argument("second", metavar="SECOND", help="the file of the second netlist")
-    report = "the report of bddcheck on them, as text or JSON; the default is standard input"
+    parser.add_argument("-o", dest="out", metavar="OUT", help="This is the file to write; the default is standard output.")
+    parser.add_argument("first", metavar="FIRST", help="This is the file of the first netlist.")
+    parser.add_argument("second", metavar="SECOND", help="This is the file of the second netlist.")
+    report = "This is the report of bddcheck on them, as text or JSON; the default is standard input."
     parser.add_argument("report", metavar="REPORT", nargs="?", help=report)
     return parser.parse_args()
 

@@ -5,7 +5,9 @@ usage: tools/wave.py > docs/wave.svg
 
 A bar is a level, and its width says how many requests it has. The numbers are an example.
 """
-import sys
+from __future__ import annotations
+
+from collections.abc import Iterator
 
 # By level how many requests it has, in hundreds; the third level is the first one that is wide.
 SIZES = [1, 4, 8, 22, 30, 18, 6]
@@ -17,12 +19,12 @@ ONE_WORKER = 'fill="#ffffff" stroke="#1f4e79"'
 SHADES = ["#dbe7f5", "#c3d6ec", "#abc5e3", "#93b4da"]
 
 
-def middle(level):
+def middle(level: int) -> float:
     return TOP + level * STEP + HIGH / 2
 
 
-def bar(x, level):
-    """One piece where the caller does the level alone, else one for each worker that owns some of it."""
+def bar(x: float, level: int) -> list[str]:
+    """One piece if only the caller does the level, else one for each worker that owns some of it."""
     wide, y = SIZES[level] * UNIT, TOP + level * STEP
     if level < FIRST_WIDE:
         return [f'<rect x="{x - wide / 2:.0f}" y="{y}" width="{wide}" height="{HIGH}" {ONE_WORKER}/>']
@@ -31,11 +33,11 @@ def bar(x, level):
     return [f'<rect x="{at:.0f}" y="{y}" width="{part:.0f}" height="{HIGH}" fill="{shade}" stroke="#1f4e79"/>' for at, shade in places]
 
 
-def arrow(x, start, end):
+def arrow(x: float, start: float, end: float) -> str:
     return f'<path d="M{x} {start:.0f} L{x} {end:.0f}" stroke="#606060" marker-end="url(#end)"/>'
 
 
-def arrows():
+def arrows() -> Iterator[str]:
     for level in range(len(SIZES) - 1):
         above, below = middle(level) + HIGH / 2 + 2, middle(level + 1) - HIGH / 2 - 4
         yield arrow(LEFT, above, below)
@@ -45,11 +47,11 @@ def arrows():
     yield f'<path d="M{LEFT + wide:.0f} {y:.0f} L{RIGHT - wide - 6:.0f} {y:.0f}" stroke="#606060" marker-end="url(#end)"/>'
 
 
-def text(x, y, words, kind=""):
+def text(x: float, y: float, words: str, kind: str = "") -> str:
     return f'<text x="{x}" y="{y:.0f}"{kind}>{words}</text>'
 
 
-def words():
+def words() -> Iterator[str]:
     small = ' class="small"'
     between, line = (LEFT + RIGHT) / 2, TOP + FIRST_WIDE * STEP - (STEP - HIGH) / 2
     yield text(LEFT, 24, "down: requests, each once")
@@ -65,7 +67,7 @@ def words():
     yield text(between, middle(5) + 22, "and shards (reduce_up)", small)
 
 
-def main():
+def main() -> None:
     high = TOP + len(SIZES) * STEP
     print(
         f'<svg xmlns="http://www.w3.org/2000/svg" viewBox="0 0 670 {high}" font-family="sans-serif">',
@@ -82,4 +84,4 @@ def main():
 
 
 if __name__ == "__main__":
-    sys.exit(main())
+    main()

@@ -91,11 +91,11 @@ fn settings_of(alloc: Global) -> Settings {
 }
 
 /// What two rounds find of all pairs of two netlists, in the order of the report.
-fn found<R: Threads + Wait + Sync>(
-    rt: &R,
+fn found<'x, R: Threads + Wait + Sync>(
+    rt: &'x R,
     alloc: Global,
-    first: &Netlist,
-    second: &Netlist,
+    first: &'x Netlist,
+    second: &'x Netlist,
     monitor: &RoundMonitor,
 ) -> Result<(Vec<bool>, Vec<bool>), Fail> {
     let settings = settings_of(alloc);

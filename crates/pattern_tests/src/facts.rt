@@ -12,6 +12,7 @@ use compare_built::settings::{Difference, Settings};
 use compare_built::strategy::Strategy;
 use compare_built::task::Task;
 use expand_work::NoMonitor;
+use net_bench::netlist::Netlist;
 use net_bench::reader::parse_bench;
 use net_order::naming::{Naming, naming_of};
 use net_order::order::Match;
@@ -67,7 +68,32 @@ fn verdict_at<H>(
     Ok(Some(verdict))
 }
 
-/// What patterns show of the pairs of two netlists, and the verdict of the first pair.
+/// What patterns show of the pairs of two netlists that are read, and the verdict of the first pair.
+fn judged_nets<'x, R: AllocGlobal>(
+    rt: &'x R,
+    alloc: Global,
+    first: &'x Netlist,
+    second: &'x Netlist,
+) -> Result<(Vec<Option<ShownPattern>>, Option<Verdict>), Fail> {
+    let naming = naming_of(alloc, first, second, None, Match::Name)?;
+    let settings = settings_of(alloc);
+    let task = Task {
+        rt,
+        alloc,
+        first,
+        second,
+        given: None,
+        settings: &settings,
+    };
+    let _ = first.inputs();
+    let _ = second.inputs();
+    let facts = facts_of(&task, &naming, &NoMonitor)?;
+    let verdict = verdict_at(&task, &naming, &facts, 0)?;
+    let PairFacts { shown, .. } = facts;
+    Ok((shown, verdict))
+}
+
+/// What patterns show of the pairs of two texts, and the verdict of the first pair.
 fn judged<R: AllocGlobal>(
     rt: &R,
     first: &str,
@@ -76,21 +102,7 @@ fn judged<R: AllocGlobal>(
     let alloc = rt.alloc();
     let first = parse_bench(alloc, first.as_bytes())?;
     let second = parse_bench(alloc, second.as_bytes())?;
-    let naming = naming_of(alloc, &first, &second, None, Match::Name)?;
-    let settings = settings_of(alloc);
-    let task = Task {
-        rt,
-        alloc,
-        first: &first,
-        second: &second,
-        given: None,
-        settings: &settings,
-    };
-    let _ = first.inputs();
-    let _ = second.inputs();
-    let facts = facts_of(&task, &naming, &NoMonitor)?;
-    let verdict = verdict_at(&task, &naming, &facts, 0)?;
-    Ok((facts.shown, verdict))
+    judged_nets(rt, alloc, &first, &second)
 }
 
 /// Whether a verdict has this assignment, at which the first function has this value and the second the other one, and which may not be

@@ -333,7 +333,8 @@ fn bound_passes_over_what_is_held(rt: HostRuntime) -> Result<(), Fail> {
 }
 
 /// The gates p and q ask for one conjunction, q two ranks after p, since m is x again. In the rank of q there is also r.
-static TWICE: &str = "INPUT(x)\nINPUT(y)\nOUTPUT(p)\nOUTPUT(q)\nOUTPUT(r)\nn = NOT(x)\nm = NOT(n)\np = AND(x, y)\nq = AND(m, y)\nr = XOR(m, y)\n";
+static TWICE: &str =
+    "INPUT(x)\nINPUT(y)\nOUTPUT(p)\nOUTPUT(q)\nOUTPUT(r)\nn = NOT(x)\nm = NOT(n)\np = AND(x, y)\nq = AND(m, y)\nr = XOR(m, y)\n";
 
 /// The fault of a build of that netlist, beside itself, whose waves have so many requests at most.
 fn build_within<R: Threads + Wait + Abort + Sync>(

@@ -18,6 +18,9 @@ use Rattle.order_search.proofs.Rounds.{accepted_by, beyond, judged, order_ends, 
 use Rattle.check_report.proofs.Refusing.{at_once, from_each}
 use Rattle.check_report.proofs.decision.compare_in_computed_order.Goals as goal
 
+pub compare-requires-clause-paired : goal.compare-requires-clause-paired
+compare-requires-clause-paired g c κs within = (c.args.task.now.settings.now.matching, c.in_ok-pairing.ensures.paired.0, c.in_ok-pairing.ensures.paired.2)
+
 pub returns-clause-decision : goal.returns-clause-decision
 returns-clause-decision g c = λ input ga.
     let task = c.args.task.now in

@@ -1,6 +1,7 @@
 use Rattle.std.proofs.Common.{subst}
 use Rattle.std.proofs.lemmas.Result.{err_from_is_err_and}
 use Rattle.std.specs.Io.KnownBytes.{Appends}
+use Rattle.compare_built.specs.Devices.{device_text, device_texts}
 use Rattle.report_text.specs.Writing.{AppendsFront}
 use Rattle.check_report.proofs.Printing.{listed_accepted}
 use Rattle.check_report.proofs.listing.print_order.Goals as goal
@@ -11,8 +12,10 @@ returns-in-Ok-clause-order g c =
 
 pub returns-clause-fault : goal.returns-clause-fault
 returns-clause-fault g c =
+    let input = device_texts (g.R1.Source.remaining c.args.first.now) (g.R2.Source.remaining c.args.second.now) (device_text g.R3.Source.remaining c.args.given.now) in
+    let s = c.args.context.now.settings.now in
     let w = c.in_ok-text.ensures.text in
-    listed_accepted _ _ _ _ c.in_ok-text.tried w.0 w.1.a w.1.b w.1.c w.1.p w.1.paired w.2
+    listed_accepted input s.matching s.order s.limit c.in_ok-text.tried w.0 w.1.a w.1.b w.1.c w.1.p w.1.paired w.2
 
 pub returns-clause-unwritten : goal.returns-clause-unwritten
 returns-clause-unwritten g c = λ _.
