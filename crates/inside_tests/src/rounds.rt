@@ -1,15 +1,23 @@
 // Rounds over netlists whose inner signals are equal, and over wrong ones.
+ghost use Rattle.std.specs.Prelude.{◌≡◌, All, IfOk, None};
+ghost use Rattle.net_bench.specs.Circuit.{circuit};
+ghost use Rattle.net_order.specs.declared.order.Match.TheVariants.{Name};
+ghost use Rattle.net_order.specs.declared.order.Order.TheVariants.{Declared};
+ghost use Rattle.net_order.specs.Order.{IsNaming};
+ghost use Rattle.compare_built.specs.Comparing.{IsInside};
+
 use compare_built::compared_pairs::subjects_of;
 use compare_built::pair_filter::PairFilter;
 use compare_built::settings::{Difference, Settings};
 use compare_built::strategy::Strategy;
+use compare_built::subject::Subject;
 use compare_built::task::Task;
 use dd_store::Watch;
 use expand_work::{MergeRound, Monitor};
 use inside_check::{Merging, equal_inside};
 use net_bench::netlist::Netlist;
 use net_bench::reader::parse_bench;
-use net_order::naming::naming_of;
+use net_order::naming::{Naming, naming_of};
 use net_order::order::Match;
 use std::alloc::{AllocError, Global};
 use std::sync::Wait;
@@ -90,27 +98,54 @@ fn settings_of(alloc: Global) -> Settings {
     }
 }
 
-/// What two rounds find of all pairs of two netlists, in the order of the report.
-fn found<'x, R: Threads + Wait + Sync>(
-    rt: &'x R,
+/// The comparison of two netlists by these settings.
+fn task_of<'a, R>(
+    rt: &'a R,
     alloc: Global,
-    first: &'x Netlist,
-    second: &'x Netlist,
-    monitor: &RoundMonitor,
-) -> Result<(Vec<bool>, Vec<bool>), Fail> {
-    let settings = settings_of(alloc);
-    let task = Task {
+    first: &'a Netlist,
+    second: &'a Netlist,
+    settings: &'a Settings,
+) -> Task<'a, R>
+    ensures first { result.first.now ≡ first.now }
+    ensures second { result.second.now ≡ second.now }
+    ensures given { result.given ≡ None }
+    ensures settings { result.settings.now ≡ settings.now }
+{
+    let given = None;
+    Task {
         rt,
         alloc,
         first,
         second,
-        given: None,
-        settings: &settings,
-    };
-    let naming = naming_of(alloc, first, second, None, Match::Name)?;
-    let subjects = subjects_of(alloc, first, second, &naming)?;
+        given,
+        settings,
+    }
+}
+
+/// All pairs of two netlists, in the order of the report.
+fn subjects_in<R>(task: &Task<'_, R>, naming: &Naming) -> Result<Vec<Subject>, AllocError>
+    requires { IsNaming Name (circuit task.now.first.now) (circuit task.now.second.now) None Declared naming.now }
+    ensures { IfOk result (λ v. All (IsInside (circuit task.now.first.now) (circuit task.now.second.now)) v.items) }
+{
+    let _ = task.first.inputs();
+    let _ = task.second.inputs();
+    let subjects = subjects_of(task.alloc, task.first, task.second, naming)?;
+    Ok(subjects)
+}
+
+/// What two rounds find of all pairs of two netlists, in the order of the report.
+fn found<R: Threads + Wait + Sync>(
+    rt: &R,
+    alloc: Global,
+    first: &Netlist,
+    second: &Netlist,
+    monitor: &RoundMonitor,
+) -> Result<(Vec<bool>, Vec<bool>), Fail> {
+    let settings = settings_of(alloc);
+    let task = task_of(rt, alloc, first, second, &settings);
+    let naming = naming_of(alloc, task.first, task.second, None, Match::Name)?;
+    let subjects = subjects_in(&task, &naming)?;
     let mut merging = Merging::new(alloc);
-    let _ = (first.count(), second.count());
     let once = equal_inside(
         &task,
         &naming,

@@ -1,10 +1,12 @@
 // What is known of pairs before an attempt, by the public calls of pair_facts. The expected numbers are counted by hand: the first patterns
 // are all 0, all 1, one 1 among 0s and one 0 among 1s, for each variable as it is declared.
-ghost use Rattle.std.specs.Prelude.{All};
+ghost use Rattle.std.specs.Prelude.{◌≡◌, All, None};
 ghost use Rattle.std.specs.List.{AllZip};
 ghost use Rattle.net_bench.specs.Circuit.{circuit};
-ghost use Rattle.net_order.specs.Order.{condition};
-ghost use Rattle.compare_built.specs.Comparing.{IsInside};
+ghost use Rattle.net_order.specs.declared.order.Match.TheVariants.{Name};
+ghost use Rattle.net_order.specs.declared.order.Order.TheVariants.{Declared};
+ghost use Rattle.net_order.specs.Order.{IsNaming, condition};
+ghost use Rattle.compare_built.specs.Comparing.{AreSignals, IsInside};
 ghost use Rattle.pair_facts.specs.PairFacts.{IsFirstShown};
 
 use compare_built::pair_filter::PairFilter;
@@ -68,25 +70,51 @@ fn verdict_at<H>(
     Ok(Some(verdict))
 }
 
-/// What patterns show of the pairs of two netlists that are read, and the verdict of the first pair.
-fn judged_nets<'x, R: AllocGlobal>(
-    rt: &'x R,
+/// The comparison of two netlists by these settings.
+fn task_of<'a, R>(
+    rt: &'a R,
     alloc: Global,
-    first: &'x Netlist,
-    second: &'x Netlist,
-) -> Result<(Vec<Option<ShownPattern>>, Option<Verdict>), Fail> {
-    let naming = naming_of(alloc, first, second, None, Match::Name)?;
-    let settings = settings_of(alloc);
-    let task = Task {
+    first: &'a Netlist,
+    second: &'a Netlist,
+    settings: &'a Settings,
+) -> Task<'a, R>
+    ensures first { result.first.now ≡ first.now }
+    ensures second { result.second.now ≡ second.now }
+    ensures given { result.given ≡ None }
+    ensures settings { result.settings.now ≡ settings.now }
+{
+    let given = None;
+    Task {
         rt,
         alloc,
         first,
         second,
-        given: None,
-        settings: &settings,
-    };
-    let _ = first.inputs();
-    let _ = second.inputs();
+        given,
+        settings,
+    }
+}
+
+/// Says that what a naming compares are signals of the netlists.
+fn note_signals<R>(task: &Task<'_, R>, naming: &Naming)
+    requires { IsNaming Name (circuit task.now.first.now) (circuit task.now.second.now) None Declared naming.now }
+    ensures { AreSignals (circuit task.now.first.now) (circuit task.now.second.now) naming.now }
+{
+    let _ = task.first.inputs();
+    let _ = task.second.inputs();
+    let _ = naming;
+}
+
+/// What patterns show of the pairs of two netlists that are read, and the verdict of the first pair.
+fn judged_nets<R: AllocGlobal>(
+    rt: &R,
+    alloc: Global,
+    first: &Netlist,
+    second: &Netlist,
+) -> Result<(Vec<Option<ShownPattern>>, Option<Verdict>), Fail> {
+    let settings = settings_of(alloc);
+    let task = task_of(rt, alloc, first, second, &settings);
+    let naming = naming_of(alloc, task.first, task.second, None, Match::Name)?;
+    note_signals(&task, &naming);
     let facts = facts_of(&task, &naming, &NoMonitor)?;
     let verdict = verdict_at(&task, &naming, &facts, 0)?;
     let PairFacts { shown, .. } = facts;

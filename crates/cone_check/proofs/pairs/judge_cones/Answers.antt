@@ -5,7 +5,7 @@ use Rattle.net_order.specs.declared.order.Order.{Order}
 use Rattle.net_order.specs.Order.{NamingModel}
 use Rattle.cone_check.specs.ConeRounds.{IsWidened}
 use Rattle.order_search.specs.Trials.{IsPairingIn}
-use Rattle.cone_check.proofs.ConeTasks.{judged_pair, one_pair}
+use Rattle.cone_check.proofs.ConeTasks.{judged_pair, many_pair, one_pair}
 use Rattle.cone_check.proofs.pairs.judge_cones.Goals as goal
 
 pub try_cones-requires-clause-one : goal.try_cones-requires-clause-one
@@ -19,6 +19,11 @@ try_cones-requires-clause-one g c κs within =
     (subst (λ ns. c.in-Some.pairing.names ≡ map (variable_name ns) c.as_slice.result.now) c.names.ensures p.2) in
     one_pair w c.args.subject.now c.args.cones.now task c.requires.ready c.requires.cones c.task_of-task.ensures c.inputs.ensures.sound c.inputs-2.ensures.sound c.in_ok-places.places.items c.in-Some.pairing c.in_ok-places.ensures.places
     (p.0, p.1, named)
+
+pub returns-in_default : goal.returns-in_default
+returns-in_default g c =
+    many_pair c.args.context.now c.args.subject.now c.args.cones.now c.task_of-task.result c.requires.ready c.requires.cones c.task_of-task.ensures
+    c.args.budget (g.G.Monitor.bound c.args.monitor.now) (c.in_ok-paired.ensures.many (ap Ok c.in_default.is))
 
 pub returns : goal.returns
 returns g c =
