@@ -28,7 +28,7 @@ static MSB_FIRST: &str =
 
 /// A pattern shows a difference, which is made small.
 static NOT_THE_LEAST: &str =
-    "DIFFER o at a=0 b=1 c=0 first=1 second=0 (may not be the least)\n0 equal, 1 different, 0 unmatched\n";
+    "DIFFER o at a1=0 b2=1 c3=0 first=1 second=0 (may not be the least)\n0 equal, 1 different, 0 unmatched\n";
 
 /// The report of the two netlists within so many nodes, or why there is none.
 fn reported<R: AllocGlobal + Threads + Wait + Sync>(
