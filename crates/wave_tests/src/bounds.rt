@@ -1,13 +1,9 @@
 //! Waves whose requests are bounded.
-ghost use Rattle.std.specs.Prelude.{Option, Some, ℕ, ◌<◌, ◌≤◌, All, OnOk};
-ghost use Rattle.dd_store.specs.View.{Has};
-ghost use Rattle.req_table.specs.ComputedTables.{IsRight};
+ghost use Rattle.std.specs.Prelude.{Option, Some, ℕ, ◌<◌, ◌≤◌, All};
 ghost use Rattle.reduce_up.specs.Waves.{IsEntry};
-ghost use Rattle.wave_engine.specs.EngineView.{CountsAll};
 
 use crate::plans::{NamingModel, built, read};
-use crate::waves::{How, Step, Way, crew_of, entries_of, run, start};
-use crate::widths::run_engine;
+use crate::waves::{How, Way, crew_of, entries_of, run, start};
 use dd_store::{Ref, Store, Watch};
 use expand_work::{Monitor, WaveFault};
 use net_order::order::{Match, Order};
@@ -235,7 +231,6 @@ fn reduced_by_caller<R: Threads + Wait + Abort + Sync>(
     let mut engine = Engine::new(&crew)?;
     assert!(rt; engine.wave(&mut store, entries.as_slice()).is_ok());
     assert!(rt; engine.expanded() == 7);
-    assert!(rt; engine.by_workers() == 7 - engine.reduced());
     Ok(engine.reduced())
 }
 
@@ -245,89 +240,6 @@ fn each_request_is_reduced_once(rt: HostRuntime) -> Result<(), Fail> {
     for (caller_limit, reduced) in [(4, 7), (2, 3), (1, 1), (0, 0)] {
         let found = reduced_by_caller(&rt, rt.alloc(), caller_limit)?;
         assert!(rt; found == reduced);
-    }
-    Ok(())
-}
-
-/// The constants, the variables and the two sums of that wave, in a store that gets them.
-fn two_sums<R: Threads + Wait + Abort + Sync>(rt: &R, alloc: Global, store: &mut Store) -> Vec<Ref>
-    ensures { All (Has store.new) result.items }
-{
-    let mut known = start(rt, alloc, store);
-    let sums = [(Op::Xor, 2, 4), (Op::Xor, 3, 5)];
-    let how = How {
-        workers: 1,
-        way: Way::Threads,
-    };
-    run(rt, alloc, store, &mut known, &sums, how).expect(rt, "out of memory");
-    known
-}
-
-/// A wave of steps whose bound counts all requests.
-fn counting_all<R: Abort + Threads + Wait + Sync, G: Monitor>(
-    rt: &R,
-    engine: &mut Engine<'_, R, G>,
-    store: &mut Store,
-    known: &[Ref],
-    steps: &[Step],
-) -> Result<(), WaveFault>
-    requires known { All (Has store.old) known.now }
-    requires right { IsRight store.old engine.old.held }
-    requires counts_all { CountsAll store.old engine.old }
-    ensures known { All (Has store.new) known.now }
-    ensures right { OnOk result (IsRight store.new engine.new.held) }
-    ensures counts_all { OnOk result (CountsAll store.new engine.new) }
-{
-    let entries = entries_of(rt, engine.alloc(), store, known, steps);
-    engine.wave_counting_all(store, entries.as_slice())?;
-    Ok(())
-}
-
-/// The product of the two sums, and it with their difference.
-const PRODUCT: [Step; 1] = [(Op::And, 6, 7)];
-
-const BOTH: [Step; 2] = [(Op::And, 6, 7), (Op::Xor, 6, 7)];
-
-// Within a bound of seven the product, of seven requests, can be asked for twice, and the second time nothing is expanded. With the
-// difference of the sums it is past the bound, though the product is held.
-#[test]
-fn bound_counts_what_is_held(rt: HostRuntime) -> Result<(), Fail> {
-    let monitor = Bound {
-        most: 7,
-        caller_limit: usize::MAX,
-        reported: AtomicUsize::new(0),
-        workers: AtomicUsize::new(0),
-    };
-    let crew = crew_of(&rt, rt.alloc(), 1, &monitor);
-    let mut engine = Engine::new(&crew)?;
-    let mut store = Store::new(rt.alloc(), 4, 100)?;
-    let known = two_sums(&rt, rt.alloc(), &mut store);
-    for _ in 0..2 {
-        let made = counting_all(&rt, &mut engine, &mut store, known.as_slice(), &PRODUCT);
-        assert!(rt; made == Ok(()));
-        assert!(rt; engine.expanded() == 7);
-    }
-    let refused = counting_all(&rt, &mut engine, &mut store, known.as_slice(), &BOTH);
-    assert!(rt; refused == Err(WaveFault::TooManyRequests));
-    Ok(())
-}
-
-// `wave` does not count what is held.
-#[test]
-fn bound_passes_over_what_is_held(rt: HostRuntime) -> Result<(), Fail> {
-    let monitor = Bound {
-        most: 7,
-        caller_limit: usize::MAX,
-        reported: AtomicUsize::new(0),
-        workers: AtomicUsize::new(0),
-    };
-    let crew = crew_of(&rt, rt.alloc(), 1, &monitor);
-    let mut engine = Engine::new(&crew)?;
-    let mut store = Store::new(rt.alloc(), 4, 100)?;
-    let mut known = two_sums(&rt, rt.alloc(), &mut store);
-    for steps in [&PRODUCT[..], &BOTH[..]] {
-        let made = run_engine(&rt, &mut engine, &mut store, &mut known, steps);
-        assert!(rt; made == Ok(()));
     }
     Ok(())
 }
