@@ -57,7 +57,7 @@ def users_of(name: str, callers: Callers) -> list[str]:
 
 
 def plain(name: str) -> str:
-    """A name without the mark of its type."""
+    """A function's name without its type arguments."""
     return re.sub(r"::<.*", "", name)
 
 

@@ -15,7 +15,7 @@ Only peers.py takes these:
 
 products    the sum of SIZE products of two inputs: by one OR, and by a tree of NAND and OR gates
 xors        SIZE gates in a chain over 64 inputs, in two orders of the inputs
-steps       SIZE gates in a chain over 64 inputs, by turns AND and OR, and the same by De Morgan's laws
+steps       SIZE gates in a chain over 64 inputs, AND and OR in turn, and the same by De Morgan's laws
 """
 from __future__ import annotations
 
@@ -62,8 +62,8 @@ class Netlist:
         return "\n".join(self.ports + self.gates) + "\n"
 
 
-# The ways to build a circuit from the signals of its inputs. `Add` gives the bits of a sum and its carry. Where there is no carry,
-# its name is empty.
+# The ways to build a circuit from the signals of its inputs. `Add` gives the bits of a sum and the name of its carry, which is empty if
+# there is none.
 Sum = tuple[list[str], str]
 Add = Callable[[Netlist, list[str], list[str]], Sum]
 Multiply = Callable[[Netlist, list[str], list[str]], list[str]]

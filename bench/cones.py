@@ -3,7 +3,7 @@
 
 usage: bench/cones.py PROGRAM FOLDER .. [--workers N] [--seconds N] [--repeats K] [--anew]
 
-Each FOLDER has a.bench and b.bench. They are compared with `--order cones`, K times (3) by turns: by one worker, by N (4), and by one
+Each FOLDER has a.bench and b.bench. They are compared with `--order cones`, K times (3) in turn: by one worker, by N (4), and by one
 worker in N runs at once, of which an N-th is what N processors would take that share no work and wait for nobody. The table in
 Markdown has, of the least of each: one worker's seconds on the clock, the N workers' as a ratio to it with that of the medians, their
 processor time as a ratio to one worker's, the share of N processors that they left idle, and an N-th of the runs at once as a ratio.

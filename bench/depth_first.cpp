@@ -5,10 +5,10 @@
 //
 // Inputs and outputs are paired by name. Variables are in the order of the names in the file ORDER; without it in the
 // order in which the inputs are met below the first netlist's outputs, operands from left to right. All gates of both
-// netlists are built, operand by operand, each operand first. It
-// prints a line for each output, and the number of nodes at the end on standard error. The netlists are taken to be
-// right: nothing is checked. BuDDy begins with 65,536 nodes and a computed table of 16,384 entries, keeps four nodes for each of
-// these entries as it grows (bdd_setcacheratio(4)), grows by at most 2^24 nodes at a time, and collects garbage when it is full.
+// netlists are built, operand by operand, each operand first. It prints a line for each output, and the number of nodes at the
+// end on standard error. The netlists are taken to be right: nothing is checked. BuDDy begins with 65,536 nodes and a computed
+// table of 16,384 entries, keeps four nodes for each of these entries as it grows (bdd_setcacheratio(4)), grows by at most 2^24
+// nodes at a time, and collects garbage when it is full.
 #include <bdd.h>
 
 #include <fstream>
@@ -29,7 +29,7 @@ struct Netlist {
     std::unordered_map<std::string, Gate> gates;
 };
 
-// The words of a line: the runs of bytes between blanks, marks of the format and the line's end.
+// The words of a line: runs of bytes without blanks, `=`, parentheses and commas.
 static std::vector<std::string> words_of(const std::string& line) {
     std::vector<std::string> words;
     std::string word;

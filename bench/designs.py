@@ -1,16 +1,20 @@
 #!/usr/bin/env python3
 """Counts the verdicts of a program on folders of designs beside those of abc's cec, and writes results/designs.json.
 
-usage: bench/designs.py PROGRAM FOLDER .. [--seconds N] [--memory MB] [--options "OPTION .."] [--without-cec] [--hindsight] [--only PART] [--anew]
+usage: bench/designs.py PROGRAM FOLDER .. [--seconds N] [--clock] [--letters ABC] [--memory MB] [--options "OPTION .."] [--without-cec] [--hindsight] [--only PART] [--anew]
 
-A FOLDER has folders NAME/ with a.bench, a rewritten b.bench and, in some, a faulty c.bench. Each of b and c is compared with a by
-bddcheck with one worker (by the bare command, or with these OPTIONs, which may name other workers), and by `cec` of abc without a bound
-of conflicts, in turn, each within N (10) seconds of processor time, bddcheck also within MB (4,000) megabytes. Short runs are repeated,
-up to three times, and the least counts. The table in Markdown has, for each comparison, how many pairs of outputs and next states were
-equal, differing, without a partner and undecided, the seconds of both, bddcheck's peak of memory, and what cec says; the last lines
-count the pairs with a verdict, and the comparisons that each has decided. Of a run that ends without a report all pairs count as
-undecided. The two programs may not contradict each other. cec refuses netlists whose numbers of inputs or registers differ, so it gets
-copies to which the inputs that only the other one has were added, unused; registers stay as they are.
+A FOLDER has folders NAME/ with a.bench, a rewritten b.bench and, in some, a faulty c.bench. Each of b and c (or of the LETTERS) is
+compared with a by bddcheck with one worker (by the bare command, or with these OPTIONs, which may name other workers), and by `cec` of
+abc without a bound of conflicts, in turn, each within N (10) seconds of processor time, bddcheck also within MB (4,000) megabytes. Short
+runs are repeated, up to three times, and the least counts. The table in Markdown has, for each comparison, how many pairs of outputs and
+next states were equal, differing, without a partner and undecided, the seconds of both, bddcheck's peak of memory, and what cec says;
+the last lines count the pairs with a verdict, and the comparisons that each has decided, and give the geometric mean of the ratios of
+bddcheck's seconds to those of cec over the comparisons that both decide, for each letter. Of a run that ends without a report all pairs
+count as undecided. The two programs may not contradict each other. cec refuses netlists whose numbers of inputs or registers differ, so
+it gets copies to which the inputs that only the other one has were added, unused; registers stay as they are.
+
+With --clock the seconds are those on the clock, and the bare command has its default number of workers and gets `--seconds N`, so that
+it reports what it has decided by then.
 
 With --hindsight it measures what the default order costs instead, and writes results/hindsight.json: of each comparison with b that a
 single order ends within N seconds of processor time, with one worker, the order that took least and its processor time, that of the
@@ -33,6 +37,9 @@ ORDERS = ("msb-first", "weights", "force-groups", "interleave", "force", "index"
 EASY = 0.05
 LARGE = 1 << 18
 UNBOUNDED = 2_000_000_000
+# With a bound on the clock, a run may use so many processors, and take so many seconds more for what is not stopped.
+MOST_WORKERS = 16
+GRACE = 20
 
 
 def counted(report: str) -> list[int]:
@@ -85,13 +92,23 @@ def copies(files: list[pathlib.Path], scratch: pathlib.Path) -> Iterator[pathlib
         yield path
 
 
+def own_column(files: list[pathlib.Path], settings: argparse.Namespace) -> Column:
+    """The run of bddcheck. On the clock it has its seconds from `--seconds`, and some more to write its report."""
+    options = settings.options.split()
+    if settings.clock:
+        words = ["--seconds", settings.seconds, *options]
+        bounds = {"seconds": MOST_WORKERS * settings.seconds, "clock": settings.seconds + GRACE}
+    else:
+        words = options if "--workers" in options else ["--workers", "1", *options]
+        bounds = {"seconds": settings.seconds}
+    return Column([settings.program, *words, *files], {**bounds, "megabytes": settings.memory}, has_report)
+
+
 def compared(launcher: Launcher, files: list[pathlib.Path], scratch: pathlib.Path, settings: argparse.Namespace) -> Row:
-    bounds = {"seconds": settings.seconds}
-    cec = f"cec -T {settings.seconds} -C {UNBOUNDED} {' '.join(map(str, copies(files, scratch)))}"
-    ours = [settings.program, *([] if "--workers" in settings.options else ["--workers", "1"]), *settings.options.split(), *files]
-    columns = [Column(ours, {**bounds, "megabytes": settings.memory}, has_report)]
+    columns = [own_column(files, settings)]
     if not settings.without_cec:
-        columns.append(Column([ABC, "-c", cec], bounds, has_answer))
+        cec = f"cec -T {settings.seconds} -C {UNBOUNDED} {' '.join(map(str, copies(files, scratch)))}"
+        columns.append(Column([ABC, "-c", cec], {"seconds": settings.seconds}, has_answer))
     runs = by_turns(launcher, columns, settings.repeats, fewest=1, enough=1.0)
     counts = counted(runs[0][-1].output) if has_report(runs[0][-1]) else [0, 0, 0, pairs_in(files[0])]
     row: Row = dict(zip(("equal", "differ", "only", "undecided"), counts))
@@ -108,25 +125,11 @@ def is_decided(row: Row) -> bool:
     return bool(row["bddcheck"]) and not row["undecided"]
 
 
-def count_verdicts(settings: argparse.Namespace) -> None:
-    said = {"seconds": settings.seconds, "memory": settings.memory, "options": settings.options, "repeats": settings.repeats}
-    peers = {"abc": abc_version()}
-    what = "Each comparison by the bare command with one worker, and by abc's cec: verdicts, seconds, peak memory"
-    results = Results("designs", what, settings, said, peers)
-    launcher, keys = Launcher(), []
-    for key, files in comparisons(settings.folders, only=settings.only):
-        keys.append(key)
-        if key not in results:
-            results.begin()
-            row = results.add(key, compared(launcher, files, pathlib.Path(launcher.folder.name), settings))
-            say(key, *(shown(row[name] and row[name]["processor"], 3) for name in ("bddcheck", "cec")), row["cec says"])
-    if not settings.only:
-        results.keep_only(keys)
-    rows = [results.rows[key] for key in keys]
+def print_verdicts(rows: list[Row], measure: str) -> None:
     cells = []
     for row in rows:
         counts = [str(row[name]) for name in ("equal", "differ", "only", "undecided")]
-        seconds = [shown(row[name] and row[name]["processor"], 3) for name in ("bddcheck", "cec")]
+        seconds = [shown(row[name] and row[name][measure], 3) for name in ("bddcheck", "cec")]
         cells.append([row["key"], *counts, *seconds, shown(row["bddcheck"] and row["bddcheck"]["megabytes"], 0), row["cec says"]])
     print(table(["comparison", "equal", "differ", "only", "undecided", "bddcheck s", "cec s", "bddcheck MB", "cec says"], cells))
     decided = sum(row["equal"] + row["differ"] + row["only"] for row in rows)
@@ -136,6 +139,39 @@ def count_verdicts(settings: argparse.Namespace) -> None:
         f"of {len(rows)} comparisons bddcheck decides {sum(map(is_decided, rows))}, cec {by_cec.count('equal') + by_cec.count('different')}"
     )
     print(f"cec refuses {by_cec.count('refused')}")
+
+
+def print_ratios(rows: list[Row], measure: str) -> None:
+    """The geometric means of bddcheck's seconds by those of cec, for each letter, where both have decided all."""
+    both = [row for row in rows if is_decided(row) and row["cec"]]
+    for letter in sorted({row["key"].split()[-1] for row in both}):
+        of_letter = [row for row in both if row["key"].split()[-1] == letter]
+        mean = geometric_mean(row["bddcheck"][measure] / max(row["cec"][measure], 0.001) for row in of_letter)
+        print(f"{letter}: both decide {len(of_letter)}, bddcheck's seconds by cec's {shown(mean)} in the geometric mean")
+
+
+def count_verdicts(settings: argparse.Namespace) -> None:
+    measure = "clock" if settings.clock else "processor"
+    said = {"seconds": settings.seconds, "memory": settings.memory, "options": settings.options, "repeats": settings.repeats}
+    if settings.clock:
+        said["of"] = "the clock"
+    peers = {"abc": abc_version()}
+    what = "Each comparison by the bare command, and by abc's cec: verdicts, seconds, peak memory"
+    if not settings.clock:
+        what = what.replace("bare command", "bare command with one worker")
+    results = Results("designs", what, settings, said, peers)
+    launcher, keys = Launcher(), []
+    for key, files in comparisons(settings.folders, settings.letters, settings.only):
+        keys.append(key)
+        if key not in results:
+            results.begin()
+            row = results.add(key, compared(launcher, files, pathlib.Path(launcher.folder.name), settings))
+            say(key, *(shown(row[name] and row[name][measure], 3) for name in ("bddcheck", "cec")), row["cec says"])
+    if not settings.only:
+        results.keep_only(keys)
+    rows = [results.rows[key] for key in keys]
+    print_verdicts(rows, measure)
+    print_ratios(rows, measure)
 
 
 def best_order(launcher: Launcher, files: list[pathlib.Path], settings: argparse.Namespace) -> tuple[float, str] | None:
@@ -150,7 +186,7 @@ def best_order(launcher: Launcher, files: list[pathlib.Path], settings: argparse
 
 def last_budget(said: str) -> int | None:
     """The budget of the attempt that decided; none if cones did."""
-    found = re.findall(r"^bddcheck: order \w+ decided within (\d+) nodes$", said, re.M)
+    found = re.findall(r"^bddcheck: order [\w-]+ decided within (\d+) nodes$", said, re.M)
     return int(found[-1]) if found else None
 
 
@@ -194,7 +230,11 @@ def look_back(settings: argparse.Namespace) -> None:
 def main() -> None:
     parser = parser_of(__doc__, seconds=10, repeats=3)
     parser.add_argument("folders", metavar="FOLDER", nargs="+", type=pathlib.Path, help="This folder has folders of pairs.")
-    parser.add_argument("--memory", type=int, default=4000, help="A run of bddcheck has so many megabytes; the default is 4000.")
+    parser.add_argument("--clock", action="store_true", help="Seconds are those on the clock, for the bare command with its own workers.")
+    parser.add_argument("--letters", default="bc", help="These of each folder's files are compared with a.bench; the default is bc.")
+    parser.add_argument(
+        "--memory", type=int, default=4000, help="A run of bddcheck has so many megabytes; the default is 4000, and 0 is no bound."
+    )
     parser.add_argument("--options", default="", help="These options are those of each run of bddcheck.")
     parser.add_argument("--only", default="", help="Only pairs with this text in their names are measured.")
     parser.add_argument("--without-cec", action="store_true", help="Only bddcheck is run.")

@@ -1,5 +1,5 @@
 #!/usr/bin/env python3
-"""Counts where a run's instructions go, crate by crate, and writes results/instructions.json.
+"""Counts a run's instructions, crate by crate, and writes results/instructions.json.
 
 usage: bench/instructions.py PROGRAM FOLDER .. [--all] [--anew]
 
@@ -22,7 +22,9 @@ from results import Results, Row, first_line, parser_of
 
 # By the first part of a function's name: what it is counted as.
 PARTS = {
+    "text_device": "reading texts",
     "net_bench": "reading texts",
+    "net_names": "pairing, orders",
     "net_order": "pairing, orders",
     "net_cone": "pairing, orders",
     "gate_plan": "gates into waves",
@@ -40,6 +42,7 @@ PARTS = {
     "indexmap": "growth of tables of requests",
     "lru": "computed table",
     "reduce_up": "up: requests to nodes",
+    "thread_map": "up: requests to nodes",
     "dd_store": "growth of unique tables",
     "slot_table": "growth of unique tables",
     "counter_walk": "comparing, report",

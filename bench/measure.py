@@ -49,7 +49,7 @@ class Launcher:
 
 @dataclass
 class Column:
-    """What is run by turns with others: a command, its bounds as `Launcher.run` takes them, and whether a run has a right answer."""
+    """What is run in turn with others: a command, its bounds as `Launcher.run` takes them, and whether a run has a right answer."""
 
     words: Sequence[object]
     bounds: dict[str, Any]

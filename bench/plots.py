@@ -11,7 +11,7 @@ decided       pairs decided over time, beside abc's cec        designs.json
 nodes         nodes that a comparison needs in each order      nodes.json
 workers       time on the clock by 2 and 4 workers             workers.json, cones.json
 designs       time on the clock of designs by 4 workers        turns.json
-instructions  where the instructions of a run go               instructions.json
+instructions  the instructions of a run, crate by crate        instructions.json
 """
 from __future__ import annotations
 
@@ -339,7 +339,7 @@ def draw_designs(turns: Measured) -> Drawing:
     return drawing
 
 
-# Where instructions go.
+# Instructions, crate by crate.
 
 
 def draw_instructions(found: Measured) -> Drawing:

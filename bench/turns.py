@@ -6,9 +6,9 @@ usage: bench/turns.py PROGRAM FOLDER .. [--before PROGRAM] [--workers N] [--seco
 A FOLDER has folders NAME/ with a.bench, b.bench and, in some, c.bench. Each of b and c is compared with a by the bare command with N
 workers (4), and, in turn, by the other column: the same program with one worker, or the PROGRAM before with as many workers. Each run
 has N (10) seconds on the clock. Runs are repeated up to K times (9), until those of a column have taken a second together, and the
-least of each counts, since small times waver. It prints a table in Markdown, the slowest first: both times on the clock, their ratio, that of the
-medians, processor time as a ratio, and both peaks of memory; and then the geometric mean, what is above 1.05 although it took 0.05 s
-or more, and which comparisons neither or only one of the columns ended.
+least of each counts, since small times vary. It prints a table in Markdown, the slowest first: both times on the clock, their ratio,
+that of the medians, processor time as a ratio, and both peaks of memory; and then the geometric mean, what is above 1.05 although it
+took 0.05 s or more, and which comparisons neither or only one of the columns ended.
 """
 from __future__ import annotations
 

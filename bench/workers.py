@@ -1,5 +1,5 @@
 #!/usr/bin/env python3
-"""Times bddcheck by its number of workers, by turns, on large diagrams, and writes results/workers.json.
+"""Times bddcheck by its number of workers, in turn, on large diagrams, and writes results/workers.json.
 
 usage: bench/workers.py PROGRAM [FOLDER] [--before PROGRAM] [--workers N,N ..] [--seconds N] [--repeats K] [--rest SECONDS] [--busy N] [--only PART] [--anew]
 
@@ -12,10 +12,11 @@ wave22  equal netlists whose run is nearly one wave: the disjunction of two sums
 
 Each is run by its order file, or in declared order, and some by the bare command, which tries orders within budgets. Each is run K
 times (5), or until one column has taken 20 seconds, and each time by each number of workers (1, 2, 4), one after the other and SECONDS
-(0.5) apart, since a host may take processors away after some seconds of full load. A run has N (120) seconds on the clock. It prints a table in Markdown: one worker's seconds on the clock, the least and the
-median, then for each other column both as ratios to these, the same for processor time, and the peak of memory. The last lines are the
-means. --before measures another program beside the first one, with the same numbers of workers. With --busy N other processes run all
-the while, which never wait; then nothing is written.
+(0.5) apart, since a host may take processors away after some seconds of full load. A run has N (120) seconds on the clock. It prints a
+table in Markdown: one worker's seconds on the clock, the least and the median, then for each other column both as ratios to these, the
+same for processor time, the peak of memory, and how many pairs are undecided. The last lines are the means. --before measures another
+program beside the first one, with the same numbers of workers. With --busy N other processes run all the while, which never wait; then
+nothing is written.
 """
 from __future__ import annotations
 
@@ -135,12 +136,14 @@ def cells_of(row: Row, names: list[str]) -> list[str]:
     cells = [row["key"], pair(first and (first["clock"], first["median_clock"]), 3)]
     for measure in ("clock", "processor"):
         cells += map(pair, ratios(row, names, measure))
-    return cells + [shown(row[name] and row[name]["megabytes"], 0) for name in names] + [str(row["others"])]
+    cells += [shown(row[name] and row[name]["megabytes"], 0) for name in names]
+    return cells + ["-" if row["undecided"] is None else str(row["undecided"]), str(row["others"])]
 
 
 def print_table(rows: list[Row], names: list[str]) -> None:
     head = ["pair", f"{names[0]} s"] + [f"{name} / {names[0]}" for name in names[1:]] + [f"work of {name}" for name in names[1:]]
-    print(table(head + [f"MB of {name}" for name in names] + ["others busy"], [cells_of(row, names) for row in rows]))
+    head += [f"MB of {name}" for name in names]
+    print(table(head + ["undecided", "others busy"], [cells_of(row, names) for row in rows]))
     for way in sorted({row["way"] for row in rows}):
         found = [[each and each[0] for each in ratios(row, names, "clock")] for row in rows if row["way"] == way]
         means = [f"{name} {shown(geometric_mean(column))}" for name, column in zip(names[1:], zip(*found))]

@@ -12,12 +12,15 @@ from judging import Judged, Pair, Paired, Refusal, Unpaired, judge, levels
 from harness import Run
 from reading import Fault, Netlist, below, read, read_names, split
 
-# Each of these is tried within a budget: the cases here are far below the first one, so only the limit counts. Best is the first that
-# fits. Auto takes the same for the diagrams, and reports as by declared order; if each was given up, and by cones and merge at once, each
-# pair is judged by itself. If auto leaves a pair of which another attempt could say more, declared order is tried last.
+# The orders that `best` and `auto` try, each within budgets; the cases here need far less than the first budget, so only the limit
+# counts. `best` reports by the first order that fits. `auto` builds by the same one and reports as by declared order; if each was given
+# up, it judges each pair by its cones, as `cones` and `merge` do at once. If it then leaves a pair of which another attempt could say
+# more, it tries declared order last.
 CANDIDATES = ["msb-first", "weights", "force-groups"]
+# A wave of an attempt may have so many requests for each node of its budget.
+REQUESTS_PER_NODE = 3
 BY_CONES = ("auto", "cones", "merge")
-# By these signals are merged, so that an equal pair may be decided whatever its diagrams need.
+# The words of --order by which signals are merged, so that an equal pair may be decided however many nodes its diagrams need.
 MERGING = ("auto", "merge")
 # The end of a line of a difference that may not be the least.
 NOT_LEAST = b" (may not be the least)"
@@ -35,7 +38,7 @@ class Case:
     second: bytes
     match: str = "name"
     order: str | bytes = "declared"
-    # The names of the file that are variables, then the others as declared.
+    # The order is the file's names that are variables, then the other variables as declared.
     extend: bool = False
     sizes: bool = False
     limit: int | None = None
@@ -45,13 +48,17 @@ class Case:
     print_order: bool = False
     # Both texts on standard input, with this line between them.
     divider: bytes | None = None
-    # Which variables of an assignment are reported: the word of --assignment, where there is one.
+    # Which variables of an assignment are reported: the word of --assignment, if there is one.
     assignment: str | None = None
     # What is picked: names, or the number of a share and how many there are.
     only: list[str] | None = None
     share: tuple[int, int] | None = None
+    # The bytes of an order file in whose order each picked pair is tried first.
+    by_hand: bytes | None = None
     # Any difference is enough.
     is_any: bool = False
+    # Names of the first netlist, each with the name that the second text has instead.
+    pairs: dict[str, str] | None = None
 
 
 def read_text(place: str, text: bytes) -> Netlist:
@@ -62,7 +69,7 @@ def read_text(place: str, text: bytes) -> Netlist:
 
 
 def parts_of(case: Case) -> tuple[bytes, bytes]:
-    """The texts as the program gets them: on standard input the first line `%%` divides them, wherever it stands."""
+    """The texts as the program gets them: on standard input the first line `%%` divides them, even one of the first text."""
     if case.divider is None:
         return case.first, case.second
     parts = split(case.first + case.divider + case.second)
@@ -71,17 +78,20 @@ def parts_of(case: Case) -> tuple[bytes, bytes]:
     return parts
 
 
+def listed_in(text: bytes) -> list[str]:
+    """The names of an order file. Raises a Refusal if the program must refuse it."""
+    try:
+        return read_names(text)
+    except Fault as fault:
+        raise Refusal(f"order: {fault}") from None
+
+
 def paired_of(case: Case) -> tuple[Paired, str | list[str]]:
-    """The paired netlists of the case, and its order: a word or names; a refusal where it must be refused."""
+    """The paired netlists of the case, and its order: a word or names. Raises a Refusal if the program must refuse the case."""
     first, second = parts_of(case)
-    order: str | list[str]
-    if isinstance(case.order, bytes):
-        try:
-            order = read_names(case.order)
-        except Fault as fault:
-            raise Refusal(f"order: {fault}") from None
-    else:
-        order = case.order
+    order: str | list[str] = listed_in(case.order) if isinstance(case.order, bytes) else case.order
+    if case.by_hand is not None:
+        listed_in(case.by_hand)
     nets = read_text("first", first), read_text("second", second)
     given: Netlist | None = None
     if case.given is not None:
@@ -89,7 +99,9 @@ def paired_of(case: Case) -> tuple[Paired, str | list[str]]:
         if len(given.outputs) != 1:
             raise Refusal("given: not exactly one output")
     paired = Paired(*nets, case.match, given)
-    return paired, paired.extended(order) if case.extend else order
+    if case.extend:
+        return paired, paired.extended(order)
+    return paired, order
 
 
 # Attempts.
@@ -100,8 +112,8 @@ def fits(judged: Judged, budget: int | None) -> bool:
 
 
 def must_fit(judged: Judged, budget: int | None) -> bool:
-    """No wave can be given up for its requests."""
-    return budget is None or (judged.nodes <= budget and judged.requests() <= 8 * budget)
+    """Whether an attempt must succeed: its nodes fit, and no wave can be given up for its requests."""
+    return budget is None or (judged.nodes <= budget and judged.requests() <= REQUESTS_PER_NODE * budget)
 
 
 # Pairs by their cones.
@@ -122,12 +134,18 @@ def cones(paired: Paired, pair: Pair) -> Paired:
     return Paired(*parts, "name", given)
 
 
-def may_be_reported(paired: Paired, pair: Pair, limit: int | None) -> tuple[bool, bool]:
+def orders_of(alone: Paired, by_hand: bytes | None) -> list[str | list[str]]:
+    """The orders in which the cones of a pair are tried: that of an order file first, if there is one."""
+    listed: list[str | list[str]] = [] if by_hand is None else [alone.extended(["v" + name for name in listed_in(by_hand)])]
+    return [*listed, *CANDIDATES]
+
+
+def may_be_reported(paired: Paired, pair: Pair, case: Case) -> tuple[bool, bool]:
     """Whether the pair may be decided within the limit, and whether it may not be."""
-    if limit is None:
+    if case.limit is None:
         return True, False
-    budget, alone, may_be_decided = max(1, limit // 4), cones(paired, pair), False
-    for order in CANDIDATES:
+    budget, alone, may_be_decided = max(1, case.limit // 4), cones(paired, pair), False
+    for order in orders_of(alone, case.by_hand):
         result = judge(alone, order, False)
         if must_fit(result, budget):
             return True, False
@@ -140,7 +158,7 @@ def gates_below(net: Netlist, root: str) -> int:
 
 
 def shares(paired: Paired, pairs: list[Pair], of: int) -> list[int]:
-    """By place, the share of each pair: they are dealt in serpentine order by falling number of gates, equal ones as they stand."""
+    """By place, the share of each pair: pairs are dealt in serpentine order by falling number of gates, equal ones by their places."""
     weights = [gates_below(paired.first, pair.first) + gates_below(paired.second, pair.second) for pair in pairs]
     order = sorted(range(len(pairs)), key=lambda place: -weights[place])
     serpentine = itertools.cycle([*range(1, of + 1), *range(of, 0, -1)])
@@ -148,14 +166,21 @@ def shares(paired: Paired, pairs: list[Pair], of: int) -> list[int]:
     return [dealt[place] for place in range(len(pairs))]
 
 
+def picks(word: str, label: str, name: str) -> bool:
+    """Whether a word of --only picks the pair of this label and name: each star is any run of bytes, and after NEXT only registers count."""
+    pattern = word.removeprefix("NEXT ")
+    return (pattern == word or label == "NEXT ") and bool(re.fullmatch(".*".join(map(re.escape, pattern.split("*"))), name, re.S))
+
+
 def picked(paired: Paired, case: Case, result: Judged) -> tuple[list[Pair], list[Unpaired]]:
     """The pairs that are judged, and what is reported to have no partner."""
     if case.only is not None:
-        known = {*paired.first.outputs, *paired.first.registers}
-        if not known.issuperset(case.only):
+        known = [("", name) for name in paired.first.outputs] + [("NEXT ", name) for name in paired.first.registers]
+        if not all(any(picks(word, *one) for one in known) for word in case.only):
             raise Refusal(UNKNOWN)
         of_first = [unmatched for unmatched in result.unmatched if unmatched.side == "FIRST"]
-        return [one for one in result.pairs if one.name in case.only], [one for one in of_first if one.name in case.only]
+        pairs = [one for one in result.pairs if any(picks(word, one.label, one.name) for word in case.only)]
+        return pairs, [one for one in of_first if any(picks(word, one.label, one.name) for word in case.only)]
     if case.share is not None:
         number, of = case.share
         dealt = shares(paired, result.pairs, of)
@@ -165,17 +190,18 @@ def picked(paired: Paired, case: Case, result: Judged) -> tuple[list[Pair], list
 
 
 def shown_line(pair: Pair) -> str:
-    """What stands here for each line of a difference of the pair that may not be the least."""
+    """What replaces each line of a difference of the pair that may not be the least, since its assignment is not predicted."""
     return f"DIFFER {pair.label}{pair.name}{NOT_LEAST.decode()}"
 
 
 def by_cones(paired: Paired, case: Case) -> list[Run]:
-    """The reports that may come of a case by cones: those of all choices, where an attempt may be given up for its requests."""
+    """The reports that are right for a case by cones. A pair has several lines to choose from if an attempt may be given up for its
+    requests."""
     result = judge(paired, "declared", False)
     pairs, unmatched = picked(paired, case, result)
     choices = []
     for pair in pairs:
-        is_decided, is_left = may_be_reported(paired, pair, case.limit)
+        is_decided, is_left = may_be_reported(paired, pair, case)
         is_equal = pair.line.startswith("EQUAL ")
         is_shown = not is_equal and (is_left or case.is_any)
         lines = [pair.line] * (is_decided or (is_equal and case.order in MERGING))
@@ -187,7 +213,7 @@ def by_cones(paired: Paired, case: Case) -> list[Run]:
 
 
 def report(reported: list[str], unmatched: list[Unpaired], share: tuple[int, int] | None = None) -> Run:
-    """The run that tells these lines of pairs, and what has no partner."""
+    """The run that reports these lines of pairs, and what has no partner."""
     equal, different, undecided = (sum(line.startswith(word) for line in reported) for word in ("EQUAL ", "DIFFER ", "UNDECIDED "))
     last = f"{equal} equal, {different} different, {len(unmatched)} unmatched"
     last += f", {undecided} undecided" if undecided else ""
@@ -213,7 +239,7 @@ def order_of(paired: Paired, order: str | list[str]) -> Run:
 
 
 def attempts(paired: Paired, case: Case) -> tuple[list[tuple[str, Judged]], bool, bool]:
-    """What may come of the whole where orders are tried: the orders whose attempt may decide it, whether none may, and whether each
+    """What attempts of the whole may come to: the orders whose attempt may decide it, whether all may be given up, and whether each
     needs more nodes than the limit."""
     found, over = [], True
     for order in CANDIDATES:
@@ -247,7 +273,7 @@ def auto(paired: Paired, case: Case) -> list[Run]:
 
 
 def judged(case: Case) -> Judged:
-    """What the case must give in one order; a refusal where it must be refused."""
+    """What the case must give in one order. Raises a Refusal if the program must refuse the case."""
     paired, order = paired_of(case)
     result = judge(paired, order, case.sizes)
     if case.limit is not None and not fits(result, case.limit):
@@ -259,7 +285,7 @@ DIFFER = re.compile(rb"DIFFER ((?:NEXT )?\S+) at((?: [^\s=]+=[01])*)( first=[01]
 
 
 def reported(case: Case, paired: Paired, seen: Run) -> Run:
-    """The run with the variables that the case tells of assignments."""
+    """The run with only those variables in its assignments that the case's --assignment asks for."""
     if case.assignment not in ("ones", "support"):
         return seen
     supports = judge(paired, "declared", False).supports if case.assignment == "support" else {}
@@ -298,7 +324,7 @@ def checked(case: Case, seen: Run) -> Run:
 
 
 def answers(case: Case) -> list[Run]:
-    """The runs that the program may make of the case: one, and more where orders are tried within a limit."""
+    """The runs that are right for the case: one, or several if orders are tried within a limit."""
     try:
         paired, order = paired_of(case)
         if isinstance(order, str) and order in TRIED:

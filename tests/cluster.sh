@@ -1,6 +1,7 @@
 #!/bin/sh
-# Runs the recipes of docs/CLUSTER.md as they stand there and compares the joined report with that of a single run: by GNU parallel, by an array of Slurm
-# with daemons of its own on this machine, and by what Bazel gives a shard of a test. What is not installed, or does not start, is skipped and counted as that.
+# Runs the recipes of docs/CLUSTER.md, as they are on that page, and compares the joined report with that of a single run: by GNU parallel, by an
+# array of Slurm with daemons of its own on this machine, and by what Bazel gives a shard of a test. What is not installed, or does not start, is
+# skipped and counted as that.
 # usage: tests/cluster.sh PROGRAM
 program=${1:?PROGRAM}
 top=$(cd "$(dirname "$0")/.." && pwd) || exit 2
@@ -23,13 +24,13 @@ awk -v place="$place/blocks" '
     /^```/ { file = place "/" ++number; next }
     file { print > file }' "$top/docs/CLUSTER.md"
 
-# A folder as the recipes want it, in which they are run.
+# A folder with the files that the recipes need, in which they are run.
 begin() {
     mkdir "$place/$1" && cd "$place/$1" &&
         cp "$top/examples/adder8_ripple.bench" golden.bench && cp "$top/examples/adder8_wrong.bench" revised.bench || exit 2
     bddcheck --order cones golden.bench revised.bench >whole.txt
 }
-# That a status is 0, or what the files behind it tell.
+# Checks that a status is 0; if it is not, prints the last lines of the files that are named after it.
 expect_success() {
     name=$1 status=$2 && shift 2
     if [ "$status" -eq 0 ]; then
@@ -57,7 +58,7 @@ if parallel --version 2>/dev/null </dev/null | grep -q '^GNU parallel'; then
     begin 'by parallel'
     sh ../blocks/1 >parallel.log 2>&1 </dev/null
     check 'recipe 1, parallel on one machine'
-    # What sshd would do on another machine: it sets SHELL, by which parallel runs a command there, and hands the words behind the host to a shell.
+    # What sshd would do on another machine: it sets SHELL, by which parallel runs a command there, and gives the words after the host to a shell.
     cat >"$place/bin/ssh" <<'END'
 #!/bin/sh
 while [ "${1#-}" != "$1" ]; do shift; done
@@ -81,7 +82,7 @@ cp ../blocks/7 compare.sh && chmod +x compare.sh || exit 2
 index=0
 while [ "$index" -lt "${shards:?a number of shards}" ]; do
     TEST_SHARD_STATUS_FILE=$PWD/touched.$index TEST_SHARD_INDEX=$index TEST_TOTAL_SHARDS=$shards ./compare.sh golden.bench revised.bench >"share.$index"
-    # 1 where the share has a DIFFER line, and 0 where all is equal.
+    # The status has to be 1 if the share has a DIFFER line, and else 0.
     echo "$index $? $(grep -c ^DIFFER "share.$index") $(ls "touched.$index")" >>bazel.log
     index=$((index + 1))
 done
@@ -138,7 +139,7 @@ END
     SLURM_CONF=$PWD/slurm.conf && export SLURM_CONF
     slurmctld -D -i >slurmctld.out 2>&1 &
     daemons="$! $daemons"
-    # By the control groups that the machine has, or where slurmd finds none that it can use, without them, as later versions can.
+    # By the control groups that the machine has, or, if slurmd finds none that it can use, without them, as later versions can.
     for groups in '' CgroupPlugin=disabled; do
         echo "$groups" >cgroup.conf
         slurmd -D -N "$(hostname -s)" >slurmd.out 2>&1 &
@@ -150,7 +151,7 @@ END
 none_wait() { [ -z "$(squeue -h)" ]; }
 PATH=$PATH:/usr/sbin:/sbin
 if command -v munged >/dev/null && command -v slurmctld >/dev/null && command -v slurmd >/dev/null && command -v sbatch >/dev/null; then
-    # Ports that nobody has, it is to be hoped.
+    # Two ports that probably no other process has.
     if start $((20000 + $$ % 10000 * 2)); then
         begin 'by slurm'
         cp ../blocks/3 shares.sh || exit 2

@@ -59,7 +59,7 @@ class Devices:
     # Outputs.
 
     def progress(self) -> None:
-        """What --verbose tells while the diagrams are built: lines on standard error alone, no more than one a second."""
+        """What --verbose reports while the diagrams are built: lines on standard error only, at most one a second."""
         one, chain = self.file("one", products(21)), self.file("chain", products(21, "chain"))
         silent = self.run("--sizes", one, chain, seconds=240)
         alone = self.run("--sizes", "--workers", "1", one, chain, seconds=240)
@@ -93,7 +93,7 @@ class Devices:
             self.check(f"wide levels of 4,096 variables by {workers}", seen, equal)
 
     def terminal(self) -> None:
-        """On a terminal one line is written in place where a rank begins over a second after the start, and gone at the end."""
+        """On a terminal one line is written over and over if a rank begins more than a second after the start, and cleared at the end."""
         late = self.fifo("slow", C17, len(C17), wait=1.2)
         status, out, reported = self.on_terminal(self.c17, late)
         place = rb"\rbddcheck: attempt 1 is building rank \d+ of \d+: \d+ nodes and \d+ requests so far in \d+ MB\x1b\[K"
@@ -119,7 +119,7 @@ class Devices:
         child = subprocess.Popen([self.program, *files], stdin=subprocess.DEVNULL, stdout=subprocess.PIPE, stderr=theirs)
         os.close(theirs)
         reported = b""
-        # What is read of a terminal that nobody has open fails.
+        # The loop ends when the program has closed the terminal: reading it then fails.
         while part := self.front_of(ours):
             reported += part
         os.close(ours)
@@ -149,7 +149,7 @@ class Devices:
         )
 
     def later_attempts(self) -> None:
-        """Within a later budget that order is tried first which came furthest within the one before, and no other byte tells of it."""
+        """Within a later budget that order is tried first which came furthest within the one before, and the report does not change."""
         texts = []
         for name, multiply in (("array", circuits.array), ("wallace", circuits.wallace)):
             net = circuits.Netlist()
@@ -174,7 +174,7 @@ class Devices:
             "some pairs are left by each round but the last",
             re.fullmatch(
                 r"(bddcheck: [1-9]\d* of 18 pairs are undecided by cones within (16384|262144) nodes\n){2}"
-                r"bddcheck: 0 of 18 pairs are undecided by cones within 2097152 nodes\nbddcheck: each pair was judged by its cones",
+                r"bddcheck: 0 of 18 pairs are undecided by cones within 3728270 nodes\nbddcheck: each pair was judged by its cones",
                 "\n".join(by_one[1:]),
             ),
             by_one,
@@ -265,7 +265,7 @@ class Devices:
             self.check(f"/dev/zero on standard input as {name}", harness.unhelped(seen), refused(f"{name}: longer than 67108864 bytes"))
 
     def limits(self) -> None:
-        """Texts at their limits and one byte over them, of comments alone."""
+        """Texts of comments only, at their limits and one byte over them."""
 
         def comment(size: int) -> bytes:
             return b"#" + b" " * (size - 2) + b"\n"
@@ -352,7 +352,7 @@ class Devices:
         words: list[object] = [self.program, secret, self.c17]
         more: dict[str, Any] = {}
         if os.geteuid() == 0:
-            # To root each file is open: run it as nobody, from where nobody gets to.
+            # Root may open each file, so the program is run as nobody, by a copy in a folder that nobody may enter.
             self.place.chmod(0o755)
             program = shutil.copy(self.program, self.place / "program")
             os.chmod(program, 0o755)

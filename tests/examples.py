@@ -3,7 +3,7 @@
 
 usage: tests/examples.py PROGRAM
 
-A row that stands in the README and not here, or here and not there, fails.
+A row that is in the README and not here, or here and not in the README, fails.
 """
 from __future__ import annotations
 
@@ -96,6 +96,9 @@ SEEN = {
         ["DIFFER NEXT G7 at G0=0 G1=0 G2=0 G3=0 G5=0 G6=0 G7=0 first=0 second=1", "3 equal, 1 different, 0 unmatched"], 1
     ),
     "examples/s27.bench examples/s27_renamed.bench": register_alone,
+    "--pairs examples/s27_renamed.pairs examples/s27.bench examples/s27_renamed.bench": machine(
+        ["EQUAL NEXT G7", "4 equal, 0 different, 0 unmatched"], 0
+    ),
     "examples/c17.bench examples/c17_of_four.bench": of_four,
     "examples/one_and.bench examples/one_buf.bench": equal("x"),
     "examples/empty.bench examples/empty.bench": equal(),

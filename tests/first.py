@@ -4,10 +4,10 @@
 usage: tests/first.py PROGRAM
 
 tools/bddcheck.sh is called in a copy of the tree without out/, while the locks of a build are held: on two files, on standard input by a
-slow writer, on a pipe and a refused file outside of the tree, and on an option that there is not. Status, output and errors must be those of PROGRAM,
-with two lines on standard error before them. Each of these calls compiles the program, so two run side by side. --help and --version
-are answered from the texts of the sources, at once and without these lines. Then come calls that give no answer, and must end with
-status 4 and one line that says why. The part is skipped if there is no `rt`.
+slow writer, on a pipe and a refused file outside of the tree, and on an unknown option. Status, output and errors must be those of
+PROGRAM, with two lines on standard error before them. Each of these calls compiles the program, so two run side by side. --help and
+--version are answered from the texts of the sources, at once and without these lines. Then come calls that give no answer, and must end
+with status 4 and one line that says why. The part is skipped if there is no `rt`.
 """
 from __future__ import annotations
 

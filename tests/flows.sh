@@ -1,5 +1,5 @@
 #!/bin/sh
-# Runs the recipes of docs/FLOWS.md where yosys and abc are installed, and compares what they print with what stands there;
+# Runs the recipes of docs/FLOWS.md, if yosys and abc are installed, and compares what they print with what that page shows;
 # then tools/rtl2bench.sh on the pairs of tests/flows/pairs.txt.
 # usage: tests/flows.sh PROGRAM
 program=${1:?PROGRAM}
@@ -43,7 +43,7 @@ while [ -e $number.sh ]; do
 done
 recipes=$((number - 1))
 
-# What a flow makes of a design, by one of the ways of pairs.txt; its name is told. A folder with a blank in its name holds it.
+# Writes what a flow makes of a design, by one of the ways of pairs.txt, into a folder with a blank in its name, as the only file there.
 mkdir 'made of' 'first ones' || exit 2
 made() {
     read="read_verilog ${2:+-D$2} $1; hierarchy -auto-top; proc; flatten; memory"
@@ -65,7 +65,7 @@ made() {
     parts=${1%.v}_parts.v
     [ ! -e "$parts" ] || cat "$parts" >>'made of/made.v'
 }
-# Compares a pair as docs/FLOWS.md does. What is left open is 0 where pairs are by position, so that both have the same inputs.
+# Compares a pair as docs/FLOWS.md does. What is left open is 0 if pairs are by position, so that both have the same inputs.
 pair() {
     first=$1 macro=$3 way=$4 match=$5 left=$6
     rm -rf 'made of/'* && made "$2" "$macro" "$way" && set -- 'made of'/made.* || return

@@ -3,22 +3,23 @@
 
 usage: tests/fuzz.py PROGRAM [--seconds S] [--seed N] [--case KIND:I] [--jobs J]
 
-It takes S seconds (120) by J processes (2). The seed is printed; with it each case is made again, and --case makes one
-alone. The files of a case that fails are kept, and reported.
+It takes S seconds (120) by J processes (2). The seed is printed; with it each case is made again, and --case makes only
+one. The files of a case that fails are kept, and reported.
 """
 from __future__ import annotations
 
 import itertools
 import random
+import re
 import string
 import sys
 import time
-from collections.abc import Sequence
+from collections.abc import Callable, Iterator, Mapping, Sequence
 from dataclasses import replace
 from typing import NamedTuple
 
 import harness
-from answering import BY_CONES, CANDIDATES, TRIED, Case, answers, checked, cones, judged, paired_of
+from answering import BY_CONES, CANDIDATES, MERGING, TRIED, Case, answers, checked, cones, judged, paired_of
 from judging import ORDERS, Refusal, judge
 from harness import Run, Tally, run, say
 
@@ -72,31 +73,98 @@ def random_netlist(rng: random.Random, inputs: list[str], gate_count: int, outpu
     return statements
 
 
-def rewritten(rng: random.Random, statements: list[Statement]) -> list[Statement]:
-    """The same functions by other gates."""
+# Local rules: each gives the statements that compute a gate's function in another way, or none if it does not suit the gate. New signals
+# have names that begin with `inner`; `gates` has the gates by name.
+
+Gates = Mapping[str, Statement]
+Rule = Callable[[random.Random, Statement, str, Gates], list[Statement]]
+
+
+def by_opposite(_rng: random.Random, gate: Statement, inner: str, _gates: Gates) -> list[Statement]:
+    return [Statement(OPPOSITE[gate.word], inner, gate.operands), Statement("NOT", gate.name, [inner])]
+
+
+def by_other_order(rng: random.Random, gate: Statement, _inner: str, _gates: Gates) -> list[Statement]:
+    return [gate._replace(operands=rng.sample(gate.operands, len(gate.operands)))]
+
+
+def by_de_morgan(_rng: random.Random, gate: Statement, inner: str, _gates: Gates) -> list[Statement]:
+    turned = {"AND": "NOR", "NAND": "OR", "OR": "NAND", "NOR": "AND"}
+    if gate.word not in turned:
+        return []
+    made = [Statement("NOT", f"{inner}.{i}", [operand]) for i, operand in enumerate(gate.operands)]
+    return [*made, Statement(turned[gate.word], gate.name, [one.name for one in made])]
+
+
+def by_parts(_rng: random.Random, gate: Statement, inner: str, _gates: Gates) -> list[Statement]:
+    """The first two operands by themselves."""
+    if len(gate.operands) < 3:
+        return []
+    plain = gate.word if gate.word in ("AND", "OR", "XOR") else OPPOSITE[gate.word]
+    return [Statement(plain, inner, gate.operands[:2]), gate._replace(operands=[inner, *gate.operands[2:]])]
+
+
+def by_four_nands(_rng: random.Random, gate: Statement, inner: str, _gates: Gates) -> list[Statement]:
+    if gate.word not in ("XOR", "XNOR") or len(gate.operands) != 2:
+        return []
+    made = [Statement("NAND", inner, gate.operands)]
+    made += [Statement("NAND", f"{inner}.{i}", [operand, inner]) for i, operand in enumerate(gate.operands)]
+    return [*made, Statement("NAND" if gate.word == "XOR" else "AND", gate.name, [one.name for one in made[1:]])]
+
+
+def with_operand(gate: Statement, place: int, name: str) -> Statement:
+    """The gate with another operand at a place."""
+    return gate._replace(operands=[*gate.operands[:place], name, *gate.operands[place + 1 :]])
+
+
+def by_double_negation(rng: random.Random, gate: Statement, inner: str, _gates: Gates) -> list[Statement]:
+    place = rng.randrange(len(gate.operands))
+    once, twice = f"{inner}.0", f"{inner}.1"
+    return [Statement("NOT", once, [gate.operands[place]]), Statement("NOT", twice, [once]), with_operand(gate, place, twice)]
+
+
+def by_distribution(rng: random.Random, gate: Statement, inner: str, gates: Gates) -> list[Statement]:
+    """AND over OR or XOR, and OR over AND."""
+    plain = {"NAND": "AND", "NOR": "OR"}.get(gate.word, gate.word)
+    over = {"AND": ("OR", "XOR"), "OR": ("AND",)}.get(plain, ())
+    places = [place for place, operand in enumerate(gate.operands) if operand in gates and gates[operand].word in over]
+    if len(gate.operands) != 2 or not places:
+        return []
+    place = rng.choice(places)
+    word, _, operands = gates[gate.operands[place]]
+    made = [Statement(plain, f"{inner}.{i}", [gate.operands[1 - place], operand]) for i, operand in enumerate(operands)]
+    return [*made, Statement(word if gate.word == plain else OPPOSITE[word], gate.name, [one.name for one in made])]
+
+
+def by_doubling(rng: random.Random, gate: Statement, inner: str, gates: Gates) -> list[Statement]:
+    """An operand that other gates may use as well is made once more."""
+    place = rng.randrange(len(gate.operands))
+    if gate.operands[place] not in gates:
+        return []
+    return [gates[gate.operands[place]]._replace(name=inner), with_operand(gate, place, inner)]
+
+
+RULES: list[Rule] = [
+    by_opposite,
+    by_other_order,
+    by_de_morgan,
+    by_parts,
+    by_four_nands,
+    by_double_negation,
+    by_distribution,
+    by_doubling,
+]
+
+
+def rewritten(rng: random.Random, statements: list[Statement], begin: str = "r") -> list[Statement]:
+    """The same functions by other gates, whose new names begin with a letter and a number that no other name has."""
+    gates = {statement.name: statement for statement in statements if not statement.is_port() and statement.word != "DFF"}
     made: list[Statement] = []
-    count = 0
-    for statement in statements:
+    for number, statement in enumerate(statements):
         if statement.is_port() or statement.word == "DFF" or rng.random() < 0.4:
             made.append(statement)
             continue
-        word, name, operands = statement
-        way = rng.randrange(4)
-        inner = f"r.{count}"
-        count += 1
-        if way == 0:
-            made += [Statement(OPPOSITE[word], inner, operands), Statement("NOT", name, [inner])]
-        elif way == 1 and word in WIDE:
-            made.append(Statement(word, name, rng.sample(operands, len(operands))))
-        elif way == 2 and word in ("AND", "NAND", "OR", "NOR"):
-            turned = {"AND": "NOR", "NAND": "OR", "OR": "NAND", "NOR": "AND"}[word]
-            made += [Statement("NOT", f"{inner}.{i}", [operand]) for i, operand in enumerate(operands)]
-            made.append(Statement(turned, name, [f"{inner}.{i}" for i in range(len(operands))]))
-        elif way == 3 and word in WIDE and len(operands) > 2:
-            plain = word if word in ("AND", "OR", "XOR") else OPPOSITE[word]
-            made += [Statement(plain, inner, operands[:2]), Statement(word, name, [inner, *operands[2:]])]
-        else:
-            made.append(statement)
+        made += rng.choice(RULES)(rng, statement, f"{begin}.{number}", gates) or [statement]
     return made
 
 
@@ -116,7 +184,7 @@ def changed(rng: random.Random, statements: list[Statement]) -> list[Statement]:
 
 
 def renamed(rng: random.Random, statements: list[Statement], match: str) -> list[Statement]:
-    """Other names, and ports in another order where names pair them; at times a port too many or too few."""
+    """Other names, and ports in another order if names pair them; at times a port too many or too few."""
     if rng.random() < 0.3:
         statements = rng.sample(statements, len(statements)) if match == "name" else statements
     if match == "position" and rng.random() < 0.7:
@@ -152,7 +220,7 @@ def cased(rng: random.Random, word: str) -> str:
 
 
 def laid_out(rng: random.Random, statements: list[Statement], plain: bool) -> bytes:
-    """The text of a netlist, by turns as tools write it and with all freedom of the format."""
+    """The text of a netlist: as tools write it if it is to be `plain`, else with all freedom of the format."""
     end = "\r\n" if rng.random() < 0.15 else "\n"
     text = []
     for statement in statements:
@@ -237,6 +305,15 @@ def pair_of_netlists(rng: random.Random, match: str, most_inputs: int) -> tuple[
     return first, renamed(rng, second, match)
 
 
+def rewritten_pair(rng: random.Random) -> tuple[list[Statement], list[Statement]]:
+    """A netlist, and what one or two rounds of local rules make of it; at times one gate is then another one."""
+    first = random_netlist(rng, names(rng, rng.randrange(2, 8), False), rng.randrange(5, 30), rng.randrange(1, 5))
+    second = first
+    for begin in rng.choice(["r", "rs"]):
+        second = rewritten(rng, second, begin)
+    return first, changed(rng, second) if rng.random() < 0.4 else second
+
+
 def listed(rng: random.Random, first: list[Statement], second: list[Statement], match: str) -> bytes:
     """An order file: mostly right, at times with a name too many, too few, or damaged."""
     wanted = list(dict.fromkeys(sources_of(first) + (sources_of(second) if match == "name" else [])))
@@ -254,7 +331,10 @@ def listed(rng: random.Random, first: list[Statement], second: list[Statement], 
 
 def make_case(kind: str, rng: random.Random) -> Case:
     match = "position" if kind == "position" else rng.choice(["name", "name", "name", "position"])
-    first, second = pair_of_netlists(rng, match, 10 if rng.random() < 0.1 else 6)
+    if kind == "rewritten":
+        first, second = rewritten_pair(rng)
+    else:
+        first, second = pair_of_netlists(rng, match, 10 if rng.random() < 0.1 else 6)
     plain = rng.random() < 0.4
     case = Case(laid_out(rng, first, plain), laid_out(rng, second, plain), match, workers=rng.choice([1, 2, 3, 4, 16]))
     case.is_any = kind == "any" or (kind in BY_CONES and rng.random() < 0.2)
@@ -262,7 +342,7 @@ def make_case(kind: str, rng: random.Random) -> Case:
         rng.choice(BY_CONES)
         if kind in ("coned", "any")
         else rng.choice(list(ORDERS))
-        if kind in ("position", "damaged", "input", "limit", "print")
+        if kind in ("position", "damaged", "input", "limit", "print", "pairs", "rewritten")
         else kind
     )
     if kind == "list" or (kind in ("position", "limit", "print") and rng.random() < 0.3):
@@ -274,6 +354,8 @@ def make_case(kind: str, rng: random.Random) -> Case:
         case.order = "declared"
     if kind in ("only", "share"):
         pick(rng, case, kind, first, second)
+    if kind == "rewritten":
+        case.order, case.limit = "merge", rng.randrange(2, 100)
     case.sizes = kind == "sizes" or (rng.random() < 0.3 and case.order not in BY_CONES)
     case.print_order = kind == "print"
     if kind == "damaged":
@@ -284,14 +366,54 @@ def make_case(kind: str, rng: random.Random) -> Case:
             case.first += b"\n"
         if rng.random() < 0.1:
             case.first = damaged(rng, case.first)
-    if kind == "given" or (kind in (*BY_CONES, "coned", "any", "only", "share") and rng.random() < 0.3):
+    if kind == "given" or (kind in (*BY_CONES, "coned", "any", "only", "share", "rewritten") and rng.random() < 0.3):
         condition = random_netlist(rng, sources_of(first)[:4] or ["g"], rng.randrange(1, 6), 1)
         case.given = laid_out(rng, condition, plain)
         if rng.random() < 0.1:
             case.given = damaged(rng, case.given)
+    if kind == "pairs":
+        case.match = "name"
+        rename(rng, case, first, second)
     if rng.random() < 0.3:
         case.assignment = rng.choice(["all", "support", "ones"])
     return case
+
+
+def ports_of(statements: list[Statement]) -> set[str]:
+    return {s.name for s in statements if s.word in ("INPUT", "OUTPUT", "DFF")}
+
+
+def rename(rng: random.Random, case: Case, first: list[Statement], second: list[Statement]) -> None:
+    """Other names in the second text for some inputs, outputs and registers that both netlists have, and the pairs that give the names back.
+    At times two of those that are left exchange their names."""
+    known = {s.name for s in (*first, *second)}
+    both = sorted(ports_of(first) & ports_of(second))
+    others = {name: f"{name}_{number}" for number, name in enumerate(rng.sample(both, rng.randrange(len(both) + 1)))}
+    case.pairs = {name: other for name, other in others.items() if other not in known and len(name) < 250}
+    rest = [name for name in both if name not in case.pairs]
+    if len(rest) > 1 and rng.random() < 0.5:
+        one, two = rng.sample(rest, 2)
+        case.pairs |= {one: two, two: one}
+
+
+def with_pairs(text: bytes, pairs: dict[str, str]) -> bytes:
+    """The text with the second names of the pairs. A name that a parenthesis follows is a keyword, and comments are kept."""
+    new = {name.encode(): other.encode() for name, other in pairs.items()}
+    # A comment is taken up to its end, also if a parenthesis is in it.
+    is_called = re.compile(rb"(?:\s|#[^\n]*\n)*\(")
+
+    def word(found: re.Match[bytes]) -> bytes:
+        return found[0] if is_called.match(text, found.end()) else new.get(found[0], found[0])
+
+    return re.sub(rb"#[^\n]*|[^\s(),=#]+", word, text)
+
+
+def patterned(rng: random.Random, name: str) -> str:
+    """The name, or a pattern that matches it; at times of registers only."""
+    if name and rng.random() < 0.4:
+        begin, end = sorted(rng.choices(range(len(name) + 1), k=2))
+        name = name[:begin] + "*" * rng.choice([1, 1, 2]) + name[end:]
+    return f"NEXT {name}" if rng.random() < 0.2 else name
 
 
 def pick(rng: random.Random, case: Case, kind: str, first: list[Statement], second: list[Statement]) -> None:
@@ -300,10 +422,11 @@ def pick(rng: random.Random, case: Case, kind: str, first: list[Statement], seco
     if kind == "only":
         known = ends_of(first) or ["nobody"]
         others = [*known, *ends_of(second), *sources_of(first), "nobody"]
-        case.only = rng.choices(known if rng.random() < 0.8 else others, k=rng.choice([1, 1, 2, 3]))
+        chosen = rng.choices(known if rng.random() < 0.8 else others, k=rng.choice([1, 1, 2, 3]))
+        case.only = [patterned(rng, name) for name in chosen]
         both = [s.name for s in first if s.word == "DFF" and s.name in sources_of(second)]
         if both and rng.random() < 0.3:
-            # The second netlist alone has an output of this name.
+            # Only the second netlist has an output of this name.
             case.only = both[:1]
             case.second += f"\nOUTPUT({both[0]})\n".encode()
     else:
@@ -311,6 +434,8 @@ def pick(rng: random.Random, case: Case, kind: str, first: list[Statement], seco
         case.share = rng.randrange(1, of + 1), of
     if rng.random() < 0.5:
         case.limit = rng.choice([rng.randrange(1, 9), rng.randrange(1, 200), 4 * rng.randrange(1, 60)])
+    if rng.random() < 0.4:
+        case.by_hand = listed(rng, first, second, case.match)
 
 
 def damage(rng: random.Random, case: Case) -> None:
@@ -326,9 +451,12 @@ def damage(rng: random.Random, case: Case) -> None:
             setattr(case, place, text)
 
 
-KINDS = [*ORDERS, "list", "position", "sizes", "limit", "coned", "any", "only", "share", "print", "input", "damaged", "given"]
+KINDS = [*ORDERS, "list", "position", "sizes", "limit", "coned", "any", "only", "share", "print", "input", "damaged", "given", "pairs"]
+KINDS += ["rewritten"]
 # Those that take the limits of each case.
 LIMITED = ("limit", "coned", "any")
+# A pair that is rewritten is compared by so many workers, which have to give the same bytes.
+WORKERS = (1, 2, 4)
 
 
 # Running.
@@ -339,7 +467,7 @@ def is_picking(case: Case) -> bool:
 
 
 def default_of(case: Case) -> str:
-    """The order where no word and no file names one."""
+    """The order if no word and no file names one."""
     if is_picking(case):
         return "cones"
     return "declared" if case.sizes or case.print_order or case.limit is not None else "auto"
@@ -352,6 +480,8 @@ def words_of(program: str, case: Case, place: str) -> list[object]:
         words += ["--match", case.match]
     if isinstance(case.order, bytes):
         words += ["--order-file", harness.written(place, "order", case.order), *(["--extend"] if case.extend else [])]
+    elif case.by_hand is not None:
+        words += ["--order-file", harness.written(place, "order", case.by_hand), "--extend"]
     elif case.order != default_of(case):
         words += ["--order", case.order]
     elif case.workers == 1:
@@ -375,8 +505,16 @@ def words_of(program: str, case: Case, place: str) -> list[object]:
         words += ["--given", harness.written(place, "given.bench", case.given)]
     if case.is_any:
         words += ["--difference", "any"]
+    if case.workers == 3:
+        # A run that ends before its time is over is as without the option.
+        words += ["--seconds", "600"]
+    second = case.second
+    if case.pairs is not None:
+        listed = "".join(f"{name} {other}\n" for name, other in case.pairs.items())
+        words += ["--pairs", harness.written(place, "pairs", listed.encode())]
+        second = with_pairs(case.second, case.pairs)
     if case.divider is None:
-        words += [harness.written(place, "first.bench", case.first), harness.written(place, "second.bench", case.second)]
+        words += [harness.written(place, "first.bench", case.first), harness.written(place, "second.bench", second)]
     return words
 
 
@@ -404,39 +542,71 @@ def limits_of(case: Case) -> list[int | None]:
 
 
 def taken_again(program: str, case: Case, order: bytes, place: str) -> tuple[Run, Run]:
-    """What the case gives where it is compared, and what it gives with the order file that was printed."""
+    """What the case gives if it is compared, and what it gives if it is compared by the printed order as its order file."""
     plain = replace(case, print_order=False)
     listed_again = replace(plain, order=order)
-    given = b"" if case.divider is None else case.first + case.divider + case.second
-    return run(words_of(program, plain, place), given), run(words_of(program, listed_again, place), given)
+    return run(words_of(program, plain, place), input_of(case)), run(words_of(program, listed_again, place), input_of(case))
+
+
+def variants(kind: str, case: Case) -> Iterator[Case]:
+    """The case, or what some kinds make of it: one for each of its limits, or for each order by which signals are merged, within limits at
+    which diagrams of the whole, of the pairs or of neither fit."""
+    if kind in LIMITED:
+        yield from (replace(case, limit=limit) for limit in limits_of(case))
+    elif kind == "rewritten":
+        yield from (replace(case, order=order, limit=limit) for order in MERGING for limit in (1, case.limit, None))
+    else:
+        yield case
+
+
+def input_of(case: Case) -> bytes:
+    """What the case gives on standard input."""
+    return b"" if case.divider is None else case.first + case.divider + case.second
+
+
+def disagreement(program: str, case: Case, place: str) -> str | None:
+    """None if the answers agree, else what is reported."""
+    wanted = answers(case)
+    words = words_of(program, case, place)
+    seen = run(words, input_of(case))
+    seen = harness.without_cause(seen) if seen.out else seen
+    seen = harness.unhelped(seen) if seen.err else checked(case, seen)
+    if case.print_order and seen in wanted and seen.status == 0:
+        again, seen = taken_again(program, case, seen.out, place)
+        wanted = [again]
+    if seen in wanted:
+        return None
+    files = {"first.bench": case.first, "second.bench": case.second, "input": input_of(case)}
+    if isinstance(case.order, bytes):
+        files["order"] = case.order
+    where = harness.kept("fuzz", files)
+    return f"{' '.join(map(str, words[1:]))}; files in {where}: {seen}; wanted {wanted}"
+
+
+def disagreement_of_workers(program: str, case: Case, place: str) -> str | None:
+    """None if the case gives the same bytes by each of some numbers of workers, else what is reported."""
+    runs = [run(words_of(program, replace(case, workers=workers), place), input_of(case)) for workers in WORKERS]
+    if all(seen == runs[0] for seen in runs):
+        return None
+    where = harness.kept("fuzz", {"first.bench": case.first, "second.bench": case.second})
+    return f"--order {case.order!r} --limit {case.limit}; files in {where}; by {WORKERS} workers: {', '.join(map(str, runs))}"
 
 
 def try_case(program: str, seed: str, kind: str, index: int, place: str) -> str | None:
-    """None where the answers agree, and else what is reported."""
-    case = make_case(kind, random.Random(f"{seed}:{kind}:{index}"))
-    for limit in limits_of(case) if kind in LIMITED else [case.limit]:
-        case.limit = limit
-        wanted = answers(case)
-        words = words_of(program, case, place)
-        given = b"" if case.divider is None else case.first + case.divider + case.second
-        seen = run(words, given)
-        seen = harness.unhelped(seen) if seen.err else checked(case, seen)
-        if case.print_order and seen in wanted and seen.status == 0:
-            again, seen = taken_again(program, case, seen.out, place)
-            wanted = [again]
-        if seen not in wanted:
-            files = {"first.bench": case.first, "second.bench": case.second, "input": given}
-            if isinstance(case.order, bytes):
-                files["order"] = case.order
-            where = harness.kept("fuzz", files)
-            return f"--seed {seed} --case {kind}:{index}: {' '.join(map(str, words[1:]))}; files in {where}: {seen}; wanted {wanted}"
+    """None if the answers agree, else what is reported."""
+    for case in variants(kind, make_case(kind, random.Random(f"{seed}:{kind}:{index}"))):
+        reported = disagreement(program, case, place)
+        if reported is None and kind == "rewritten":
+            reported = disagreement_of_workers(program, case, place)
+        if reported is not None:
+            return f"--seed {seed} --case {kind}:{index}: {reported}"
     return None
 
 
 def try_many(
     program: str, seed: str, kinds: list[str], begin: int, step: int, until: float
 ) -> tuple[dict[str, int], list[tuple[str, str]]]:
-    """Cases of all kinds by turns, until the time is over: how many, and the failed ones by kind."""
+    """Tries cases of all kinds in turn, until the time is over: how many of each kind, and the failed ones with their kinds."""
     tried = {kind: 0 for kind in kinds}
     failed: list[tuple[str, str]] = []
     with harness.folder() as place:

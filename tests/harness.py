@@ -4,6 +4,7 @@ from __future__ import annotations
 import argparse
 import concurrent.futures
 import os
+import re
 import pathlib
 import signal
 import subprocess
@@ -54,10 +55,26 @@ def run(words: Iterable[object], given: bytes = b"", seconds: float = 60, enviro
 
 
 def unhelped(seen: Run) -> Run:
-    """A refused run without the second line on standard error, which says what helps. A run that has no such line is none that is wanted."""
+    """A refused run without the second line on standard error, which says what helps. A run without such a line becomes one that no check
+    accepts."""
     said = seen.err.splitlines(keepends=True)
     has_help = len(said) == 2 and all(line.startswith(b"bddcheck: ") and line.endswith(b"\n") for line in said)
     return Run(seen.status, seen.out, said[0] if has_help else b"not two lines: " + seen.err)
+
+
+UNDECIDED = re.compile(rb"bddcheck: the number of undecided pairs is (\d+); [^\n]*\n")
+
+
+def without_cause(seen: Run) -> Run:
+    """A run with a report, without the line on standard error that says why pairs are undecided. A run whose line has another number of
+    them than the report, or that has no line though some are undecided, becomes one that no check accepts."""
+    left = re.search(rb"(\d+) undecided|\"undecided\":(\d+)", seen.out)
+    said = UNDECIDED.search(seen.err)
+    if not left and not said:
+        return seen
+    if not left or not said or said[1] != (left[1] or left[2]):
+        return Run(seen.status, seen.out, b"not the cause of undecided pairs: " + seen.err)
+    return Run(seen.status, seen.out, UNDECIDED.sub(b"", seen.err))
 
 
 class Tally:

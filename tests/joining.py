@@ -128,6 +128,8 @@ def joined_json(tally: Tally) -> None:
     given = [text.replace(b'"variables"', b'"given":true,"variables"') for text in (one, two)]
     seen = join(TWO_OUTPUTS, *given)
     tally.check("JSON with a condition", seen == Run(3, whole.replace(b'"variables"', b'"given":true,"variables"'), b""), seen)
+    seen = join(TWO_OUTPUTS, one.replace(b"}\n", b',"stopped":true}\n'), two)
+    tally.check("JSON of a run that was stopped", seen == Run(3, whole.replace(b"}\n", b',"stopped":true}\n'), b""), seen)
     for name, other in {
         "other variables": json_report(2, 2, verdict("EQUAL", "x"), variables=("b",), equal=1),
         "another order": json_report(2, 2, verdict("EQUAL", "x"), order="declared", equal=1),
@@ -136,6 +138,7 @@ def joined_json(tally: Tally) -> None:
         "no share": two.replace(b',"share":[2,2]', b""),
         "an unknown verdict": json_report(2, 2, verdict("SAME", "x"), equal=1),
         "causes": two.replace(b',"share"', b',"causes":[],"share"'),
+        "stopped or not": two.replace(b',"share":[2,2]', b',"share":[2,2],"stopped":false'),
         "a member twice": two.replace(b'"equal":1', b'"equal":1,"equal":1'),
         "lines": X,
         "broken": two[:-3],

@@ -64,7 +64,7 @@ class Paired:
         return distinct(met + self.declared())
 
     def interleaved(self) -> list[str]:
-        """A variable that a walk meets for the first time goes right behind the one that the walk met before it."""
+        """A variable that a walk meets for the first time goes right after the one that the walk met before it, or to the front."""
         order: list[str] = []
         for net in (self.first, self.second):
             rank = ranks(net).__getitem__
@@ -85,11 +85,11 @@ class Paired:
         return distinct([*(name for name in names if name in variables), *variables])
 
     def by_index(self) -> list[str]:
-        """By the number at the end of a name; a condition's variables stand among the others."""
+        """By the number at the end of a name; a condition's variables are among the others."""
         return sorted(distinct([*self.declared(), *self.of_condition()]), key=index_key)
 
     def by_force(self) -> list[str]:
-        """From where the rounds end, the last one first: the gates of all netlists, a condition's too, draw at their variables."""
+        """The order after the rounds of FORCE, the last variable first; the edges are the gates of all netlists, a condition's too."""
         variables = self.by_index()
         number = {name: i for i, name in enumerate(variables)}
         rank = [0] * len(variables)
@@ -111,18 +111,19 @@ MOST_NUMBER = 10**18
 
 
 def index_key(name: str) -> int:
-    """0 where no number is at the end of a name, else one more than it; marks may follow it, and letters may not."""
+    """0 if no number is at the end of a name, else one more than it; after it there may be other characters, but no letter."""
     found = re.fullmatch(r".*?([0-9]+)[^0-9A-Za-z]*", name)
     return 1 + min(int(found[1]), MOST_NUMBER) if found else 0
 
 
-# FORCE: vertices are numbers, the variables first, then the gates; the edge of a gate has its operands and last itself.
+# FORCE (Aloul, Markov and Sakallah 2003). Vertices are numbers, the variables first, then the gates; the edge of a gate has its operands
+# and, last, the gate.
 
 PARTS, WHOLE = 65_536, 16_777_216
 
 
 def moved(variables: int, edges: list[list[int]], rank: list[int]) -> list[int]:
-    """Where two rounds end. They begin with each gate right behind the last variable below it."""
+    """The vertices in their order after two rounds, which begin with each gate right after the last variable below it."""
     by_rank = sorted(range(len(rank)), key=rank.__getitem__)
     last = list(range(variables)) + [0] * len(edges)
     for vertex in by_rank:
@@ -137,8 +138,8 @@ def mean(total: int, count: int) -> int:
 
 
 def settled(edges: list[list[int]], order: list[int]) -> list[int]:
-    """One round. In each of its steps each vertex goes to the mean of its edges' centres, and without edges it stays; behind them it
-    stands by its place, equal places as they stood."""
+    """One round. In each of its steps each vertex goes to the mean of its edges' centres; one without edges keeps its place. After the
+    steps the vertices are sorted by their places, equal ones in the order before the round."""
     place = {vertex: PARTS * i for i, vertex in enumerate(order)}
     for _ in range(max(10, min(40, 524_288 // (len(order) + 1)))):
         centres: dict[int, list[int]] = {vertex: [] for vertex in order}
@@ -186,8 +187,8 @@ def by_rule(rule: Callable[[order_reference.Pair], list[str]]) -> Callable[[Pair
     return lambda paired: rule(order_reference.Pair.of(paired))
 
 
-# The orders by their words. A new order is one line here, from the paired netlists to a list of names.
-# `best` is one of them.
+# The orders by their words. A new order is one line here, from the paired netlists to a list of names. Without a limit `best` takes its
+# first candidate, msb-first, and `auto`, `cones` and `merge` report as by declared order.
 ORDERS: dict[str, Callable[[Paired], list[str]]] = {
     "declared": Paired.declared,
     "depth": Paired.by_depth,
@@ -288,7 +289,7 @@ def node_count(functions: Iterable[int], count: int) -> int:
     """The nodes of the shared reduced ordered diagrams of functions of so many variables."""
 
     def kept(tables: Iterable[int], bits: int) -> set[int]:
-        """With marks a function and its complement are one."""
+        """One table for a function and its complement, since by complement edges they share a node."""
         return {min(t, t ^ bits) for t in tables}
 
     at_level, nodes = kept(functions, (1 << (1 << count)) - 1), 0
@@ -302,8 +303,8 @@ def node_count(functions: Iterable[int], count: int) -> int:
 
 
 def reached(pair: tuple[int, int], count: int) -> int:
-    """No fewer requests than a fold of two functions of so many variables reaches: the pairs of their cofactors where one depends on
-    the level, and the first pair."""
+    """An upper bound of the requests that a fold of two functions of so many variables reaches: the pairs of their cofactors of which
+    one depends on the level, and the first pair."""
     at_level, requests = {pair}, 1
     for level in range(count):
         half = 1 << (count - 1 - level)
@@ -349,7 +350,7 @@ class Judged:
     supports: dict[str, set[str]]
 
     def requests(self) -> int:
-        """No wave reaches more."""
+        """An upper bound of the requests of each wave."""
         return sum(reached(pair, self.count) for pair in self.asked)
 
 

@@ -114,7 +114,7 @@ def by_number(pair: Pair, falling: bool) -> list[str]:
 
 
 def uses(side: Side) -> dict[str, int]:
-    """How many operands of gates with two operands or more stand for each variable."""
+    """How many operands of gates with two operands or more are each variable, directly or by gates of one operand."""
     stands = {name: name for name in side.variables}
     count = dict.fromkeys(side.variables, 0)
     for gate in side.rising:
@@ -207,7 +207,7 @@ def groups(pair: Pair) -> dict[str, list[str]]:
 
 
 def grouped(pair: Pair, order: list[str]) -> list[str]:
-    """Each group where its first variable is, in the order's order."""
+    """Each group at the place of its first variable in the order, and in itself as in the order."""
     group = groups(pair)
     first: dict[int, int] = {}
     for place, name in enumerate(order):

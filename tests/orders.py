@@ -4,8 +4,8 @@
 usage: tests/orders.py PROGRAM [FOLDER ..] [--seed N] [--cases N]
 
 The orders are those of `order_reference.py`. The pairs are some of examples/, circuits that bench/circuits.py writes, circuits in which
-some inputs select and XOR gates join others, and N (200) drawn ones, which have names with numbers of all kinds. Where a FOLDER is given,
-they are those of its folders NAME/ in their place: a.bench with b.bench.
+some inputs select and XOR gates join others, and N (200) drawn ones, which have names with numbers of all kinds. If a FOLDER is given,
+they are instead those of its folders NAME/: a.bench with b.bench.
 """
 from __future__ import annotations
 

@@ -117,7 +117,7 @@ class Shown:
     lines: list[str]
 
     def is_of(self, output: str) -> bool:
-        """Whether the program's output has these lines, if a line of three dots stands for any number of lines."""
+        """Whether the program's output has these lines; a line of three dots matches any number of lines."""
         parts = [r"(?:[^\n]*\n)*?" if line == "..." else re.escape(line) + r"\n" for line in self.lines]
         return bool(re.fullmatch("".join(parts), output))
 

@@ -2,11 +2,11 @@
 """That the documents fit together and fit the code.
 
 The program's own help fits 80 columns, has a line for each order, and names, like the manual page, the completions and the README, the
-options and orders of the parser. docs/DEFINITIONS.md has
-the definitions that public contracts cite. Each link of each document leads to a file and a heading that are there, and each path in a code
-span is there. Each picture is what its script draws. Each crate is in docs/ARCHITECTURE.md, and a page about the code names nothing that
-the code does not have. Each term in italics is in docs/GLOSSARY.md. Each run that the README shows prints the lines below it. The README
-names the logic of the kit that is here. No document has a word that the project has given up, or a place that is still to be filled.
+options and orders of the parser. docs/DEFINITIONS.md has the definitions that public contracts cite. Each link of each document leads to
+a file and a heading that are there, and each path in a code span is there. Each picture is what its script draws. Each crate is in
+docs/ARCHITECTURE.md, and a page about the code names nothing that the code does not have. Each term in italics is in docs/GLOSSARY.md.
+Each run that the README shows prints the lines below it. The README names the logic of the kit that is here. No document has a word that
+the project has given up, or a place that is still to be filled.
 
 usage: tests/papers.py PROGRAM
 """
@@ -58,7 +58,7 @@ GIVEN_UP = {
 # A path in a code span: of a folder of the repository, or of a crate.
 PATH = re.compile(r"(?:\.ci|tools|tests|docs|bench|examples|crates)/[\w./-]+")
 IN_A_CRATE = re.compile(r"(\w+)/(?:src|specs|proofs|planted-bugs|must-fail)\b[\w./-]*")
-# What is there only after a build, and capitals that stand for a name.
+# What is there only after a build, and capitals in place of a name.
 PASSED_OVER = re.compile(r"/out/|/out$|(?:^|/)[A-Z]+(?:/|$|\.(?!md))")
 
 ABOUT_THE_CODE = ("docs/ARCHITECTURE.md", "docs/PROVED.md", "docs/DEFINITIONS.md", "docs/CALLING.md", "docs/GLOSSARY.md")

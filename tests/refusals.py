@@ -4,12 +4,12 @@
 usage: tests/refusals.py PROGRAM [--seconds S] [--seed N] [--jobs J]
 
 The library refuse.c is compiled by cc and preloaded. Of each row below the N-th growth or start is refused for N = 1, 2, ..
-until a run meets no refusal, or, where there are too many, some N are drawn, by the seed that is printed, in S seconds (180)
-by J processes (2). Wide rows are run within little address space as well, where the system itself refuses. A run must end
+until a run meets no refusal, or, if there are too many, some N are drawn, by the seed that is printed, in S seconds (180)
+by J processes (2). Wide rows are run within little address space as well, so that the system itself refuses. A run must end
 in time, with status 3, nothing written and one line on want of memory or of a worker, after which a second line may say
-what helps; or with the very report that it gives without refusals. Of a row whose waves call their workers in, each start of
-the first of these waves is refused in every run, and growths while its workers run, where the others have to be told to stop.
-If a row names no order, a thread that cannot be started costs no report: only the very report is right then.
+what helps; or with the very report that it gives without refusals. Of a row whose waves call their workers in, or whose
+windows are judged by several, each of the first starts is refused in every run, and growths while its workers run, so that the
+others have to stop. If a row names no order, a thread that cannot be started costs no report: only the very report is right then.
 """
 from __future__ import annotations
 
@@ -29,8 +29,10 @@ from harness import C17, C17B, TOP, Run, Tally, lines, netlist, run, say, writte
 sys.path.append(str(TOP / "bench"))
 import circuits  # noqa: E402
 
-# Where want of memory may stand, and a worker that could not be started.
-OUT_OF_MEMORY = {lines(f"bddcheck: {place}out of memory") for place in ("", "first: ", "second: ", "given: ", "order: ", "build: ")}
+# The lines that report want of memory, by what they may name, and a worker that could not be started.
+OUT_OF_MEMORY = {
+    lines(f"bddcheck: {place}out of memory") for place in ("", "first: ", "second: ", "given: ", "pairs: ", "order: ", "build: ")
+}
 NO_WORKER = {lines("bddcheck: build: a worker could not be started")}
 # A run without refusals takes a small part of a second; a run that takes so long hangs.
 HANGS = 60
@@ -57,6 +59,21 @@ def products(count: int, join: str = "one") -> bytes:
         gates += [f"b{i} = OR({f'b{i - 1}' if i > 1 else 'a0'}, a{i})" for i in range(1, count)]
         gates.append(f"o = BUFF(b{count - 1})")
     return netlist(";".join(ports + gates))
+
+
+def adders(count: int, of_nands: bool) -> bytes:
+    """So many adders of one bit, each of two XORs and a majority, or of nine NANDs."""
+    statements: list[str] = []
+    for i in range(count):
+        statements += [f"INPUT({letter}{i})" for letter in "xyz"] + [f"OUTPUT(s{i})", f"OUTPUT(c{i})"]
+        if of_nands:
+            statements += [f"a{i} = NAND(x{i}, y{i})", f"b{i} = NAND(x{i}, a{i})", f"d{i} = NAND(y{i}, a{i})", f"e{i} = NAND(b{i}, d{i})"]
+            statements += [f"f{i} = NAND(e{i}, z{i})", f"g{i} = NAND(e{i}, f{i})", f"h{i} = NAND(z{i}, f{i})"]
+            statements += [f"s{i} = NAND(g{i}, h{i})", f"c{i} = NAND(a{i}, f{i})"]
+        else:
+            statements += [f"e{i} = XOR(x{i}, y{i})", f"s{i} = XOR(e{i}, z{i})", f"p{i} = AND(x{i}, y{i})", f"q{i} = OR(x{i}, y{i})"]
+            statements += [f"r{i} = AND(q{i}, z{i})", f"c{i} = OR(p{i}, r{i})"]
+    return netlist(";".join(statements))
 
 
 def multiplier(multiply: circuits.Multiply, size: int) -> bytes:
@@ -129,12 +146,28 @@ def rows(place: str) -> Iterator[Row]:
     yield Row("merge", ["--order", "merge", "--workers", 1, c17, c17b], (EACH,))
     yield Row("merge, equal inside", ["--order", "merge", "--workers", 2, "--limit", 1, chain, tree], (EACH, EACH_START, STARTS_FROM))
     yield Row("merge, multipliers", ["--order", "merge", "--workers", 2, array, wallace], draws=2, counts=1)
+    # Windows are judged side by side: a thread that is not started changes nothing, and a growth that is refused in a round ends the run.
+    # By auto the rounds come after attempts of the whole, which are given up.
+    right, wrong = written(place, "right", adders(8, False)), written(place, "wrong", adders(8, True).replace(b"s3 = NAND", b"s3 = AND"))
+    for workers in (1, 2, 4):
+        yield (merged := merged_row(place, workers))
+        yield Row(f"auto, merging by {workers}", ["--order", "auto", "--limit", 1, *merged.words[2:]], (EACH_START,))
+        # A pattern shows that the pair of the wrong gate differs. The others are merged.
+        words = ["--order", "merge", "--limit", 1, "--workers", workers, right, wrong]
+        yield Row(f"merge, one gate wrong, by {workers}", words, (EACH_START, STARTS_FROM))
     yield Row("auto, merging", ["--order", "auto", "--limit", 1, "--workers", 1, chain, tree], (EACH,))
     yield Row("any difference", ["--difference", "any", "--workers", 1, c17, c17b], (EACH,))
     yield Row("any difference by a condition", ["--difference", "any", "--given", TOP / "examples" / "s27.bench", *machines])
     yield Row("not the least", ["--order", "cones", "--limit", 1, "--explain", 23, c17, c17b], (EACH,))
     yield Row("only", ["--only", 23, "--only", 22, "--workers", 1, c17, c17b], (EACH,))
+    yield Row("only by a pattern", ["--only", "2*", "--workers", 1, c17, c17b], (EACH,))
     yield Row("share", ["--share", "2/2", c17, c17b], (EACH,))
+    # The second text has the first netlist's names for what is paired; and a name that is none is shown from its file.
+    named = written(place, "named", lines("# two names a line", "G7 R7"))
+    yield Row("pairs of names", ["--workers", 1, "--pairs", named, *machines], (EACH,))
+    yield Row("pairs of names by a condition", ["--workers", 2, "--pairs", named, "--given", machines[0], *machines])
+    yield Row("refused pairs of names", ["--pairs", written(place, "misnamed", lines("G7 none")), *machines], (EACH,))
+    yield Row("seconds", ["--seconds", 600, "--workers", 2, c17, c17b])
     yield Row("auto, products", [one, folded])
     yield Row("c17 on standard input", ["--workers", 2, "--sizes"], (), C17 + b"%%\n" + C17B)
     yield Row("first on standard input", ["--workers", 2, "-", c17b], (), C17)
@@ -156,6 +189,12 @@ def rows(place: str) -> Iterator[Row]:
     yield wide_row(place, 2)
     yield searched_row(place, 2)
     yield coned_row(place, 16)
+
+
+def merged_row(place: str, workers: int) -> Row:
+    """Adders whose inner signals are merged by so many workers."""
+    xors, nands = (written(place, f"{name}{workers}", adders(8, name == "nands")) for name in ("xors", "nands"))
+    return Row(f"merge by {workers}", ["--order", "merge", "--workers", workers, xors, nands], (EACH_START, STARTS_FROM), draws=20)
 
 
 def wide_row(place: str, workers: int) -> Row:
@@ -186,8 +225,8 @@ class Refuser:
     place: str
 
     def run(self, row: Row, what: str, at: int = 0, since: int = 0, after: int = 0) -> tuple[Run, int | None, int | None]:
-        """The run, and how many growths or starts it counted and was refused; nothing where it did not end by itself. Counted is
-        what comes after so many starts."""
+        """The run, how many growths or starts were counted in it, and how many of these were refused; None for both numbers if it did
+        not end by itself. Only what comes after so many starts is counted."""
         note = os.path.join(self.place, f"note.{os.getpid()}")
         environment = {"LD_PRELOAD": self.library, "REFUSE": what, "NOTE": note, "AFTER": str(after)}
         environment |= {"AT": str(at)} if at else {"FROM": str(since)}
@@ -253,8 +292,8 @@ def fault_of(right: Run, seen: Run, refused: int | None, faults: Collection[byte
 
 
 def try_places(refuser: Refuser, row: Row, what: str, mode: str, places: Iterable[int], whole: bool, after: int = 0) -> Figures:
-    """Tries these places of a row. Where it is to be tried whole, the last one is behind the last growth or start. A run that hangs
-    is the last one."""
+    """Tries these places of a row. If it is to be tried whole, the last run is the first one without a refusal: its place is after the
+    last growth or start. A run that hangs is the last one too."""
     right = refuser.run(row, "")[0]
     figures = Figures()
     for place in places:
@@ -312,15 +351,15 @@ def drawn_tasks(refuser: Refuser, pool: Executor, rng: random.Random, most: dict
 
 
 def bounded_tasks(refuser: Refuser, pool: Executor) -> Iterator[Task]:
-    """Rows within so much address space that the system itself refuses growths and threads."""
+    """Rows within so little address space that the system itself refuses growths and threads."""
     for row in rows(refuser.place):
-        if row.name.startswith("products"):
+        if row.name.startswith(("products", "merge by", "auto, merging by")):
             yield f"{row.name}: address space from 6 MB to 1 GB", pool.submit(try_bounds, refuser, row)
 
 
 def try_workers(refuser: Refuser, row: Row, workers: int, places: Iterable[int]) -> Figures:
-    """Refuses each start of the first wave that calls its workers in, alone and with all behind it, and these growths behind the last
-    of them. Each of these runs has to meet its refusal."""
+    """Refuses each start of the first workers who are called in, by itself and with all after it, and these growths after the last of them.
+    Each of these runs has to meet its refusal."""
     figures, starts = Figures(), range(1, workers + 1)
     for mode in ("at", "since"):
         figures.add(try_places(refuser, row, "s", mode, starts, False))
@@ -331,13 +370,13 @@ def try_workers(refuser: Refuser, row: Row, workers: int, places: Iterable[int])
 
 
 def worker_tasks(refuser: Refuser, pool: Executor, rng: random.Random) -> Iterator[Task]:
-    """What is refused to the workers whom a wave calls in: a start, or a growth while the others run."""
-    for made in (wide_row, searched_row):
+    """What is refused to the workers whom a wave calls in, or who judge windows: a start, or a growth while the others run."""
+    for made in (wide_row, searched_row, merged_row):
         for workers in (2, 4):
             row = made(refuser.place, workers)
             most = refuser.run(row, "g", after=workers)[1] or 0
             places = [1, 2, 3] + [rng.randrange(1, max(2, most // 2)) for _ in range(7)]
-            name = f"{row.name}: each start of a first wave, and growths of its workers"
+            name = f"{row.name}: each of the first starts, and growths of the workers"
             yield name, pool.submit(try_workers, refuser, row, workers, places)
 
 
@@ -346,7 +385,7 @@ def try_bounds(refuser: Refuser, row: Row) -> Figures:
     bounds = [int(6000 * 1.25**i) for i in range(24)]
     for kib in bounds:
         seen = run([refuser.program, *row.words], row.given, HANGS, preexec_fn=lambda: bound(kib))
-        # Whether something was refused shows in the answer alone.
+        # Only the answer shows whether something was refused.
         fault = fault_of(right, seen, 1, row.faults("gs"))
         if fault:
             figures.wrong.append(f"{kib} KiB: {fault}")
@@ -396,7 +435,7 @@ def main() -> None:
             is_wrong = any(figures.wrong for figures in results.values())
             if is_wrong or time.monotonic() - begun >= settings.seconds:
                 break
-        for name, made in (("products", wide_row), ("multipliers by the bare command", searched_row)):
+        for name, made in (("products", wide_row), ("multipliers by the bare command", searched_row), ("merging", merged_row)):
             starts = [starts_of(refuser, made, workers) for workers in (1, 2, 4, 16)]
             known = [count for count in starts if count is not None]
             tally.check(

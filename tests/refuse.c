@@ -4,11 +4,11 @@
  *          or gs both, counted together
  * AT=N     refuses the N-th that is counted (1 is the first; 0 none)
  * FROM=N   refuses the N-th and all that follow
- * AFTER=S  counts nothing before S threads were started (none where it is missing)
+ * AFTER=S  counts nothing before S threads were started (0 if it is missing)
  * NOTE     a file that gets one line when the program ends: how many were counted, and how many refused
- * MET      a file that is made where something was refused, at once, so that it is there after a crash as well
+ * MET      a file that is made as soon as something is refused, so that it is there after a crash as well
  *
- * What the C library asks for inside itself counts as well where it calls malloc or calloc, as a start of a
+ * What the C library asks for inside itself counts as well if it calls malloc or calloc for it, as a start of a
  * thread does. Refused growths answer NULL with ENOMEM, refused starts EAGAIN.
  */
 #define _GNU_SOURCE

@@ -1,14 +1,15 @@
 #!/bin/sh
-# Tests that no contract can hold: refused memory and threads, a differential fuzz, devices, signals, stored runs,
+# Tests of what no contract can say: refused memory and threads, a differential fuzz, devices, signals, stored runs,
 # the examples. docs/TESTING.md says what each adds. They take some twelve minutes; the last line is
-# 'N passed, M failed, K skipped', and the status is 0 where nothing failed. K counts what was not tried here; a line for each,
+# 'N passed, M failed, K skipped', and the status is 0 if nothing failed. K counts what was not tried here; a line for each,
 # above the last one, says what it lacks. tests/needs.sh installs what can be installed.
 #
 # usage: tests/run.sh [--seed N] [--long] [PART ..]
 #
-# PART is first, stored, orders, examples, explained, papers, shipped, linked, edits, joining, opened, quoted, scripts, vcd, objects, page, devices, signals, refusals, growths, workers, fuzz, second, flows or cluster; all of them where none is named. Second is a
-# part of these on the program as the kit's other compiler builds it, where rt ci has left that. --long goes on with
-# refusals and fuzz, by other seeds, until it is stopped or something fails. BDDCHECK names another program than the proved one.
+# PART is first, stored, orders, examples, explained, papers, shipped, linked, edits, joining, opened, quoted, scripts, vcd, objects,
+# page, devices, signals, stopping, merging, refusals, growths, workers, fuzz, second, flows or cluster; all of them if none is named.
+# Second is some of these with the program as the kit's other compiler builds it, if rt ci has left that. --long goes on with refusals
+# and fuzz, by other seeds, until it is stopped or something fails. BDDCHECK names another program than the proved one.
 cd "$(dirname "$0")/.." || exit 2
 seed='' long=''
 while :; do
@@ -19,7 +20,7 @@ while :; do
     *) break ;;
     esac
 done
-[ $# -gt 0 ] || set -- stored orders examples explained papers shipped linked edits joining opened quoted scripts vcd objects page devices signals refusals growths workers fuzz second flows cluster first
+[ $# -gt 0 ] || set -- stored orders examples explained papers shipped linked edits joining opened quoted scripts vcd objects page devices signals stopping merging refusals growths workers fuzz second flows cluster first
 
 # What the parts print goes on, and their last lines are added up. What they skipped is named again at the end.
 passed=0 failed=0 skipped=0 missed=
@@ -42,7 +43,7 @@ skip() {
 program=${BDDCHECK:-}
 if [ -z "$program" ]; then
     program=$PWD/crates/bddcheck/out/bddcheck
-    # Builds it where it is missing or older than a source, so that no test runs an old program.
+    # Builds it if it is missing or older than a source, so that no test runs an old program.
     tools/build.py </dev/null || { fail "the program could not be built" && finish; }
 fi
 command -v python3 >/dev/null || { fail "python3 is missing" && finish; }
@@ -83,7 +84,7 @@ second() {
 parts() {
     for name; do
         case $name in
-        stored | examples | papers | shipped | objects | devices | signals | workers) part "$name" python3 "tests/$name.py" "$program" ;;
+        stored | examples | papers | shipped | objects | devices | signals | stopping | merging | workers) part "$name" python3 "tests/$name.py" "$program" ;;
         edits | linked | joining | quoted | scripts) part "$name" python3 "tests/$name.py" ;;
         opened) part opened python3 tests/opened.py ${seed:+--seed "$seed"} ;;
         first) part first python3 tests/first.py "$program" ;;
@@ -95,7 +96,7 @@ parts() {
         esac
     done
 }
-# What was tried until a stop is told.
+# If the script is stopped, it reports what it has tried so far.
 trap 'echo "stopped: $passed passed, $failed failed, $skipped skipped"; exit 130' INT TERM
 parts "$@"
 round=0

@@ -1,5 +1,5 @@
 #!/usr/bin/env python3
-"""Runs that stand in tests/stored.txt with what they print.
+"""Runs that tests/stored.txt has, each with what it must print.
 
 usage: tests/stored.py PROGRAM
 
@@ -8,16 +8,17 @@ The file has sections, each begun by a line `== ..`. Lines before the first one,
     == file NAME               a file; its lines follow. An empty line at the end of a section is no part of it
     == copy NAME OLD PYTHON    a file made of another by a Python expression over its bytes, `text`
     == run WORDS [< NAME]      a run on these words, with the file NAME on standard input; then come its lines:
-                               those of standard output behind `  `, or all of these as the bytes of a Python expression behind `= `,
-                               those of standard error behind `! `, and last `status N`. `! ..` alone stands for any text, one line or more, and `! .. WORD` for any that has WORD
-    == ways WORDS NAME NAME    four such runs on two files, by 1 and 3 workers, and by 2 and 16 with both on standard input, where the second
-                               line of a fault names that in place of the file and shows no line of it
+                               those of standard output after `  `, or all of these as the bytes of a Python expression after `= `,
+                               those of standard error after `! `, and last `status N`. A single `! ..` is any text, one line or more,
+                               and a single `! .. WORD` any text that has WORD
+    == ways WORDS NAME NAME    four such runs on two files, by 1 and 3 workers, and by 2 and 16 with both on standard input: then the second
+                               line of a fault names standard input in place of the file, and shows no line of it
     == order WORDS             a run with --print-order, whose names follow on one line
     == best N N N WORDS        with --order best at each limit from 1 to 49 the answer is that of the first of msb-first, weights and
-                               force-groups that is within the limit, and --verbose says which, and of those before it, each once where some are the
-                               same, that they need more. They need N nodes each. With --order auto it
-                               is the answer of declared order without a limit, by the same attempt, or where there is none by the last
-                               attempt, in declared order, or some pairs are undecided, and all others as in that answer
+                               force-groups that is within the limit, and --verbose says which, and of those before it, each once if some
+                               are the same, that they need more. They need N nodes each. With --order auto it is the answer of declared
+                               order without a limit, by the same attempt or, if there is none, by the last attempt, in declared order;
+                               or some pairs are undecided, and all others are as in that answer
     == texts                   lines `TEXT => SAID`: the text, written as in Python, is refused beside itself by the line SAID, and by a second
                                line with the name of the file and the number of the line; or if SAID is `netlist` it is equal to itself
 """
@@ -51,7 +52,7 @@ def joined(lines: Iterable[str]) -> bytes:
 
 
 def expected(head: str, body: list[str]) -> tuple[int, bytes, bytes | str]:
-    """The status, the output and the errors that a run must give; a word where any errors will do that have it."""
+    """The status, the output and the errors that a run must give; instead of the errors a word, if any that have it are right."""
     out = [line[2:] for line in body if line.startswith("  ")]
     made = [eval(line[2:]) for line in body if line.startswith("= ")]
     errors = [line[2:] for line in body if line.startswith("! ")]
@@ -81,7 +82,8 @@ def try_run(program: str, tally: Tally, place: str, files: dict[str, bytes], hea
 
 
 def shown_of(line: bytes) -> str:
-    """What is shown of a refused line: its first hundred bytes, with a question mark for what cannot be printed, and a note if there are more."""
+    """What is shown of a refused line: its first hundred bytes, with a question mark for what cannot be printed, and a note if there are
+    more."""
     return "".join(chr(byte) if 32 <= byte < 127 else "?" for byte in line[:100]) + ("... (cut)" if len(line) > 100 else "")
 
 
@@ -123,7 +125,7 @@ Need = tuple[str, int, bool]
 
 
 def is_tried(program: str, place: str, words: list[str]) -> list[bool]:
-    """Whether each candidate is tried: not where its order is that of one before it."""
+    """Whether each candidate is tried: not if its order is that of one before it."""
     orders = [run([program, "--print-order", "--order", order, *words], cwd=place).out for order in CANDIDATES]
     return [order not in orders[:number] for number, order in enumerate(orders)]
 
@@ -151,8 +153,8 @@ def is_shown(line: str, old: str, name: str) -> bool:
 
 
 def is_left(seen: Run, wanted: Run, limit: int) -> bool:
-    """Whether a report is a wanted one but for pairs that are undecided or whose difference may not be the least, and both its status and what
-    it says report the former."""
+    """Whether a report is a wanted one except for pairs that are undecided or whose difference may not be the least, and its status and its
+    lines on standard error are right for the undecided ones."""
     said, lines = wanted.out.decode().splitlines()[:-1], seen.out.decode().splitlines()
     names = [line.split(" at ")[0].split(" ", 1)[1] for line in said]
     kept = [line == old or line == f"UNDECIDED {name}" or is_shown(line, old, name) for line, old, name in zip(lines, said, names)]

@@ -3,16 +3,22 @@
 
 usage: tests/workers.py PROGRAM [FOLDER ..] [--jobs J] [--seconds N] [--orders ORDER,ORDER ..]
 
-Each pair is compared in the orders `auto`, `best`, `cones` and `merge` by 1, 2, 3, 4, 7 and 16 workers. The status, the report and what --verbose says of
-each attempt have to be those of one worker, byte for byte. The pairs are some of examples/ and some that bench/circuits.py writes, of
-which the multipliers of ten bits have waves that call workers in; where a FOLDER is given, in their place those of its folders NAME/:
-a.bench with b.bench and, if it is there, with c.bench. A run of such a pair that takes N (120) seconds is stopped; if one worker takes
-as long, the pair is not tried in this order, and is counted. Without a FOLDER a multiplier of 12 by 11 bits is compared by the bare
-command too: its cones leave pairs undecided, and only the last attempts of the whole decide them.
+Each pair is compared in the orders `auto`, `best`, `cones` and `merge` by 1, 2, 3, 4, 7 and 16 workers. The status, the report and what
+--verbose says of each attempt have to be those of one worker, byte for byte. The pairs are some of examples/ and some that
+bench/circuits.py writes, of which the multipliers of ten bits have waves that call workers in; if a FOLDER is given, they are instead
+those of its folders NAME/: a.bench with b.bench and, if it is there, with c.bench. A run of such a pair that takes N (120) seconds is
+stopped; if one worker takes as long, the pair is not tried in this order, and is counted. Without a FOLDER a multiplier of 12 by 11 bits
+is compared in the default order too, within 2304 MB: its cones leave pairs undecided, and only the last attempts of the whole decide
+them. Of the pairs of an array whose rows are written together those of one row are judged, and one that is wrong. And pairs whose attempts
+end at their limits are compared by four workers with an address space of 1 GB more than the memory that is named: multipliers within 256 MB
+and 1 GB, whose diagrams have more nodes, and within 4 GB a pair of which one wave has more requests. No growth may be refused.
 """
 from __future__ import annotations
 
+import itertools
 import pathlib
+import random
+import resource
 import sys
 from collections.abc import Callable, Iterable, Iterator
 from dataclasses import dataclass
@@ -34,6 +40,19 @@ def made(build: Callable[..., object], *words: object) -> bytes:
     return net.text().encode()
 
 
+def array(rows: int, columns: int, kinds: tuple[str, str], wrong: str | None = None) -> bytes:
+    """Rows of registers that are written together: the next state of each is a majority of three inputs, by two kinds of gates. That of the
+    register of the name that is wrong has another kind."""
+    lines = [f"INPUT(d{column})" for column in range(columns + 2)]
+    for name, column in ((f"{row}_{column}", column) for row in range(rows) for column in range(columns)):
+        a, b, c = (f"d{column + more}" for more in range(3))
+        inner, outer = kinds
+        lines += [f"q{name} = DFF(n{name})"]
+        lines += [f"{letter}{name} = {inner}({one}, {other})" for letter, one, other in (("x", a, b), ("y", b, c), ("z", a, c))]
+        lines += [f"n{name} = {'NOR' if name == wrong else outer}(x{name}, y{name}, z{name})"]
+    return netlist("; ".join(lines))
+
+
 def own_pairs(place: str) -> Iterator[tuple[str, list[pathlib.Path]]]:
     """The pairs that are tried without a folder, by name."""
     texts = [
@@ -43,6 +62,7 @@ def own_pairs(place: str) -> Iterator[tuple[str, list[pathlib.Path]]]:
         ("multiplier of 7 bits", made(circuits.multiplier, 7, circuits.array), made(circuits.multiplier, 7, circuits.wallace)),
         ("multiplier of 10 bits", made(circuits.multiplier, 10, circuits.array), made(circuits.multiplier, 10, circuits.wallace)),
         ("no output", netlist("INPUT(a)"), netlist("INPUT(a)")),
+        ("array", array(12, 8, ("AND", "OR")), array(12, 8, ("NAND", "NAND"), "7_3")),
     ]
     for number, (name, first, second) in enumerate(texts):
         yield name, [written(place, f"{number}a", first), written(place, f"{number}b", second)]
@@ -83,6 +103,20 @@ def compared(program: str, name: str, order: str, pair: list[pathlib.Path], seco
     return Found(f"{name} by {order}", [f"{workers} workers: {other}, one: {first}" for workers, other in others.items() if other != first])
 
 
+def judged_once(program: str, place: str, tally: Tally) -> None:
+    """Whether pairs that have the same cones are judged once, each with its own name and verdict."""
+    pair = [written(place, "rows", array(12, 8, ("AND", "OR"))), written(place, "rows_wrong", array(12, 8, ("NAND", "NAND"), "7_3"))]
+    one = run([program, "--verbose", "--order", "cones", *pair])
+    equal = [f"EQUAL NEXT q{row}_{column}" for row in range(12) for column in range(8) if (row, column) != (7, 3)]
+    lines = one.out.decode().splitlines()
+    tally.check("rows of an array: each register has its line", [line for line in lines if line.startswith("EQUAL ")] == equal, one)
+    tally.check(
+        "rows of an array: the wrong one differs", one.status == 1 and sum(line.startswith("DIFFER NEXT q7_3 ") for line in lines) == 1, one
+    )
+    said = (b"bddcheck: 87 of 96 pairs have the same cones as another pair, and take its verdict\n", b"0 of 9 pairs are undecided by cones")
+    tally.check("rows of an array: nine pairs are judged", all(line in one.err for line in said), one)
+
+
 def decided_at_last(program: str, place: str, tally: Tally) -> None:
     """Whether the last attempts decide what each attempt before them has left."""
 
@@ -90,7 +124,7 @@ def decided_at_last(program: str, place: str, tally: Tally) -> None:
         net.outputs("p", multiply(net, net.inputs("a", 12), net.inputs("b", 11))[:23])
 
     pair = [written(place, f"last{way.__name__}", made(product, way)) for way in (circuits.array, circuits.wallace)]
-    one = run([program, "--verbose", *pair], seconds=600)
+    one = run([program, "--verbose", "--memory", "2304M", *pair], seconds=600)
     tally.check("a pair that only the last attempts decide: each is equal", one.status == 0 and one.out.count(b"EQUAL ") == 23, one)
     notes = one.err.split(b"\n")
     left = [line for line in notes if b"undecided by cones" in line]
@@ -103,6 +137,81 @@ def decided_at_last(program: str, place: str, tally: Tally) -> None:
         len(decided) == 1 and notes.index(decided[0]) > notes.index(left[-1]),
         one,
     )
+
+
+def multipliers(bits: int) -> list[bytes]:
+    return [made(circuits.multiplier, bits, way) for way in (circuits.array, circuits.wallace)]
+
+
+def crossed(net: circuits.Netlist, variables: int, forms: int, last: str) -> None:
+    """Sums modulo two of products of the variables by twos, each sum by other twos; then the sums of each two of these, which are of one
+    rank and so of one wave; and a chain of these gates, the last of which is of the kind that is given."""
+    rng = random.Random(variables)
+    inputs, sums = net.inputs("x", variables), []
+    for _ in range(forms):
+        mixed = rng.sample(inputs, variables)
+        sums.append(net.gate("XOR", *[net.gate("AND", *two) for two in zip(mixed[::2], mixed[1::2])]))
+    terms = [net.gate("XOR", *two) for two in itertools.combinations(sums, 2)]
+    result = sums[0]
+    for number, term in enumerate(terms, 1):
+        result = net.gate(last if number == len(terms) else ("AND", "OR")[number % 2], result, term)
+    net.output("o", result)
+
+
+@dataclass
+class Within:
+    """What is compared within an address space of so many bytes and 1 GB."""
+
+    size: int
+    # How --memory has them.
+    word: str
+    pair: list[bytes]
+    # Within how many nodes attempts are given up.
+    nodes: int
+    # What a report may have for its status, and has in its last line.
+    statuses: tuple[int, ...]
+    counts: bytes
+    # How many bytes of the machine's memory have to be free.
+    free: int = 0
+
+
+def rows_within() -> Iterator[Within]:
+    """The least first."""
+    for size, word, bits, nodes in ((1 << 28, "256M", 10, 932067), (1 << 30, "1G", 11, 3728270)):
+        yield Within(size, word, multipliers(bits), nodes, (0, 3), b" 0 different, 0 unmatched")
+    # The sums of two have, in each order that is tried, some 80 to 110 million requests, and all diagrams below them less than a
+    # million nodes. So attempts end when three requests for each node of their budgets are expanded: 11 million, 13 million and, the
+    # last two, 45 million, for which the memory is meant. All attempts come to some 140 million, as many as sixteen runs of wave22 in
+    # bench/workers.py, of which one takes 0.9 seconds by four workers on four idle processors. A pattern shows the difference, which is
+    # not known to be the least.
+    pair = [made(crossed, 36, 24, last) for last in ("AND", "OR")]
+    yield Within(1 << 32, "4G", pair, 14913080, (1,), b"0 equal, 1 different, 0 unmatched", 6 << 30)
+
+
+def free_memory() -> int:
+    """How many bytes of memory the machine has to give."""
+    for line in pathlib.Path("/proc/meminfo").read_text().splitlines():
+        if line.startswith("MemAvailable:"):
+            return int(line.split()[1]) << 10
+    return 0
+
+
+def within_memory(program: str, place: str, tally: Tally) -> None:
+    """Whether the memory that is named and 1 GB are enough for attempts that end at their limit."""
+    for row in rows_within():
+        most = row.size + (1 << 30)
+        if free_memory() < row.free:
+            tally.skip(f"within {row.word}: less than {row.free >> 30} GB of the machine's memory are free")
+            continue
+        pair = [written(place, f"within{row.word}_{number}", text) for number, text in enumerate(row.pair)]
+        one = run(
+            [program, "--verbose", "--workers", 4, "--memory", row.word, *pair],
+            seconds=600,
+            preexec_fn=lambda most=most: resource.setrlimit(resource.RLIMIT_AS, (most, most)),
+        )
+        tally.check(f"within {row.word} and 1 GB there is a report", one.status in row.statuses and row.counts in one.out, one)
+        tally.check(f"within {row.word} attempts end at the limit", f" {row.nodes} nodes".encode() in one.err, one)
+        tally.figures(f"within {row.word}: {resource.getrusage(resource.RUSAGE_CHILDREN).ru_maxrss >> 10} MB at the most")
 
 
 def main() -> None:
@@ -129,7 +238,9 @@ def main() -> None:
             else:
                 tally.check(found.name, not found.differs, "; ".join(found.differs)[:2000])
         if not settings.folders:
+            judged_once(settings.program, place, tally)
             decided_at_last(settings.program, place, tally)
+            within_memory(settings.program, place, tally)
     if too_long:
         tally.figures(f"one worker took longer than {settings.seconds:.0f} s, so these were not tried: {', '.join(too_long)}")
     tally.finish()

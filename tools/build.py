@@ -7,7 +7,7 @@ usage: tools/build.py [--jobs N] [--lanes N]
 Therefore each crate is proved in a folder of its own, which has the sources of the crates that it needs and, as hard links, their
 built libraries; what is proved there is moved into the repository, where the crates above find it. So up to three crates are proved
 side by side (two if there are fewer than four processors or less memory), each as soon as the libraries that it needs are built.
-The crate with which the dearest chain of crates begins has N jobs and the usual priority; the others have half as many jobs and a lower
+The crate with which the costliest chain of crates begins has N jobs and the usual priority; the others have half as many and a lower
 priority, so they use the processors that the first leaves idle. N is the number of processors, with 3 GB of free memory for each.
 Last, `rt run` builds the program in the repository. The folders are below .git, or in the temporary folder if there is no .git;
 if neither can hold hard links of the repository's files, crates are proved one after the other in the repository itself.
@@ -112,7 +112,7 @@ def costs_of(needed: Named) -> dict[str, int]:
 
 
 def chains_of(needed: Named, costs: Mapping[str, float]) -> dict[str, float]:
-    """Of each crate that has a cost: the cost of the dearest chain of crates from it to the program."""
+    """Of each crate that has a cost: the cost of the costliest chain of crates from it to the program."""
     chains: dict[str, float] = {}
 
     def chain(crate: str) -> float:
@@ -163,8 +163,8 @@ class Build:
         return total.hexdigest()
 
     def seconds_left(self) -> float | None:
-        """About how many seconds are left, by what the lines so far have taken: those of the dearest chain of crates that is left, or, if
-        they are more, those of all lines that are left, shared by the lanes. None before the first crate is proved."""
+        """About how many seconds are left, by what the lines so far have taken: those of the costliest chain of crates that is left, or,
+        if they are more, those of all lines that are left, shared by the lanes. None before the first crate is proved."""
         lines, seconds = self.seen_lines, self.seen_seconds
         if not lines:
             return None
@@ -189,7 +189,7 @@ class Build:
         say(f"{len(self.done)} of {len(self.needed)} crates proved; now {now}{more}")
 
     def next(self) -> str | None:
-        """A crate whose lower crates are proved, with the dearest chain above it; None if nothing is left to begin."""
+        """A crate whose lower crates are proved, with the costliest chain above it; None if nothing is left to begin."""
         with self.changed:
             while not self.failed and len(self.begun) < len(self.needed):
                 ready = [crate for crate in self.needed if crate not in self.begun and self.done.issuperset(self.needed[crate])]
@@ -212,7 +212,7 @@ class Build:
                         self.report()
 
     def is_dearest(self, crate: str) -> bool:
-        """Whether the dearest chain of all crates that are not proved begins with this one."""
+        """Whether the costliest chain of all crates that are not proved begins with this one."""
         with self.changed:
             return all(self.chains[other] <= self.chains[crate] for other in self.needed if other not in self.done)
 
@@ -364,7 +364,7 @@ class Place:
 
 
 def lane(build: Build, workspace: pathlib.Path | None, jobs: int) -> None:
-    """Proves crate after crate: by all jobs if the dearest chain of crates begins with it, else by half of them and at a lower
+    """Proves crate after crate: by all jobs if the costliest chain of crates begins with it, else by half of them and at a lower
     priority. Without a workspace, and for the program itself, that is done in the repository."""
     while crate := build.next():
         is_dearest = build.is_dearest(crate)

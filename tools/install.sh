@@ -1,5 +1,5 @@
 #!/bin/sh
-# Puts bddcheck where it belongs: tools/install.sh PREFIX, as /usr/local or ~/.local. Below PREFIX go
+# Installs bddcheck: tools/install.sh PREFIX, with a PREFIX such as /usr/local or ~/.local. Below PREFIX go
 #
 #   bin                       bddcheck, rtlcheck, rtl2bench, bddcheck-join, bddcheck-vcd, bddcheck-page
 #   share/man, completions    the manual page; what bash, zsh and fish complete

@@ -69,6 +69,8 @@ class Share:
     settings: dict[str, Any] = field(default_factory=dict)
     settings_text: str = ""
     variables: set[tuple[str, ...]] = field(default_factory=set)
+    # Whether the run of the share was stopped, which only JSON says.
+    stopped: bool = False
 
 
 def subjects_of(text: bytes) -> list[Subject]:
@@ -137,10 +139,13 @@ def share_by_json(path: str, text: str) -> Share:
         ]
         counts = {name: int(reported.get(name, 0) if name == "undecided" else reported[name]) for name in COUNTS}
         settings = {name: reported[name] for name in SETTINGS if name in reported}
-        unknown = {one.kind for one in verdicts} - set(KINDS) or set(reported) - {*SETTINGS, *COUNTS, "verdicts", "share"}
+        unknown = {one.kind for one in verdicts} - set(KINDS) or set(reported) - {*SETTINGS, *COUNTS, "verdicts", "share", "stopped"}
+        stopped = "stopped" in reported
+        if stopped and reported["stopped"] is not True:
+            raise ValueError("no report")
         if unknown or not {"match", "order", "variables"} <= set(settings):
             raise ValueError("no report")
-        return Share(path, int(number), int(of), verdicts, counts, settings, json.dumps(settings))
+        return Share(path, int(number), int(of), verdicts, counts, settings, json.dumps(settings), stopped=stopped)
     except (ValueError, KeyError, TypeError, AttributeError) as fault:
         raise Refusal(f"{path}: no JSON of a share") from fault
 
@@ -221,7 +226,8 @@ def whole_text(verdicts: list[Verdict], counts: dict[str, int], shares: list[Sha
     """The report of the whole."""
     reported = {name: count for name, count in counts.items() if count or name != "undecided"}
     if is_json:
-        whole: dict[str, Any] = {**shares[0].settings, "verdicts": [verdict.text for verdict in verdicts], **reported}
+        stopped = {"stopped": True} if any(share.stopped for share in shares) else {}
+        whole: dict[str, Any] = {**shares[0].settings, "verdicts": [verdict.text for verdict in verdicts], **reported, **stopped}
         return json.dumps(whole, separators=(",", ":")) + "\n"
     return "".join(f"{verdict.text}\n" for verdict in verdicts) + ", ".join(f"{count} {name}" for name, count in reported.items()) + "\n"
 

@@ -3,7 +3,7 @@
 
 usage: tools/picture.py > docs/crates.svg
 
-A line goes down to a crate that is named and not also reached by way of another one. Crates of the kit stand within the boxes
+A line goes down to a crate that is named and not also reached by way of another one. Crates of the kit are within the boxes
 of those that name them. The program's crates are filled; boxes of broken lines are what it does not link, of dots tests.
 """
 from __future__ import annotations

@@ -10,11 +10,12 @@ each crate. --only WORD takes only the edits that have this word in the names of
 --jobs N tries N batches at a time, as many as there are processors and 4 GB of free memory for each if left out.
 
 The crates are tried on a copy, which takes what was proved here along. A batch is one check that has a planted bug in each of several
-functions: a refusal is told apart by the function that it is said of. What says nothing of an edit, since its function calls one that
-is wrong too, or since the check ended without a verdict, is tried again in other company, and last alone. A line for each edit says
+functions; a refusal belongs to the edit of the function that it names. If a check says nothing of an edit, since its function calls one
+that is wrong too, or since the check ended without a verdict, the edit is tried again in other batches, and last by itself. A line for
+each edit says
   REFUSED      a goal of the changed function is not proved, and what the first of them is
-  NOT REFUSED  the crate is still proved with this edit alone: strengthen the contract, or remove an edit that means the same
-  BAD EDIT     it does not apply (each old text stands exactly once in its file), compile or read, or changes no body: mend it
+  NOT REFUSED  the crate is still proved with only this edit: strengthen the contract, or remove an edit that means the same
+  BAD EDIT     it does not apply (each old text is exactly once in its file), compile or read, or changes no body: mend it
   NOT TRIED    no check of it came to a verdict: run this again
 The last line is 'N refused, M failed', and the status 0 if M is 0.
 """
@@ -56,7 +57,7 @@ MOST_OF_A_LINE = 300
 # What a check says: of a place in the sources, of a proof file, and of a function.
 GOAL = re.compile(r"^note: (?:\./)?(src/\S+?):(\d+):\d+: (it is not proved that .*)")
 FAULT = re.compile(r"^(?:\./)?(src/\S+?):(\d+):\d+: (error\b.*)")
-# An error with a word in brackets is the compiler's, and one that names no statement the prover's, who cannot read a text.
+# An error with a word in brackets is the compiler's; one that names no statement is the prover's, which could not read a text.
 MISREAD = "is not in scope|has no field|is no name|operand is missing|expected the end|cannot continue"
 UNREAD = re.compile(rf"error\[|error: (?!`[^`]*`: )|.*(?:{MISREAD})")
 UNPROVED = re.compile(r"^(?:\./)?proofs/(\S+)/\w+\.antt:\d+:\d+: (error: .*)")
@@ -245,8 +246,8 @@ def symbol_of(function: Function, symbols: list[str], crate: str) -> str | None:
 
 
 def own_goals(said: Said, function: Function, symbol: str) -> list[str]:
-    """What a check says of goals of this function itself that are not proved, and of its proof files, where those say more than of
-    names that are gone."""
+    """What a check says of goals of this function itself that are not proved, and of its proof files, if that is more than of names
+    that are gone."""
     goals, inside = [], "/".join(symbol.split("::")[1:])
     for line in said.lines:
         goal, proof = GOAL.match(line) or FAULT.match(line), UNPROVED.match(line)
@@ -308,7 +309,7 @@ class Crate:
         self.kinds: dict[str, str] = {}
 
     def settle(self, edit: str, kind: str, why: object) -> None:
-        """Tells at once what an edit came to, which stays so."""
+        """Reports at once what an edit came to, which is final."""
         self.kinds[edit] = kind
         say(f"{self.name}/{edit}: {kind}: {why}"[:MOST_OF_A_LINE])
 
@@ -391,7 +392,7 @@ class Crate:
             cases = [case for case in cases if not case.kind]
 
     def halve(self, cases: list[Case]) -> None:
-        """Parts a batch whose check came to nothing, for which no edit of it can be named."""
+        """Tries the halves of a batch whose check came to nothing, if none of its edits is known to be the cause."""
         if len(cases) > 1:
             self.try_batch(cases[: len(cases) // 2])
             self.try_batch(cases[len(cases) // 2 :])

@@ -4,7 +4,7 @@
 In a table whose last column is headed `clauses`, each cell of that column names functions, one after the other with `;` between
 them: `crate::function` or `crate::Type::function`, and after a colon the clauses of its contract that carry the row's promise, each
 with the definitions that say it in parentheses, or fields of definitions. A function named without clauses has a contract whose one
-clause has no name. A function may name a module between the crate and itself where the crate has two of its name.
+clause has no name. A function may name a module between the crate and itself if the crate has two of its name.
 
 Prints each function that its crate does not have, each clause that none of the function's contracts has, each definition that no file
 of specs/ has, and each row of such a table without a clause; then exits 1. Otherwise it prints how many clauses were found.

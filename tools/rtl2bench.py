@@ -8,10 +8,10 @@ A bench netlist has `q = DFF(n)` for a register, and nothing of its clock, edge,
     # also q[0] u_part.state[0]
     # box u_ram module=ram parameters=DEPTH:16
 
-`clear=rst/1` is an asynchronous reset to 0 where `rst` is 1. A clock or reset that is neither an input nor a register is `@`, and its
+`clear=rst/1` is an asynchronous reset to 0 while `rst` is 1. A clock or reset that is neither an input nor a register is `@`, and its
 function an output `q[0]@clock`, `q[0]@clear` or `q[0]@set`, so that bddcheck compares it. What is `unknown` is like nothing. `also` has the
-other names that the design has for the register, by which `--like` finds it in another netlist. A box is an
-instance of a module without a body: its outputs are inputs of the netlist, and its inputs are outputs, by names such as `u_ram.addr[0]`.
+other names that the design has for the register, by which `--like` finds it in another netlist. A box is an instance of a module without
+a body: its outputs are inputs of the netlist, and its inputs are outputs, by names such as `u_ram.addr[0]`.
 """
 from __future__ import annotations
 
@@ -382,7 +382,7 @@ class Module:
         return last
 
     def source(self, bit: Bit) -> tuple[Bit, bool]:
-        """Where buffers and inverters come from: a bit, and whether it is complemented on the way."""
+        """The bit before all buffers and inverters, and whether these complement it."""
         inverted = False
         met: set[Bit] = set()
         while bit in self.through and bit not in met:

@@ -156,7 +156,7 @@ case $style in net | cell) ;; *) wrong "--name-style $style: net or cell" ;; esa
 case $undefined in '' | 0 | 1) ;; *) wrong "--undefined $undefined: 0 or 1" ;; esac
 command -v yosys >/dev/null || fault 'yosys is not installed'
 
-# What an earlier run wrote does not stand for what this one could not write.
+# If this run fails, what an earlier one wrote must not be taken for its netlist.
 rm -f "$out" || exit 3
 # Runs yosys on a script. Only warnings and errors are said.
 yosys_script() {

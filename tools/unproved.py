@@ -32,8 +32,8 @@ from typing import NoReturn
 TOP = pathlib.Path(__file__).resolve().parent.parent
 NO_ANSWER = 4
 # The options that take a value, and those of them whose value is the path of a file that is read.
-VALUED = "--match --order --order-file --given --only --share --explain --vcd --workers --limit --memory --difference --format --assignment".split()
-READ = ("--order-file", "--given")
+VALUED = "--match --pairs --order --order-file --given --only --share --explain --vcd --workers --limit --memory --seconds --difference --format --assignment".split()
+READ = ("--order-file", "--pairs", "--given")
 # Options by which no netlist is read.
 ASKING = ("-h", "--help", "-V", "--version")
 # The sources with the texts of --help and --version, and these texts. Both are plain strings, of which only the version's has an escape.

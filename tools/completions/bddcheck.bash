@@ -17,11 +17,12 @@ _bddcheck() {
     --workers) mapfile -t COMPREPLY < <(compgen -W '1 2 4 8 16' -- "$word") ;;
     --limit | --only | --explain) COMPREPLY=() ;;
     --share) mapfile -t COMPREPLY < <(compgen -W '1/2 1/4 1/8 1/16' -- "$word") ;;
+    --seconds) mapfile -t COMPREPLY < <(compgen -W '60 600 3600' -- "$word") ;;
     --memory) mapfile -t COMPREPLY < <(compgen -W '1G 2G 4G 8G 16G' -- "$word") ;;
-    --order-file | --given | --vcd) mapfile -t COMPREPLY < <(compgen -f -- "$word") ;;
+    --order-file | --pairs | --given | --vcd) mapfile -t COMPREPLY < <(compgen -f -- "$word") ;;
     *)
         case $word in
-        -*) mapfile -t COMPREPLY < <(compgen -W '--match --order --order-file --extend --given --only --share --explain --vcd --workers --limit --memory --sizes --print-order --format --assignment --causes --difference --verbose --help --version' -- "$word") ;;
+        -*) mapfile -t COMPREPLY < <(compgen -W '--match --order --order-file --extend --pairs --given --only --share --explain --vcd --workers --limit --memory --seconds --sizes --print-order --format --assignment --causes --difference --verbose --help --version' -- "$word") ;;
         *) mapfile -t COMPREPLY < <(compgen -f -- "$word") ;;
         esac
         ;;

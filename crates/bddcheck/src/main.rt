@@ -1,7 +1,8 @@
-//! The program: two netlists in, a report and a status out.
+//! The program: it reads two netlists, and ends with a report and a status.
 //!
-//! **Promises.** The exit status is that of the run (`code_of`), whose report and faults `check_tool` promises
-//! (`status_of`: `ending`). **Only tests show** what `main` hands to it: one expression. **Begin** with `check_tool`.
+//! **Promises.** The exit status is that of the run (`code_of`), whose report and faults are promised by `check_tool`
+//! (`status_of`: `ending`). **Only tests show** what `main` gives to it, in one expression. **Begin** with
+//! `check_tool`.
 #![tactic(auto)]
 
 ghost use Rattle.std.specs.Prelude.{◌≡◌};
@@ -10,10 +11,10 @@ ghost use Rattle.std.specs.Process.{exit_status};
 use check_tool::folder::Disk;
 use check_tool::process::{arguments, status_of};
 use check_tool::terminal::TerminalWriter;
-use net_bench::device::StdDevice;
 use std::process::ExitCode;
+use text_device::StdDevice;
 
-/// The exit code of a run.
+/// The exit code with this status.
 fn code_of(status: u8) -> ExitCode
     ensures { exit_status result ≡ status }
 {

@@ -1,4 +1,4 @@
--- Where the needed nodes are within a limit, no store of needed nodes is beyond it.
+-- If the needed nodes are within a limit, no store of needed nodes is beyond it.
 use Rattle.std.proofs.Common.{Option, ◌≡◌, ◌∙◌, ◌≢◌, ℕ, ◌<◌, ◌≤◌, ◌⊎◌, inl, inr, Bool, true, false, List, [], ◌∷◌, length, refl, sym, ap, subst, arith}
 use Rattle.std.specs.Prelude.{not}
 use Rattle.dd_store.specs.declared.reference.Ref.{Ref}
@@ -22,7 +22,7 @@ use Rattle.compare_built.specs.Limits.{IsNeededIn, HasAllNeeded, FitsWithin, Exc
 use Rattle.check_report.proofs.Pigeons.{Among, without, pigeons}
 use Rattle.check_report.proofs.Numbering.{refs_of, length-all_refs, distinct_all, has_each, is_node}
 
--- x of S and y of T are nodes of one level that denote one function
+-- Node x of S and node y of T are at one level and denote one function.
 record Twins (n : ℕ) (S T : Nodes) (x y : Ref) : Type 0 where
   level : ℕ
   low : Ref
@@ -38,24 +38,24 @@ record Twins (n : ℕ) (S T : Nodes) (x y : Ref) : Type 0 where
 one_ref : (n : ℕ) (S : Nodes) → IsSound S → S.levels ≡ n → (x z : Ref) → Has S x → Has S z → Agree n (den S x) (den S z) → x ≡ z
 one_ref n S sound levels x z hx hz same = canonical S.levels (nodes.node S) sound.reduced x z hx hz (λ y len. same y (len ∙ levels))
 
--- references of one function have one mark
+-- references that denote one function have the same complement bit
 complement_bit_as : (n : ℕ) (S T : Nodes) → IsSound S → IsSound T → S.levels ≡ n → T.levels ≡ n → (x y : Ref) → Has S x → Has T y → Agree n (den S x) (den T y) → is_complement x ≡ is_complement y
 complement_bit_as n S T sound sound' e e' x y hx hy same =
     one_complement_bit n (nodes.node S) (nodes.node T) (subst (λ d. IsReduced d (nodes.node S)) e sound.reduced) (subst (λ d. IsReduced d (nodes.node T)) e' sound'.reduced) x y hx hy
     (λ z len. ap (λ d. walk d (nodes.node S) x z) (sym e) ∙ same z len ∙ ap (λ d. walk d (nodes.node T) y z) e')
 
--- a node's reference without a mark is listed
+-- a node's reference without complement bit is listed
 listed : (T : Nodes) (y : Ref) (v : ℕ) (lo hi : Ref) → Has T y → part T y ≡ node v lo hi → is_complement y ≡ false → Among y (refs_of T)
 listed T y v lo hi h e regular =
     let m = of_part T y v lo hi h e in
     let none : m.1 ≡ false = sym (ap is_complement m.2) ∙ regular in
     subst (λ r. Among r (refs_of T)) (ap (Node m.0) (sym none) ∙ sym m.2) (has_each T m.0 (complement_both m.1 (lo, hi)) (node-of T m.0 m.1 (lo, hi) m.4))
 
--- a node for a function is one for each that agrees with it
+-- a node for a function is one for each function that agrees with it
 node_as : (n : ℕ) (S : Nodes) (v : ℕ) (f g : List Bool → Bool) → Agree n f g → HasNode n (part S) (Has S) (den S) v f → HasNode n (part S) (Has S) (den S) v g
 node_as n S v f g same h = record { reference = h.reference; low = h.low; high = h.high; has = h.has; is_node = h.is_node; denotes = λ z len. h.denotes z len ∙ same z len }
 
--- and with its mark turned one for the complement
+-- with its complement bit changed it is a node for the complement
 part-complement_by : (S : Nodes) (b : Bool) (r : Ref) (v : ℕ) (lo hi : Ref) → Has S r → part S r ≡ node v lo hi → part S (complement_by b r) ≡ node v (complement_by b lo) (complement_by b hi)
 part-complement_by S false r v lo hi h e = e
 part-complement_by S true r v lo hi h e = part-negate S r v lo hi h e
@@ -70,7 +70,7 @@ complement_node n S b v g h = record {
   denotes = λ z len. den-complement_by S b h.reference z ∙ ap (complemented b) (h.denotes z len);
 }
 
--- so a complete store has one also for the complement of a counted function
+-- so a complete store also has a node for the complement of a counted function
 either_node : (n : ℕ) (Values : (List Bool → Bool) → Type 0) (T : Nodes) → IsComplete n Values (part T) (Has T) (den T) → (v : ℕ) (g : List Bool → Bool) → OfEither (IsCounted n Values v) g →
     HasNode n (part T) (Has T) (den T) v g
 either_node n Values T complete v g (inl c) = complete.present v g c
@@ -104,14 +104,14 @@ module _ (n : ℕ) (Values : (List Bool → Bool) → Type 0) (S T : Nodes) (sou
         },
       )
 
-  -- and no other node of S has it
+  -- and no other node of S has this twin
   own : (x z v : Ref) → Twins n S T x v → Twins n S T z v → x ≡ z
   own x z v a b = one_ref n S sound levels x z a.has b.has (λ y len. a.same y len ∙ sym (b.same y len))
 
   no_longer : length (refs_of S) ≤ length (refs_of T)
   no_longer = pigeons (Twins n S T) (refs_of S) (refs_of T) (distinct_all 0 S.shards) twin own
 
-  -- a node of T has a twin among some nodes of S, or each of these has another twin
+  -- a node of T is the twin of some node of the list, or each node of the list has another twin
   seek : (y : Ref) (xs : List Ref) → ((x : Ref) → Among x xs → (w : Ref) × Among w (refs_of T) × Twins n S T x w) →
       ((x : Ref) × Twins n S T x y) ⊎ ((x : Ref) → Among x xs → (w : Ref) × Among w (refs_of T) × Twins n S T x w × (w ≢ y))
   seek y [] f = inr (λ x a. absurd a)
@@ -129,7 +129,7 @@ module _ (n : ℕ) (Values : (List Bool → Bool) → Type 0) (S T : Nodes) (sou
       by (no ne) (inl found) = inl found
       by (no ne) (inr g) = inr (each ne g)
 
-  -- where S has as many nodes as T, it has a node for each counted function
+  -- if S has as many nodes as T, it has a node for each counted function
   all_there : length (refs_of T) ≤ length (refs_of S) → IsComplete n Values (part S) (Has S) (den S)
   unfolding complement_node
   all_there le = record { present = λ v g counted. with_mark v g (complete.present v g counted) }
@@ -159,7 +159,7 @@ module _ (n : ℕ) (Values : (List Bool → Bool) → Type 0) (S T : Nodes) (sou
           (λ x a. let o = others x a in (o.0, kept h.reference less.rest o.0 o.3 (less.others o.0 o.1), o.2)) own in
           absurd (omega arith)
 
-      -- by the node's reference without a mark
+      -- from the node's reference without complement bit
       by_regular : (v : ℕ) (g : List Bool → Bool) (h : HasNode n (part T) (Has T) (den T) v g) → is_complement h.reference ≡ false → HasNode n (part S) (Has S) (den S) v g
       by_regular v g h regular = found v g h (listed T h.reference v h.low h.high h.has h.is_node regular) (seek h.reference (refs_of S) twin)
 
@@ -169,7 +169,7 @@ module _ (n : ℕ) (Values : (List Bool → Bool) → Type 0) (S T : Nodes) (sou
           node_as n S v (λ z. complemented b (complemented b (g z))) g (λ z len. complemented-twice b (g z))
           (complement_node n S b v (λ z. complemented b (g z)) (by_regular v (λ z. complemented b (g z)) (complement_node n T b v g h) (regular-complement_by h.reference)))
 
--- the nodes that two netlists need are within a limit, or not
+-- the nodes that two netlists need are not both within a limit and beyond it
 pub one_of_both : (limit : ℕ) (a b : Circuit) (given : Option Circuit) (p : NamingModel) → FitsWithin limit a b given p → Exceeds limit a b given p → ⊥
 one_of_both limit a b given p f e = by e.over
   where

@@ -1,4 +1,4 @@
--- What is known of pairs before they are judged, and why it is not.
+-- The faults that can be found before pairs are judged.
 use Rattle.std.proofs.Common.{◌≡◌, ◌⊎◌, inl, inr, sym, subst}
 use Rattle.net_bench.specs.Circuit.{circuit}
 use Rattle.compare_built.specs.PairSelection.{HasUnknown}

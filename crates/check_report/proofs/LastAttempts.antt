@@ -1,26 +1,29 @@
--- How auto ends: by an attempt of the whole, or by the pairs, after the last attempts if one of them is left.
-use Rattle.std.proofs.Common.{◌≡◌, ◌≢◌, ◌⊎◌, ◌<◌, ◌≤◌, ◌∙◌, ap, refl, inl, inr, sym, subst, ℕ, Bool, true, false, Option, Some, None, Result, Ok, Err, IfErr, length}
+-- How auto ends: with an attempt at the whole netlists, or with the pairs, after the last attempts if a pair is left.
+use Rattle.std.proofs.Common.{◌≡◌, ◌⊎◌, ◌<◌, ◌∙◌, ap, refl, inl, inr, sym, subst, ℕ, Bool, true, false, Option, Some, None, Result, Ok, Err, IfErr, length}
 use Rattle.std.specs.Borrow.{Bor}
 use Rattle.std.specs.List.{list_any}
 use Rattle.std.specs.declared.alloc.Global.{Global}
 use Rattle.std.specs.declared.vec.Vec.{Vec}
+use Rattle.expand_work.specs.Bounds.{WaveBound}
 use Rattle.net_bench.specs.Circuit.{circuit}
-use Rattle.net_order.specs.declared.order.Order.TheVariants as orders
+use Rattle.net_names.specs.declared.order.Order.TheVariants as orders
 use Rattle.net_order.specs.Order.{NamingModel, condition, max_variables}
 use Rattle.net_order.proofs.InputLevels.{names_count}
-use Rattle.report_text.specs.Findings.{VerdictsModel, found_of}
+use Rattle.compare_built.specs.Findings.{VerdictsModel, found_of}
 use Rattle.report_text.specs.Lines.{Found}
 use Rattle.compare_built.specs.declared.fault.CheckFault.{CheckFault}
 use Rattle.compare_built.specs.declared.settings.Settings.{Settings}
 use Rattle.compare_built.specs.declared.strategy.Attempt.{Attempt}
 use Rattle.compare_built.specs.declared.strategy.AttemptOrder.{AttemptOrder}
 use Rattle.compare_built.specs.declared.strategy.AttemptOrder.TheVariants.{Declared}
-use Rattle.compare_built.specs.declared.strategy.Strategy.TheVariants.{Auto, Cones, Merge}
+use Rattle.compare_built.specs.declared.strategy.Strategy.{Strategy}
+use Rattle.compare_built.specs.declared.strategy.Strategy.TheVariants.{One, Computed, Best, Auto, Cones, ConesByList, Merge}
 use Rattle.compare_built.specs.declared.task.Task.{Task}
 use Rattle.compare_built.specs.Attempts.{AreGivenUp, IsAttemptGivenUp, IsChosen, MayGoByCones, first_whole_limit, last_budget, whole_limit}
 use Rattle.compare_built.specs.Check.{AreGiven, HaveTooManyVariables}
 use Rattle.compare_built.specs.Details.{details_in}
 use Rattle.compare_built.specs.Devices.{DeviceTexts}
+use Rattle.compare_built.specs.Picking.{TakesPicks}
 use Rattle.compare_built.specs.Report.{AreVerdicts}
 use Rattle.explain_report.specs.Deciding.{HasLastAttempt, MayTakeCones, is_open}
 use Rattle.explain_report.specs.Deciding.IsFoundBy.{in_order}
@@ -42,12 +45,12 @@ use Rattle.check_report.proofs.Findings.{auto_cause, cones_fault, cones_whole, f
 use Rattle.check_report.proofs.Wholes.{all_first, decided_first}
 
 -- both of the last orders were given up
-pub last_given_up : {H : Type 0} (task : Task H) (declared : Option (Bor NamingModel)) (furthest : AttemptOrder) (budget : ℕ) (bound : Option ℕ) {round : Round} {full : Bool} → round ≡ GivenUp full →
+pub last_given_up : {H : Type 0} (task : Task H) (declared : Option (Bor NamingModel)) (furthest : AttemptOrder) (budget : ℕ) (bound : WaveBound) {round : Round} {full : Bool} → round ≡ GivenUp full →
     IsLastRound task declared furthest budget bound round → IsOrderGivenUp task budget bound Declared
 last_given_up task declared furthest budget bound {round} {full} is last = (let h : IsLastRound task declared furthest budget bound (GivenUp full) = subst (IsLastRound task declared furthest budget bound) is last in h.1)
 
-module _ {H : Type 0} (task : Task H) (input : DeviceTexts) (given : AreGiven input (circuit task.first.now) (circuit task.second.now) (condition task.given)) (bound : Option ℕ) where
-  -- what auto owes for a pair of which another attempt could say more, from each way in which it ends
+module _ {H : Type 0} (task : Task H) (input : DeviceTexts) (given : AreGiven input (circuit task.first.now) (circuit task.second.now) (condition task.given)) (bound : WaveBound) where
+  -- each of these ways to end is enough if another attempt could improve the verdict of a pair
   pub last_of_auto : (found : Found) → task.settings.now.order ≡ Auto →
       (list_any (is_open task.settings.now.difference) found.verdicts ≡ true → IsAttemptGivenUp input task.settings.now.matching task.settings.now.limit bound Declared ⊎ HaveTooManyVariables input task.settings.now.matching) →
       HasLastAttempt input task.settings.now bound task.settings.now.order found
@@ -66,7 +69,7 @@ module _ {H : Type 0} (task : Task H) (input : DeviceTexts) (given : AreGiven in
       HasLastAttempt input task.settings.now bound task.settings.now.order found
   given_up_last found auto last = last_of_auto found auto (λ _. inl (given_up_in_input task input given task.settings.now.limit bound Declared last))
 
-  -- why the pairs may be judged one by one
+  -- the pairs may be judged one by one
   pub may_take : (before : TriedBefore) → task.settings.now.order ≡ Auto → AreTriedBefore task bound before → MayTakeCones input task.settings.now bound task.settings.now.order
   may_take Nothing auto is = subst (MayTakeCones input task.settings.now bound) (sym auto) (inr (inr is))
   may_take (First trials) auto is = auto_cause task input given bound auto is.1
@@ -77,7 +80,7 @@ module _ {H : Type 0} (task : Task H) (input : DeviceTexts) (given : AreGiven in
       HasLastAttempt input task.settings.now bound task.settings.now.order found → IsDecision input task.settings.now bound found None
   decided_by_pairs p found is may t last = record { found_by = found_by_cones task input given bound p found is may t last; earlier_given_up = tt }
 
-  -- an attempt of the whole
+  -- the verdicts of an attempt at the whole netlists
   pub decided_by_whole : (declared : Option (Bor NamingModel)) (p : NamingModel) (d : DecidedValue) (v : VerdictsModel) (tried : Option Attempt) → task.settings.now.order ≡ Auto → IsPairingIn task orders.Declared p →
       reported_pairing declared d.trial.pairing ≡ p → IsDecidedWhole task declared bound d → v ≡ record { naming = p; verdicts = d.verdicts.items } → tried ≡ Some (attempt_of d) → IsDecision input task.settings.now bound (found_of v) tried
   decided_by_whole declared p d v tried auto is reported h said told = subst (IsDecision input task.settings.now bound (found_of v)) (sym told) (record {
@@ -96,7 +99,7 @@ module _ {H : Type 0} (task : Task H) (input : DeviceTexts) (given : AreGiven in
         (earlier_in_input task input given (whole_limit task.settings.now.limit) bound (attempt_of d) h.earlier_given_up);
   })
 
-  -- the same from what attempts have come to: within the first limit, and within the second
+  -- the same from the result of the attempts within the first limit, and within the second
   pub decided_by_first : (declared : Option (Bor NamingModel)) (p : NamingModel) (d : DecidedValue) (v : VerdictsModel) (tried : Option Attempt) {end : WholeEnd} → task.settings.now.order ≡ Auto → IsPairingIn task orders.Declared p →
       reported_pairing declared d.trial.pairing ≡ p → end ≡ Decided d → IsSearched task declared (first_whole_limit task.settings.now.limit) bound end → v ≡ record { naming = p; verdicts = d.verdicts.items } → tried ≡ Some (attempt_of d) →
       IsDecision input task.settings.now bound (found_of v) tried
@@ -118,20 +121,20 @@ module _ {H : Type 0} (task : Task H) (input : DeviceTexts) (given : AreGiven in
       let found : IsDecidedWhole task declared bound d = subst (IsRestOfWhole task declared bound) ended h in
       decided_by_whole declared p d v tried auto is reported found said told
 
-  -- why there are none
+  -- a fault of judging pairs is a cause for no verdicts
   pub none_of_pairs : (p : NamingModel) (fault : CheckFault) → MayGoByCones task.settings.now.order → IsNamingIn task orders.Declared p → EndsComparison task fault → IsNoDecision input ⊥ ⊥ ⊥ task.settings.now bound fault
   none_of_pairs p fault may is (inl (only, unknown)) =
       none_by_cones input task.settings.now bound fault may (cones_fault task input given p fault is may (inl only)) (inl only) (λ _. (circuit task.first.now, given.first, unknown)) (cones_whole fault (inl only))
   none_of_pairs p fault may is (inr ends) =
       none_by_cones input task.settings.now bound fault may (cones_fault task input given p fault is may (inr ends)) (inr ends.1) (λ only. absurd (subst EndsAtOnce only ends.1)) (cones_whole fault (inr ends))
 
-  -- so a comparison that ends in one of these ways decides nothing
+  -- so with one of these faults there are no verdicts
   pub none_of_ends : {T : Type 0} (p : NamingModel) (r : Result T CheckFault) → MayGoByCones task.settings.now.order → IsNamingIn task orders.Declared p → IfErr r (EndsComparison task) → IfErr r (IsNoDecision input ⊥ ⊥ ⊥ task.settings.now bound)
   none_of_ends p (Ok v) may is ends = tt
   none_of_ends p (Err fault) may is ends = none_of_pairs p fault may is ends
 
--- what attempts have come to that were given up
-module _ {H : Type 0} (task : Task H) (bound : Option ℕ) where
+-- attempts that were given up
+module _ {H : Type 0} (task : Task H) (bound : WaveBound) where
   pub searched_first : (declared : Option (Bor NamingModel)) {trials : Vec Trial Global} {end : WholeEnd} → end ≡ WholeGivenUp trials → IsSearched task declared (first_whole_limit task.settings.now.limit) bound end →
       AreTrials task trials.items × AreAllGivenUp task (first_whole_limit task.settings.now.limit) bound
   searched_first declared {trials} ended h = subst (IsSearched task declared (first_whole_limit task.settings.now.limit) bound) ended h
@@ -142,9 +145,40 @@ module _ {H : Type 0} (task : Task H) (bound : Option ℕ) where
   pub given_up_by_rest : (declared : Option (Bor NamingModel)) {end : Option DecidedValue} → end ≡ None → IsRestOfWhole task declared bound end → IsOrderGivenUp task task.settings.now.limit bound Declared
   given_up_by_rest declared ended h = subst (IsRestOfWhole task declared bound) ended h
 
--- cones and merging that were asked for owe nothing more
-pub last_of_cones : (input : DeviceTexts) (s : Settings) (bound : Option ℕ) (found : Found) → s.order ≡ Cones → HasLastAttempt input s bound s.order found
-last_of_cones input s bound found cones = subst (λ choice. HasLastAttempt input s bound choice found) (sym cones) tt
+-- by a choice by which pairs may be picked, each pair may be judged by its cones
+pub takes_cones : (input : DeviceTexts) (s : Settings) (bound : WaveBound) (choice : Strategy) → TakesPicks choice → MayTakeCones input s bound choice
+unfolding Rattle.compare_built.specs.Picking.takes_picks
+takes_cones input s bound (One o) picks = absurd (let never : false ≡ true = picks in cc)
+takes_cones input s bound (Computed c) picks = absurd (let never : false ≡ true = picks in cc)
+takes_cones input s bound Best picks = absurd (let never : false ≡ true = picks in cc)
+takes_cones input s bound Auto picks = absurd (let never : false ≡ true = picks in cc)
+takes_cones input s bound Cones picks = tt
+takes_cones input s bound (ConesByList names) picks = tt
+takes_cones input s bound Merge picks = absurd (let never : false ≡ true = picks in cc)
 
-pub last_of_merge : (input : DeviceTexts) (s : Settings) (bound : Option ℕ) (found : Found) → s.order ≡ Merge → HasLastAttempt input s bound s.order found
+pub goes_by_cones : (choice : Strategy) → TakesPicks choice → MayGoByCones choice
+unfolding Rattle.compare_built.specs.Picking.takes_picks
+goes_by_cones (One o) picks = absurd (let never : false ≡ true = picks in cc)
+goes_by_cones (Computed c) picks = absurd (let never : false ≡ true = picks in cc)
+goes_by_cones Best picks = absurd (let never : false ≡ true = picks in cc)
+goes_by_cones Auto picks = absurd (let never : false ≡ true = picks in cc)
+goes_by_cones Cones picks = tt
+goes_by_cones (ConesByList names) picks = tt
+goes_by_cones Merge picks = absurd (let never : false ≡ true = picks in cc)
+
+-- if cones or merging are asked for, there are no last attempts
+last_of_choice : (input : DeviceTexts) (s : Settings) (bound : WaveBound) (found : Found) (choice : Strategy) → TakesPicks choice → HasLastAttempt input s bound choice found
+unfolding Rattle.compare_built.specs.Picking.takes_picks
+last_of_choice input s bound found (One o) picks = absurd (let never : false ≡ true = picks in cc)
+last_of_choice input s bound found (Computed c) picks = absurd (let never : false ≡ true = picks in cc)
+last_of_choice input s bound found Best picks = absurd (let never : false ≡ true = picks in cc)
+last_of_choice input s bound found Auto picks = absurd (let never : false ≡ true = picks in cc)
+last_of_choice input s bound found Cones picks = tt
+last_of_choice input s bound found (ConesByList names) picks = tt
+last_of_choice input s bound found Merge picks = absurd (let never : false ≡ true = picks in cc)
+
+pub last_of_cones : (input : DeviceTexts) (s : Settings) (bound : WaveBound) (found : Found) → TakesPicks s.order → HasLastAttempt input s bound s.order found
+last_of_cones input s bound found picks = last_of_choice input s bound found s.order picks
+
+pub last_of_merge : (input : DeviceTexts) (s : Settings) (bound : WaveBound) (found : Found) → s.order ≡ Merge → HasLastAttempt input s bound s.order found
 last_of_merge input s bound found merge = subst (λ choice. HasLastAttempt input s bound choice found) (sym merge) tt

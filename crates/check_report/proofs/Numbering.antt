@@ -1,4 +1,4 @@
--- All nodes of a store in one list, each once: their references without a mark.
+-- All nodes of a store in one list, each once, as references without complement bit.
 use Rattle.std.proofs.Common.{◌≡◌, ◌∙◌, ℕ, false, zero, suc, ◌+◌, ◌-◌, ◌*◌, ◌/◌, ◌%◌, ◌<◌, ◌≤◌, ◌⊎◌, inl, inr, List, [], ◌∷◌, ◌++◌, length, get_or, slice_get, Some, refl, sym, ap, subst, arith, length-append}
 use Rattle.std.specs.List.{sum_by}
 use Rattle.std.specs.Option.{option_map}
@@ -15,7 +15,8 @@ use Rattle.dd_store.proofs.Places.{none_some}
 use Rattle.dd_store.proofs.Storing.{node_in_shard, node_from_shard}
 use Rattle.check_report.proofs.Pigeons.{Among, Distinct, among_left, among_right, among_parts, distinct_parts}
 
--- the reference, without a mark, of the node at a place of a shard; the shards of all levels are counted through
+-- the reference, without complement bit, of the node at a place of a shard; the shards of all levels are numbered in
+-- one sequence
 abbrev pub named : ℕ → ℕ → Ref
 named i j = Node (record { level = i / 16; shard = i % 16; index = j }) false
 
@@ -58,7 +59,7 @@ in_shard i j (p ∷ ps) r (inr a) =
     let lt : w.0 < length ps = w.2 in
     (w.0 + 1, w.1 ∙ ap (named i) (let z : suc j + w.0 ≡ j + (w.0 + 1) = omega arith in z), omega arith)
 
--- where a node stands among the shards from i on
+-- the place of a node among the shards from i on
 IsNamed : ℕ → List (List Pair) → Ref → Type 0
 IsNamed i pss r = (a : ℕ) × (k : ℕ) × (i ≤ a) × (r ≡ named a k) × (k < length (get_or pss (a - i) []))
 
@@ -123,7 +124,7 @@ all_have i (ps ∷ pss) (suc a) k p e =
 abbrev pub refs_of : Nodes → List Ref
 refs_of S = all_refs 0 S.shards
 
--- each node stands in it
+-- each node is in the list
 pub has_each : (S : Nodes) (m : NodeId) (p : Pair) → node_at S m ≡ Some p → Among (Node m false) (refs_of S)
 has_each S m p e =
     let h = node_in_shard S m p e in
@@ -142,7 +143,7 @@ at_lt [] k lt = absurd (omega arith)
 at_lt (p ∷ ps) zero lt = (p, refl)
 at_lt (p ∷ ps) (suc k) lt = at_lt ps k (omega arith)
 
--- and nothing else
+-- and nothing else is
 pub is_node : (S : Nodes) (r : Ref) → Among r (refs_of S) → (v : ℕ) × (lo : Ref) × (hi : Ref) × Has S r × (part S r ≡ node v lo hi) × (is_complement r ≡ false)
 unfolding IsNamed
 is_node S r a =

@@ -1,12 +1,12 @@
--- Lists without repeats, and how long they are.
+-- Lists without repeats, and their lengths.
 use Rattle.std.proofs.Common.{◌≡◌, ◌∙◌, ◌+◌, ◌≤◌, ◌⊎◌, inl, inr, List, [], ◌∷◌, ◌++◌, length, refl, sym, subst, arith}
 
--- x stands in the list
+-- x is in the list
 abbrev pub Among : {X : Type 0} → X → List X → Type 0
 Among x [] = ⊥
 Among x (y ∷ ys) = (x ≡ y) ⊎ Among x ys
 
--- nothing stands in the list twice
+-- nothing is in the list twice
 abbrev pub Distinct : {X : Type 0} → List X → Type 0
 Distinct [] = Unit {0}
 Distinct (x ∷ xs) = (Among x xs → ⊥) × Distinct xs
@@ -37,7 +37,7 @@ distinct_parts (x ∷ xs) ys d e apart = (λ a. by (among_parts x xs ys a), dist
     by (inl a) = d.0 a
     by (inr a) = apart x (inl refl) a
 
--- the list without one place at which y stands
+-- The list without one occurrence of y.
 pub record Without {X : Type 0} (y : X) (ys : List X) : Type 0 where
   pub rest : List X
   pub fewer : length ys ≡ length rest + 1
@@ -63,14 +63,15 @@ without y (w ∷ ws) (inr a) =
     let k = r.fewer in
     record { rest = w ∷ r.rest; fewer = omega arith; others = behind w y ws r.rest r.others }
 
--- a partner of another element stands in the rest
+-- a partner of another element is in the rest
 other : {X Y : Type 0} (R : X → Y → Type 0) (x : X) (xs : List X) (y : Y) (rest : List Y) → (Among x xs → ⊥) → R x y → ((x z : X) (v : Y) → R x v → R z v → x ≡ z) → (z : X) → Among z xs →
     (v : Y) → R z v → (v ≡ y) ⊎ Among v rest → (v : Y) × Among v rest × R z v
 other R x xs y rest new r own z a v s (inl e) =
     absurd (new (subst (λ u. Among u xs) (sym (own x z y r (subst (λ u. R z u) e s))) a))
 other R x xs y rest new r own z a v s (inr b) = (v, b, s)
 
--- if each element of xs, in which none stands twice, has a partner of its own in ys, then xs is no longer than ys
+-- the pigeonhole principle: if each element of xs, which has no repeats, has a partner of its own in ys, then xs is no
+-- longer than ys
 pub pigeons : {X Y : Type 0} (R : X → Y → Type 0) (xs : List X) (ys : List Y) → Distinct xs → ((x : X) → Among x xs → (y : Y) × Among y ys × R x y) → ((x z : X) (v : Y) → R x v → R z v → x ≡ z) →
     length xs ≤ length ys
 pigeons R [] ys d partner own = omega arith

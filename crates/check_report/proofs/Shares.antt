@@ -1,4 +1,4 @@
--- Each pair is dealt to one share.
+-- Each pair is dealt to exactly one share.
 use Rattle.std.proofs.Common.{◌≡◌, ◌⊎◌, inl, inr, ℕ, zero, suc, ◌+◌, ◌-◌, ◌/◌, ◌%◌, ◌<◌, ◌≤◌, List, [], ◌∷◌, Bool, true, false, refl, sym, ap, ◌∙◌, subst, length, arith, All}
 use Rattle.std.specs.Prelude.{Contains, IsTrue, ◌==◌, cond, count_by, slice_index, ◌↔◌}
 use Rattle.std.specs.List.{AllZip}
@@ -14,7 +14,7 @@ use Rattle.compare_built.specs.declared.subject.Subject.{Subject}
 use Rattle.compare_built.specs.PairSelection.{AreShares, ComesBefore, HasWeight, serpentine_share}
 use Rattle.pair_facts.proofs.SerpentineOrder.{number_at, numbers_long, shares_long}
 
--- ---- a pair's share is one of those that there are
+-- ---- the number of a pair's share is in range
 
 within : (n place : ℕ) (b : Bool) → place < n → (1 ≤ cond b (suc place) (n - place)) × (cond b (suc place) (n - place) ≤ n)
 within n place true low = (omega arith, omega arith)
@@ -44,7 +44,7 @@ module _ (a b : Circuit) (pairs : List Subject) (n : ℕ) (shares : List ℕ) (a
       let (t, below, at, is) = share_at i low in
       subst (λ k. (1 ≤ k) × (k ≤ n)) (sym is ∙ get_or_default shares i 0 d low) (serpentine_within n t some)
 
--- ---- one dealing
+-- ---- all runs deal alike
 
 one_test : (b c : Bool) (P : Type 0) → IsTrue b ↔ P → IsTrue c ↔ P → b ≡ c
 one_test true true P f g = refl
@@ -95,7 +95,7 @@ front_or : (x : ℕ) (xs : List ℕ) (o : ℕ) → Contains (x ∷ xs) o → (x 
 front_or x xs o (zero, low, at) = inl at
 front_or x xs o (suc i, low, at) = inr (i, omega arith, at)
 
--- what stands behind the first of one list stands behind the same one in the other
+-- what comes after the first of one list comes after the first of the other
 rest_in : (w : List ℕ) (x y : ℕ) (xs ys : List ℕ) → InOrder w (x ∷ xs) → x ≡ y → ((o : ℕ) → Contains (x ∷ xs) o → Contains (y ∷ ys) o) → (o : ℕ) → Contains xs o → Contains ys o
 rest_in w x y xs ys falls same all o (i, low, at) = elim (front_or y ys o (all o (suc i, omega arith, at))) [
   | inl is ↦
@@ -123,7 +123,7 @@ same_order w (x ∷ xs) (y ∷ ys) f g there here =
     ap (λ zs. y ∷ zs) (same_order w xs ys (λ t u less low. f (suc t) (suc u) (omega arith) (omega arith)) (λ t u less low. g (suc t) (suc u) (omega arith) (omega arith))
     (rest_in w x y xs ys f same there) (rest_in w y x ys xs g (sym same) here))
 
--- two orders of the same weights
+-- two orders by the same weights are equal
 one_order : (w v one two : List ℕ) → w ≡ v → IsPermutation (numbers_below (length w)) one → IsPermutation (numbers_below (length v)) two → InOrder w one → InOrder v two → one ≡ two
 one_order w v one two same p q f g =
     let moved : IsPermutation (numbers_below (length w)) two = subst (λ x. IsPermutation (numbers_below (length x)) two) (sym same) q in

@@ -1,9 +1,11 @@
--- Attempts of the whole: the budgets up to the first limit and up to the second, and what was given up within them.
+-- The budgets of attempts at the whole netlists up to the first limit and up to the second, and the attempts that were
+-- given up within them.
 use Rattle.std.proofs.Common.{◌≡◌, ◌⊎◌, inl, inr, sym, subst, refl, arith, ℕ, zero, suc, ◌*◌, ◌^◌, ◌<◌, ◌≤◌, Bool, List, Option, Result, Ok, Err}
 use Rattle.std.specs.Prelude.{IfOk}
 use Rattle.std.specs.Borrow.{Bor}
 use Rattle.std.proofs.Math.Nat.{pow-suc, pow-le-pow_right}
 use Rattle.std.proofs.lemmas.Bool.{cases_lt}
+use Rattle.expand_work.specs.Bounds.{WaveBound}
 use Rattle.net_order.specs.Order.{NamingModel}
 use Rattle.compare_built.specs.Attempts.{IsBudget, first_budget, first_whole_limit, whole_limit}
 use Rattle.compare_built.specs.declared.fault.CheckFault.{CheckFault}
@@ -27,7 +29,7 @@ within_limit limit b (inr same) = omega (arith, same)
 second_power : 16384 * 16 ^ 1 ≡ 262144
 second_power = refl
 
--- a budget up to the first limit is one up to the second
+-- a budget up to the first limit is a budget up to the second
 pub first_in_whole : (limit b : ℕ) → IsBudget (first_whole_limit limit) b → IsBudget (whole_limit limit) b
 first_in_whole limit b (inl (k, power, less)) = inl (k, power, omega (arith, less))
 first_in_whole limit b (inr same) = by (cases_lt 262144 limit)
@@ -36,7 +38,7 @@ first_in_whole limit b (inr same) = by (cases_lt 262144 limit)
     by (inl lt) = inl (1, (let p = second_power in let e : b ≡ 16384 * 16 ^ 1 = omega (arith, same, lt, p) in e), (let e : b < whole_limit limit = omega (arith, same, lt) in e))
     by (inr le) = inr (omega (arith, same, le))
 
--- and one below a budget up to the first limit is one up to it
+-- a budget that is below one up to the first limit is a budget up to the first limit
 pub whole_in_first : (limit top b : ℕ) → top ≤ first_whole_limit limit → IsBudget (whole_limit limit) b → b < top → IsBudget (first_whole_limit limit) b
 whole_in_first limit top b most (inl (k, power, less)) lt = inl (k, power, omega (arith, most, lt))
 whole_in_first limit top b most (inr same) lt = absurd (omega (arith, most, same, lt))
@@ -49,24 +51,24 @@ large_power k =
     let most = pow-suc 16 (suc k) in
     omega (arith, one, first, more, most)
 
--- so is one below the second limit, if the limit of the run is larger than the first
+-- the same of a budget below the second limit, if the limit of the run is larger than the first
 pub below_whole : (limit b : ℕ) → 262144 < limit → IsBudget (whole_limit limit) b → b < whole_limit limit → IsBudget (first_whole_limit limit) b
 below_whole limit b more (inr same) lt = absurd (omega (arith, same, lt))
 below_whole limit b more (inl (zero, power, less)) lt = inl (0, power, (let one : 16384 * 16 ^ 0 ≡ 16384 = refl in omega (arith, power, one, more)))
 below_whole limit b more (inl (suc zero, power, less)) lt = inr (let p = second_power in omega (arith, power, p, more))
 below_whole limit b more (inl (suc (suc k), power, less)) lt = absurd (let large = large_power k in omega (arith, power, less, large))
 
--- ---- what is given up
+-- ---- attempts that were given up
 
-module _ {H : Type 0} (task : Task H) (bound : Option ℕ) where
+module _ {H : Type 0} (task : Task H) (bound : WaveBound) where
   abbrev run_limit : ℕ
   run_limit = task.settings.now.limit
 
-  -- what was given up up to the second limit was given up up to the first
+  -- if all attempts up to the second limit were given up, all up to the first were
   pub all_first : AreAllGivenUp task (whole_limit task.settings.now.limit) bound → AreAllGivenUp task (first_whole_limit task.settings.now.limit) bound
   all_first all b is c = all b (first_in_whole run_limit b is) c
 
-  -- both limits are that of the run if it is small
+  -- if the limit of the run is small, both limits are equal to it
   pub small_all : task.settings.now.limit ≤ 262144 → AreAllGivenUp task (first_whole_limit task.settings.now.limit) bound → AreAllGivenUp task (whole_limit task.settings.now.limit) bound
   small_all few all = subst (λ n. AreAllGivenUp task n bound) (let e : first_whole_limit run_limit ≡ whole_limit run_limit = omega (arith, few) in e) all
 
@@ -79,16 +81,16 @@ module _ {H : Type 0} (task : Task H) (bound : Option ℕ) where
       by (inl lt) = all b (below_whole run_limit b more is lt) c
       by (inr le) = let most = within_limit (whole_limit run_limit) b is in subst (λ n. IsCandidateGivenUp task n bound c) (let e : whole_limit run_limit ≡ b = omega (arith, le, most) in e) (last.each c)
 
--- if each attempt of a search was given up, those before any other attempt were
-pub after_all : {H : Type 0} (task : Task H) (limit : ℕ) (bound : Option ℕ) (t : Attempt) → AreAllGivenUp task (whole_limit limit) bound → AreEarlierGivenUp task (whole_limit limit) bound t
+-- if each attempt of a search was given up, all attempts before any other one were
+pub after_all : {H : Type 0} (task : Task H) (limit : ℕ) (bound : WaveBound) (t : Attempt) → AreAllGivenUp task (whole_limit limit) bound → AreEarlierGivenUp task (whole_limit limit) bound t
 after_all task limit bound t all = record {
   smaller = λ budget within lt c. all budget within c;
   first = λ first. before_any (IsCandidateGivenUp task t.budget bound) t.order (all t.budget (first_is_one (whole_limit limit) t.budget first));
 }
 
--- ---- what decides
+-- ---- attempts that succeed
 
-module _ {H : Type 0} (task : Task H) (declared : Option (Bor NamingModel)) (bound : Option ℕ) where
+module _ {H : Type 0} (task : Task H) (declared : Option (Bor NamingModel)) (bound : WaveBound) where
   abbrev its_limit : ℕ
   its_limit = task.settings.now.limit
 
@@ -132,7 +134,7 @@ module _ {H : Type 0} (task : Task H) (declared : Option (Bor NamingModel)) (bou
         earlier_given_up = after_all task task.settings.now.limit bound (attempt_of d) all;
       }
 
-  -- a search up to the second limit says what attempts up to it have come to
+  -- the result of a search up to the second limit is that of the attempts up to it
   pub searched_again : (r : Result WholeEnd CheckFault) → IfOk r (IsSearched task declared (whole_limit task.settings.now.limit) bound) → IfOk r (IsTriedAgain task declared bound)
   searched_again (Ok (Decided d)) h = decided_whole d h
   searched_again (Ok (GivenUp trials)) h = h.1

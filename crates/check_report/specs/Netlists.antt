@@ -1,4 +1,4 @@
--- The comparison of netlists that were read.
+-- The task of comparing netlists that were read.
 use Rattle.std.specs.Prelude.{◌≡◌, Option, option_map}
 use Rattle.net_bench.specs.Circuit.{Net, circuit}
 use Rattle.net_order.specs.Order.{condition}

@@ -1,9 +1,10 @@
--- The attempts of the whole that auto makes.
-use Rattle.std.specs.Prelude.{◌≡◌, ◌⊎◌, ℕ, List, Option, Some, None}
+-- The attempts at the whole netlists that auto makes.
+use Rattle.std.specs.Prelude.{◌≡◌, ◌⊎◌, ℕ, Option, Some, None}
 use Rattle.std.specs.Borrow.{Bor}
+use Rattle.expand_work.specs.Bounds.{WaveBound}
 use Rattle.net_order.specs.Order.{NamingModel}
 use Rattle.compare_built.specs.Attempts.{IsBudget, first_whole_limit, whole_limit}
-use Rattle.compare_built.specs.declared.settings.Difference.TheVariants.{AnyOne}
+use Rattle.report_text.specs.declared.difference.Difference.TheVariants.{AnyOne}
 use Rattle.compare_built.specs.declared.strategy.Attempt.{Attempt}
 use Rattle.compare_built.specs.declared.strategy.AttemptOrder.TheVariants.{Declared}
 use Rattle.compare_built.specs.declared.task.Task.{Task}
@@ -14,34 +15,34 @@ use Rattle.check_report.specs.declared.whole.TriedBefore.TheVariants.{Nothing, F
 use Rattle.check_report.specs.declared.whole.WholeEnd.{WholeEnd}
 use Rattle.check_report.specs.declared.whole.WholeEnd.TheVariants.{Decided, GivenUp}
 
--- the attempt that has decided
+-- the attempt that has succeeded
 abbrev pub attempt_of : DecidedValue → Attempt
 attempt_of d = record { order = d.trial.order; budget = d.budget }
 
--- what a search up to a limit has come to
-abbrev pub IsSearched : {H : Type 0} → Task H → Option (Bor NamingModel) → (limit : ℕ) → (bound : Option ℕ) → WholeEnd → Type 0
+-- the result of a search up to a limit
+abbrev pub IsSearched : {H : Type 0} → Task H → Option (Bor NamingModel) → (limit : ℕ) → (bound : WaveBound) → WholeEnd → Type 0
 IsSearched task declared limit bound (Decided d) = IsFoundWithin task declared limit bound d
 IsSearched task declared limit bound (GivenUp trials) = AreTrials task trials.items × AreAllGivenUp task limit bound
 
--- An attempt of the whole has decided: within one of the budgets up to the second limit, or within the limit of the run. All attempts before
--- it were given up.
-pub record IsDecidedWhole {H : Type 0} (task : Task H) (declared : Option (Bor NamingModel)) (bound : Option ℕ) (d : DecidedValue) : Type 0 where
+-- An attempt at the whole netlists has succeeded, within one of the budgets up to the second limit, or within the limit
+-- of the run. All attempts before it were given up.
+pub record IsDecidedWhole {H : Type 0} (task : Task H) (declared : Option (Bor NamingModel)) (bound : WaveBound) (d : DecidedValue) : Type 0 where
   pub decided : IsDecided task declared d.budget d.trial d.verdicts.items
   pub budget : IsBudget (whole_limit task.settings.now.limit) d.budget ⊎ (d.budget ≡ task.settings.now.limit)
   pub earlier_given_up : AreEarlierGivenUp task (whole_limit task.settings.now.limit) bound (attempt_of d)
 
--- what the attempts up to the second limit have come to, some of which were made earlier
-abbrev pub IsTriedAgain : {H : Type 0} → Task H → Option (Bor NamingModel) → (bound : Option ℕ) → WholeEnd → Type 0
+-- the result of the attempts up to the second limit, some of which were made earlier
+abbrev pub IsTriedAgain : {H : Type 0} → Task H → Option (Bor NamingModel) → (bound : WaveBound) → WholeEnd → Type 0
 IsTriedAgain task declared bound (Decided d) = IsDecidedWhole task declared bound d
 IsTriedAgain task declared bound (GivenUp trials) = AreAllGivenUp task (whole_limit task.settings.now.limit) bound
 
--- which attempts were given up before the pairs were judged
-abbrev pub AreTriedBefore : {H : Type 0} → Task H → (bound : Option ℕ) → TriedBefore → Type 0
+-- the attempts that were given up before the pairs were judged
+abbrev pub AreTriedBefore : {H : Type 0} → Task H → (bound : WaveBound) → TriedBefore → Type 0
 AreTriedBefore task bound Nothing = task.settings.now.difference ≡ AnyOne
 AreTriedBefore task bound (First trials) = AreTrials task trials.items × AreAllGivenUp task (first_whole_limit task.settings.now.limit) bound
 AreTriedBefore task bound (Second trials) = AreAllGivenUp task (whole_limit task.settings.now.limit) bound
 
--- what the attempts after the pairs have come to: one decides, or that in declared order was given up too
-abbrev pub IsRestOfWhole : {H : Type 0} → Task H → Option (Bor NamingModel) → (bound : Option ℕ) → Option DecidedValue → Type 0
+-- the result of the attempts after the pairs: one of them succeeds, or that in declared order was given up too
+abbrev pub IsRestOfWhole : {H : Type 0} → Task H → Option (Bor NamingModel) → (bound : WaveBound) → Option DecidedValue → Type 0
 IsRestOfWhole task declared bound (Some d) = IsDecidedWhole task declared bound d
 IsRestOfWhole task declared bound None = IsOrderGivenUp task task.settings.now.limit bound Declared

@@ -1,6 +1,11 @@
-//! A comparison in the order that is asked for, or in one that is found.
+//! The comparison of two netlists in the order that the settings name, or in one that is searched
+//! for.
+//!
+//! In these contracts, as in `pairs`, `full_report` and `ordering`, the three `⊥` say that no
+//! device has failed: all texts were read before. An attempt is returned only if several orders
+//! were tried.
 ghost use Rattle.std.specs.Prelude.{◌≡◌, IfOk, IfErr};
-ghost use Rattle.report_text.specs.Findings.{found_of};
+ghost use Rattle.compare_built.specs.Findings.{found_of};
 ghost use Rattle.compare_built.specs.declared.strategy.Strategy.{Strategy as StrategyValue};
 ghost use Rattle.explain_report.specs.Explaining.{HaveReportNaming};
 ghost use Rattle.order_search.specs.Tasks.{OfTask};
@@ -10,18 +15,18 @@ ghost use Rattle.check_report.specs.Decisions.{IsDecision, IsNoDecision};
 use crate::pairs::{compare_auto, compare_by_cones, compare_by_merging};
 use compare_built::comparison::compare;
 use compare_built::fault::CheckFault;
+use compare_built::found::Verdicts;
 use compare_built::strategy::{Attempt, AttemptOrder, Candidate, Strategy};
 use compare_built::task::Task;
 use expand_work::Monitor;
-use net_order::order::Order;
+use net_names::order::Order;
 use order_search::attempts::Decided;
 use order_search::budget_search::find_attempt;
 use order_search::trials::{Trial, paired, paired_by};
-use report_text::Verdicts;
 use std::sync::Wait;
 use std::thread::Threads;
 
-/// Compares two netlists in this order.
+/// Compares two netlists in this order. No attempt is reported, since no other order is tried.
 fn compare_in_order<H: Threads + Wait + Sync, G: Monitor>(
     task: &Task<'_, H>,
     order: &Order,
@@ -37,7 +42,7 @@ fn compare_in_order<H: Threads + Wait + Sync, G: Monitor>(
     Ok((Verdicts::of(pairing.into_naming(), verdicts), None))
 }
 
-/// Compares two netlists in the order of a candidate, whatever it comes to.
+/// Compares two netlists in the order that this candidate computes, within the limit.
 fn compare_in_computed_order<H: Threads + Wait + Sync, G: Monitor>(
     task: &Task<'_, H>,
     candidate: Candidate,
@@ -53,7 +58,8 @@ fn compare_in_computed_order<H: Threads + Wait + Sync, G: Monitor>(
     Ok((Verdicts::of(pairing.into_naming(), verdicts), None))
 }
 
-/// Compares two netlists in the first of the candidates' orders that stays within a budget.
+/// Compares two netlists in the order of the first candidate that succeeds within a budget. Returns its attempt with
+/// the verdicts.
 pub(crate) fn compare_in_best_order<H: Threads + Wait + Sync, G: Monitor>(
     task: &Task<'_, H>,
     monitor: &G,
@@ -64,6 +70,8 @@ pub(crate) fn compare_in_best_order<H: Threads + Wait + Sync, G: Monitor>(
     ensures ends { IfErr result EndsSearch }
     ensures named { IfOk result (λ r. HaveReportNaming task.now r.1 r.0) }
 {
+    // Without a pairing of its own for the report, the verdicts are over the variables of the order
+    // that decides.
     let decided = find_attempt(task, None, task.settings.limit, monitor)?;
     let Decided {
         trial,
@@ -75,7 +83,8 @@ pub(crate) fn compare_in_best_order<H: Threads + Wait + Sync, G: Monitor>(
     Ok((Verdicts::of(pairing.into_naming(), verdicts), Some(attempt)))
 }
 
-/// Compares two netlists in the order that is asked for, or in one that is found; then says which attempt it was.
+/// Compares two netlists by the strategy of the settings. Returns the verdicts, and the attempt that found them if
+/// several orders were tried.
 pub(crate) fn decide<H: Threads + Wait + Sync, G: Monitor>(
     task: &Task<'_, H>,
     monitor: &G,
@@ -90,6 +99,7 @@ pub(crate) fn decide<H: Threads + Wait + Sync, G: Monitor>(
         Strategy::Best => compare_in_best_order(task, monitor),
         Strategy::Auto => compare_auto(task, monitor),
         Strategy::Cones => compare_by_cones(task, monitor),
+        Strategy::ConesByList(_) => compare_by_cones(task, monitor),
         Strategy::Merge => compare_by_merging(task, monitor),
     }
 }

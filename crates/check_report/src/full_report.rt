@@ -1,8 +1,8 @@
-//! The report of two netlists that were read, with what explains pairs behind it, and the VCD of the first pair that differs.
+//! The text of a report with the explanations after it, and the VCD of the first pair that differs.
 ghost use Rattle.std.specs.Prelude.{◌≡◌, ◌≢◌, ◌++◌, ℕ, List, Option, IfOk, IfErr, IfSome, Err, is_some};
 ghost use Rattle.net_bench.specs.Circuit.{circuit};
 ghost use Rattle.report_text.specs.Causes.{Caused};
-ghost use Rattle.report_text.specs.Findings.{found_of};
+ghost use Rattle.compare_built.specs.Findings.{found_of};
 ghost use Rattle.report_text.specs.Json.{form_text};
 ghost use Rattle.compare_built.specs.Attempts.{AreGivenUp, last_budget, reported_kind};
 ghost use Rattle.compare_built.specs.PairSelection.{share_of};
@@ -14,30 +14,34 @@ ghost use Rattle.check_report.specs.Refusals.{MayAnswer};
 
 use crate::decision::decide;
 use compare_built::fault::CheckFault;
+use compare_built::found::Verdicts;
 use compare_built::strategy::Attempt;
 use compare_built::task::Task;
 use expand_work::Monitor;
 use explain_report::causes::{causes, listed};
 use explain_report::explanations::{explanations_after, has_pairs};
-use explain_report::report::form_text;
+use explain_report::report::{Circumstances, form_text};
 use explain_report::vcd_dump::dump;
-use report_text::{Outcome, Verdicts};
+use report_text::Outcome;
 use std::alloc::AllocError;
 use std::sync::Wait;
 use std::thread::Threads;
 
-/// What is told of a comparison.
+/// The texts that a comparison makes, in memory.
 #[derive(Drop)]
 pub(crate) struct ReportTexts {
     pub(crate) report: Vec<u8>,
-    /// The values of the first pair that differs, where they are asked for and one does.
+    /// The values of the first pair that differs, if the settings ask for them and a pair differs.
     pub(crate) vcd: Option<Vec<u8>>,
 }
 
-/// The bytes of a report, with the causes that it tells, and behind them what explains the pairs that are asked for.
+/// Returns the bytes of a report, with the causes of differences if they are asked for, and after
+/// them the explanations of the pairs that are to be explained. Both evaluate the netlists at the
+/// assignments of the report; no diagram is left by then.
 fn full_text<H>(
     task: &Task<'_, H>,
     tried: Option<Attempt>,
+    stopped: bool,
     verdicts: &Verdicts,
 ) -> Result<Vec<u8>, AllocError>
     requires named { HaveReportNaming task.now tried verdicts.now }
@@ -46,19 +50,25 @@ fn full_text<H>(
         × AreCauses s.causes input s tried (found_of verdicts.now) causes
         × (explanations : List ℕ) × IsAppended s.explain.items input s tried (found_of verdicts.now) explanations
         × (text.items ≡ form_text s.json s.assignment s.matching (reported_kind s.order tried) (is_some input.given)
-        (share_of s.picked) causes (found_of verdicts.now) ++ explanations))) }
+        (share_of s.picked) stopped causes (found_of verdicts.now) ++ explanations))) }
 {
     let given = task.given.is_some();
     let causes = causes(task, verdicts)?;
     let list = listed(&causes);
-    let mut text = form_text(task.alloc, task.settings, tried, given, list, verdicts)?;
+    let circumstances = Circumstances {
+        tried,
+        given,
+        stopped,
+    };
+    let mut text = form_text(task.alloc, task.settings, circumstances, list, verdicts)?;
     let explanations = explanations_after(task, verdicts)?;
     text.extend_from_slice(explanations.as_slice())?;
     Ok(text)
 }
 
-/// The report of a task with its VCD and its counts, and the attempt that it comes from. What is to be explained is looked for before
-/// anything is compared.
+/// Returns the report of a task with its VCD, its counts and the attempt that it comes from. The names of what is to be
+/// explained are looked up before anything is compared, so that a wrong name is refused at once and not after a long
+/// run.
 pub(crate) fn task_report<H: Threads + Wait + Sync, G: Monitor>(
     task: &Task<'_, H>,
     monitor: &G,
@@ -70,12 +80,16 @@ pub(crate) fn task_report<H: Threads + Wait + Sync, G: Monitor>(
     ensures answer { OfTask task.now (λ input s. IfErr result (MayAnswer input s (G.bound monitor.now))) }
     ensures fault { OfTask task.now (λ input s. IfErr result (IsReportFault input ⊥ ⊥ ⊥ s)) }
     ensures unwritten { OfTask task.now (λ input s. result ≢ Err CheckFault.Write) }
+    ensures names_first { result ≢ Err CheckFault.Explain → AreTargetsIn (circuit task.now.first.now) task.now.settings.now.explain.items }
 {
     if !has_pairs(task.first, task.settings.explain.as_slice()) {
         return Err(CheckFault::Explain);
     }
     let (verdicts, tried) = decide(task, monitor)?;
-    let report = full_text(task, tried, &verdicts)?;
+    // After the last attempt, and not of the clock: a run whose time is over only now was not
+    // stopped.
+    let stopped = monitor.was_stopped();
+    let report = full_text(task, tried, stopped, &verdicts)?;
     let vcd = dump(task, &verdicts)?;
     Ok((ReportTexts { report, vcd }, verdicts.outcome(), tried))
 }

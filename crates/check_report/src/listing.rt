@@ -1,4 +1,6 @@
-//! From two readers to the order of their variables.
+//! The order of the variables of what two readers hold, written as an order file. (`ordering` makes
+//! its text from the netlists.) As nothing is compared, the monitor is not notified of variables
+//! that only one netlist has.
 ghost use Rattle.std.specs.Prelude.{◌≡◌, ◌≢◌, ℕ, List, Option, IfOk, IfErr, IfSome, OnOk, OnErr, IsTrue, Err};
 ghost use Rattle.std.specs.Io.KnownBytes.{Appends};
 ghost use Rattle.report_text.specs.Writing.{AppendsFront};
@@ -15,12 +17,13 @@ use compare_built::fault::CheckFault;
 use compare_built::strategy::Attempt;
 use compare_built::task::Context;
 use expand_work::Monitor;
-use net_bench::device::{Sink, Source};
 use report_text::write_whole;
 use std::sync::Wait;
 use std::thread::Threads;
+use text_device::{Sink, Source};
 
-/// The order file of the variables of what is read, in the order that is asked for, or in the best.
+/// Returns the order file of the variables of what is read, in the order that the settings name, or in the best order,
+/// and the attempt that found it if several orders were tried.
 fn listed<H: Threads + Wait + Sync, R1: Source, R2: Source, R3: Source, G: Monitor>(
     context: &Context<'_, H, G>,
     first: &mut R1,
@@ -49,8 +52,9 @@ fn listed<H: Threads + Wait + Sync, R1: Source, R2: Source, R3: Source, G: Monit
     text_for(&task, context.monitor)
 }
 
-/// Reads two netlists, and a condition where there is one, and writes the names of their variables in level order, one a line, as an
-/// order file has them. Nothing is compared, and nothing built unless the best order is to be found.
+/// Reads two netlists, and a condition if there is one, and writes the names of their variables in level order, one in
+/// a line, as an order file has them. Nothing is compared, and diagrams are built only to find the best order. Returns
+/// the attempt that found it, if several orders were tried. Fails with the first cause in the order of `CheckFault`.
 pub fn print_order<
     H: Threads + Wait + Sync,
     R1: Source,
@@ -65,33 +69,36 @@ pub fn print_order<
     given: &mut Option<R3>,
     out: &mut W,
 ) -> Result<Option<Attempt>, CheckFault>
-    // What was written is an order of what was read that the settings allow, and nothing else.
+    // What was written is an order of the variables of what was read that the settings allow, and nothing else.
     ensures order { let input = device_texts (R1.remaining first.old) (R2.remaining second.old) (device_text R3.remaining given.old) in
         let s = context.now.settings.now in
         IfOk result (λ tried. (bytes : List ℕ) × IsListing input s tried bytes × Appends (W.contents out.old) (W.contents out.new) bytes) }
-    // Each attempt within a smaller budget than that of the one that is reported was given up, and within the first budget each before it.
+    // Each attempt within a smaller budget than that of the reported one was given up, and within the first budget each
+    // attempt before it.
     ensures earlier_given_up { let input = device_texts (R1.remaining first.old) (R2.remaining second.old) (device_text R3.remaining given.old) in
         let s = context.now.settings.now in
         IfOk result (λ tried. IfSome tried (AreGivenUp input s.matching (last_budget s.order s.limit) (G.bound context.now.monitor.now))) }
-    // A fault comes only if it may: Full only if the nodes that the netlists need are not within the limit, in the order that is named or in
-    // that of each candidate, and GivenUp only if orders are tried and each attempt within the limit was given up. Only attempts build
-    // diagrams, and no pairs are picked.
+    // The table of faults allows the fault. Full: the nodes that the netlists need are not within the limit, in the
+    // order that is named or in that of each candidate. GivenUp: orders are tried, each attempt within the limit was
+    // given up, and one of them for its requests or because the run may stop. Stopped: the monitor may stop the run.
+    // Only attempts build diagrams, and no pairs are selected.
     ensures answer { let input = device_texts (R1.remaining first.old) (R2.remaining second.old) (device_text R3.remaining given.old) in
         let s = context.now.settings.now in
         IfErr result (MayList input s (G.bound context.now.monitor.now)) }
-    // A fault has its cause, and what comes before it was accepted.
+    // A fault has its cause, and everything that is examined before it was accepted.
     ensures fault { let input = device_texts (R1.remaining first.old) (R2.remaining second.old) (device_text R3.remaining given.old) in
         let s = context.now.settings.now in
         IfErr result (HasCause input (IsTrue (R1.has_failed first.new)) (IsTrue (R2.has_failed second.new))
         (HasFailedIn R3.has_failed given.new) s) }
-    // Where the writing failed, a front part of the order was written, and the device has failed or taken nothing of the rest.
+    // If writing has failed, a front part of the order was written, and the device has failed or has taken nothing of
+    // the rest.
     ensures unwritten { let input = device_texts (R1.remaining first.old) (R2.remaining second.old) (device_text R3.remaining given.old) in
         let s = context.now.settings.now in
         result ≡ Err CheckFault.Write → (tried : Option AttemptValue) × (bytes : List ℕ) × IsListing input s tried bytes
         × AppendsFront (W.contents out.old) (W.contents out.new) (W.has_failed out.new) (W.has_stopped out.new) bytes }
-    // At any other fault nothing was written.
+    // With any other fault nothing was written.
     ensures untouched { OnErr result (result ≢ Err CheckFault.Write → out.new ≡ out.old) }
-    // A writer that took the order has not failed, and took some bytes at each write.
+    // A writer that took the whole order has not failed, and took some bytes at each write.
     ensures written { OnOk result ((W.has_failed out.new ≡ W.has_failed out.old) × (W.has_stopped out.new ≡ W.has_stopped out.old)) }
     ensures origins { (R1.origin first.new ≡ R1.origin first.old) × (R2.origin second.new ≡ R2.origin second.old)
         × (device_text R3.origin given.new ≡ device_text R3.origin given.old) }

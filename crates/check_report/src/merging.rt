@@ -1,5 +1,8 @@
-//! Rounds of merging equal signals, which decide pairs that are equal inside.
-ghost use Rattle.std.specs.Prelude.{◌≡◌, ◌≤◌, false, length, All, IfOk};
+//! Rounds of merging equal signals, which decide the pairs that are equal inside
+//! (docs/EQUAL_INSIDE.md). A pair is *known* here if merging has shown it to be equal, or a pattern
+//! has shown it to differ. In each list of flags, place i is of the pair at place i of
+//! `facts.subjects`.
+ghost use Rattle.std.specs.Prelude.{◌≡◌, ◌<◌, ◌≤◌, ◌||◌, ℕ, false, length, slice_index_or, All, IfOk};
 ghost use Rattle.net_bench.specs.Circuit.{circuit};
 ghost use Rattle.compare_built.specs.Comparing.{IsInside};
 ghost use Rattle.check_report.specs.Pairs.{AreEqualIf, AreFacts};
@@ -14,22 +17,25 @@ use std::alloc::{AllocError, Global};
 use std::sync::Wait;
 use std::thread::Threads;
 
-/// The most nodes of the diagrams of a window in the first round.
-const FIRST_WINDOW: u32 = 4_000;
+/// The most nodes that the diagrams of a window may have in the first round. No contract depends on
+/// this number or the next one; how much all windows together may take is in `net_merge`.
+const FIRST_WINDOW: u32 = 8_000;
 
-/// The same in the second.
-const SECOND_WINDOW: u32 = 32_000;
+/// The same in the second round.
+const SECOND_WINDOW: u32 = 64_000;
 
-/// What a round of merging has come to.
+/// The result of a round of merging.
 #[derive(Drop)]
 pub(crate) struct Merged {
-    /// The merged graph, with which the next round goes on.
+    /// What the round has learned: assignments that show signals to differ. The next round merges
+    /// anew, and begins with these.
     pub merging: Merging,
-    /// For each pair whether it is equal inside.
+    /// For each pair, whether it is known to be equal inside.
     pub equal: Vec<bool>,
 }
 
-/// For each pair that it is not known to be equal inside.
+/// Returns false for each pair: none is known to be equal inside. It is for comparisons without
+/// merging, and for a round that has nothing to do. Fails if memory is refused.
 pub(crate) fn none_equal(alloc: Global, facts: &PairFacts) -> Result<Vec<bool>, AllocError>
     ensures each { IfOk result (λ equal. length equal.items ≡ length facts.now.subjects.items) }
     ensures none { IfOk result (λ equal. All (λ flag. flag ≡ false) equal.items) }
@@ -42,7 +48,7 @@ pub(crate) fn none_equal(alloc: Global, facts: &PairFacts) -> Result<Vec<bool>, 
     Ok(equal)
 }
 
-/// Whether a pattern shows that each pair differs.
+/// Returns whether patterns show that all pairs differ, so that there is nothing to merge for.
 fn are_all_shown(facts: &PairFacts) -> bool {
     for shown in &facts.shown {
         if shown.is_none() {
@@ -52,7 +58,8 @@ fn are_all_shown(facts: &PairFacts) -> bool {
     true
 }
 
-/// Whether each pair is known to be equal inside, or a pattern shows that it differs.
+/// Returns whether each pair is known to be equal inside, or is shown to differ by a pattern. Both
+/// lists have a place for each pair; the lesser of both lengths spares a clause that says so.
 fn are_known(facts: &PairFacts, equal: &[bool]) -> bool {
     for place in 0..facts.shown.len().min(equal.len()) {
         if !equal[place] && facts.shown[place].is_none() {
@@ -62,7 +69,7 @@ fn are_known(facts: &PairFacts, equal: &[bool]) -> bool {
     true
 }
 
-/// How many pairs are known to be equal inside.
+/// Returns how many pairs are known to be equal inside.
 fn count_equal(equal: &[bool]) -> usize
     ensures { result ≤ length equal.now }
 {
@@ -75,25 +82,28 @@ fn count_equal(equal: &[bool]) -> usize
     count
 }
 
-/// Whether a first round of merging has decided so much that the whole is not tried again before the pairs: each pair that no pattern shows
-/// to differ is equal inside, or at least half of all pairs are.
+/// Returns whether the first round of merging has decided enough to judge the pairs next, without
+/// more attempts at the whole netlists: each pair that no pattern shows to differ is equal inside,
+/// or at least half of all pairs are. What a round has decided to a half is seldom a whole that one
+/// order could keep small, and the attempts that are left out are the longest.
 pub(crate) fn is_enough(facts: &PairFacts, equal: &[bool]) -> bool {
     let count = count_equal(equal);
     are_known(facts, equal) || equal.len() - count <= count
 }
 
-/// The pairs of facts, which are signals of the netlists.
+/// Returns the pairs of the facts. The contract says that they are signals of the netlists.
 fn subjects_in<'a, H>(task: &Task<'_, H>, naming: &Naming, facts: &'a PairFacts) -> &'a [Subject]
     requires { AreFacts task.now naming.now facts.now }
     ensures value { result.now ≡ facts.entry.now.subjects.items }
     ensures inside { All (IsInside (circuit task.now.first.now) (circuit task.now.second.now)) result.now }
 {
-    let _ = task;
-    let _ = naming;
+    let _ = task; // For the proof.
+    let _ = naming; // For the proof.
     facts.subjects.as_slice()
 }
 
-/// Which of the pairs are equal inside, by merging within windows of so many nodes.
+/// Returns which pairs are equal inside, by merging within windows of at most `nodes` nodes. Fails if memory is
+/// refused.
 fn equal_within<H: Threads + Wait + Sync, G: Monitor>(
     task: &Task<'_, H>,
     naming: &Naming,
@@ -109,7 +119,7 @@ fn equal_within<H: Threads + Wait + Sync, G: Monitor>(
     equal_inside(task, naming, subjects, merging, nodes, monitor)
 }
 
-/// Merges within small windows, unless patterns show that each pair differs.
+/// Merges within small windows, unless patterns show that all pairs differ. Fails if memory is refused.
 pub(crate) fn first_round<H: Threads + Wait + Sync, G: Monitor>(
     task: &Task<'_, H>,
     naming: &Naming,
@@ -128,7 +138,43 @@ pub(crate) fn first_round<H: Threads + Wait + Sync, G: Monitor>(
     Ok(Merged { merging, equal })
 }
 
-/// Goes on within larger windows, if a pair is left that no pattern shows to differ. The merged graph is given back.
+/// Returns whether a flag of either list is set at each place. Fails if memory is refused.
+fn either(alloc: Global, one: &[bool], other: &[bool]) -> Result<Vec<bool>, AllocError>
+    requires { length other.now ≡ length one.now }
+    ensures each { IfOk result (λ flags. length flags.items ≡ length one.now) }
+    ensures flags { IfOk result (λ flags. (i : ℕ) → i < length one.now
+        → slice_index_or flags.items i false ≡ (slice_index_or one.now i false || slice_index_or other.now i false)) }
+{
+    let mut flags = Vec::with_capacity(alloc, one.len())?;
+    for place in 0..one.len() {
+        flags.push(one[place] || other[place])?;
+    }
+    Ok(flags)
+}
+
+/// Returns the pairs that one of two rounds has found to be equal inside. Fails if memory is refused.
+fn either_equal<H>(
+    task: &Task<'_, H>,
+    naming: &Naming,
+    facts: &PairFacts,
+    one: &[bool],
+    other: &[bool],
+) -> Result<Vec<bool>, AllocError>
+    requires one { AreEqualIf task.now naming.now facts.now one.now }
+    requires other { AreEqualIf task.now naming.now facts.now other.now }
+    ensures { IfOk result (λ equal. AreEqualIf task.now naming.now facts.now equal.items) }
+{
+    let _ = task; // For the proof.
+    let _ = naming; // For the proof.
+    let _ = facts; // For the proof.
+    let flags = either(task.alloc, one, other)?;
+    Ok(flags)
+}
+
+/// Merges within larger windows, if a pair is left that is not equal inside so far and that no
+/// pattern shows to differ. A pair that the first round has found to be equal inside stays so, also
+/// if the run is stopped meanwhile and this round finds less. What the rounds have learned is
+/// freed. Fails if memory is refused.
 pub(crate) fn second_round<H: Threads + Wait + Sync, G: Monitor>(
     task: &Task<'_, H>,
     naming: &Naming,
@@ -145,10 +191,11 @@ pub(crate) fn second_round<H: Threads + Wait + Sync, G: Monitor>(
         return Ok(equal);
     }
     let mut merging = merging;
-    equal_within(task, naming, facts, &mut merging, SECOND_WINDOW, monitor)
+    let more = equal_within(task, naming, facts, &mut merging, SECOND_WINDOW, monitor)?;
+    either_equal(task, naming, facts, equal.as_slice(), more.as_slice())
 }
 
-/// Merges in both rounds.
+/// Does both rounds of merging, and returns for each pair whether it is equal inside. Fails if memory is refused.
 pub(crate) fn equal_pairs<H: Threads + Wait + Sync, G: Monitor>(
     task: &Task<'_, H>,
     naming: &Naming,

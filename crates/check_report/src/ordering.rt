@@ -1,4 +1,4 @@
-//! The order file of the variables of two netlists, as the settings ask for it.
+//! The order file of the variables of two netlists, by the strategy of the settings.
 ghost use Rattle.std.specs.Prelude.{None, ◌≡◌, ◌≢◌, IfOk, IfErr, IfSome, Err};
 ghost use Rattle.compare_built.specs.declared.strategy.Strategy.{Strategy as StrategyValue};
 ghost use Rattle.compare_built.specs.Attempts.{AreGivenUp, IsAllowed, IsFound, last_budget};
@@ -14,13 +14,13 @@ use compare_built::fault::CheckFault;
 use compare_built::strategy::{Attempt, AttemptOrder, Candidate, Strategy};
 use compare_built::task::Task;
 use expand_work::Monitor;
-use net_order::order::Order;
-use net_order::order_file::order_text;
+use net_names::order::Order;
+use net_names::order_file::order_text;
 use order_search::trials::{paired, paired_by};
 use std::sync::Wait;
 use std::thread::Threads;
 
-/// The order file of the variables of two netlists, in this order.
+/// Returns the order file of the variables of two netlists in this order.
 fn text_in<H>(task: &Task<'_, H>, order: &Order) -> Result<Vec<u8>, CheckFault>
     ensures text { OfTask task.now (λ input s. IfOk result (λ text. IsOrderPrinted input s.matching order.now text.items)) }
     ensures fault { OfTask task.now (λ input s. IfErr result (IsCheckFault input ⊥ ⊥ ⊥ s.order s.matching order.now)) }
@@ -31,8 +31,8 @@ fn text_in<H>(task: &Task<'_, H>, order: &Order) -> Result<Vec<u8>, CheckFault>
     Ok(text)
 }
 
-/// The same where no order is tried: in the order that is given, or in declared order, in which a report is written if other orders are taken
-/// for it.
+/// Returns the order file in this order, and no attempt, since no order is tried. It is the order that is named, or
+/// declared order if the report is written in declared order whatever orders are tried.
 fn given_text<H>(
     task: &Task<'_, H>,
     order: &Order,
@@ -48,7 +48,7 @@ fn given_text<H>(
     Ok((text, None))
 }
 
-/// The same in the order of a candidate.
+/// Returns the order file in the order that this candidate computes.
 fn computed_text<H>(
     task: &Task<'_, H>,
     candidate: Candidate,
@@ -64,7 +64,7 @@ fn computed_text<H>(
     Ok((text, None))
 }
 
-/// The same in the best order.
+/// Returns the order file in the best order, and the attempt that found it. Only this search builds diagrams.
 fn best_text<H: Threads + Wait + Sync, G: Monitor>(
     task: &Task<'_, H>,
     monitor: &G,
@@ -82,7 +82,8 @@ fn best_text<H: Threads + Wait + Sync, G: Monitor>(
     Ok((text, tried))
 }
 
-/// The order file of the variables of two netlists, in the order that is asked for, in the best, or in declared order.
+/// Returns the order file of the variables of two netlists in the order of their report: the named order, the best, or
+/// declared order.
 pub(crate) fn text_for<H: Threads + Wait + Sync, G: Monitor>(
     task: &Task<'_, H>,
     monitor: &G,
@@ -99,5 +100,7 @@ pub(crate) fn text_for<H: Threads + Wait + Sync, G: Monitor>(
         Strategy::Computed(candidate) => computed_text(task, *candidate),
         Strategy::Best => best_text(task, monitor),
         Strategy::Auto | Strategy::Cones | Strategy::Merge => { given_text(task, &Order::Declared) }
+        // The list is an order for the cones of single pairs; the report is in declared order.
+        Strategy::ConesByList(_) => given_text(task, &Order::Declared),
     }
 }

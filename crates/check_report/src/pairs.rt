@@ -1,12 +1,25 @@
-//! Comparisons that judge pairs one by one: by cones, by merging, and auto, which tries the whole as well.
+//! The comparisons that judge pairs one by one: by cones, by merging, and auto, which also makes
+//! attempts at the whole netlists.
+//!
+//! docs/ORDERS.md numbers the steps of auto from 1 to 7. `compare_whole_first` does step 1,
+//! `compare_after_search` the steps 2 to 4, `compare_pairs` 5 and 6, and `with_last_attempts` 7. If
+//! any difference is enough, `compare_pairs_first` begins with 2 and 3, and step 7 makes up for 1
+//! and 4. If there are more variables than a pairing can have, `merged_verdicts` does 2, 3, 5 and
+//! 6.
+//!
+//! A `Naming` says which variables there are and which pairs are compared; a `Pairing` is a naming
+//! of at most 4,096 variables, so that each of them can be a level of a diagram. Both are here in
+//! declared order, that of the report, whatever orders are tried. `equal[place]` is of the pair
+//! `facts.subjects[place]`.
 ghost use Rattle.std.specs.Prelude.{◌≡◌, IfOk, IfErr};
 ghost use Rattle.std.specs.List.{list_any};
 ghost use Rattle.net_bench.specs.Circuit.{circuit};
-ghost use Rattle.net_order.specs.declared.order.Order.TheVariants as orders;
-ghost use Rattle.report_text.specs.Findings.{found_of};
+ghost use Rattle.net_names.specs.declared.order.Order.TheVariants as orders;
+ghost use Rattle.compare_built.specs.Findings.{found_of};
 ghost use Rattle.compare_built.specs.declared.strategy.Strategy.{Strategy as StrategyValue};
 ghost use Rattle.compare_built.specs.Attempts.{first_whole_limit};
 ghost use Rattle.compare_built.specs.Comparing.{AreSignals};
+ghost use Rattle.compare_built.specs.Picking.{TakesPicks};
 ghost use Rattle.explain_report.specs.Deciding.{is_open};
 ghost use Rattle.explain_report.specs.Explaining.{HaveReportNaming};
 ghost use Rattle.order_search.specs.Tasks.{OfTask};
@@ -21,7 +34,7 @@ use crate::whole::{
     FIRST_WHOLE_LIMIT, TriedBefore, WholeEnd, search_again, search_within, try_rest, whole_verdicts,
 };
 use compare_built::fault::CheckFault;
-use compare_built::settings::Difference;
+use compare_built::found::Verdicts;
 use compare_built::strategy::Attempt;
 use compare_built::task::Task;
 use cone_check::cone_comparison::verdicts_by_cones;
@@ -31,31 +44,31 @@ use net_order::naming::Naming;
 use net_order::pairing::Pairing;
 use order_search::trials::{Trial, named};
 use pair_facts::{PairFacts, facts_of};
-use report_text::{Verdict, Verdicts};
+use report_text::{Difference, Verdict};
 use std::sync::Wait;
 use std::thread::Threads;
 
-/// Says that what a naming compares are signals of the netlists.
+/// Does nothing. Its contract says that the pairs of a naming are signals of the netlists.
 fn note_signals<H>(task: &Task<'_, H>, naming: &Naming)
     requires { IsNamingIn task.now orders.Declared naming.now }
     ensures { AreSignals (circuit task.now.first.now) (circuit task.now.second.now) naming.now }
 {
-    let _ = task.first.inputs();
-    let _ = task.second.inputs();
-    let _ = naming;
+    let _ = task.first.inputs(); // For the proof.
+    let _ = task.second.inputs(); // For the proof.
+    let _ = naming; // For the proof.
 }
 
-/// The naming of a pairing in declared order.
+/// Returns the naming of a pairing in declared order.
 fn naming_in<'a, H>(task: &Task<'_, H>, declared: &'a Pairing) -> &'a Naming
     requires { IsPairingIn task.now orders.Declared declared.now }
     ensures same { result.now ≡ declared.entry.now }
     ensures naming { IsNamingIn task.now orders.Declared result.now }
 {
-    let _ = task;
+    let _ = task; // For the proof.
     declared.naming()
 }
 
-/// What is known of the pairs that are picked before an attempt is made.
+/// Returns the pairs that are selected, with what patterns show of them.
 fn facts_in<H, G: Monitor>(
     task: &Task<'_, H>,
     naming: &Naming,
@@ -65,12 +78,13 @@ fn facts_in<H, G: Monitor>(
     ensures facts { IfOk result (AreFacts task.now naming.now) }
     ensures ends { IfErr result (EndsComparison task.now) }
 {
-    note_signals(task, naming);
+    note_signals(task, naming); // For the proof.
     let facts = facts_of(task, naming, monitor)?;
     Ok(facts)
 }
 
-/// Whether another attempt could say more of a pair.
+/// Returns whether another attempt could improve the verdict of a pair: it is Undecided, or the least difference is
+/// asked for and this one need not be the least.
 fn is_open(difference: Difference, verdict: &Verdict) -> bool
     ensures { result ≡ is_open difference verdict.now }
 {
@@ -85,7 +99,7 @@ fn is_open(difference: Difference, verdict: &Verdict) -> bool
     }
 }
 
-/// Whether another attempt could say more of one of the pairs.
+/// Returns whether another attempt could improve one of the verdicts.
 fn is_any_open(difference: Difference, verdicts: &[Verdict]) -> bool
     ensures { result ≡ list_any (is_open difference) verdicts.now }
 {
@@ -97,7 +111,8 @@ fn is_any_open(difference: Difference, verdicts: &[Verdict]) -> bool
     false
 }
 
-/// The verdicts of pairs, after the attempts of the whole that are left if another attempt could say more of a pair.
+/// Makes the remaining attempts at the whole netlists if another attempt could improve a verdict, and returns their
+/// verdicts if one of them succeeds, and the given verdicts otherwise.
 fn with_last_attempts<H: Threads + Wait + Sync, G: Monitor>(
     task: &Task<'_, H>,
     verdicts: Verdicts,
@@ -115,6 +130,8 @@ fn with_last_attempts<H: Threads + Wait + Sync, G: Monitor>(
     if !is_any_open(task.settings.difference, verdicts.as_slice()) {
         return Ok((verdicts, None));
     }
+    // The first naming is in the verdicts, which are the result if no attempt succeeds. So there is
+    // a second one, for which only memory can be refused, since the first was made.
     let naming = match named(task) {
         Ok(naming) => naming,
         Err(fault) => return Err(as_comparison_fault(fault)),
@@ -130,7 +147,8 @@ fn with_last_attempts<H: Threads + Wait + Sync, G: Monitor>(
     }
 }
 
-/// Merges in the second round, judges the pairs that are left by their cones, and makes the last attempts.
+/// Does the second round of merging, judges the pairs that are left by their cones, and makes the last attempts at the
+/// whole netlists.
 fn compare_pairs<H: Threads + Wait + Sync, G: Monitor>(
     task: &Task<'_, H>,
     naming: Naming,
@@ -153,8 +171,9 @@ fn compare_pairs<H: Threads + Wait + Sync, G: Monitor>(
     with_last_attempts(task, verdicts, before, monitor)
 }
 
-/// Goes on after each attempt of the whole within the first limit was given up: by patterns and a first round of merging, then by attempts
-/// within the second limit if that round has not decided enough, then pair by pair.
+/// Continues after each attempt at the whole netlists within the first limit was given up: with patterns and a first
+/// round of merging, then with attempts within the second limit if that round has not decided enough, and then pair by
+/// pair.
 fn compare_after_search<H: Threads + Wait + Sync, G: Monitor>(
     task: &Task<'_, H>,
     declared: Pairing,
@@ -186,7 +205,8 @@ fn compare_after_search<H: Threads + Wait + Sync, G: Monitor>(
     }
 }
 
-/// Tries the whole within the first limit, and then goes on. Whatever patterns show, the least difference is sought.
+/// Makes attempts at the whole netlists within the first limit, and continues if each was given up. The least
+/// difference is searched for, whatever patterns show.
 fn compare_whole_first<H: Threads + Wait + Sync, G: Monitor>(
     task: &Task<'_, H>,
     declared: Pairing,
@@ -205,7 +225,8 @@ fn compare_whole_first<H: Threads + Wait + Sync, G: Monitor>(
     }
 }
 
-/// Judges the pairs before any attempt of the whole, since any difference is enough.
+/// Judges the pairs before any attempt at the whole netlists. This is done if any difference is enough, since patterns
+/// may show most of them at once.
 fn compare_pairs_first<H: Threads + Wait + Sync, G: Monitor>(
     task: &Task<'_, H>,
     naming: Naming,
@@ -223,7 +244,7 @@ fn compare_pairs_first<H: Threads + Wait + Sync, G: Monitor>(
     compare_pairs(task, naming, facts, merged, TriedBefore::Nothing, monitor)
 }
 
-/// Merges in both rounds, and judges the pairs that are left by their cones.
+/// Does both rounds of merging, and judges the pairs that are left by their cones.
 fn merged_verdicts<H: Threads + Wait + Sync, G: Monitor>(
     task: &Task<'_, H>,
     naming: Naming,
@@ -257,9 +278,10 @@ fn cone_verdicts<H: Threads + Wait + Sync, G: Monitor>(
     Ok(verdicts)
 }
 
-/// Compares two netlists by the whole within budgets that grow, by what patterns show, by what merging shows to be equal inside, and each
-/// pair that is left by its cones. If there are more variables than a pairing has, nothing of the whole is tried. The verdicts are reported
-/// in declared order.
+/// Compares two netlists by several methods: attempts at the whole netlists within budgets that grow, patterns that
+/// show differences, merging that shows pairs to be equal inside, and for each pair that is left its cones. If there
+/// are more variables than a pairing can have, there are no attempts at the whole netlists. The report is in declared
+/// order, whatever method decides.
 pub(crate) fn compare_auto<H: Threads + Wait + Sync, G: Monitor>(
     task: &Task<'_, H>,
     monitor: &G,
@@ -283,12 +305,12 @@ pub(crate) fn compare_auto<H: Threads + Wait + Sync, G: Monitor>(
     }
 }
 
-/// Compares each pair that is picked by its cones.
+/// Compares each selected pair by its cones. The report is in declared order.
 pub(crate) fn compare_by_cones<H: Threads + Wait + Sync, G: Monitor>(
     task: &Task<'_, H>,
     monitor: &G,
 ) -> Result<(Verdicts, Option<Attempt>), CheckFault>
-    requires cones { task.now.settings.now.order ≡ StrategyValue.Cones }
+    requires picks { TakesPicks task.now.settings.now.order }
     ensures decision { OfTask task.now (λ input s. IfOk result (λ r. IsDecision input s (G.bound monitor.now) (found_of r.0) r.1)) }
     ensures no_decision { OfTask task.now (λ input s. IfErr result (IsNoDecision input ⊥ ⊥ ⊥ s (G.bound monitor.now))) }
     ensures named { IfOk result (λ r. HaveReportNaming task.now r.1 r.0) }
@@ -298,7 +320,8 @@ pub(crate) fn compare_by_cones<H: Threads + Wait + Sync, G: Monitor>(
     Ok((verdicts, None))
 }
 
-/// Compares each pair by its cones, after equal signals were merged.
+/// Merges equal signals of both netlists, and compares the pairs that this does not decide by their cones. The report
+/// is in declared order.
 pub(crate) fn compare_by_merging<H: Threads + Wait + Sync, G: Monitor>(
     task: &Task<'_, H>,
     monitor: &G,

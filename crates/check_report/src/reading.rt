@@ -1,8 +1,8 @@
-//! The reading of two netlists and of a condition.
+//! The reading of two netlists, and of a condition if there is one.
 ghost use Rattle.std.specs.Prelude.{IfOk, IfErr, IfSome, IsTrue, option_map, ◌≡◌};
 ghost use Rattle.net_bench.specs.Circuit.{circuit};
-ghost use Rattle.net_order.specs.declared.order.Match.{Match};
-ghost use Rattle.net_order.specs.declared.order.Order.{Order};
+ghost use Rattle.net_names.specs.declared.order.Match.{Match};
+ghost use Rattle.net_names.specs.declared.order.Order.{Order};
 ghost use Rattle.compare_built.specs.declared.strategy.Strategy.{Strategy};
 ghost use Rattle.compare_built.specs.Check.{AreGiven, IsCheckFault, IsCondition, IsConditionFault, IsFaultOfReading};
 ghost use Rattle.compare_built.specs.Conditions.{HasOneOutput, one_output-prop};
@@ -12,22 +12,23 @@ ghost use Rattle.check_report.specs.Netlists.{IsTaskOf};
 use compare_built::fault::CheckFault;
 use compare_built::settings::Settings;
 use compare_built::task::Task;
-use net_bench::device::Source;
 use net_bench::netlist::Netlist;
 use net_bench::reader::read_bench;
 use std::alloc::Global;
+use text_device::Source;
 
-/// Two netlists, and a condition where there is one, which has exactly one output.
+/// Two netlists, and a condition if there is one, which has exactly one output. A task borrows
+/// them, and has the settings and the threads as well.
 #[derive(Drop)]
-pub(crate) struct Netlists {
+pub(crate) struct ReadNetlists {
     first: Netlist,
     second: Netlist,
     given: Option<Netlist>,
     ghost one_output: { IfSome (option_map circuit given) HasOneOutput } by { one_output-prop (option_map circuit given) },
 }
 
-impl Netlists {
-    /// Their comparison by these settings.
+impl ReadNetlists {
+    /// Returns the task of comparing these netlists by the settings.
     pub(crate) fn task<'a, H>(
         &'a self,
         rt: &'a H,
@@ -48,7 +49,7 @@ impl Netlists {
     }
 }
 
-/// Reads the condition, where there is one. It has exactly one output.
+/// Reads the condition, if there is one. Fails if its text is refused, or if it does not have exactly one output.
 fn read_condition<R: Source>(
     alloc: Global,
     given: &mut Option<R>,
@@ -70,13 +71,14 @@ fn read_condition<R: Source>(
     Ok(Some(net))
 }
 
-/// Reads the first netlist, the second, and then the condition where there is one.
+/// Reads the first netlist, the second netlist, and then the condition if there is one. The first refusal is the fault,
+/// and nothing is read after it.
 pub(crate) fn read_netlists<R1: Source, R2: Source, R3: Source>(
     alloc: Global,
     first: &mut R1,
     second: &mut R2,
     given: &mut Option<R3>,
-) -> Result<Netlists, CheckFault>
+) -> Result<ReadNetlists, CheckFault>
     ensures read { let input = device_texts (R1.remaining first.old) (R2.remaining second.old) (device_text R3.remaining given.old) in
         IfOk result (λ nets. AreGiven input (circuit nets.first) (circuit nets.second) (option_map circuit nets.given)) }
     ensures fault { let input = device_texts (R1.remaining first.old) (R2.remaining second.old) (device_text R3.remaining given.old) in
@@ -96,7 +98,7 @@ pub(crate) fn read_netlists<R1: Source, R2: Source, R3: Source>(
         Err(fault) => return Err(CheckFault::Second(fault)),
     };
     let given = read_condition(alloc, given)?;
-    Ok(Netlists {
+    Ok(ReadNetlists {
         first,
         second,
         given,

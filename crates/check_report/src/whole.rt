@@ -1,10 +1,18 @@
-//! The attempts of the whole that auto makes: some before the pairs are judged, and the others after them if a pair is left.
+//! The attempts at the whole netlists that auto makes: some before the pairs are judged, and the
+//! others after them if a pair is left.
+//!
+//! By the steps of docs/ORDERS.md: `search_within` makes those of step 1, `search_again` those of
+//! step 4, and `try_rest` those of step 7, with what was left out before. A *trial* is what an
+//! attempt leaves if it is given up: its order, with the pairing in it, and how far it came; within
+//! a larger budget the order that came furthest is tried first. `declared` is the pairing over
+//! whose variables the verdicts are reported, whatever order decides.
 ghost use Rattle.std.specs.Prelude.{◌≡◌, ◌↔◌, ◌<◌, ◌^◌, IfOk, IfErr, IsTrue, Some, min};
 ghost use Rattle.compare_built.specs.Attempts.{first_whole_limit};
 ghost use Rattle.order_search.specs.Trials.{AreAllGivenUp, AreTrials, EndsAtOnce, IsGivingUp, IsReportedIn};
 ghost use Rattle.check_report.specs.Wholes.{AreTriedBefore, IsRestOfWhole, IsSearched, IsTriedAgain, attempt_of};
 
 use compare_built::fault::CheckFault;
+use compare_built::found::Verdicts;
 use compare_built::strategy::{Attempt, AttemptOrder};
 use compare_built::task::Task;
 use expand_work::{Monitor, WaveFault};
@@ -13,46 +21,54 @@ use order_search::attempts::{Decided, Round, try_again};
 use order_search::budget_search::search;
 use order_search::last_attempts::{furthest_of, try_last};
 use order_search::trials::Trial;
-use report_text::Verdicts;
 use std::sync::Wait;
 use std::thread::Threads;
 
-/// Before equal signals are merged, the whole is tried within so many nodes at most.
+/// The most nodes of an attempt at the whole netlists before equal signals are merged. This is the
+/// second of the budgets (`FIRST_BUDGET` and `GROWTH` in `order_search::budget_search`), and
+/// `WHOLE_LIMIT` is the third: a later attempt takes up the sequence where the earlier ones have
+/// ended. docs/decisions/orders-and-attempts.md says why merging comes between them.
 pub(crate) const FIRST_WHOLE_LIMIT: u64 = 262_144;
 
-/// Before the pairs are judged by their cones, the whole is tried within so many nodes at most.
+/// The most nodes of an attempt at the whole netlists before the pairs are judged by their cones.
 pub(crate) const WHOLE_LIMIT: u64 = 4_194_304;
 
-/// Which attempts of the whole were made before the pairs were judged: all of them were given up.
+/// The attempts at the whole netlists that were made before the pairs were judged. All of them were given up.
 #[derive(Drop)]
 pub(crate) enum TriedBefore {
-    /// None, since any difference is asked for.
+    /// None was made, since any difference is asked for.
     Nothing,
-    /// Those within the first limit, which have left these trials.
+    /// Those within the first limit were made, and have left these trials.
     First(Vec<Trial>),
-    /// Those within the second limit too.
+    /// Those within the second limit were made as well.
     Second(Vec<Trial>),
 }
 
-/// What attempts of the whole have come to.
+/// The result of attempts at the whole netlists.
 #[derive(Drop)]
 pub(crate) enum WholeEnd {
+    /// One of them has succeeded.
     Decided(Decided),
-    /// Each was given up, which has left these trials.
+    /// Each was given up; these are the trials that they have left.
     GivenUp(Vec<Trial>),
 }
 
-/// Whether each attempt of a search that ends with this fault was given up.
+/// Returns whether a search that fails with this fault has given up each of its attempts. A run
+/// that has stopped counts as that: it goes on, without more attempts, to report what was decided
+/// before.
 fn is_giving_up(fault: CheckFault) -> bool
     ensures { IsTrue result ↔ IsGivingUp fault }
 {
     matches!(
         fault,
-        CheckFault::Wave(WaveFault::Full) | CheckFault::GivenUp
+        CheckFault::Wave(WaveFault::Full)
+            | CheckFault::Wave(WaveFault::Stopped)
+            | CheckFault::GivenUp
     )
 }
 
-/// Tries the whole within budgets that grow up to the limit, or up to so many nodes if these are fewer.
+/// Makes attempts at the whole netlists within budgets that grow up to the limit of the run, or up to `most` nodes if
+/// that is less.
 pub(crate) fn search_within<H: Threads + Wait + Sync, G: Monitor>(
     task: &Task<'_, H>,
     declared: &Pairing,
@@ -76,8 +92,8 @@ pub(crate) fn search_within<H: Threads + Wait + Sync, G: Monitor>(
     Err(fault)
 }
 
-/// Tries the orders again, after those within the first limit were given up, within the second limit. There is nothing to try if the limit
-/// of the run is not larger than the first.
+/// Tries the orders again within the second limit, after all attempts within the first one were given up. If the limit
+/// of the run is not larger than the first limit, there is nothing to try.
 pub(crate) fn search_again<H: Threads + Wait + Sync, G: Monitor>(
     task: &Task<'_, H>,
     declared: &Pairing,
@@ -102,7 +118,7 @@ pub(crate) fn search_again<H: Threads + Wait + Sync, G: Monitor>(
     }
 }
 
-/// Makes the attempts within the second limit that were not made before the pairs were judged.
+/// Makes those attempts within the second limit that were not made before the pairs were judged.
 fn search_rest<H: Threads + Wait + Sync, G: Monitor>(
     task: &Task<'_, H>,
     declared: &Pairing,
@@ -121,8 +137,10 @@ fn search_rest<H: Threads + Wait + Sync, G: Monitor>(
     }
 }
 
-/// The order of the attempt before that in declared order: the one that came furthest, but declared order itself, which is then tried once,
-/// if that one was tried within the limit before.
+/// Returns the order of the last attempt but one; the last is in declared order. It is the order
+/// that came furthest. But if the limit of the run is not above the second limit, that order was
+/// tried within it already; then it is declared order too, and as one order is not tried twice
+/// (`try_last`), one attempt is left.
 fn before_declared(furthest: AttemptOrder, limit: u64) -> AttemptOrder {
     if limit <= WHOLE_LIMIT {
         AttemptOrder::Declared
@@ -131,8 +149,9 @@ fn before_declared(furthest: AttemptOrder, limit: u64) -> AttemptOrder {
     }
 }
 
-/// Makes the attempts that are left: those within the second limit that were not made before, and then those within the limit of the run, one
-/// in the order that came furthest if that limit is larger, and one in declared order.
+/// Makes the remaining attempts at the whole netlists: those within the second limit that were not made before, then
+/// two within the limit of the run: one in the order that came furthest, if that limit is larger, and one in declared
+/// order. Returns none if each was given up.
 pub(crate) fn try_rest<H: Threads + Wait + Sync, G: Monitor>(
     task: &Task<'_, H>,
     declared: &Pairing,
@@ -157,7 +176,7 @@ pub(crate) fn try_rest<H: Threads + Wait + Sync, G: Monitor>(
     }
 }
 
-/// The verdicts of an attempt of the whole over the variables as they are declared, and the attempt.
+/// Returns the verdicts of an attempt at the whole netlists over the variables in declared order, and the attempt.
 pub(crate) fn whole_verdicts(declared: Pairing, decided: Decided) -> (Verdicts, Option<Attempt>)
     ensures verdicts { result.0 ≡ record { naming = declared; verdicts = decided.verdicts.items } }
     ensures tried { result.1 ≡ Some (attempt_of decided) }

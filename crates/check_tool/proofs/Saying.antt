@@ -1,4 +1,4 @@
--- A text that is said in parts.
+-- A text that is printed in parts.
 use Rattle.std.proofs.Common.{◌≡◌, ◌≢◌, ◌∙◌, ◌⊎◌, inl, inr, ℕ, zero, suc, ◌+◌, ◌<◌, Bool, List, [], ◌∷◌, ◌++◌, length, get_or, take, Option, Some, None, refl, sym, ap, subst, arith}
 use Rattle.std.specs.Prelude.{flat_map}
 use Rattle.std.specs.Borrow.{Bor}
@@ -6,13 +6,13 @@ use Rattle.std.specs.Io.KnownBytes.{Appends}
 use Rattle.std.proofs.lemmas.List.{append-nil, append_assoc, flat_map_more, take_more}
 use Rattle.report_text.specs.Writing.{AppendsFront}
 
--- the parts of a fault's line are its line
+-- the parts of a fault's line make its line
 pub line_of_parts : (a p b n c z : List ℕ) → a ++ (p ++ (b ++ (n ++ (c ++ (z ++ []))))) ≡ a ++ ((p ++ (b ++ (n ++ c))) ++ z)
 line_of_parts a p b n c z =
     ap (λ l. a ++ (p ++ (b ++ (n ++ (c ++ l))))) (append-nil z)
     ∙ ap (λ l. a ++ l) (sym (append_assoc p (b ++ (n ++ c)) z ∙ ap (λ l. p ++ l) (append_assoc b (n ++ c) z ∙ ap (λ l. b ++ l) (append_assoc n c z))))
 
--- what was taken of two texts
+-- the device has taken both texts
 pub appends_both : (held middle now : Option (List ℕ)) (front part : List ℕ) → Appends held middle front → Appends middle now part → Appends held now (front ++ part)
 appends_both None middle now front part a b = tt
 appends_both (Some held) None now front part a b = absurd a
@@ -27,7 +27,7 @@ why_more : {F S : Type 0} (back rest : List ℕ) → F ⊎ (S × (back ≢ [])) 
 why_more back rest (inl f) = inl f
 why_more back rest (inr s) = inr (s.0, still_some back rest s.1)
 
--- all of one text was taken, and a front part of the next
+-- the device has taken the whole of one text, and a front part of the next
 pub front_following : (held middle now : Option (List ℕ)) (has_failed has_stopped : Bool) (front part rest : List ℕ) → Appends held middle front → AppendsFront middle now has_failed has_stopped part
     → AppendsFront held now has_failed has_stopped (front ++ (part ++ rest))
 front_following held middle now has_failed has_stopped front part rest a f = record {
@@ -38,7 +38,7 @@ front_following held middle now has_failed has_stopped front part rest a f = rec
   why = why_more f.back rest f.why;
 }
 
--- the text of some parts, before and from one of them on
+-- the text of the parts before one of them, and of those from it on
 text_at : (parts : List (Bor (List ℕ))) (i : ℕ) (p : Bor (List ℕ)) → i < length parts → p ≡ get_or parts i p
     → (rest : List ℕ) × (flat_map (λ q. q.now) parts ≡ flat_map (λ q. q.now) (take i parts) ++ (p.now ++ rest))
 text_at [] i p low at = absurd (omega (arith, low))

@@ -1,31 +1,34 @@
--- What the program's faults are called in print, and its statuses.
+-- The texts of the program's faults, and its exit statuses.
 use Rattle.std.specs.Prelude.{ℕ, List, [], ◌++◌, Option, Some, None, codes, decimal}
 use Rattle.net_bench.specs.declared.fault.BenchFault.{BenchFault}
 use Rattle.net_bench.specs.declared.fault.BenchFault.TheVariants.{TooLong as LongText, BadByte, BadStatement, UnknownGate, WrongOperands}
 use Rattle.net_bench.specs.declared.fault.BenchFault.TheVariants.{Redefined, TooMany, Undefined, Cycle, Read as ReadFailed}
 use Rattle.net_bench.specs.declared.fault.BenchFault.TheVariants.{OutOfMemory as NoTextMemory}
-use Rattle.net_order.specs.declared.order.OrderFault.{OrderFault}
-use Rattle.net_order.specs.declared.order.OrderFault.TheVariants.{CountsDiffer, NotAPermutation, TooManyInputs}
-use Rattle.net_order.specs.declared.order.OrderFault.TheVariants.{OutOfMemory as NoOrderMemory, BadName, TooLong as LongOrder}
-use Rattle.net_order.specs.declared.order.OrderFault.TheVariants.{Read as OrderReadFailed}
-use Rattle.net_order.specs.Fault.{order_fault_text}
+use Rattle.net_names.specs.declared.order.OrderFault.{OrderFault}
+use Rattle.net_names.specs.declared.order.OrderFault.TheVariants.{CountsDiffer, NotAPermutation, TooManyInputs}
+use Rattle.net_names.specs.declared.order.OrderFault.TheVariants.{OutOfMemory as NoOrderMemory, BadName, TooLong as LongOrder}
+use Rattle.net_names.specs.declared.order.OrderFault.TheVariants.{Read as OrderReadFailed}
+use Rattle.net_rename.specs.declared.fault.PairsFault.{PairsFault}
+use Rattle.net_rename.specs.declared.fault.PairsFault.TheVariants.{BadLine, TooLong as LongPairs, Read as PairsReadFailed, UnknownFirst}
+use Rattle.net_rename.specs.declared.fault.PairsFault.TheVariants.{UnknownSecond, Repeated, Taken, OutOfMemory as NoPairsMemory}
 use Rattle.compare_built.specs.declared.fault.CheckFault.{CheckFault}
 use Rattle.compare_built.specs.declared.fault.CheckFault.TheVariants.{First, Second, Given, GivenOutputs, Order, Only, Explain, Wave}
 use Rattle.compare_built.specs.declared.fault.CheckFault.TheVariants.{GivenUp, Write, OutOfMemory as NoCheckMemory}
-use Rattle.compare_built.specs.Texts.{check_fault_text}
+use Rattle.check_tool.specs.FaultTexts.{check_fault_text, order_fault_text, pairs_fault_text}
 use Rattle.check_tool.specs.declared.fault.FileRole.{FileRole}
 use Rattle.check_tool.specs.declared.fault.FileRole.TheVariants.{First as FirstFile, Second as SecondFile, Given as GivenFile}
-use Rattle.check_tool.specs.declared.fault.FileRole.TheVariants.{Order as OrderFile}
-use Rattle.check_tool.specs.declared.fault.Words.{Words}
+use Rattle.check_tool.specs.declared.fault.FileRole.TheVariants.{Pairs as PairsFile, Order as OrderFile}
+use Rattle.check_tool.specs.declared.fault.FaultWords.{FaultWords}
 use Rattle.check_tool.specs.declared.fault.ToolFault.{ToolFault}
 use Rattle.check_tool.specs.declared.fault.ToolFault.TheVariants.{OneFile, InputTwice, CannotOpen, CannotSave, InputUnread, InputTooLong}
-use Rattle.check_tool.specs.declared.fault.ToolFault.TheVariants.{InputUndivided, BadOrder, Check, OutOfMemory}
+use Rattle.check_tool.specs.declared.fault.ToolFault.TheVariants.{InputUndivided, BadPairs, BadOrder, Check, OutOfMemory}
 
--- what a file is
+-- the word for a file in a fault's text
 abbrev pub file_role_text : FileRole → List ℕ
 file_role_text FirstFile = codes "first"
 file_role_text SecondFile = codes "second"
 file_role_text GivenFile = codes "given"
+file_role_text PairsFile = codes "pairs"
 file_role_text OrderFile = codes "order"
 
 -- the text of a fault, without the program's name before it
@@ -37,24 +40,25 @@ tool_fault_text (CannotSave obstacle) = codes "vcd: cannot be written"
 tool_fault_text InputUnread = codes "standard input: cannot be read"
 tool_fault_text InputTooLong = codes "standard input: too long"
 tool_fault_text InputUndivided = codes "standard input: no line %%"
+tool_fault_text (BadPairs fault) = codes "pairs: " ++ pairs_fault_text fault
 tool_fault_text (BadOrder fault) = codes "order: " ++ order_fault_text fault
 tool_fault_text (Check fault) = check_fault_text fault
 tool_fault_text OutOfMemory = codes "out of memory"
 
--- the number in a text, where there is one
+-- the number in a text, if there is one
 abbrev pub number_text : Option ℕ → List ℕ
 number_text None = []
 number_text (Some n) = decimal n
 
--- the text of these words
-abbrev pub words_text : Words → List ℕ
+-- the text that these parts make
+abbrev pub words_text : FaultWords → List ℕ
 words_text w = w.place.now ++ (w.before.now ++ (number_text w.number ++ w.following.now))
 
 -- the line that is printed for a fault
 abbrev pub fault_line : ToolFault → List ℕ
 fault_line fault = codes "bddcheck: " ++ tool_fault_text fault ++ codes "\n"
 
--- the status of a text that is refused: 3 where memory ran out
+-- the status of a refused text: 3 if memory was refused, and otherwise 2
 abbrev pub text_status : BenchFault → ℕ
 text_status NoTextMemory = 3
 text_status LongText = 2
@@ -68,7 +72,7 @@ text_status (Undefined line) = 2
 text_status (Cycle line) = 2
 text_status ReadFailed = 2
 
--- the same of an order
+-- the same of a refused order
 abbrev pub order_status : OrderFault → ℕ
 order_status NoOrderMemory = 3
 order_status CountsDiffer = 2
@@ -78,7 +82,18 @@ order_status (BadName line) = 2
 order_status LongOrder = 2
 order_status OrderReadFailed = 2
 
--- the same of a check: 3 also where the building failed or was given up, or the writing failed
+-- the same of refused pairs of names
+abbrev pub pairs_status : PairsFault → ℕ
+pairs_status NoPairsMemory = 3
+pairs_status (BadLine line) = 2
+pairs_status LongPairs = 2
+pairs_status PairsReadFailed = 2
+pairs_status (UnknownFirst line) = 2
+pairs_status (UnknownSecond line) = 2
+pairs_status (Repeated line) = 2
+pairs_status (Taken line) = 2
+
+-- the same of a check; it is also 3 if the diagrams could not be built, attempts were given up, or writing has failed
 abbrev pub check_status : CheckFault → ℕ
 check_status (First fault) = text_status fault
 check_status (Second fault) = text_status fault
@@ -92,7 +107,7 @@ check_status GivenUp = 3
 check_status Write = 3
 check_status NoCheckMemory = 3
 
--- the program's status for a fault
+-- the program's exit status for a fault
 abbrev pub fault_status : ToolFault → ℕ
 fault_status OneFile = 2
 fault_status InputTwice = 2
@@ -101,6 +116,7 @@ fault_status (CannotSave obstacle) = 3
 fault_status InputUnread = 2
 fault_status InputTooLong = 2
 fault_status InputUndivided = 2
+fault_status (BadPairs fault) = pairs_status fault
 fault_status (BadOrder fault) = order_status fault
 fault_status (Check fault) = check_status fault
 fault_status OutOfMemory = 3

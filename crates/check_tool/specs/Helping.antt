@@ -1,38 +1,40 @@
--- What is said after a fault's line: where the fault is, and what helps.
-use Rattle.std.specs.Prelude.{◌≡◌, ◌⊎◌, ◌||◌, ◌==◌, ℕ, Bool, true, false, if◌then◌else◌, List, [], ◌∷◌, ◌++◌, Option, Some, None, codes}
-use Rattle.std.specs.Prelude.{decimal, flat_map, Contains}
+-- The line after a fault's own: where the fault is, and what helps.
+use Rattle.std.specs.Prelude.{◌≡◌, ◌⊎◌, ◌||◌, ◌==◌, ◌<◌, ℕ, Bool, true, false, if◌then◌else◌, List, [], ◌∷◌, ◌++◌, Option, Some, None, codes}
+use Rattle.std.specs.Prelude.{decimal, flat_map, length, slice_index_or}
 use Rattle.std.specs.Borrow.{Bor}
 use Rattle.net_bench.specs.Circuit.{Circuit}
 use Rattle.net_bench.specs.declared.fault.BenchFault.{BenchFault}
 use Rattle.net_bench.specs.declared.fault.BenchFault.TheVariants.{TooLong as LongText, BadByte, BadStatement, UnknownGate, WrongOperands}
 use Rattle.net_bench.specs.declared.fault.BenchFault.TheVariants.{Redefined, TooMany, Undefined, Cycle, Read as ReadFailed}
 use Rattle.net_bench.specs.declared.fault.BenchFault.TheVariants.{OutOfMemory as NoTextMemory}
-use Rattle.net_order.specs.declared.order.OrderFault.{OrderFault}
-use Rattle.net_order.specs.declared.order.OrderFault.TheVariants.{CountsDiffer, NotAPermutation, TooManyInputs}
-use Rattle.net_order.specs.declared.order.OrderFault.TheVariants.{OutOfMemory as NoOrderMemory, BadName, TooLong as LongOrder}
-use Rattle.net_order.specs.declared.order.OrderFault.TheVariants.{Read as OrderReadFailed}
+use Rattle.net_names.specs.declared.order.OrderFault.{OrderFault}
+use Rattle.net_names.specs.declared.order.OrderFault.TheVariants.{CountsDiffer, NotAPermutation, TooManyInputs}
+use Rattle.net_names.specs.declared.order.OrderFault.TheVariants.{OutOfMemory as NoOrderMemory, BadName, TooLong as LongOrder}
+use Rattle.net_names.specs.declared.order.OrderFault.TheVariants.{Read as OrderReadFailed}
+use Rattle.net_rename.specs.declared.fault.PairsFault.{PairsFault}
+use Rattle.net_rename.specs.declared.fault.PairsFault.TheVariants.{BadLine, TooLong as LongPairs, Read as PairsReadFailed, UnknownFirst}
+use Rattle.net_rename.specs.declared.fault.PairsFault.TheVariants.{UnknownSecond, Repeated, Taken, OutOfMemory as NoPairsMemory}
 use Rattle.expand_work.specs.declared.fault.WaveFault.{WaveFault}
-use Rattle.expand_work.specs.declared.fault.WaveFault.TheVariants.{OutOfMemory as NoWaveMemory, NoWorker, Full, TooManyRequests}
+use Rattle.expand_work.specs.declared.fault.WaveFault.TheVariants.{OutOfMemory as NoWaveMemory, NoWorker, Full, TooManyRequests, Stopped}
 use Rattle.compare_built.specs.declared.fault.CheckFault.{CheckFault}
 use Rattle.compare_built.specs.declared.fault.CheckFault.TheVariants.{First, Second, Given, GivenOutputs, Order, Only, Explain, Wave}
 use Rattle.compare_built.specs.declared.fault.CheckFault.TheVariants.{GivenUp, Write, OutOfMemory as NoCheckMemory}
 use Rattle.report_text.specs.declared.cause.PairName.{PairName}
 use Rattle.compare_built.specs.Check.{Gives}
 use Rattle.explain_report.specs.Explaining.{IsTargetIn}
-use Rattle.compare_built.specs.PairSelection.{IsNamedIn}
+use Rattle.compare_built.specs.PairSelection.{HasPicked}
 use Rattle.command_line.specs.declared.options.Picks.{Picks}
 use Rattle.command_line.specs.declared.options.Picks.TheVariants.{All as AllPicks, Only as OnlyPicks, Share as SharePicks}
 use Rattle.command_line.specs.declared.options.Options.{Options}
 use Rattle.command_line.specs.declared.options.OrderChoice.{OrderChoice}
-use Rattle.command_line.specs.declared.options.OrderChoice.TheVariants.{Declared, Depth, Interleave, Index, Force, MsbFirst, Weights, ForceGroups, Best, Auto, Cones, Merge, File}
-use Rattle.command_line.specs.declared.options.OrderChoice.TheVariants.{Extended}
+use Rattle.command_line.specs.declared.options.OrderChoice.TheVariants.{Named, Best, Auto, Cones, ConesByList, Merge, File, Extended}
 use Rattle.command_line.specs.declared.options.Texts.{Texts}
 use Rattle.command_line.specs.declared.options.Texts.TheVariants.{Input, Files, InputAndFile, FileAndInput, InputTwice, One}
 use Rattle.check_tool.specs.declared.fault.FileRole.TheVariants.{First as FirstFile, Second as SecondFile, Given as GivenFile}
-use Rattle.check_tool.specs.declared.fault.FileRole.TheVariants.{Order as OrderFile}
+use Rattle.check_tool.specs.declared.fault.FileRole.TheVariants.{Pairs as PairsFile, Order as OrderFile}
 use Rattle.check_tool.specs.declared.fault.ToolFault.{ToolFault}
 use Rattle.check_tool.specs.declared.fault.ToolFault.TheVariants.{OneFile, InputTwice as DashTwice, CannotOpen, CannotSave, InputUnread}
-use Rattle.check_tool.specs.declared.fault.ToolFault.TheVariants.{InputTooLong, InputUndivided, BadOrder, Check, OutOfMemory}
+use Rattle.check_tool.specs.declared.fault.ToolFault.TheVariants.{InputTooLong, InputUndivided, BadPairs, BadOrder, Check, OutOfMemory}
 use Rattle.check_tool.specs.declared.folder.Obstacle.{Obstacle}
 use Rattle.check_tool.specs.declared.folder.Obstacle.TheVariants.{Missing, Forbidden, NoFolder, Links, Unwritten, Other}
 use Rattle.check_tool.specs.declared.help.Location.{Location}
@@ -43,7 +45,7 @@ use Rattle.check_tool.specs.declared.help.QuotedPart.TheVariants.{Line as in_lin
 use Rattle.check_tool.specs.Quoting.{remark}
 use Rattle.check_tool.specs.Running.{path_in, first_paths, second_paths, order_paths, IsKindAndName, IsReadOf}
 
--- what the first text is called: the path of its file, or what it is
+-- the name of the first text: the path of its file, or what it is
 abbrev pub first_name : Texts → List ℕ
 first_name (Files first second) = first.now
 first_name (FileAndInput first) = first.now
@@ -52,7 +54,7 @@ first_name Input = codes "first text of standard input"
 first_name InputTwice = codes "first text of standard input"
 first_name One = codes "first text of standard input"
 
--- the same of the second
+-- the same of the second text
 abbrev pub second_name : Texts → List ℕ
 second_name (Files first second) = second.now
 second_name (InputAndFile second) = second.now
@@ -61,7 +63,7 @@ second_name Input = codes "second text of standard input"
 second_name InputTwice = codes "second text of standard input"
 second_name One = codes "second text of standard input"
 
--- a place: nowhere, in a text of this name, or in a line of it
+-- a location: none, a text of this name, or a line of it
 abbrev pub Where : Type 0
 Where = Option (List ℕ × Option ℕ)
 
@@ -69,17 +71,17 @@ Where = Option (List ℕ × Option ℕ)
 abbrev pub in_text : List ℕ → Where
 in_text name = Some (name, None)
 
--- a line of it
+-- a line of a text
 abbrev pub on_line : List ℕ → ℕ → Where
 on_line name line = Some (name, Some line)
 
--- the place that a spot is
+-- the location that the code has as this value
 abbrev pub where_of : Location → Where
 where_of NoLocation = None
 where_of (Text name) = in_text name.now
 where_of (Line name line) = on_line name.now line
 
--- where a refused text is at fault
+-- the location of a fault in a text of this name
 abbrev pub text_location : List ℕ → BenchFault → Where
 text_location name LongText = in_text name
 text_location name (BadByte line) = on_line name line
@@ -93,7 +95,7 @@ text_location name (Cycle line) = on_line name line
 text_location name ReadFailed = in_text name
 text_location name NoTextMemory = in_text name
 
--- where a list of names is at fault: in the line of a name that is none, or as a whole
+-- the location of a fault in a list of names: the line of a token that is no name, or the whole list
 abbrev pub list_location : List ℕ → OrderFault → Where
 list_location path (BadName line) = on_line path line
 list_location path (NotAPermutation place) = in_text path
@@ -103,64 +105,72 @@ list_location path NoOrderMemory = in_text path
 list_location path CountsDiffer = None
 list_location path TooManyInputs = None
 
--- where the file of an order is at fault
+-- the location of a fault in the file of an order
 abbrev pub order_location : OrderChoice → OrderFault → Where
 order_location (File path) fault = list_location path.now fault
 order_location (Extended path) fault = list_location path.now fault
-order_location Declared fault = None
-order_location Depth fault = None
-order_location Interleave fault = None
-order_location Index fault = None
-order_location Force fault = None
-order_location MsbFirst fault = None
-order_location Weights fault = None
-order_location ForceGroups fault = None
+order_location (ConesByList path) fault = list_location path.now fault
+order_location (Named name) fault = None
 order_location Best fault = None
 order_location Auto fault = None
 order_location Cones fault = None
 order_location Merge fault = None
 
--- where the condition is at fault: in the line of a refused text, or as a whole
+-- the location of a fault in the condition: the line of a refused text, or the whole of it
 abbrev pub given_location : Option (Bor (List ℕ)) → BenchFault → Where
 given_location None fault = None
 given_location (Some path) fault = text_location path.now fault
 
--- a file, where there is one
+-- a whole file, if there is one
 abbrev pub file_location : Option (Bor (List ℕ)) → Where
 file_location None = None
 file_location (Some path) = in_text path.now
 
--- the place of a fault that stands in a file, or in a text of standard input
-abbrev pub fault_location : Texts → (given vcd : Option (Bor (List ℕ))) → OrderChoice → ToolFault → Where
-fault_location texts given vcd choice (CannotOpen FirstFile obstacle) = in_text (first_name texts)
-fault_location texts given vcd choice (CannotOpen SecondFile obstacle) = in_text (second_name texts)
-fault_location texts given vcd choice (CannotOpen GivenFile obstacle) = given_location given ReadFailed
-fault_location texts given vcd choice (CannotOpen OrderFile obstacle) = order_location choice OrderReadFailed
-fault_location texts given vcd choice (CannotSave obstacle) = file_location vcd
-fault_location texts given vcd choice (BadOrder fault) = order_location choice fault
-fault_location texts given vcd choice (Check (First fault)) = text_location (first_name texts) fault
-fault_location texts given vcd choice (Check (Second fault)) = text_location (second_name texts) fault
-fault_location texts given vcd choice (Check (Given fault)) = given_location given fault
-fault_location texts given vcd choice (Check GivenOutputs) = given_location given ReadFailed
-fault_location texts given vcd choice (Check (Order fault)) = order_location choice fault
-fault_location texts given vcd choice (Check Only) = in_text (first_name texts)
-fault_location texts given vcd choice (Check Explain) = in_text (first_name texts)
-fault_location texts given vcd choice (Check (Wave fault)) = None
-fault_location texts given vcd choice (Check GivenUp) = None
-fault_location texts given vcd choice (Check Write) = None
-fault_location texts given vcd choice (Check NoCheckMemory) = None
-fault_location texts given vcd choice OneFile = None
-fault_location texts given vcd choice DashTwice = None
-fault_location texts given vcd choice InputUnread = None
-fault_location texts given vcd choice InputTooLong = None
-fault_location texts given vcd choice InputUndivided = None
-fault_location texts given vcd choice OutOfMemory = None
+-- the location of a fault of pairs of names in their file
+abbrev pub pairs_location : Option (Bor (List ℕ)) → PairsFault → Where
+pairs_location None fault = None
+pairs_location (Some path) (BadLine line) = on_line path.now line
+pairs_location (Some path) (UnknownFirst line) = on_line path.now line
+pairs_location (Some path) (UnknownSecond line) = on_line path.now line
+pairs_location (Some path) (Repeated line) = on_line path.now line
+pairs_location (Some path) (Taken line) = on_line path.now line
+pairs_location (Some path) LongPairs = in_text path.now
+pairs_location (Some path) PairsReadFailed = in_text path.now
+pairs_location (Some path) NoPairsMemory = in_text path.now
 
--- what helps against a word that names no gate
+-- the location of a fault that is in a file or in a text of standard input
+abbrev pub fault_location : Texts → (given pairs vcd : Option (Bor (List ℕ))) → OrderChoice → ToolFault → Where
+fault_location texts given pairs vcd choice (CannotOpen FirstFile obstacle) = in_text (first_name texts)
+fault_location texts given pairs vcd choice (CannotOpen SecondFile obstacle) = in_text (second_name texts)
+fault_location texts given pairs vcd choice (CannotOpen GivenFile obstacle) = given_location given ReadFailed
+fault_location texts given pairs vcd choice (CannotOpen PairsFile obstacle) = file_location pairs
+fault_location texts given pairs vcd choice (CannotOpen OrderFile obstacle) = order_location choice OrderReadFailed
+fault_location texts given pairs vcd choice (CannotSave obstacle) = file_location vcd
+fault_location texts given pairs vcd choice (BadPairs fault) = pairs_location pairs fault
+fault_location texts given pairs vcd choice (BadOrder fault) = order_location choice fault
+fault_location texts given pairs vcd choice (Check (First fault)) = text_location (first_name texts) fault
+fault_location texts given pairs vcd choice (Check (Second fault)) = text_location (second_name texts) fault
+fault_location texts given pairs vcd choice (Check (Given fault)) = given_location given fault
+fault_location texts given pairs vcd choice (Check GivenOutputs) = given_location given ReadFailed
+fault_location texts given pairs vcd choice (Check (Order fault)) = order_location choice fault
+fault_location texts given pairs vcd choice (Check Only) = in_text (first_name texts)
+fault_location texts given pairs vcd choice (Check Explain) = in_text (first_name texts)
+fault_location texts given pairs vcd choice (Check (Wave fault)) = None
+fault_location texts given pairs vcd choice (Check GivenUp) = None
+fault_location texts given pairs vcd choice (Check Write) = None
+fault_location texts given pairs vcd choice (Check NoCheckMemory) = None
+fault_location texts given pairs vcd choice OneFile = None
+fault_location texts given pairs vcd choice DashTwice = None
+fault_location texts given pairs vcd choice InputUnread = None
+fault_location texts given pairs vcd choice InputTooLong = None
+fault_location texts given pairs vcd choice InputUndivided = None
+fault_location texts given pairs vcd choice OutOfMemory = None
+
+-- what helps against an unknown gate
 abbrev pub unknown_gate_help : List ℕ
 unknown_gate_help = codes "the gates are AND, NAND, OR, NOR, XOR, XNOR, NOT, BUFF and DFF; see docs/FLOWS.md"
 
--- what helps where a text is refused
+-- what helps if a text is refused
 abbrev pub text_help : BenchFault → List ℕ
 text_help LongText = codes "a text has at most 67108864 bytes"
 text_help (BadByte line) = codes "outside comments a netlist has only printable ASCII, blanks and line ends"
@@ -174,7 +184,7 @@ text_help (Cycle line) = codes "a gate may depend on itself only through a regis
 text_help ReadFailed = codes "the device failed, or the path is a folder"
 text_help NoTextMemory = codes "more memory, or a smaller netlist, is needed"
 
--- the same of an order
+-- what helps if an order is refused
 abbrev pub order_help : OrderFault → List ℕ
 order_help CountsDiffer = codes "--match name pairs them by their names"
 order_help (NotAPermutation place) = codes "--extend takes the list as it is, and --print-order writes one that fits"
@@ -184,31 +194,37 @@ order_help (BadName line) = codes "a list has only names and blanks, as --print-
 order_help LongOrder = codes "a text has at most 67108864 bytes"
 order_help OrderReadFailed = codes "the device failed, or the path is a folder"
 
--- what helps where diagrams grow too large in this order
+-- what helps if diagrams grow too large in this order
 abbrev pub fewer_nodes : OrderChoice → List ℕ
 fewer_nodes Best = codes "msb-first, weights and force-groups were tried; a list by --order-file may need fewer nodes"
 fewer_nodes Auto = codes "msb-first, weights and force-groups were tried; another --memory, or a list by --order-file, may help"
 fewer_nodes Cones = codes "each pair was judged by its cones; another --memory, or fewer --workers, may help"
 fewer_nodes Merge = codes "each pair was judged by its cones; another --memory, or fewer --workers, may help"
-fewer_nodes Declared = codes "another order may need fewer nodes: try --order auto"
-fewer_nodes Depth = codes "another order may need fewer nodes: try --order auto"
-fewer_nodes Interleave = codes "another order may need fewer nodes: try --order auto"
-fewer_nodes Index = codes "another order may need fewer nodes: try --order auto"
-fewer_nodes Force = codes "another order may need fewer nodes: try --order auto"
-fewer_nodes MsbFirst = codes "another order may need fewer nodes: try --order auto"
-fewer_nodes Weights = codes "another order may need fewer nodes: try --order auto"
-fewer_nodes ForceGroups = codes "another order may need fewer nodes: try --order auto"
+fewer_nodes (ConesByList path) = codes "each pair was judged by its cones; another --memory, or fewer --workers, may help"
+fewer_nodes (Named name) = codes "another order may need fewer nodes: try --order auto"
 fewer_nodes (File path) = codes "another order may need fewer nodes: try --order auto"
 fewer_nodes (Extended path) = codes "another order may need fewer nodes: try --order auto"
 
--- what helps where they are not built
+-- what helps if pairs of names are refused
+abbrev pub pairs_help : PairsFault → List ℕ
+pairs_help (BadLine line) = codes "a line has the first netlist's name of a signal, blanks, and the second netlist's"
+pairs_help LongPairs = codes "a text has at most 67108864 bytes"
+pairs_help PairsReadFailed = codes "the device failed, or the path is a folder"
+pairs_help (UnknownFirst line) = codes "the first name of a line is that of the first netlist"
+pairs_help (UnknownSecond line) = codes "the second name of a line is that of the second netlist"
+pairs_help (Repeated line) = codes "each name may be once in its column"
+pairs_help (Taken line) = codes "give that signal of the second netlist a line of its own, or rename it"
+pairs_help NoPairsMemory = codes "more memory, or a smaller netlist, is needed"
+
+-- what helps if diagrams could not be built
 abbrev pub wave_help : OrderChoice → WaveFault → List ℕ
 wave_help choice NoWorker = codes "--workers 1 starts no thread"
 wave_help choice NoWaveMemory = fewer_nodes choice
 wave_help choice Full = fewer_nodes choice
 wave_help choice TooManyRequests = fewer_nodes choice
+wave_help choice Stopped = codes "more --seconds may be enough; by --order auto the pairs that are decided by then are reported"
 
--- why a file was not opened, or not written
+-- why a file could not be opened or written
 abbrev pub opening_help : Obstacle → List ℕ
 opening_help Missing = codes "there is no such file or folder"
 opening_help Forbidden = codes "permission is denied"
@@ -217,14 +233,14 @@ opening_help Links = codes "its links form a loop"
 opening_help Unwritten = codes "its device is full, or has failed"
 opening_help Other = codes "the system refused it"
 
--- what helps where a check has no report
+-- what helps if a check has no report
 abbrev pub check_help : OrderChoice → CheckFault → List ℕ
 check_help choice (First fault) = text_help fault
 check_help choice (Second fault) = text_help fault
 check_help choice (Given fault) = text_help fault
 check_help choice GivenOutputs = codes "a condition is a netlist with one output"
 check_help choice (Order fault) = order_help fault
-check_help choice Only = codes "the first netlist has no output and no register of one of these names:"
+check_help choice Only = codes "the first netlist has no output or register, or after NEXT no register, of one of these names:"
 check_help choice Explain = codes "the first netlist has no output, or after NEXT no register, of one of these names:"
 check_help choice (Wave fault) = wave_help choice fault
 check_help choice GivenUp = fewer_nodes choice
@@ -240,32 +256,33 @@ fault_help choice (CannotSave obstacle) = opening_help obstacle
 fault_help choice InputUnread = codes "standard input failed, or is a folder"
 fault_help choice InputTooLong = codes "a text has at most 67108864 bytes"
 fault_help choice InputUndivided = codes "a line %% divides two netlists; if standard input has only one, give the other as a file and - for this one"
+fault_help choice (BadPairs fault) = pairs_help fault
 fault_help choice (BadOrder fault) = order_help fault
 fault_help choice (Check fault) = check_help choice fault
 fault_help choice OutOfMemory = codes "more memory is needed"
 
--- ---- a word that names no gate
+-- ---- an unknown gate
 
--- what stands behind the first =
+-- the bytes after the first equals sign
 abbrev pub after_equals : List ℕ → List ℕ
 after_equals [] = []
 after_equals (b ∷ bs) = if b == 61 then bs else after_equals bs
 
--- the bytes from the first one on that is no blank
+-- the bytes from the first one that is not a blank
 abbrev pub unindented : List ℕ → List ℕ
 unindented [] = []
 unindented (b ∷ bs) = if b == 32 then unindented bs else b ∷ bs
 
--- the bytes before the first blank or (
+-- the bytes before the first blank or parenthesis
 abbrev pub front_word : List ℕ → List ℕ
 front_word [] = []
 front_word (b ∷ bs) = if b == 32 || b == 40 then [] else b ∷ front_word bs
 
--- the gate's word in a line, as it is shown
+-- the keyword of the gate in a line, as it is shown
 abbrev pub gate_word : List ℕ → List ℕ
 gate_word shown = front_word (unindented (after_equals shown))
 
--- what helps against it, in either case
+-- what helps against this keyword, in upper or lower case
 abbrev pub word_help : List ℕ → List ℕ
 word_help w =
     if is_word w (codes "INV") then codes "the word for an inverter is NOT" else (
@@ -275,7 +292,7 @@ word_help w =
     if is_word w (codes "LATCH") then codes "a register is DFF, and there is no keyword for a latch; see docs/FLOWS.md" else (
     if is_word w (codes "LUT") then codes "abc writes no LUT lines by write_bench -l; see docs/FLOWS.md" else unknown_gate_help)))))
 
--- a text is refused for such a word
+-- a text is refused for an unknown gate
 abbrev pub is_unknown_gate : BenchFault → Bool
 is_unknown_gate (UnknownGate line) = true
 is_unknown_gate LongText = false
@@ -289,7 +306,7 @@ is_unknown_gate (Cycle line) = false
 is_unknown_gate ReadFailed = false
 is_unknown_gate NoTextMemory = false
 
--- a fault is of such a word
+-- the same of a fault of the program
 abbrev pub is_unknown_gate_fault : ToolFault → Bool
 is_unknown_gate_fault (Check (First fault)) = is_unknown_gate fault
 is_unknown_gate_fault (Check (Second fault)) = is_unknown_gate fault
@@ -302,6 +319,7 @@ is_unknown_gate_fault (Check (Wave fault)) = false
 is_unknown_gate_fault (Check GivenUp) = false
 is_unknown_gate_fault (Check Write) = false
 is_unknown_gate_fault (Check NoCheckMemory) = false
+is_unknown_gate_fault (BadPairs fault) = false
 is_unknown_gate_fault (BadOrder fault) = false
 is_unknown_gate_fault (CannotOpen place obstacle) = false
 is_unknown_gate_fault (CannotSave obstacle) = false
@@ -312,9 +330,9 @@ is_unknown_gate_fault InputTooLong = false
 is_unknown_gate_fault InputUndivided = false
 is_unknown_gate_fault OutOfMemory = false
 
--- the same of a check, if the name that it refuses is shown
+-- what helps if a check has no report and the refused name is shown
 abbrev pub check_help_by_name : OrderChoice → CheckFault → List ℕ
-check_help_by_name choice Only = codes "the first netlist has no output and no register of this name"
+check_help_by_name choice Only = codes "the first netlist has no output or register, or after NEXT no register, of this name"
 check_help_by_name choice Explain = codes "the first netlist has no output, or after NEXT no register, of this name"
 check_help_by_name choice (First fault) = check_help choice (First fault)
 check_help_by_name choice (Second fault) = check_help choice (Second fault)
@@ -326,9 +344,10 @@ check_help_by_name choice GivenUp = check_help choice GivenUp
 check_help_by_name choice Write = check_help choice Write
 check_help_by_name choice NoCheckMemory = check_help choice NoCheckMemory
 
--- what helps against a fault, if the name that it refuses is shown
+-- what helps against a fault if the refused name is shown
 abbrev pub help_by_name : OrderChoice → ToolFault → List ℕ
 help_by_name choice (Check fault) = check_help_by_name choice fault
+help_by_name choice (BadPairs fault) = fault_help choice (BadPairs fault)
 help_by_name choice (BadOrder fault) = fault_help choice (BadOrder fault)
 help_by_name choice (CannotOpen place obstacle) = fault_help choice (CannotOpen place obstacle)
 help_by_name choice (CannotSave obstacle) = fault_help choice (CannotSave obstacle)
@@ -339,24 +358,24 @@ help_by_name choice InputTooLong = fault_help choice InputTooLong
 help_by_name choice InputUndivided = fault_help choice InputUndivided
 help_by_name choice OutOfMemory = fault_help choice OutOfMemory
 
--- what helps against a fault whose line or name is shown so: against a word that names no gate its own remedy
+-- what helps against a fault whose line or name is shown as this excerpt; an unknown gate has advice of its own
 abbrev pub shown_help : OrderChoice → ToolFault → List ℕ → List ℕ
 shown_help choice fault shown = if is_unknown_gate_fault fault then word_help (gate_word shown) else help_by_name choice fault
 
--- the line of a place and of what helps there
+-- the line of a location and what helps
 abbrev pub help_line : Where → List ℕ → List ℕ
 help_line None help = codes "bddcheck: " ++ help ++ codes "\n"
 help_line (Some (name, None)) help = codes "bddcheck: " ++ (name ++ (codes ": " ++ (help ++ codes "\n")))
 help_line (Some (name, Some line)) help = codes "bddcheck: " ++ (name
     ++ (codes ":" ++ (decimal line ++ (codes ": " ++ (help ++ codes "\n")))))
 
--- the names that pick pairs
+-- the patterns that select pairs
 abbrev pub picked_names : Picks → List (Bor (List ℕ))
 picked_names AllPicks = []
 picked_names (OnlyPicks names) = names.items
 picked_names (SharePicks share) = []
 
--- the names of which a fault refuses one: those that pick pairs, or those that are to be explained
+-- the names of which a fault refuses one: those that select pairs, or those that are to be explained
 abbrev pub refused_names : Options → ToolFault → List (Bor (List ℕ))
 refused_names o (Check Only) = picked_names o.picks
 refused_names o (Check Explain) = o.explain.items
@@ -369,6 +388,7 @@ refused_names o (Check (Wave fault)) = []
 refused_names o (Check GivenUp) = []
 refused_names o (Check Write) = []
 refused_names o (Check NoCheckMemory) = []
+refused_names o (BadPairs fault) = []
 refused_names o (BadOrder fault) = []
 refused_names o (CannotOpen place obstacle) = []
 refused_names o (CannotSave obstacle) = []
@@ -383,18 +403,19 @@ refused_names o OutOfMemory = []
 abbrev pub names_text : List (Bor (List ℕ)) → List ℕ
 names_text names = flat_map (λ (n : Bor (List ℕ)). codes " " ++ n.now) names
 
--- the line that is said after a fault's own, with all names of which one is refused
+-- the line after a fault's own; if one of several names is refused, it has all of them
 abbrev pub help_text : Options → ToolFault → List ℕ
-help_text o fault = help_line (fault_location o.texts o.given o.vcd o.order fault)
+help_text o fault = help_line (fault_location o.texts o.given o.pairs o.vcd o.order fault)
     (fault_help o.order fault ++ names_text (refused_names o fault))
 
--- the same with what is shown of the file, or with the name that is refused
+-- the same line with an excerpt of the file, or with the refused name
 abbrev pub help_quoting : Options → ToolFault → List ℕ → List ℕ
-help_quoting o fault quoted = help_line (fault_location o.texts o.given o.vcd o.order fault)
+help_quoting o fault quoted = help_line (fault_location o.texts o.given o.pairs o.vcd o.order fault)
     (shown_help o.order fault quoted ++ (codes ": " ++ quoted))
 
--- the file of a text that was refused, or in which a name is missing, if it came from one
+-- the file that was refused, or that lacks a name, if it is one
 abbrev pub refused_paths : Options → ToolFault → List (List ℕ)
+refused_paths o (BadPairs fault) = path_in o.pairs
 refused_paths o (BadOrder fault) = order_paths o.order
 refused_paths o (Check (First fault)) = first_paths o.texts
 refused_paths o (Check (Second fault)) = second_paths o.texts
@@ -416,7 +437,7 @@ refused_paths o InputTooLong = []
 refused_paths o InputUndivided = []
 refused_paths o OutOfMemory = []
 
--- what a refused text is shown by: the line at fault
+-- the part of a refused text that is shown: the line of the fault
 abbrev pub text_part : BenchFault → Option QuotedPart
 text_part (BadByte line) = Some (in_line line)
 text_part (BadStatement line) = Some (BrokenStatement line)
@@ -430,7 +451,7 @@ text_part LongText = None
 text_part ReadFailed = None
 text_part NoTextMemory = None
 
--- what a refused order is shown by: the line at fault, or the first name that does not fit
+-- the part of a refused order that is shown: the line of the fault, or the first name that does not fit
 abbrev pub order_part : OrderFault → Option QuotedPart
 order_part (BadName line) = Some (in_line line)
 order_part (NotAPermutation place) = Some (Listed place)
@@ -440,8 +461,20 @@ order_part NoOrderMemory = None
 order_part CountsDiffer = None
 order_part TooManyInputs = None
 
--- what a fault points at in the file of a text that was refused
+-- the part of refused pairs of names that is shown: the line of the fault
+abbrev pub pairs_part : PairsFault → Option QuotedPart
+pairs_part (BadLine line) = Some (in_line line)
+pairs_part (UnknownFirst line) = Some (in_line line)
+pairs_part (UnknownSecond line) = Some (in_line line)
+pairs_part (Repeated line) = Some (in_line line)
+pairs_part (Taken line) = Some (in_line line)
+pairs_part LongPairs = None
+pairs_part PairsReadFailed = None
+pairs_part NoPairsMemory = None
+
+-- the part of the refused file that is shown
 abbrev pub fault_part : ToolFault → Option QuotedPart
+fault_part (BadPairs fault) = pairs_part fault
 fault_part (BadOrder fault) = order_part fault
 fault_part (Check (First fault)) = text_part fault
 fault_part (Check (Second fault)) = text_part fault
@@ -463,7 +496,7 @@ fault_part InputTooLong = None
 fault_part InputUndivided = None
 fault_part OutOfMemory = None
 
--- this is what is shown of what a fault points at, as the file has it
+-- This is the excerpt of the part that a fault refers to, as the file has it.
 pub record IsShown (bytes_at : List ℕ → Option (List ℕ)) (o : Options) (fault : ToolFault) (quoted : List ℕ) : Type 0 where
   pub path : List ℕ
   pub quoted_part : QuotedPart
@@ -473,33 +506,53 @@ pub record IsShown (bytes_at : List ℕ → Option (List ℕ)) (o : Options) (fa
   pub read : IsReadOf (bytes_at path) (Some text)
   pub is : quoted ≡ remark quoted_part text
 
--- the file of the first netlist, as it is, has this circuit
+-- the file of the first netlist, as it is now, has this circuit
 abbrev pub IsFirstCircuit : (bytes_at : List ℕ → Option (List ℕ)) → Options → Circuit → Type 0
 IsFirstCircuit bytes_at o a = (path : List ℕ) × (first_paths o.texts ≡ path ∷ []) × Gives (bytes_at path) a
 
--- this name picks pairs, and is that of no output and no register of the first netlist
-abbrev pub IsUnknownPick : (bytes_at : List ℕ → Option (List ℕ)) → Options → (name : Bor (List ℕ)) → Type 0
-IsUnknownPick bytes_at o name = Contains (picked_names o.picks) name × (a : Circuit) × IsFirstCircuit bytes_at o a × (IsNamedIn a name.now → ⊥)
+-- this is the first of the words that has the second property: each word before it has the first property
+abbrev pub IsFirstWord : (before this : List ℕ → Type 0) → List (Bor (List ℕ)) → (word : Bor (List ℕ)) → Type 0
+IsFirstWord before this words word = (i : ℕ) × (i < length words) × (slice_index_or words i word ≡ word)
+    × ((k : ℕ) (d : Bor (List ℕ)) → k < i → before (slice_index_or words k d).now) × this word.now
 
--- what this word calls is no output, or no register, of the circuit
+-- this pattern matches an output or a register of the circuit
+abbrev pub IsKnownPattern : Circuit → (word : List ℕ) → Type 0
+IsKnownPattern a word = (p : PairName) × IsKindAndName word p.role p.name × HasPicked a p
+
+-- this pattern matches no output and no register of the circuit
+abbrev pub IsUnknownPattern : Circuit → (word : List ℕ) → Type 0
+IsUnknownPattern a word = (p : PairName) × IsKindAndName word p.role p.name × (HasPicked a p → ⊥)
+
+-- of the patterns that select pairs this is the first that matches no output and no register of the first netlist
+abbrev pub IsUnknownPick : (bytes_at : List ℕ → Option (List ℕ)) → Options → (word : Bor (List ℕ)) → Type 0
+IsUnknownPick bytes_at o word = (a : Circuit) × IsFirstCircuit bytes_at o a
+    × IsFirstWord (IsKnownPattern a) (IsUnknownPattern a) (picked_names o.picks) word
+
+-- this is the name of an output or a register of the circuit
+abbrev pub IsKnownTarget : Circuit → (word : List ℕ) → Type 0
+IsKnownTarget a word = (t : PairName) × IsKindAndName word t.role t.name × IsTargetIn a t
+
+-- this is the name of no output and no register of the circuit
 abbrev pub IsUnknownTarget : Circuit → (word : List ℕ) → Type 0
 IsUnknownTarget a word = (t : PairName) × IsKindAndName word t.role t.name × (IsTargetIn a t → ⊥)
 
--- what this word calls is to be explained, and the first netlist does not have it
+-- of the names that are to be explained this is the first that the first netlist does not have
 abbrev pub IsUnknownTargetWord : (bytes_at : List ℕ → Option (List ℕ)) → Options → (word : Bor (List ℕ)) → Type 0
-IsUnknownTargetWord bytes_at o word = Contains o.explain.items word × (a : Circuit) × IsFirstCircuit bytes_at o a × IsUnknownTarget a word.now
+IsUnknownTargetWord bytes_at o word = (a : Circuit) × IsFirstCircuit bytes_at o a
+    × IsFirstWord (IsKnownTarget a) (IsUnknownTarget a) o.explain.items word
 
 -- this is the name that a fault refuses: it is the only one, or the file of the first netlist does not have it
 abbrev pub IsRefusedName : (bytes_at : List ℕ → Option (List ℕ)) → Options → ToolFault → (name : Bor (List ℕ)) → Type 0
 IsRefusedName bytes_at o fault name = (refused_names o fault ≡ name ∷ [])
     ⊎ (((fault ≡ Check Only) × IsUnknownPick bytes_at o name) ⊎ ((fault ≡ Check Explain) × IsUnknownTargetWord bytes_at o name))
 
--- this is what is shown of a fault: a line of a file, or a name
+-- this is what is shown of a fault: an excerpt of a file, or a name
 abbrev pub IsQuoted : (bytes_at : List ℕ → Option (List ℕ)) → Options → ToolFault → (quoted : List ℕ) → Type 0
 IsQuoted bytes_at o fault quoted = IsShown bytes_at o fault quoted
     ⊎ ((name : Bor (List ℕ)) × IsRefusedName bytes_at o fault name × (quoted ≡ name.now))
 
--- the line that may be said after a fault's own: with what is shown of the file, or with the name that is refused, or without
+-- the line that may be printed after a fault's own: with an excerpt of the file, with the refused name, or without
+-- either
 abbrev pub IsHelp : (bytes_at : List ℕ → Option (List ℕ)) → Options → ToolFault → List ℕ → Type 0
 IsHelp bytes_at o fault line = (line ≡ help_text o fault) ⊎ ((quoted : List ℕ) × IsQuoted bytes_at o fault quoted
     × (line ≡ help_quoting o fault quoted))

@@ -1,5 +1,6 @@
 pub mod Splitting
 pub mod Failures
+pub mod FaultTexts
 pub mod Faults
 pub mod Helping
 pub mod Opening

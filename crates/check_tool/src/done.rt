@@ -1,12 +1,13 @@
-//! What a run has done.
+//! The result of a run that was not refused.
 
 use check_report::{Attempt, Outcome};
 
-/// What was written, and the attempt that it comes from where orders were tried and one of them decided.
+/// What was written. The attempt is the one that it comes from, if several orders were tried and one of them succeeded.
 #[derive(Drop, Debug)]
 pub enum Done {
-    /// The report of a comparison, which comes from the cones of its pairs where an order was to be found, and no attempt is told. The
-    /// bytes are the values of the first pair that differs, as a VCD, which is still to be saved.
+    /// The report of a comparison, with its counts. It comes from the cones of the pairs if an order was to be found
+    /// and there is no attempt. The bytes are the values of the first pair that differs, as a VCD that is still to be
+    /// saved.
     Compared(Outcome, Option<Attempt>, Option<Vec<u8>>),
     /// The order of the variables.
     OrderPrinted(Option<Attempt>),

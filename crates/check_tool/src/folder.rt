@@ -1,48 +1,53 @@
-//! Where files are opened, and saved.
-ghost use Rattle.std.specs.Prelude.{◌≡◌, ◌∷◌, [], ℕ, List, Option, Some, None, false, IfOk, IfSome, OnErr, OnOk, is_ok};
+//! Folders, in which files are opened and saved; and the file system of a process.
+ghost use Rattle.std.specs.Prelude.{◌≡◌, ◌≢◌, ◌↔◌, ◌∷◌, [], ℕ, List, Option, Some, None, false, IfOk, IfSome, OnErr, OnOk, is_ok};
 ghost use Rattle.std.specs.Io.KnownBytes.{Appends};
+ghost use Rattle.std.specs.declared.io.ErrorKind.TheVariants.{NotFound, PermissionDenied, NotADirectory, FilesystemLoop, OutOfMemory};
 ghost use Rattle.report_text.specs.Writing.{AppendsFront};
 ghost use Rattle.check_tool.specs.Opening.{Extends, Save, Try};
 
 use check_report::write_whole;
-use net_bench::device::{Sink, Source, StdDevice};
 use std::rt::Files;
 use std::{fs, io};
+use text_device::{Sink, Source, StdDevice};
 
-/// What stands in the way of an opening, or of a saving.
+/// Why a file could not be opened or saved.
 #[derive(Clone, Copy, Drop, Debug, PartialEq, Eq)]
 pub enum Obstacle {
+    /// There is no such file.
     Missing,
+    /// The system does not permit it.
     Forbidden,
-    /// A part of the path is a file.
+    /// A part of the path is a file, not a folder.
     NoFolder,
-    /// Links lead back to one another.
+    /// Symbolic links lead back to each other.
     Links,
-    /// The file has not taken all.
+    /// The file has not taken all bytes.
     Unwritten,
+    /// The system has reported another kind of error.
     Other,
 }
 
 /// Why a file was not opened.
 #[derive(Clone, Copy, Drop, Debug, PartialEq, Eq)]
 pub enum OpenFault {
+    /// The system does not open it.
     Refused(Obstacle),
-    /// A growth was refused.
+    /// Memory was refused.
     OutOfMemory,
 }
 
-/// Something in which files are opened for reading and saved, by their paths.
+/// A place where files are opened for reading and saved, by their paths.
 pub trait Folder {
     type File: Source + Drop;
 
-    // The paths that were asked for, the earliest first, each with whether it was opened, where the folder tells them.
+    // The paths that were to be opened, the earliest first, each with whether it was opened, if the folder knows them.
     ghost tries: { Self → Option (List Try) };
-    // The bytes of the file at a path, where the folder tells them.
+    // The bytes of the file at a path, if the folder knows them.
     ghost bytes_at: { Self → List ℕ → Option (List ℕ) };
-    // What was to be saved, the earliest first, where the folder tells that.
+    // The files that were to be saved, the earliest first, if the folder knows them.
     ghost saves: { Self → Option (List Save) } = { λ _. None };
 
-    /// Opens the file at the path.
+    /// Opens the file at the path for reading.
     fn open(&mut self, path: &str) -> Result<Self::File, OpenFault>
         ensures tried { Extends (tries self.old) (tries self.new) ((path.now, is_ok result) ∷ []) }
         ensures file { IfOk result (λ file. IfSome (bytes_at self.old path.now) (λ text. Self.File.remaining file ≡ Some text)) }
@@ -51,18 +56,25 @@ pub trait Folder {
         ensures files_unchanged { bytes_at self.new ≡ bytes_at self.old }
         ensures unsaved { saves self.new ≡ saves self.old };
 
-    /// Makes the file at the path, anew where it is there, with these bytes.
+    /// Writes these bytes to the file at the path, which is made if it does not exist and is replaced if it does.
     fn save(&mut self, path: &str, bytes: &[u8]) -> Result<(), Obstacle>
         ensures saved { Extends (saves self.old) (saves self.new) ((path.now, bytes.now, is_ok result) ∷ []) }
         ensures unopened { tries self.new ≡ tries self.old }
         ensures files_unchanged { bytes_at self.new ≡ bytes_at self.old };
 
-    /// Whether a plain file stands at the path: one that is still there when it was read, and that nobody has to write meanwhile.
+    /// Returns whether the path is that of a regular file. Such a file can be opened and read again; a pipe cannot, and
+    /// reading it again could wait forever.
     fn is_regular(&self, path: &str) -> bool;
 }
 
-/// What the system tells of an obstacle.
-fn obstacle_of(kind: io::ErrorKind) -> Obstacle {
+/// Returns the obstacle for a kind of error of the system.
+fn obstacle_of(kind: io::ErrorKind) -> Obstacle
+    ensures missing { (result ≡ Obstacle.Missing) ↔ (kind ≡ NotFound) }
+    ensures forbidden { (result ≡ Obstacle.Forbidden) ↔ (kind ≡ PermissionDenied) }
+    ensures no_folder { (result ≡ Obstacle.NoFolder) ↔ (kind ≡ NotADirectory) }
+    ensures links { (result ≡ Obstacle.Links) ↔ (kind ≡ FilesystemLoop) }
+    ensures opening { result ≢ Obstacle.Unwritten }
+{
     if kind == io::ErrorKind::NotFound {
         Obstacle::Missing
     } else if kind == io::ErrorKind::PermissionDenied {
@@ -76,8 +88,15 @@ fn obstacle_of(kind: io::ErrorKind) -> Obstacle {
     }
 }
 
-/// Why the system opens no file.
-fn fault_of(kind: io::ErrorKind) -> OpenFault {
+/// Returns the fault of an opening for a kind of error of the system.
+fn fault_of(kind: io::ErrorKind) -> OpenFault
+    ensures memory { (result ≡ OpenFault.OutOfMemory) ↔ (kind ≡ OutOfMemory) }
+    ensures missing { (result ≡ OpenFault.Refused Obstacle.Missing) ↔ (kind ≡ NotFound) }
+    ensures forbidden { (result ≡ OpenFault.Refused Obstacle.Forbidden) ↔ (kind ≡ PermissionDenied) }
+    ensures no_folder { (result ≡ OpenFault.Refused Obstacle.NoFolder) ↔ (kind ≡ NotADirectory) }
+    ensures links { (result ≡ OpenFault.Refused Obstacle.Links) ↔ (kind ≡ FilesystemLoop) }
+    ensures opening { result ≢ OpenFault.Refused Obstacle.Unwritten }
+{
     if kind == io::ErrorKind::OutOfMemory {
         OpenFault::OutOfMemory
     } else {
@@ -97,14 +116,14 @@ fn fill<W: Sink>(file: &mut W, bytes: &[u8]) -> Result<(), Obstacle>
     }
 }
 
-/// The file system of a runtime, which tells nothing.
+/// The file system of a runtime. It knows neither the files nor what was opened, so its contracts say nothing of them.
 #[derive(Drop)]
 pub struct Disk<'a, H> {
     rt: &'a H,
 }
 
 impl<'a, H> Disk<'a, H> {
-    /// The file system that this runtime reaches.
+    /// Returns the file system that this runtime reaches.
     pub fn new(rt: &'a H) -> Disk<'a, H>
         ensures { result.rt ≡ rt.entry }
     {

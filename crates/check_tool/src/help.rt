@@ -1,8 +1,8 @@
-//! Where a fault is, and what it points at there: the line after a fault's own.
+//! The second line of a fault: where the fault is, what helps against it, and the part of the file that it refers to.
 ghost use Rattle.std.specs.Prelude.{◌≡◌, ◌∷◌, [], Some, IfOk, IfSome, string_bytes};
 ghost use Rattle.check_tool.specs.Helping.{first_name, second_name, in_text, on_line, where_of, text_location, order_location, given_location};
 ghost use Rattle.check_tool.specs.Helping.{file_location, fault_location, help_line, help_text, help_quoting, refused_paths, text_part};
-ghost use Rattle.check_tool.specs.Helping.{order_part, fault_part};
+ghost use Rattle.check_tool.specs.Helping.{order_part, pairs_part, pairs_location, fault_part};
 ghost use Rattle.check_tool.specs.Running.{first_paths, second_paths, order_paths, path_in};
 
 use crate::fault::{FileRole, ToolFault};
@@ -11,20 +11,22 @@ use crate::remedy::{help_against, help_shown};
 use check_report::CheckFault;
 use command_line::{Options, OrderChoice, Texts};
 use net_bench::fault::BenchFault;
-use net_order::order::OrderFault;
+use net_names::order::OrderFault;
+use net_rename::fault::PairsFault;
 use std::alloc::{AllocError, Global};
 
-/// Where a fault is.
+/// The location of a fault.
 #[derive(Clone, Copy, Drop)]
 pub(crate) enum Location<'a> {
+    /// The fault is not in a text.
     NoLocation,
-    /// In a text, which is named by its path or by what it is.
+    /// In a text, which has this name: its path, or what it is if it has no path.
     Text(&'a str),
-    /// In a line of it.
+    /// In a line of a text, counted from 1.
     Line(&'a str, u32),
 }
 
-/// What the first text is called.
+/// Returns the name of the first text.
 fn name_of_first<'a>(texts: Texts<'a>) -> &'a str
     ensures { result.now ≡ first_name texts.entry }
 {
@@ -35,7 +37,7 @@ fn name_of_first<'a>(texts: Texts<'a>) -> &'a str
     }
 }
 
-/// What the second text is called.
+/// Returns the name of the second text.
 fn name_of_second<'a>(texts: Texts<'a>) -> &'a str
     ensures { result.now ≡ second_name texts.entry }
 {
@@ -46,7 +48,7 @@ fn name_of_second<'a>(texts: Texts<'a>) -> &'a str
     }
 }
 
-/// Where a refused text is at fault.
+/// Returns the location of a fault in a text of this name.
 fn location_in_text<'a>(name: &'a str, fault: BenchFault) -> Location<'a>
     ensures { where_of result ≡ text_location name.now fault }
 {
@@ -63,11 +65,13 @@ fn location_in_text<'a>(name: &'a str, fault: BenchFault) -> Location<'a>
     }
 }
 
-/// Where the file of an order is at fault.
+/// Returns the location of a fault in the file of an order. It has none if the order is not from a file.
 fn location_in_order<'a>(choice: OrderChoice<'a>, fault: OrderFault) -> Location<'a>
     ensures { where_of result ≡ order_location choice.entry fault }
 {
-    let (OrderChoice::File(path) | OrderChoice::Extended(path)) = choice else {
+    let (OrderChoice::File(path) | OrderChoice::Extended(path) | OrderChoice::ConesByList(path)) =
+        choice
+    else {
         return Location::NoLocation;
     };
     match fault {
@@ -77,7 +81,7 @@ fn location_in_order<'a>(choice: OrderChoice<'a>, fault: OrderFault) -> Location
     }
 }
 
-/// Where the condition is at fault.
+/// Returns the location of a fault in the condition.
 fn location_in_given<'a>(path: Option<&'a str>, fault: BenchFault) -> Location<'a>
     ensures { where_of result ≡ given_location path.entry fault }
 {
@@ -87,7 +91,7 @@ fn location_in_given<'a>(path: Option<&'a str>, fault: BenchFault) -> Location<'
     }
 }
 
-/// A file, where there is one.
+/// Returns the location of a fault of a whole file.
 fn location_in_file<'a>(path: Option<&'a str>) -> Location<'a>
     ensures { where_of result ≡ file_location path.entry }
 {
@@ -97,9 +101,26 @@ fn location_in_file<'a>(path: Option<&'a str>) -> Location<'a>
     }
 }
 
-/// Where a fault is.
+/// Returns the location of a fault in the file of pairs.
+fn location_in_pairs<'a>(path: Option<&'a str>, fault: PairsFault) -> Location<'a>
+    ensures { where_of result ≡ pairs_location path.entry fault }
+{
+    let Some(path) = path else {
+        return Location::NoLocation;
+    };
+    match fault {
+        PairsFault::BadLine { line }
+        | PairsFault::UnknownFirst { line }
+        | PairsFault::UnknownSecond { line }
+        | PairsFault::Repeated { line }
+        | PairsFault::Taken { line } => Location::Line(path, line),
+        PairsFault::TooLong | PairsFault::Read | PairsFault::OutOfMemory => Location::Text(path),
+    }
+}
+
+/// Returns the location of a fault.
 fn location_of<'a>(options: &Options<'a>, fault: ToolFault) -> Location<'a>
-    ensures { where_of result ≡ fault_location options.now.texts options.now.given options.now.vcd options.now.order fault }
+    ensures { where_of result ≡ fault_location options.now.texts options.now.given options.now.pairs options.now.vcd options.now.order fault }
 {
     match fault {
         ToolFault::CannotOpen(FileRole::First, _) => Location::Text(name_of_first(options.texts)),
@@ -108,11 +129,13 @@ fn location_of<'a>(options: &Options<'a>, fault: ToolFault) -> Location<'a>
             options.given,
             BenchFault::Read,
         ),
+        ToolFault::CannotOpen(FileRole::Pairs, _) => location_in_file(options.pairs),
         ToolFault::CannotOpen(FileRole::Order, _) => location_in_order(
             options.order,
             OrderFault::Read,
         ),
         ToolFault::CannotSave(_) => location_in_file(options.vcd),
+        ToolFault::BadPairs(fault) => location_in_pairs(options.pairs, fault),
         ToolFault::BadOrder(fault) => location_in_order(options.order, fault),
         ToolFault::Check(CheckFault::First(fault)) => {
             location_in_text(name_of_first(options.texts), fault)
@@ -132,7 +155,7 @@ fn location_of<'a>(options: &Options<'a>, fault: ToolFault) -> Location<'a>
     }
 }
 
-/// The file of the first text.
+/// Returns the path of the first text, if it is in a file.
 pub(crate) fn file_of_first<'a>(texts: Texts<'a>) -> Option<&'a str>
     ensures { path_in result ≡ first_paths texts.entry }
 {
@@ -142,7 +165,7 @@ pub(crate) fn file_of_first<'a>(texts: Texts<'a>) -> Option<&'a str>
     }
 }
 
-/// The file of the second text.
+/// Returns the path of the second text, if it is in a file.
 fn file_of_second<'a>(texts: Texts<'a>) -> Option<&'a str>
     ensures { path_in result ≡ second_paths texts.entry }
 {
@@ -152,21 +175,23 @@ fn file_of_second<'a>(texts: Texts<'a>) -> Option<&'a str>
     }
 }
 
-/// The file of an order.
+/// Returns the path of the file that the order is from, if there is one.
 fn file_of_order<'a>(choice: OrderChoice<'a>) -> Option<&'a str>
     ensures { path_in result ≡ order_paths choice.entry }
 {
     match choice {
         OrderChoice::File(path) | OrderChoice::Extended(path) => Some(path),
+        OrderChoice::ConesByList(path) => Some(path),
         _ => None,
     }
 }
 
-/// The file of a text that was refused, or in which a name is missing.
+/// Returns the path of the file that was refused, or that lacks a name.
 fn refused_file<'a>(options: &Options<'a>, fault: ToolFault) -> Option<&'a str>
     ensures { path_in result ≡ refused_paths options.now fault }
 {
     match fault {
+        ToolFault::BadPairs(_) => options.pairs,
         ToolFault::BadOrder(_) | ToolFault::Check(CheckFault::Order(_)) => {
             file_of_order(options.order)
         }
@@ -179,7 +204,8 @@ fn refused_file<'a>(options: &Options<'a>, fault: ToolFault) -> Option<&'a str>
     }
 }
 
-/// What a fault points at in a file: a line, a line with a broken statement, or a name of a list by its place.
+/// The part of a file that a fault refers to: a line, a line with a broken statement, or the name at a place of a list.
+/// Lines and places are counted from 1.
 #[derive(Clone, Copy, Drop)]
 pub(crate) enum QuotedPart {
     Line(u32),
@@ -187,7 +213,7 @@ pub(crate) enum QuotedPart {
     Listed(u32),
 }
 
-/// What a refused text is shown by.
+/// Returns the part of a refused text that is shown.
 fn quoted_part_in_text(fault: BenchFault) -> Option<QuotedPart>
     ensures { result ≡ text_part fault }
 {
@@ -204,7 +230,7 @@ fn quoted_part_in_text(fault: BenchFault) -> Option<QuotedPart>
     }
 }
 
-/// What a refused order is shown by.
+/// Returns the part of a refused order that is shown.
 fn quoted_part_in_order(fault: OrderFault) -> Option<QuotedPart>
     ensures { result ≡ order_part fault }
 {
@@ -215,11 +241,26 @@ fn quoted_part_in_order(fault: OrderFault) -> Option<QuotedPart>
     }
 }
 
-/// What a fault points at in the file of a text that was refused.
+/// Returns the part of refused pairs of names that is shown.
+fn quoted_part_in_pairs(fault: PairsFault) -> Option<QuotedPart>
+    ensures { result ≡ pairs_part fault }
+{
+    match fault {
+        PairsFault::BadLine { line }
+        | PairsFault::UnknownFirst { line }
+        | PairsFault::UnknownSecond { line }
+        | PairsFault::Repeated { line }
+        | PairsFault::Taken { line } => Some(QuotedPart::Line(line)),
+        PairsFault::TooLong | PairsFault::Read | PairsFault::OutOfMemory => None,
+    }
+}
+
+/// Returns the part of the refused file that is shown, if the fault refers to one.
 fn quoted_part_of(fault: ToolFault) -> Option<QuotedPart>
     ensures { result ≡ fault_part fault }
 {
     match fault {
+        ToolFault::BadPairs(fault) => quoted_part_in_pairs(fault),
         ToolFault::BadOrder(fault) => quoted_part_in_order(fault),
         ToolFault::Check(CheckFault::First(fault)) => quoted_part_in_text(fault),
         ToolFault::Check(CheckFault::Second(fault)) => quoted_part_in_text(fault),
@@ -229,7 +270,7 @@ fn quoted_part_of(fault: ToolFault) -> Option<QuotedPart>
     }
 }
 
-/// The file of a text that was refused, and what the fault points at in it.
+/// Returns the path of the refused file, and the part that is shown, if there are both.
 pub(crate) fn refused_part<'a>(
     options: &Options<'a>,
     fault: ToolFault,
@@ -253,7 +294,7 @@ fn line_on_line(alloc: Global, name: &str, line: u32, help: &str) -> Result<Stri
     format!(in alloc; "bddcheck: {name}:{line}: {help}\n")
 }
 
-/// The line of a place, and of what helps there.
+/// Returns the line of a location and what helps.
 fn line_at(alloc: Global, location: Location<'_>, help: &str) -> Result<String, AllocError>
     ensures { IfOk result (λ line. string_bytes line ≡ help_line (where_of location.entry) help.now) }
 {
@@ -264,7 +305,7 @@ fn line_at(alloc: Global, location: Location<'_>, help: &str) -> Result<String, 
     }
 }
 
-/// The line that says where a fault is, and what helps, with all names of which one is refused.
+/// Returns the line of where a fault is and what helps. If one of several names is refused, it has all of them.
 pub(crate) fn help_of(
     alloc: Global,
     options: &Options<'_>,
@@ -278,7 +319,7 @@ pub(crate) fn help_of(
     line_at(alloc, location, both.as_str())
 }
 
-/// The same line with what is shown of a file, or with the name that is refused.
+/// Returns the same line with an excerpt of the refused file, or with the name that is refused.
 pub(crate) fn help_with(
     alloc: Global,
     options: &Options<'_>,

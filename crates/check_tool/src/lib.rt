@@ -1,20 +1,21 @@
-//! A run of the program: its words, its files and its devices to a status.
+//! A run of the program: from its arguments, its files and its devices to its output and its exit status.
 //!
-//! **Promises.** `tool::run_tool` and `process::status_of` end a run with the report that the words ask for, or with a
-//! fault of its cause, its line, the line of what helps and its status, or with refused words (`ending`); at status 2
-//! nothing was written (`untouched`), at 0 and 1 nothing said, unless more is asked for or seen on a terminal
-//! (`silent`). If a pair differs, the file for the VCD has it (`ending`).
-//! `run::run_options` says so of options: the report (`report`, `unwritten`), the files that were opened, in their
-//! order (`opened`), the input that is read only where a text stands on it (`input_unread`), faults and their causes
-//! (`fault`), and which of them may come (`may`). `split::split_input` divides at the first line `%%`;
-//! `fault::status_of_fault` is the status of a fault (`status`). A law: `failures`.
+//! **Promises.** A run by `tool::run_tool` or `process::status_of` ends with the report that the arguments ask for, or
+//! with a fault that has its cause, its line, the line of what helps and its status, or with refused arguments
+//! (`ending`). With status 2 nothing was written (`untouched`). With status 0 or 1 nothing was printed on standard
+//! error, unless `--verbose` or `--seconds` is given, standard error is a terminal, or a pair is undecided (`silent`).
+//! If a pair differs, the file for the VCD has its values (`ending`). `run::run_options` promises the same of options:
+//! the report (`report`, `unwritten`), the files that were opened, in their order (`opened`), that the input is read
+//! only if a text is on it (`input_unread`), faults and their causes (`fault`), and which faults are possible (`may`).
+//! `split::split_input` divides a text at the first line `%%`, and `fault::status_of_fault` is the exit status of a
+//! fault (`status`). The law is `failures`.
 //!
-//! **Only tests show** files, pipes, terminals and signals of the built program (`tests/run.sh`), and what progress
-//! says (`report_tests`).
+//! **Only tests show** how the built program deals with files, pipes, terminals and signals (`tests/run.sh`), what
+//! progress it prints (`report_tests`), and which cause it notes for undecided pairs (`tests/stored.txt`).
 //!
-//! **Begin** with `tool`, then `run` for the texts, and `compare`: files are opened (`files`), and `check_report` is
-//! called with the settings of `settings`. How a run ends is in `specs/Ending`, its causes in `specs/Running`, its steps in
-//! `specs/Comparing`.
+//! **Begin** with `tool`, then read `run` (which texts are compared) and `compare`: files are opened (`files`), and
+//! `check_report` is called with the settings of `settings`. How a run ends is defined in `specs/Ending`, its causes in
+//! `specs/Running`, its steps in `specs/Comparing`.
 #![tactic(auto)]
 
 mod compare;
@@ -37,4 +38,5 @@ mod settings;
 pub mod split;
 pub mod terminal;
 pub mod tool;
+pub mod undecided;
 mod verbose;

@@ -1,10 +1,10 @@
-//! The name that a fault refuses, of those that pick pairs and of those that are to be explained.
-ghost use Rattle.std.specs.Prelude.{◌≡◌, ◌++◌, ◌∷◌, [], List, Contains, IfOk, IfSome, string_bytes};
+//! The name that a fault refuses, among those that select pairs or those that are to be explained.
+ghost use Rattle.std.specs.Prelude.{◌≡◌, ◌++◌, ◌∷◌, [], IfOk, IfSome, string_bytes};
 ghost use Rattle.net_bench.specs.Circuit.{circuit};
 ghost use Rattle.compare_built.specs.Check.{Gives};
-ghost use Rattle.compare_built.specs.PairSelection.{IsNamedIn};
 ghost use Rattle.check_tool.specs.Helping.{names_text, picked_names, refused_names, refused_paths, IsFirstCircuit, IsQuoted};
-ghost use Rattle.check_tool.specs.Helping.{IsRefusedName, IsUnknownTargetWord, IsUnknownPick, IsUnknownTarget};
+ghost use Rattle.check_tool.specs.Helping.{IsFirstWord, IsKnownPattern, IsKnownTarget, IsRefusedName, IsUnknownTargetWord, IsUnknownPick};
+ghost use Rattle.check_tool.specs.Helping.{IsUnknownPattern, IsUnknownTarget};
 ghost use Rattle.check_tool.specs.Opening.{OpensAgain};
 ghost use Rattle.check_tool.specs.Running.{first_paths};
 
@@ -12,13 +12,13 @@ use crate::fault::ToolFault;
 use crate::folder::Folder;
 use crate::help::file_of_first;
 use crate::settings::target_of;
-use check_report::{CheckFault, has_pair, is_named};
+use check_report::{CheckFault, has_pair, has_picked};
 use command_line::{Options, Picks};
 use net_bench::netlist::Netlist;
 use net_bench::reader::read_bench;
 use std::alloc::{AllocError, Global};
 
-/// The names that pick pairs.
+/// Returns the patterns that select pairs.
 fn picked_names<'o, 'a>(picks: &'o Picks<'a>) -> &'o [&'a str]
     ensures { result.now ≡ picked_names picks.now }
 {
@@ -28,7 +28,7 @@ fn picked_names<'o, 'a>(picks: &'o Picks<'a>) -> &'o [&'a str]
     }
 }
 
-/// The names of which a fault refuses one: those that pick pairs, or those that are to be explained.
+/// Returns the names of which a fault refuses one: those that select pairs, or those that are to be explained.
 pub(crate) fn refused_names<'o, 'a>(options: &'o Options<'a>, fault: ToolFault) -> &'o [&'a str]
     ensures { result.now ≡ refused_names options.now fault }
 {
@@ -39,7 +39,7 @@ pub(crate) fn refused_names<'o, 'a>(options: &'o Options<'a>, fault: ToolFault) 
     }
 }
 
-/// A text and these names, each after a blank.
+/// Returns a text with these names after it, each after a blank.
 pub(crate) fn with_names(alloc: Global, text: &str, names: &[&str]) -> Result<String, AllocError>
     ensures { IfOk result (λ s. string_bytes s ≡ text.now ++ names_text names.now) }
 {
@@ -51,8 +51,8 @@ pub(crate) fn with_names(alloc: Global, text: &str, names: &[&str]) -> Result<St
     Ok(both)
 }
 
-/// The netlist in a file, which is opened and read once more: none if that is no plain file, the file is gone or is no netlist any more,
-/// or memory ran out.
+/// Opens and reads a file again, and returns its netlist. There is none if it is not a regular file, if it is gone or
+/// is no netlist any more, or if memory is refused.
 #[tactic(auto, using(crate::proofs::Composing::extends_none, crate::proofs::Quoting::tried_once, crate::proofs::Naming::gives_again))]
 fn read_again<F: Folder>(alloc: Global, folder: &mut F, path: &str) -> Option<Netlist>
     ensures read { IfSome result (λ net. Gives (F.bytes_at folder.old path.now) (circuit net)) }
@@ -66,7 +66,7 @@ fn read_again<F: Folder>(alloc: Global, folder: &mut F, path: &str) -> Option<Ne
     read_bench(alloc, &mut file).ok()
 }
 
-/// The first netlist, if it is in a file that can be read once more.
+/// Returns the first netlist, if it is in a file that can be read again.
 #[tactic(auto, using(crate::proofs::Composing::extends_none))]
 fn first_netlist<F: Folder>(alloc: Global, folder: &mut F, options: &Options<'_>) -> Option<Netlist>
     ensures read { IfSome result (λ net. IsFirstCircuit (F.bytes_at folder.old) options.now (circuit net)) }
@@ -77,24 +77,29 @@ fn first_netlist<F: Folder>(alloc: Global, folder: &mut F, options: &Options<'_>
     read_again(alloc, folder, path)
 }
 
-/// The first of these names that is that of no output and no register.
-fn unknown_name_in<'a>(net: &Netlist, names: &[&'a str]) -> Option<&'a str>
-    ensures { IfSome result (λ n. Contains names.now n × (IsNamedIn (circuit net.now) n.now → ⊥)) }
+/// Returns the first of these patterns that matches no output and no register.
+fn unknown_pattern_in<'a>(alloc: Global, net: &Netlist, words: &[&'a str]) -> Option<&'a str>
+    ensures { let a = circuit net.now in IfSome result (IsFirstWord (IsKnownPattern a) (IsUnknownPattern a) words.now) }
 {
-    for name in names {
-        if !is_named(net, name.as_bytes()) {
-            return Some(*name);
+    for word in words {
+        let Ok(pattern) = target_of(alloc, *word) else {
+            return None;
+        };
+        if !has_picked(net, &pattern) {
+            return Some(*word);
         }
     }
     None
 }
 
-/// The first of these words that calls no output and no register.
+/// Returns the first of these names that is the name of no output and no register.
 fn unknown_target_in<'a>(alloc: Global, net: &Netlist, words: &[&'a str]) -> Option<&'a str>
-    ensures { IfSome result (λ w. Contains words.now w × IsUnknownTarget (circuit net.now) w.now) }
+    ensures { let a = circuit net.now in IfSome result (IsFirstWord (IsKnownTarget a) (IsUnknownTarget a) words.now) }
 {
     for word in words {
-        let target = target_of(alloc, *word).ok()?;
+        let Ok(target) = target_of(alloc, *word) else {
+            return None;
+        };
         if !has_pair(net, &target) {
             return Some(*word);
         }
@@ -102,7 +107,7 @@ fn unknown_target_in<'a>(alloc: Global, net: &Netlist, words: &[&'a str]) -> Opt
     None
 }
 
-/// The first name that picks pairs and is that of no output and no register of the first netlist.
+/// Returns the first pattern that matches no output and no register of the first netlist, if that can be read again.
 fn unknown_pick<'a, F: Folder>(
     alloc: Global,
     folder: &mut F,
@@ -112,11 +117,13 @@ fn unknown_pick<'a, F: Folder>(
     ensures tried { OpensAgain (F.tries folder.old) (F.tries folder.new) (first_paths options.now.texts) }
     ensures unsaved { F.saves folder.new ≡ F.saves folder.old }
 {
-    let net = first_netlist(alloc, folder, options)?;
-    unknown_name_in(&net, picked_names(&options.picks))
+    let Some(net) = first_netlist(alloc, folder, options) else {
+        return None;
+    };
+    unknown_pattern_in(alloc, &net, picked_names(&options.picks))
 }
 
-/// The first word that calls what is to be explained and is no output and no register of the first netlist.
+/// Returns the first name to be explained that the first netlist does not have, if that can be read again.
 fn unknown_target_word<'a, F: Folder>(
     alloc: Global,
     folder: &mut F,
@@ -126,11 +133,14 @@ fn unknown_target_word<'a, F: Folder>(
     ensures tried { OpensAgain (F.tries folder.old) (F.tries folder.new) (first_paths options.now.texts) }
     ensures unsaved { F.saves folder.new ≡ F.saves folder.old }
 {
-    let net = first_netlist(alloc, folder, options)?;
+    let Some(net) = first_netlist(alloc, folder, options) else {
+        return None;
+    };
     unknown_target_in(alloc, &net, options.explain.as_slice())
 }
 
-/// The name that a fault refuses: the only one of which it may refuse one, or that which the first netlist does not have.
+/// Returns the name that a fault refuses. If there is only one name, it is that one; otherwise it is the first that the
+/// first netlist does not have.
 fn refused_name<'a, F: Folder>(
     alloc: Global,
     folder: &mut F,
@@ -152,7 +162,7 @@ fn refused_name<'a, F: Folder>(
     }
 }
 
-/// The same, copied, if there is memory for it.
+/// Returns a copy of the name that a fault refuses, if it is found and there is memory for it.
 pub(crate) fn name_of_refused<F: Folder>(
     alloc: Global,
     folder: &mut F,

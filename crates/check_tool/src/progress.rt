@@ -1,4 +1,4 @@
-//! How far a run is, as standard error reports it: builds, attempts, patterns and rounds of merging.
+//! The progress of a run, as it is printed on standard error: builds, attempts, patterns and rounds of merging.
 ghost use Rattle.std.specs.Prelude.{◌≡◌, ◌||◌, is_some};
 
 use crate::folder::{Disk, Folder};
@@ -7,33 +7,34 @@ use crate::say::say;
 use crate::terminal::TerminalSink;
 use dd_store::Watch;
 use expand_work::{AttemptEnd, MergeRound, Monitor, NoMonitor};
-use net_bench::device::{Sink, read_text};
 use std::alloc::{AllocError, Global};
 use std::fmt;
 use std::rt::Clock;
 use std::sync::atomic::{AtomicU64, Ordering};
 use std::sync::{Mutex, Wait};
+use text_device::{Sink, read_text};
 
-/// Where Linux says how much memory a process has, in pages of 4,096 bytes: its address space, what of it is resident, and more.
+/// The file in which Linux has the memory of a process in pages of 4,096 bytes: first its address space, then the
+/// resident part of it.
 const STATM: &str = "/proc/self/statm";
 
-/// The most bytes that such a text has.
+/// The most bytes that are read of this file.
 const MAX_STATM: usize = 4_096;
 
 /// A runtime that knows how much memory its process has.
 pub trait MemoryMeter {
-    /// The resident megabytes, rounded down, where they can be told.
+    /// Returns the resident memory in megabytes (2^20 bytes), rounded down, if it is known.
     fn megabytes(&self, alloc: Global) -> Option<u64>;
 }
 
-/// The second number of a text, which is one of pages, in megabytes.
+/// Returns the second number of a text, which is a number of pages, in megabytes.
 fn megabytes_of(text: &[u8]) -> Option<u64> {
     let text = std::str::from_utf8(text).ok()?;
     let pages: u64 = text.split(' ').nth(1)?.parse().ok()?;
     Some(pages / 256)
 }
 
-/// What Linux says.
+/// The memory that Linux reports.
 impl MemoryMeter for HostRuntime {
     fn megabytes(&self, alloc: Global) -> Option<u64> {
         let mut file = Disk::new(self).open(STATM).ok()?;
@@ -42,16 +43,17 @@ impl MemoryMeter for HostRuntime {
     }
 }
 
-/// How a build is told of.
+/// How progress is printed.
 #[derive(Clone, Copy, Drop, Debug, PartialEq, Eq)]
 pub enum Form {
-    /// By lines, one below the other.
+    /// As lines, each below the one before.
     Lines,
-    /// By one line of a terminal, which is written anew.
+    /// As one line of a terminal, which is written anew each time.
     InPlace,
 }
 
-/// How builds are told of on this device, where lines are asked for or not: not at all where it is no terminal and they are not.
+/// Returns how progress is printed on this device: as lines if they are asked for, in place on a terminal, and
+/// otherwise not at all.
 pub(crate) fn form_on<E: TerminalSink>(asked: bool, errors: &E) -> Option<Form>
     ensures { is_some result ≡ (asked || E.on_terminal errors.now) }
 {
@@ -64,7 +66,7 @@ pub(crate) fn form_on<E: TerminalSink>(asked: bool, errors: &E) -> Option<Form>
     }
 }
 
-/// How far a build is.
+/// How far a build is. `memory` is in megabytes.
 #[derive(Clone, Copy, Drop)]
 struct BuildStatus {
     rank: u32,
@@ -88,14 +90,14 @@ impl fmt::Display for BuildStatus {
     }
 }
 
-/// What ended an attempt within so many nodes, or what a round of cones left.
+/// How an attempt within `budget` nodes has ended, or how many pairs a round of cones has left.
 #[derive(Clone, Copy, Drop)]
-struct Ended {
+struct EndedAttempt {
     budget: u64,
     end: AttemptEnd,
 }
 
-impl fmt::Display for Ended {
+impl fmt::Display for EndedAttempt {
     fn fmt<W: fmt::Write>(&self, f: &mut fmt::Formatter<W>) -> fmt::Result {
         let budget = self.budget;
         match self.end {
@@ -108,6 +110,10 @@ impl fmt::Display for Ended {
             AttemptEnd::TooManyRequests { order } => write!(
                 f,
                 "order {order} needs too many requests in one wave for a budget of {budget} nodes"
+            ),
+            AttemptEnd::Stopped { order } => write!(
+                f,
+                "order {order} was stopped within a budget of {budget} nodes"
             ),
             AttemptEnd::Left { left, pairs } => write!(
                 f,
@@ -139,7 +145,41 @@ impl fmt::Display for Shown {
     }
 }
 
-/// What a round of merging has come to.
+/// How many pairs have the same cones as an earlier pair.
+#[derive(Clone, Copy, Drop)]
+struct EqualCones {
+    same: usize,
+    pairs: usize,
+}
+
+impl fmt::Display for EqualCones {
+    fn fmt<W: fmt::Write>(&self, f: &mut fmt::Formatter<W>) -> fmt::Result {
+        write!(
+            f,
+            "{} of {} pairs have the same cones as another pair, and take its verdict",
+            self.same, self.pairs
+        )
+    }
+}
+
+/// How many inputs and registers only one netlist has, and the first of their names, each after a blank.
+#[derive(Drop)]
+struct Lone {
+    count: usize,
+    names: String,
+}
+
+impl fmt::Display for Lone {
+    fn fmt<W: fmt::Write>(&self, f: &mut fmt::Formatter<W>) -> fmt::Result {
+        write!(
+            f,
+            "inputs and registers that only one netlist has: {}, the first are{}",
+            self.count, self.names
+        )
+    }
+}
+
+/// The result of a round of merging.
 #[derive(Clone, Copy, Drop)]
 struct RoundStatus {
     round: MergeRound,
@@ -157,28 +197,27 @@ impl fmt::Display for RoundStatus {
     }
 }
 
-/// What takes the line of a terminal away.
+/// The bytes that erase the line of a terminal.
 const CLEAN: &[u8] = b"\r\x1b[K";
 
-/// Where builds are told of, and what of them was told.
+/// The device on which progress is printed, and what was printed there.
 #[derive(Drop)]
 struct ProgressDisplay<'a, E> {
     errors: &'a mut E,
     form: Form,
-    // When it was told last, or the monitor was made, in milliseconds of the clock.
+    // When progress was last printed, or the monitor was made, in milliseconds of the clock.
     shown_at: u64,
-    // How many builds have begun, and whether the terminal has a line of them.
+    // How many builds have begun, and whether the terminal has a line of progress now.
     attempts: u32,
     shown: bool,
 }
 
 impl<E: Sink> ProgressDisplay<'_, E> {
-    /// Writes a text.
     fn write(&mut self, text: &[u8]) {
         say(&mut *self.errors, text);
     }
 
-    /// Takes the line from the terminal, where one is there.
+    /// Erases the line of progress from the terminal, if there is one.
     fn clean(&mut self) {
         if self.shown {
             self.shown = false;
@@ -186,8 +225,8 @@ impl<E: Sink> ProgressDisplay<'_, E> {
         }
     }
 
-    /// Hears of a rank, and answers whether it is to be told: a second has gone by since one was. Behind the last rank a report may come,
-    /// and the terminal is to be clean then.
+    /// Notes that a rank begins, and returns whether that is to be printed: at most once a second. On a terminal the
+    /// line is erased at the last rank, since the report may follow.
     fn note_rank(&mut self, now: u64, rank: u32, ranks: u32) -> bool {
         if rank == 1 {
             self.attempts = self.attempts.saturating_add(1);
@@ -203,7 +242,7 @@ impl<E: Sink> ProgressDisplay<'_, E> {
         true
     }
 
-    /// Tells this by a line, or in the place of the line before.
+    /// Prints this as a line, or in place of the line before.
     fn show<D: fmt::Display + Drop>(&mut self, alloc: Global, update: D) -> Result<(), AllocError> {
         let line = match self.form {
             Form::Lines => format!(in alloc; "bddcheck: {update}\n")?,
@@ -217,7 +256,7 @@ impl<E: Sink> ProgressDisplay<'_, E> {
         Ok(())
     }
 
-    /// Reports this by a line that stays.
+    /// Prints this as a line that stays, also on a terminal.
     fn announce<D: fmt::Display + Drop>(
         &mut self,
         alloc: Global,
@@ -230,30 +269,38 @@ impl<E: Sink> ProgressDisplay<'_, E> {
     }
 }
 
-/// A monitor that waits for nothing. It reports at which rank a build is, at most once a second: by lines, or by one line in place. What it
-/// writes is written under a lock, since builds of several threads may report.
+/// A monitor that prints which rank a build has reached, at most once a second: as lines, or as one line in place. It
+/// neither bounds nor stops waves. A lock keeps what it writes apart, since builds of several threads may report at the
+/// same time.
 #[derive(Drop)]
 pub struct Progress<'a, 'e, H, E> {
     rt: &'a H,
     alloc: Global,
     display: Mutex<ProgressDisplay<'e, E>>,
-    // The requests that were expanded so far.
+    // The number of requests that were expanded so far.
     requests: AtomicU64,
 }
 
-/// The milliseconds of the clock, or 0 where it cannot be read.
-fn millis<H: Clock>(rt: &H) -> u64 {
+/// Returns the time of the clock in milliseconds, if it can be read.
+pub(crate) fn millis_of<H: Clock>(rt: &H) -> Option<u64> {
     match rt.monotonic() {
-        Ok(now) => now
-            .as_secs()
-            .saturating_mul(1_000)
-            .saturating_add(u64::from(now.subsec_millis())),
-        Err(_) => 0,
+        Ok(now) => Some(
+            now.as_secs()
+                .saturating_mul(1_000)
+                .saturating_add(u64::from(now.subsec_millis())),
+        ),
+        Err(_) => None,
     }
 }
 
+/// Returns the same time, or 0 if it cannot be read.
+fn millis<H: Clock>(rt: &H) -> u64 {
+    millis_of(rt).unwrap_or(0)
+}
+
 impl<'a, 'e, H: Clock + MemoryMeter + Wait, E: Sink> Progress<'a, 'e, H, E> {
-    /// A monitor that tells in this form on this device, a second from now at the earliest.
+    /// Returns a monitor that prints in this form on this device. Its first line comes a second from now at the
+    /// earliest.
     pub fn new(rt: &'a H, alloc: Global, form: Form, errors: &'e mut E) -> Progress<'a, 'e, H, E> {
         let shown_at = millis(rt);
         Progress {
@@ -270,24 +317,24 @@ impl<'a, 'e, H: Clock + MemoryMeter + Wait, E: Sink> Progress<'a, 'e, H, E> {
         }
     }
 
-    /// Takes the line from the terminal, where one is there, and gives the device back.
+    /// Erases the line of progress from the terminal, if there is one, and releases the device.
     pub fn end(self) {
         let Progress { display, .. } = self;
         let mut display = display.into_inner();
         display.clean();
     }
 
-    /// Tells this, where there is memory for its line.
+    /// Prints this, if there is memory for its line.
     fn show<D: fmt::Display + Drop>(&self, update: D) {
         let _ = self.display.lock(self.rt).show(self.alloc, update);
     }
 
-    /// Reports this by a line that stays, if there is memory for it.
+    /// Prints this as a line that stays, if there is memory for it.
     fn announce<D: fmt::Display + Drop>(&self, update: D) {
         let _ = self.display.lock(self.rt).announce(self.alloc, update);
     }
 
-    /// Whether more is asked for than a terminal shows by itself.
+    /// Returns whether lines were asked for, so that more is printed than a terminal shows by itself.
     fn is_by_lines(&self) -> bool {
         self.display.lock(self.rt).form == Form::Lines
     }
@@ -326,14 +373,29 @@ impl<H: Clock + MemoryMeter + Wait + Sync, E: Sink + Send> Monitor for Progress<
         self.requests.fetch_add(requests as u64, Ordering::SeqCst);
     }
 
-    // The attempt that decides is told behind the report.
+    // The attempt that succeeds is not printed here, but after the report.
     fn at_attempt(&self, budget: u64, end: AttemptEnd) {
         if self.is_by_lines() && !matches!(end, AttemptEnd::Decided { .. }) {
-            self.show(Ended { budget, end });
+            self.show(EndedAttempt { budget, end });
         }
     }
 
-    // A terminal by itself shows only that there are differences.
+    fn at_equal_cones(&self, same: usize, pairs: usize) {
+        if self.is_by_lines() {
+            self.announce(EqualCones { same, pairs });
+        }
+    }
+
+    fn at_lone_variables(&self, count: usize, names: &[u8]) {
+        if !self.is_by_lines() {
+            return;
+        }
+        if let Ok(names) = excerpt(self.alloc, names) {
+            self.announce(Lone { count, names });
+        }
+    }
+
+    // If lines are not asked for, a terminal shows only that there are differences.
     fn at_patterns(&self, different: usize, pairs: usize, first: &[u8]) {
         if different == 0 && !self.is_by_lines() {
             return;

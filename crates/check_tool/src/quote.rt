@@ -1,11 +1,11 @@
-//! What is shown of a fault: a line of a file that was refused, or a name.
+//! Excerpts of a refused file: the line or the name that a fault refers to.
 ghost use Rattle.std.specs.Prelude.{◌≡◌, ◌+◌, ◌-◌, ◌^◌, ◌<◌, ◌≤◌, ◌∷◌, [], ℕ, List, Some, IfOk, IfSome, length, codes, decimal, map, take};
 ghost use Rattle.std.specs.Prelude.{string_bytes, ◌++◌};
 ghost use Rattle.net_bench.specs.Pieces.{tokens_at};
 ghost use Rattle.check_tool.specs.Helping.{refused_paths, IsQuoted, IsShown};
 ghost use Rattle.check_tool.specs.Opening.{OpensAgain};
-ghost use Rattle.check_tool.specs.Quoting.{before_line, following, broken_remark, excerpt, first_line, line_in, name_remark, unclosed_in};
-ghost use Rattle.check_tool.specs.Quoting.{quotation, read_byte, remark, shown, unread};
+ghost use Rattle.check_tool.specs.Quoting.{before_line, following, broken_remark, excerpt, first_line, name_remark, unclosed_in};
+ghost use Rattle.check_tool.specs.Quoting.{quotation, read_byte, remark, shown};
 ghost use Rattle.check_tool.specs.Running.{IsReadOf};
 
 use crate::fault::ToolFault;
@@ -14,17 +14,17 @@ use crate::help::{QuotedPart, refused_part};
 use crate::names::name_of_refused;
 use check_report::CheckFault;
 use command_line::Options;
-use net_bench::device::read_text;
 use net_bench::reader::MAX_TEXT;
 use net_bench::scan::{Scanner, Token};
 use std::alloc::{AllocError, Global};
+use text_device::read_text;
 
 const LINE_FEED: u8 = b'\n';
 
-/// The most bytes of a line that are shown.
+/// The most bytes of a line or of a name that are shown.
 const MOST_SHOWN: usize = 100;
 
-/// What stands behind so many line feeds.
+/// Returns what follows the first `feeds` line feeds.
 fn following(text: &[u8], feeds: u32) -> &[u8]
     ensures { result.now ≡ following feeds text.now }
 {
@@ -40,7 +40,7 @@ fn following(text: &[u8], feeds: u32) -> &[u8]
     &[]
 }
 
-/// What stands before the first line feed.
+/// Returns the bytes before the first line feed.
 fn first_line(text: &[u8]) -> &[u8]
     ensures { result.now ≡ first_line text.now }
 {
@@ -52,7 +52,6 @@ fn first_line(text: &[u8]) -> &[u8]
     text
 }
 
-/// The first bytes, at most so many.
 fn front(bytes: &[u8], most: usize) -> &[u8]
     ensures { result.now ≡ take most bytes.now }
 {
@@ -63,7 +62,8 @@ fn front(bytes: &[u8], most: usize) -> &[u8]
     }
 }
 
-/// The byte that is shown for a byte.
+/// Returns the character that is shown for a byte: a blank for a tab or a carriage return, and a question mark for what
+/// cannot be printed, so that no file can send control sequences to a terminal.
 fn shown_byte(byte: u8) -> u8
     ensures value { result ≡ shown byte }
     ensures ascii { result < 128 }
@@ -77,7 +77,7 @@ fn shown_byte(byte: u8) -> u8
     }
 }
 
-/// The bytes, as they are shown.
+/// Returns the bytes as they are shown.
 fn shown(alloc: Global, bytes: &[u8]) -> Result<String, AllocError>
     ensures { IfOk result (λ s. string_bytes s ≡ map shown bytes.now) }
 {
@@ -88,7 +88,7 @@ fn shown(alloc: Global, bytes: &[u8]) -> Result<String, AllocError>
     Ok(text)
 }
 
-/// The bytes, as they are shown, at most so many, and whether they are cut.
+/// Returns the bytes as they are shown, at most `MOST_SHOWN` of them, with a note if they are cut.
 pub(crate) fn excerpt(alloc: Global, whole: &[u8]) -> Result<String, AllocError>
     ensures { IfOk result (λ s. string_bytes s ≡ excerpt whole.now) }
 {
@@ -99,14 +99,15 @@ pub(crate) fn excerpt(alloc: Global, whole: &[u8]) -> Result<String, AllocError>
     format!(in alloc; "{front}... (cut)")
 }
 
-/// What is shown of a line of a text, the first of which is 1.
+/// Returns the excerpt of a line of a text. Lines are counted from 1.
 pub fn quotation(alloc: Global, text: &[u8], line: u32) -> Result<String, AllocError>
     ensures { IfOk result (λ s. string_bytes s ≡ quotation text.now line) }
 {
     excerpt(alloc, first_line(following(text, line.saturating_sub(1))))
 }
 
-/// How far a text is read: on which line, whether in a comment, and the line of the last parenthesis that is not closed.
+/// The state of a reading: the line, whether it is in a comment, and the line of the last parenthesis that is not
+/// closed.
 #[derive(Clone, Copy, Drop)]
 struct Reading {
     line: u32,
@@ -114,7 +115,7 @@ struct Reading {
     unclosed: Option<u32>,
 }
 
-/// How far it is read behind one byte more.
+/// Returns the state after one more byte.
 fn read_byte(at: Reading, byte: u8) -> Reading
     requires { at.line < 2 ^ 31 }
     ensures read { result ≡ read_byte at byte }
@@ -155,7 +156,7 @@ fn read_byte(at: Reading, byte: u8) -> Reading
     }
 }
 
-/// The line of the last parenthesis that is not closed.
+/// Returns the line of the last parenthesis that is not closed, if there is one.
 fn unclosed_in(text: &[u8]) -> Option<u32>
     requires { length text.now ≤ 67108864 }
     ensures { result ≡ unclosed_in text.now }
@@ -171,7 +172,7 @@ fn unclosed_in(text: &[u8]) -> Option<u32>
     at.unclosed
 }
 
-/// The bytes before a line.
+/// Returns the bytes before a line.
 #[tactic(auto, using(crate::proofs::Quoting::following_short))]
 fn before_line(text: &[u8], line: u32) -> &[u8]
     ensures before { result.now ≡ before_line text.now line }
@@ -181,7 +182,8 @@ fn before_line(text: &[u8], line: u32) -> &[u8]
     &text[..text.len() - rest.len()]
 }
 
-/// What is shown of a line with a broken statement: the line of a parenthesis before it that is not closed, where there is one.
+/// Returns the excerpt for a line with a broken statement. If a parenthesis before it is not closed, the excerpt is the
+/// line of that parenthesis, where the mistake probably is.
 fn broken(alloc: Global, text: &[u8], line: u32) -> Result<String, AllocError>
     requires { length text.now ≤ 67108864 }
     ensures { IfOk result (λ s. string_bytes s ≡ broken_remark text.now line (unclosed_in (before_line text.now line))) }
@@ -195,7 +197,7 @@ fn broken(alloc: Global, text: &[u8], line: u32) -> Result<String, AllocError>
     }
 }
 
-/// What is shown of a name, and on which line it stands.
+/// Returns the excerpt of a name, with its line.
 fn named(alloc: Global, line: u32, name: &[u8]) -> Result<String, AllocError>
     ensures { IfOk result (λ s. string_bytes s ≡ codes "line " ++ (decimal line ++ (codes ": " ++ excerpt name.now))) }
 {
@@ -203,7 +205,7 @@ fn named(alloc: Global, line: u32, name: &[u8]) -> Result<String, AllocError>
     format!(in alloc; "line {line}: {shown}")
 }
 
-/// What is shown of the name at a place of a list, the first of which is 1, or that the list ends before it.
+/// Returns the excerpt of the name at a place of a list, counted from 1, or a note that the list ends before it.
 fn name_in_list(alloc: Global, text: &[u8], place: u32) -> Result<String, AllocError>
     requires { length text.now ≤ 67108864 }
     ensures { IfOk result (λ s. string_bytes s ≡ name_remark (place - 1) (tokens_at 1 text.now)) }
@@ -222,7 +224,7 @@ fn name_in_list(alloc: Global, text: &[u8], place: u32) -> Result<String, AllocE
     }
 }
 
-/// What is shown of what a fault points at.
+/// Returns the excerpt of the part that a fault refers to.
 fn remark(alloc: Global, text: &[u8], quoted_part: QuotedPart) -> Result<String, AllocError>
     requires { length text.now ≤ 67108864 }
     ensures { IfOk result (λ s. string_bytes s ≡ remark quoted_part text.now) }
@@ -234,8 +236,8 @@ fn remark(alloc: Global, text: &[u8], quoted_part: QuotedPart) -> Result<String,
     }
 }
 
-/// What is shown of a file, which is opened and read once more: nothing where that is no plain file, the file is gone or refused,
-/// or memory is wanting.
+/// Opens and reads a file again, and returns the excerpt of a part of it. There is none if it is not a regular file, if
+/// it is gone or refused, or if memory is refused.
 #[tactic(auto, using(crate::proofs::Composing::extends_none, crate::proofs::Quoting::tried_once))]
 fn quote_file<F: Folder>(
     alloc: Global,
@@ -256,7 +258,7 @@ fn quote_file<F: Folder>(
     remark(alloc, text.as_slice(), quoted_part).ok()
 }
 
-/// What is shown of the file of a text that was refused, if it can be read once more.
+/// Returns the excerpt of the refused file, if it can be read again.
 #[tactic(auto, using(crate::proofs::Composing::extends_none))]
 fn quote_refused<F: Folder>(
     alloc: Global,
@@ -272,7 +274,8 @@ fn quote_refused<F: Folder>(
     quote_file(alloc, folder, path, quoted_part)
 }
 
-/// What is shown of a fault: a line of the file that was refused, or a name, or the name that the first netlist does not have.
+/// Returns the excerpt for a fault: of a line of the refused file, of a name in it, or the name that the first netlist
+/// does not have.
 pub(crate) fn quote<F: Folder>(
     alloc: Global,
     folder: &mut F,

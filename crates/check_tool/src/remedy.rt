@@ -1,6 +1,6 @@
-//! What helps against a fault.
+//! What helps against each fault, as a text.
 ghost use Rattle.std.specs.Prelude.{◌≡◌};
-ghost use Rattle.check_tool.specs.Helping.{text_help, order_help, wave_help, opening_help, fewer_nodes, check_help, fault_help};
+ghost use Rattle.check_tool.specs.Helping.{text_help, order_help, pairs_help, wave_help, opening_help, fewer_nodes, check_help, fault_help};
 ghost use Rattle.check_tool.specs.Helping.{after_equals, unindented, front_word, gate_word, word_help, is_unknown_gate_fault, shown_help};
 ghost use Rattle.check_tool.specs.Helping.{check_help_by_name, help_by_name};
 
@@ -10,9 +10,10 @@ use check_report::CheckFault;
 use command_line::OrderChoice;
 use expand_work::WaveFault;
 use net_bench::fault::BenchFault;
-use net_order::order::OrderFault;
+use net_names::order::OrderFault;
+use net_rename::fault::PairsFault;
 
-/// What helps where a text is refused.
+/// Returns what helps if a text is refused.
 fn help_in_text(fault: BenchFault) -> &'static str
     ensures { result.now ≡ text_help fault }
 {
@@ -36,7 +37,7 @@ fn help_in_text(fault: BenchFault) -> &'static str
     }
 }
 
-/// What helps where an order is refused.
+/// Returns what helps if an order is refused.
 fn help_in_order(fault: OrderFault) -> &'static str
     ensures { result.now ≡ order_help fault }
 {
@@ -54,7 +55,29 @@ fn help_in_order(fault: OrderFault) -> &'static str
     }
 }
 
-/// What helps where diagrams grow too large.
+/// Returns what helps if pairs of names are refused.
+fn help_in_pairs(fault: PairsFault) -> &'static str
+    ensures { result.now ≡ pairs_help fault }
+{
+    match fault {
+        PairsFault::BadLine { .. } => {
+            "a line has the first netlist's name of a signal, blanks, and the second netlist's"
+        }
+        PairsFault::TooLong => "a text has at most 67108864 bytes",
+        PairsFault::Read => "the device failed, or the path is a folder",
+        PairsFault::UnknownFirst { .. } => "the first name of a line is that of the first netlist",
+        PairsFault::UnknownSecond { .. } => {
+            "the second name of a line is that of the second netlist"
+        }
+        PairsFault::Repeated { .. } => "each name may be once in its column",
+        PairsFault::Taken { .. } => {
+            "give that signal of the second netlist a line of its own, or rename it"
+        }
+        PairsFault::OutOfMemory => "more memory, or a smaller netlist, is needed",
+    }
+}
+
+/// Returns what helps if the diagrams grow too large.
 fn help_by_order(choice: OrderChoice<'_>) -> &'static str
     ensures { result.now ≡ fewer_nodes choice.entry }
 {
@@ -63,23 +86,26 @@ fn help_by_order(choice: OrderChoice<'_>) -> &'static str
             "msb-first, weights and force-groups were tried; a list by --order-file may need fewer nodes",
         OrderChoice::Auto =>
             "msb-first, weights and force-groups were tried; another --memory, or a list by --order-file, may help",
-        OrderChoice::Cones | OrderChoice::Merge =>
+        OrderChoice::Cones | OrderChoice::ConesByList(_) | OrderChoice::Merge =>
             "each pair was judged by its cones; another --memory, or fewer --workers, may help",
         _ => "another order may need fewer nodes: try --order auto",
     }
 }
 
-/// What helps where the diagrams are not built.
+/// Returns what helps if the diagrams could not be built.
 fn help_in_building(choice: OrderChoice<'_>, fault: WaveFault) -> &'static str
     ensures { result.now ≡ wave_help choice.entry fault }
 {
     match fault {
         WaveFault::NoWorker => "--workers 1 starts no thread",
+        WaveFault::Stopped => {
+            "more --seconds may be enough; by --order auto the pairs that are decided by then are reported"
+        }
         _ => help_by_order(choice),
     }
 }
 
-/// What stands in the way of an opening, or of a writing.
+/// Returns what the obstacle to opening or writing a file is.
 fn help_in_opening(obstacle: Obstacle) -> &'static str
     ensures { result.now ≡ opening_help obstacle }
 {
@@ -93,7 +119,7 @@ fn help_in_opening(obstacle: Obstacle) -> &'static str
     }
 }
 
-/// What helps where a check has no report.
+/// Returns what helps if a check has no report.
 fn help_in_check(choice: OrderChoice<'_>, fault: CheckFault) -> &'static str
     ensures { result.now ≡ check_help choice.entry fault }
 {
@@ -104,7 +130,7 @@ fn help_in_check(choice: OrderChoice<'_>, fault: CheckFault) -> &'static str
         CheckFault::GivenOutputs => "a condition is a netlist with one output",
         CheckFault::Order(fault) => help_in_order(fault),
         CheckFault::Only => {
-            "the first netlist has no output and no register of one of these names:"
+            "the first netlist has no output or register, or after NEXT no register, of one of these names:"
         }
         CheckFault::Explain => {
             "the first netlist has no output, or after NEXT no register, of one of these names:"
@@ -115,7 +141,7 @@ fn help_in_check(choice: OrderChoice<'_>, fault: CheckFault) -> &'static str
     }
 }
 
-/// What helps against a fault.
+/// Returns what helps against a fault.
 pub(crate) fn help_against(choice: OrderChoice<'_>, fault: ToolFault) -> &'static str
     ensures { result.now ≡ fault_help choice.entry fault }
 {
@@ -130,13 +156,14 @@ pub(crate) fn help_against(choice: OrderChoice<'_>, fault: ToolFault) -> &'stati
         ToolFault::InputUndivided => {
             "a line %% divides two netlists; if standard input has only one, give the other as a file and - for this one"
         }
+        ToolFault::BadPairs(fault) => help_in_pairs(fault),
         ToolFault::BadOrder(fault) => help_in_order(fault),
         ToolFault::Check(fault) => help_in_check(choice, fault),
         ToolFault::OutOfMemory => "more memory is needed",
     }
 }
 
-/// What stands behind the first equals sign.
+/// Returns the bytes after the first equals sign.
 fn after_equals(line: &[u8]) -> &[u8]
     ensures { result.now ≡ after_equals line.now }
 {
@@ -148,7 +175,7 @@ fn after_equals(line: &[u8]) -> &[u8]
     &[]
 }
 
-/// The bytes from the first one on that is no blank.
+/// Returns the bytes from the first one that is not a blank.
 fn unindented(bytes: &[u8]) -> &[u8]
     ensures { result.now ≡ unindented bytes.now }
 {
@@ -160,7 +187,7 @@ fn unindented(bytes: &[u8]) -> &[u8]
     &[]
 }
 
-/// The bytes before the first blank or parenthesis.
+/// Returns the bytes before the first blank or parenthesis.
 fn front_word(bytes: &[u8]) -> &[u8]
     ensures { result.now ≡ front_word bytes.now }
 {
@@ -172,14 +199,15 @@ fn front_word(bytes: &[u8]) -> &[u8]
     bytes
 }
 
-/// The gate's word in a line, as it is shown.
+/// Returns the keyword of the gate in a line, as it is shown.
 fn gate_word(shown: &[u8]) -> &[u8]
     ensures { result.now ≡ gate_word shown.now }
 {
     front_word(unindented(after_equals(shown)))
 }
 
-/// What helps against a word that names no gate.
+/// Returns what helps against a keyword that is not one of a gate. Some keywords that other tools write have advice of
+/// their own.
 fn help_by_word(word: &[u8]) -> &'static str
     ensures { result.now ≡ word_help word.now }
 {
@@ -204,7 +232,7 @@ fn help_by_word(word: &[u8]) -> &'static str
     "the gates are AND, NAND, OR, NOR, XOR, XNOR, NOT, BUFF and DFF; see docs/FLOWS.md"
 }
 
-/// Whether a fault is of a word that names no gate.
+/// Returns whether the fault is an unknown gate.
 fn is_unknown_gate_fault(fault: ToolFault) -> bool
     ensures { result ≡ is_unknown_gate_fault fault }
 {
@@ -216,12 +244,14 @@ fn is_unknown_gate_fault(fault: ToolFault) -> bool
     }
 }
 
-/// What helps if a check has no report, and the name that it refuses is shown.
+/// Returns what helps if a check has no report and the refused name is shown.
 fn help_in_check_by_name(choice: OrderChoice<'_>, fault: CheckFault) -> &'static str
     ensures { result.now ≡ check_help_by_name choice.entry fault }
 {
     match fault {
-        CheckFault::Only => "the first netlist has no output and no register of this name",
+        CheckFault::Only => {
+            "the first netlist has no output or register, or after NEXT no register, of this name"
+        }
         CheckFault::Explain => {
             "the first netlist has no output, or after NEXT no register, of this name"
         }
@@ -229,7 +259,7 @@ fn help_in_check_by_name(choice: OrderChoice<'_>, fault: CheckFault) -> &'static
     }
 }
 
-/// What helps against a fault, if the name that it refuses is shown.
+/// Returns what helps against a fault if the refused name is shown.
 fn help_by_name(choice: OrderChoice<'_>, fault: ToolFault) -> &'static str
     ensures { result.now ≡ help_by_name choice.entry fault }
 {
@@ -239,7 +269,7 @@ fn help_by_name(choice: OrderChoice<'_>, fault: ToolFault) -> &'static str
     }
 }
 
-/// What helps against a fault whose line or name is shown so.
+/// Returns what helps against a fault whose line or name is shown as this excerpt.
 pub(crate) fn help_shown(choice: OrderChoice<'_>, fault: ToolFault, shown: &str) -> &'static str
     ensures { result.now ≡ shown_help choice.entry fault shown.now }
 {

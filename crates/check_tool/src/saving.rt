@@ -1,4 +1,4 @@
-//! What a run saves in the file that it is given for that.
+//! The file in which a run saves the VCD of a difference.
 ghost use Rattle.std.specs.Prelude.{◌≡◌, IfErr, is_ok, option_map};
 ghost use Rattle.check_tool.specs.Opening.{Extends};
 ghost use Rattle.check_tool.specs.Saving.{IsSaveFault, saves_of, vcd_in};
@@ -8,7 +8,7 @@ use crate::fault::ToolFault;
 use crate::folder::Folder;
 use command_line::Options;
 
-/// The VCD of a run, where it has one.
+/// Returns the VCD of a run, if it has one.
 fn vcd_in(done: &Done) -> Option<&[u8]>
     ensures { option_map (λ bytes. bytes.now) result ≡ vcd_in done.now }
 {
@@ -18,7 +18,7 @@ fn vcd_in(done: &Done) -> Option<&[u8]>
     }
 }
 
-/// Saves the VCD of a run in the file that the options name, where there are both.
+/// Saves the VCD of a run in the file that the options name. Does nothing if there is no VCD or no file is named.
 #[tactic(auto, using(crate::proofs::Composing::extends_none))]
 pub(crate) fn save<F: Folder>(
     folder: &mut F,

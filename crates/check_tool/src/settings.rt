@@ -1,17 +1,30 @@
-//! From the options of a run to the settings of its check.
-ghost use Rattle.std.specs.Prelude.{◌≡◌, ◌≤◌, ◌++◌, List, ℕ, IfOk, map, take};
+//! The settings of a check, from the options of a run.
+ghost use Rattle.std.specs.Prelude.{◌≡◌, ◌≤◌, IfOk};
 ghost use Rattle.compare_built.specs.declared.strategy.Strategy.{Strategy as StrategyValue};
 ghost use Rattle.command_line.specs.declared.options.OrderChoice.{OrderChoice as OrderValue};
-ghost use Rattle.check_tool.specs.Running.{AreSettings, AreTargetsOf, IsDifferenceOf, IsKindAndName, IsPickedOf, limit_of, limit_in};
+ghost use Rattle.command_line.specs.Picking.{TakesPicks};
+ghost use Rattle.compare_built.specs.Picking.{TakesPicks as MayPick};
+ghost use Rattle.check_tool.specs.Running.{AreSettings, AreTargetsOf, IsKindAndName, IsPickedOf, limit_of};
 
-use check_report::{Difference, Name, PairFilter, PairKind, PairName, Settings, Strategy};
-use command_line::{DifferenceChoice, Options, OrderChoice, Picks};
+use check_report::{Name, PairFilter, PairKind, PairName, Settings, Strategy};
+use command_line::{Options, OrderChoice, Picks};
+use compare_built::strategy::REQUESTS_PER_NODE;
 use std::alloc::{AllocError, Global};
 
-/// The bytes of memory that are reckoned for each node of an attempt.
-pub(crate) const NODE_BYTES: u64 = 512;
+/// The bytes of memory that a store takes for each node, with the growth of its tables. At most 27 were measured; it
+/// would be 31 if no reference fitted in four bytes.
+const STORED_BYTES: u64 = 36;
 
-/// The most nodes that the options allow: of auto, of cones and of merge as many as the memory holds.
+/// The bytes of memory that a wave takes for each request. About 84 were measured if several workers share it, and 30
+/// with one worker.
+const REQUEST_BYTES: u64 = 84;
+
+/// The bytes of memory that are planned for each node of an attempt: those of the node, and those of as many requests
+/// as a wave may have for it.
+pub(crate) const NODE_BYTES: u64 = STORED_BYTES + REQUEST_BYTES * REQUESTS_PER_NODE;
+
+/// Returns the most nodes that the options allow. With auto, cones and merge it is also bounded by the nodes for which
+/// the memory suffices.
 pub(crate) fn limit_of(options: &Options<'_>) -> u64
     ensures limit { result ≡ limit_of options.now }
     ensures some { 1 ≤ result }
@@ -21,36 +34,13 @@ pub(crate) fn limit_of(options: &Options<'_>) -> u64
         OrderChoice::Auto | OrderChoice::Cones | OrderChoice::Merge => {
             options.limit.min(options.memory / NODE_BYTES)
         }
+        OrderChoice::ConesByList(_) => options.limit.min(options.memory / NODE_BYTES),
         _ => options.limit,
     }
 }
 
-/// These words as names.
-fn names_of(alloc: Global, words: &[&str]) -> Result<Vec<Name>, AllocError>
-    ensures { IfOk result (λ names. names.items ≡ map (λ w. w.now) words.now) }
-{
-    let mut names = Vec::new(alloc);
-    for word in words {
-        names.push(Name::copied(alloc, word.as_bytes())?)?;
-    }
-    Ok(names)
-}
-
-/// The pairs that are asked for.
-pub(crate) fn picked_of(alloc: Global, picks: &Picks<'_>) -> Result<PairFilter, AllocError>
-    ensures { IfOk result (IsPickedOf picks.now) }
-{
-    match picks {
-        Picks::All => Ok(PairFilter::All),
-        Picks::Share(share) => Ok(PairFilter::Share(*share)),
-        Picks::Only(words) => {
-            let names = names_of(alloc, words.as_slice())?;
-            Ok(PairFilter::Only(names))
-        }
-    }
-}
-
-/// What a word calls: behind `NEXT ` the next state of a register, else an output.
+/// Returns what a name of the command line refers to: after `NEXT ` the next state of a register, and otherwise an
+/// output.
 fn kind_and_name(word: &str) -> (PairKind, &str)
     ensures { IsKindAndName word.now result.0 result.1.now }
 {
@@ -60,7 +50,7 @@ fn kind_and_name(word: &str) -> (PairKind, &str)
     }
 }
 
-/// What a word asks to be explained.
+/// Returns the pair name for a name or pattern of the command line.
 pub(crate) fn target_of(alloc: Global, word: &str) -> Result<PairName, AllocError>
     ensures { IfOk result (λ target. IsKindAndName word.now target.role target.name) }
 {
@@ -69,7 +59,7 @@ pub(crate) fn target_of(alloc: Global, word: &str) -> Result<PairName, AllocErro
     Ok(PairName { role, name })
 }
 
-/// What words ask to be explained.
+/// Returns the pair names for names or patterns of the command line.
 pub(crate) fn targets_of(alloc: Global, words: &[&str]) -> Result<Vec<PairName>, AllocError>
     ensures { IfOk result (λ targets. AreTargetsOf words.now targets.items) }
 {
@@ -80,17 +70,22 @@ pub(crate) fn targets_of(alloc: Global, words: &[&str]) -> Result<Vec<PairName>,
     Ok(targets)
 }
 
-/// Which difference is wanted.
-fn difference_of(choice: DifferenceChoice) -> Difference
-    ensures { IsDifferenceOf choice result }
+/// Returns the filter for the pairs that the options select.
+pub(crate) fn picked_of(alloc: Global, picks: &Picks<'_>) -> Result<PairFilter, AllocError>
+    ensures { IfOk result (IsPickedOf picks.now) }
 {
-    match choice {
-        DifferenceChoice::Least => Difference::Least,
-        DifferenceChoice::AnyOne => Difference::AnyOne,
+    match picks {
+        Picks::All => Ok(PairFilter::All),
+        Picks::Share(share) => Ok(PairFilter::Share(*share)),
+        Picks::Only(words) => {
+            let patterns = targets_of(alloc, words.as_slice())?;
+            Ok(PairFilter::Only(patterns))
+        }
     }
 }
 
-/// The settings of a check in this order, of these pairs, with what is to be explained.
+/// Returns the settings of a check in this order, of the pairs that the filter selects, with the names that are to be
+/// explained.
 pub(crate) fn settings_of(
     options: &Options<'_>,
     order: Strategy,
@@ -100,7 +95,7 @@ pub(crate) fn settings_of(
     requires auto { order ≡ StrategyValue.Auto → options.now.order ≡ OrderValue.Auto }
     requires cones { order ≡ StrategyValue.Cones → options.now.order ≡ OrderValue.Cones }
     requires merge { order ≡ StrategyValue.Merge → options.now.order ≡ OrderValue.Merge }
-    requires by_cones { options.now.order ≡ OrderValue.Cones → order ≡ StrategyValue.Cones }
+    requires picks { TakesPicks options.now.order → MayPick order }
     requires picked { IsPickedOf options.now.picks picked }
     requires explain { AreTargetsOf options.now.explain.items explain.items }
     ensures { AreSettings options.now order picked result }
@@ -109,7 +104,7 @@ pub(crate) fn settings_of(
         matching: options.matching,
         order,
         picked,
-        difference: difference_of(options.difference),
+        difference: options.difference,
         workers: options.workers,
         limit: limit_of(options),
         sizes: options.sizes,

@@ -1,5 +1,5 @@
-//! Two texts on one input.
-ghost use Rattle.std.specs.Prelude.{◌≡◌, ◌≤◌, ℕ, length, MatchOption, option_map};
+//! Two texts on one input, which a line `%%` divides.
+ghost use Rattle.std.specs.Prelude.{◌≤◌, ℕ, length, MatchOption, option_map};
 ghost use Rattle.check_tool.specs.Splitting.{IsDivider, IsSplit};
 
 const PERCENT: u8 = b'%';
@@ -8,7 +8,7 @@ const LINE_FEED: u8 = b'\n';
 
 const CARRIAGE_RETURN: u8 = b'\r';
 
-/// The length of a first line `%%`, with its end.
+/// Returns the length of the line `%%` with its end, if the bytes begin with such a line.
 fn divider(rest: &[u8]) -> Option<usize>
     ensures { MatchOption result ((m : ℕ) → IsDivider rest.now m → ⊥) (λ m. IsDivider rest.now m × (m ≤ length rest.now)) }
 {
@@ -31,7 +31,8 @@ fn divider(rest: &[u8]) -> Option<usize>
     if rest[3] == LINE_FEED { Some(4) } else { None }
 }
 
-/// The two texts before and behind the first line that is `%%`, where a carriage return may stand before its end.
+/// Returns the texts before and after the first line `%%`, if there is one. Its end may be a carriage return and a line
+/// feed.
 pub fn split_input(text: &[u8]) -> Option<(&[u8], &[u8])>
     ensures { IsSplit text.now (option_map (λ parts. (parts.0.now, parts.1.now)) result) }
 {

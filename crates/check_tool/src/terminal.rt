@@ -1,20 +1,20 @@
-//! A device that may be a terminal.
+//! Output devices that may be terminals.
 ghost use Rattle.std.specs.Prelude.{◌≡◌, Bool};
 
-use net_bench::device::{Failed, Sink, StdDevice};
 use std::io::{IsTerminal, Write};
+use text_device::{Failed, Sink, StdDevice};
 
-/// A sink that may be seen on a terminal.
+/// A sink that may be a terminal.
 pub trait TerminalSink: Sink {
-    // Whether it is.
+    // Whether it is a terminal.
     ghost on_terminal: { Self → Bool };
 
-    /// Whether what is written is seen on a terminal.
+    /// Returns whether the sink is a terminal.
     fn is_on_terminal(&self) -> bool
         ensures { result ≡ on_terminal self.now };
 }
 
-/// A std writer as a device. It knows whether the writer was a terminal when the device was made.
+/// A writer of the standard library as a device. Whether it is a terminal is asked once, when the device is made.
 #[derive(Drop)]
 pub struct TerminalWriter<T> {
     device: StdDevice<T>,
@@ -22,7 +22,7 @@ pub struct TerminalWriter<T> {
 }
 
 impl<T: IsTerminal> TerminalWriter<T> {
-    /// The device over this writer.
+    /// Returns the device over this writer.
     pub fn new(inner: T) -> TerminalWriter<T> {
         let on_terminal = inner.is_terminal();
         TerminalWriter {

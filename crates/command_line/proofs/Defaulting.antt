@@ -1,20 +1,20 @@
--- What clap finds where there are no words.
+-- What clap finds in an empty command line.
 use Rattle.std.proofs.Common.{Bool, true, false, ◌≡◌, ◌∙◌, inr, refl, ap, sym, subst, ℕ, ◌^◌, List, [], ◌∷◌, Bor, Option, Some, None, rules}
 use Rattle.std.specs.Prelude.{codes, map, IfSome}
 use Rattle.clap.specs.Words.{first_of, one_of, matches_of}
 use Rattle.clap.specs.declared.builder.value_parser.ValueParser.{ValueParser}
 use Rattle.clap.proofs.OnLiterals.{clap_on_literals}
-use Rattle.net_order.specs.declared.order.Match.{Match}
-use Rattle.net_order.specs.declared.order.Match.TheVariants.{Name, Position}
+use Rattle.net_names.specs.declared.order.Match.{Match}
+use Rattle.net_names.specs.declared.order.Match.TheVariants.{Name, Position}
 use Rattle.report_text.specs.declared.assignment.Assignment.{Assignment}
-use Rattle.command_line.specs.declared.options.DifferenceChoice.{DifferenceChoice}
-use Rattle.command_line.specs.declared.options.DifferenceChoice.TheVariants.{Least, AnyOne}
+use Rattle.report_text.specs.declared.difference.Difference.{Difference}
+use Rattle.report_text.specs.declared.difference.Difference.TheVariants.{Least, AnyOne}
 use Rattle.command_line.specs.declared.options.Options.{Options}
 use Rattle.command_line.specs.declared.options.OrderChoice.{OrderChoice}
 use Rattle.command_line.specs.declared.options.OrderChoice.TheVariants.{Auto}
 use Rattle.command_line.specs.declared.options.Picks.{Picks}
 use Rattle.command_line.specs.declared.options.Picks.TheVariants.{All}
-use Rattle.command_line.specs.Words.{tool_app, ArePicks, AreTexts, AskFor, IsChoice, IsOrderIfPicked, are_picked, explained_in, names_in, share_in, default_order_of, flag_of, IsDifference, IsFile, IsForm, IsAssignment, IsMatching, IsMemory, IsNumberIn, IsLimit}
+use Rattle.command_line.specs.Words.{tool_app, ArePicks, AreTexts, AskFor, IsChoice, IsOrderIfPicked, are_picked, explained_in, names_in, share_in, default_order_of, flag_of, IsDifference, IsFile, IsForm, IsAssignment, IsMatching, IsMemory, IsSeconds, IsNumberIn, IsLimit}
 use Rattle.command_line.specs.Defaults.{AreDefaults}
 use Rattle.command_line.proofs.Sizing.{one_size}
 
@@ -34,6 +34,10 @@ module _ (matching order format assignment difference : Option ValueParser) wher
   given_found : first_of (codes "given") (matches_of (tool_app matching order format assignment difference) []) ≡ None
   unfolding clap_on_literals
   given_found = refl
+
+  pairs_found : first_of (codes "pairs") (matches_of (tool_app matching order format assignment difference) []) ≡ None
+  unfolding clap_on_literals
+  pairs_found = refl
 
   only_found : names_in (matches_of (tool_app matching order format assignment difference) []) ≡ []
   unfolding clap_on_literals
@@ -70,6 +74,10 @@ module _ (matching order format assignment difference : Option ValueParser) wher
   memory_found : first_of (codes "memory") (matches_of (tool_app matching order format assignment difference) []) ≡ Some (codes "4G")
   unfolding clap_on_literals
   memory_found = refl
+
+  seconds_found : one_of (codes "seconds") (matches_of (tool_app matching order format assignment difference) []) ≡ None
+  unfolding clap_on_literals
+  seconds_found = refl
 
   sizes_found : first_of (codes "sizes") (matches_of (tool_app matching order format assignment difference) []) ≡ Some (codes "false")
   unfolding clap_on_literals
@@ -110,7 +118,7 @@ by_name : (how : Match) → IsMatching (Some (codes "name")) how → how ≡ Nam
 by_name Name is = refl
 by_name Position is = cc
 
-the_least : (difference : DifferenceChoice) → IsDifference (Some (codes "least")) difference → difference ≡ Least
+the_least : (difference : Difference) → IsDifference (Some (codes "least")) difference → difference ≡ Least
 the_least Least is = refl
 the_least AnyOne is = cc
 
@@ -129,22 +137,22 @@ four n is = is (search rules)
 much : (n : ℕ) → IsMemory (codes "4G") n → n ≡ 4294967296
 much n is = one_size (codes "4G") n (codes "4") (codes "G") (1024 ^ 3) is.0 (inr (inr (refl, refl))) refl
 
--- where none are picked, all are
+-- if none are picked, all are
 pick : (picks : Picks) (names : List (List ℕ)) (share : Option (List ℕ)) → names ≡ [] → share ≡ None → ArePicks names share picks → picks ≡ All
 pick picks names share no_names no_share = subst (λ n. ArePicks n share picks → picks ≡ All) (sym no_names) (subst (λ s. ArePicks [] s picks → picks ≡ All) (sym no_share) (λ e. e))
 
--- and the order is that of the words
+-- and the order is the one that is asked for
 unpicked : (names : List (List ℕ)) (share file word : Option (List ℕ)) (extend : Bool) (default_order choice : OrderChoice) → names ≡ [] → share ≡ None → IsOrderIfPicked (are_picked names share) file word extend default_order choice → IsChoice file word extend default_order choice
 unpicked names share file word extend default_order choice no_names no_share =
     let none : are_picked names share ≡ false = rw (no_names, no_share) refl in
     subst (λ p. IsOrderIfPicked p file word extend default_order choice → IsChoice file word extend default_order choice) (sym none) (λ is. is)
 
--- where no words are to be explained, nothing is
+-- if no names are to be explained, nothing is
 no_words : (words : List (Bor (List ℕ))) → map (λ s. s.now) words ≡ [] → words ≡ []
 no_words [] none = refl
 no_words (w ∷ ws) none = cc
 
--- where nothing is given, the order is auto
+-- if nothing is given, the order is auto
 choose : (choice : OrderChoice) (file word limit sizes print_order : Option (List ℕ)) (extend : Bool) → file ≡ None → word ≡ None → limit ≡ None → sizes ≡ Some (codes "false") → print_order ≡ Some (codes "false")
     → IsChoice file word extend (default_order_of limit (flag_of sizes) (flag_of print_order)) choice → choice ≡ Auto
 choose choice file word limit sizes print_order extend no_path no_word no_limit no_sizes no_print is =
@@ -171,9 +179,11 @@ defaults o (rows, found, without_conflict, are) =
       order = order;
       picks = pick o.picks (names_in rows) (share_in rows) no_names no_share are.picks;
       given = no_file o.given (subst (λ w. IsFile w o.given) (ap (first_of (codes "given")) e ∙ given_found m d f g h) are.given);
+      pairs = no_file o.pairs (subst (λ w. IsFile w o.pairs) (ap (first_of (codes "pairs")) e ∙ pairs_found m d f g h) are.pairs);
       workers = four o.workers (subst (λ w. IsNumberIn 1 16 w o.workers) (ap (one_of (codes "workers")) e ∙ workers_found m d f g h) are.workers);
       limit = subst (λ c. IsLimit None c o.limit) order (subst (λ w. IsLimit w o.order o.limit) (ap (one_of (codes "limit")) e ∙ limit_found m d f g h) are.limit);
       memory = much o.memory (subst (λ w. IfSome w (λ text. IsMemory text o.memory)) (ap (first_of (codes "memory")) e ∙ memory_found m d f g h) are.memory);
+      seconds = subst (λ w. IsSeconds w o.seconds) (ap (one_of (codes "seconds")) e ∙ seconds_found m d f g h) are.seconds;
       sizes = are.sizes ∙ ap flag_of (ap (first_of (codes "sizes")) e ∙ sizes_found m d f g h);
       print_order = are.print_order ∙ ap flag_of (ap (first_of (codes "print-order")) e ∙ print_order_found m d f g h);
       json = as_text o.json (subst (λ w. IsForm w o.json) (ap (first_of (codes "format")) e ∙ format_found m d f g h) are.json);

@@ -1,12 +1,13 @@
--- Orders that are to be found, and what the words do not ask for beside them.
+-- Orders that have to be found, and what cannot be asked for together with them.
 use Rattle.std.proofs.Common.{◌≡◌, ◌∙◌, ◌⊎◌, inl, inr, refl, sym, subst, Bool, true, false, List, [], ◌∷◌, Option, Some, None, IsTrue}
 use Rattle.std.specs.Prelude.{◌↔◌, IsSomeAnd, codes}
 use Rattle.clap.specs.Words.{Row, Text, first_of}
 use Rattle.command_line.specs.declared.options.OrderChoice.{OrderChoice}
-use Rattle.command_line.specs.declared.options.OrderChoice.TheVariants.{Auto, Cones, Merge}
+use Rattle.command_line.specs.declared.options.OrderChoice.TheVariants.{Named, Best, Auto, Cones, ConesByList, Merge, File, Extended}
 use Rattle.command_line.specs.declared.options.Picks.{Picks}
 use Rattle.command_line.specs.declared.options.Picks.TheVariants.{All}
-use Rattle.command_line.specs.Words.{IsChoice, IsOrderIfPicked, IsOrderIn, IsSearchName, GiveTwoOrders, GiveTwoPicks, GiveSearch, GiveSearchWith, GivePicksWithFixedOrder, GiveUnusedMemory, GiveUnusedExtend, GiveExplainConflict, GiveUnusedVcd, GiveCausesConflict, HaveConflict, ArePicks, are_picked, flag_of, names_in, share_in, default_order_of}
+use Rattle.command_line.specs.Picking.{TakesPicks}
+use Rattle.command_line.specs.Words.{IsChoice, IsOrderIfPicked, IsOrderIn, IsPickingOrder, IsSearchName, GiveTwoOrders, GiveTwoPicks, GiveSearch, GiveSearchWith, GivePicksWithFixedOrder, GiveUnusedMemory, GiveUnusedExtend, GiveExplainConflict, GiveUnusedVcd, GiveCausesConflict, GivePairsByPosition, HaveConflict, ArePicks, are_picked, flag_of, names_in, share_in, default_order_of}
 
 -- ---- tests
 
@@ -19,27 +20,28 @@ fails b is test a =
     let bad : false ≡ true = sym is ∙ no in
     cc
 
--- nothing is at odds where no test says so
+-- there is no conflict if no test finds one
 pub no_conflict : (rows : List Row) → (GiveTwoOrders rows → ⊥) → (GiveTwoPicks rows → ⊥) → (GiveSearchWith (codes "sizes") rows → ⊥) → (GiveSearchWith (codes "print-order") rows → ⊥)
-    → (GivePicksWithFixedOrder rows → ⊥) → (GiveUnusedMemory rows → ⊥) → (GiveUnusedExtend rows → ⊥) → (GiveExplainConflict rows → ⊥) → (GiveUnusedVcd rows → ⊥) → (GiveCausesConflict rows → ⊥) → HaveConflict rows → ⊥
-no_conflict rows a b c d e f g h i j (inl x) = a x
-no_conflict rows a b c d e f g h i j (inr (inl x)) = b x
-no_conflict rows a b c d e f g h i j (inr (inr (inl x))) = c x
-no_conflict rows a b c d e f g h i j (inr (inr (inr (inl x)))) = d x
-no_conflict rows a b c d e f g h i j (inr (inr (inr (inr (inl x))))) = e x
-no_conflict rows a b c d e f g h i j (inr (inr (inr (inr (inr (inl x)))))) = f x
-no_conflict rows a b c d e f g h i j (inr (inr (inr (inr (inr (inr (inl x))))))) = g x
-no_conflict rows a b c d e f g h i j (inr (inr (inr (inr (inr (inr (inr (inl x)))))))) = h x
-no_conflict rows a b c d e f g h i j (inr (inr (inr (inr (inr (inr (inr (inr (inl x))))))))) = i x
-no_conflict rows a b c d e f g h i j (inr (inr (inr (inr (inr (inr (inr (inr (inr x))))))))) = j x
+    → (GivePicksWithFixedOrder rows → ⊥) → (GiveUnusedMemory rows → ⊥) → (GiveUnusedExtend rows → ⊥) → (GiveExplainConflict rows → ⊥) → (GiveUnusedVcd rows → ⊥) → (GiveCausesConflict rows → ⊥) → (GivePairsByPosition rows → ⊥) → HaveConflict rows → ⊥
+no_conflict rows a b c d e f g h i j k (inl x) = a x
+no_conflict rows a b c d e f g h i j k (inr (inl x)) = b x
+no_conflict rows a b c d e f g h i j k (inr (inr (inl x))) = c x
+no_conflict rows a b c d e f g h i j k (inr (inr (inr (inl x)))) = d x
+no_conflict rows a b c d e f g h i j k (inr (inr (inr (inr (inl x))))) = e x
+no_conflict rows a b c d e f g h i j k (inr (inr (inr (inr (inr (inl x)))))) = f x
+no_conflict rows a b c d e f g h i j k (inr (inr (inr (inr (inr (inr (inl x))))))) = g x
+no_conflict rows a b c d e f g h i j k (inr (inr (inr (inr (inr (inr (inr (inl x)))))))) = h x
+no_conflict rows a b c d e f g h i j k (inr (inr (inr (inr (inr (inr (inr (inr (inl x))))))))) = i x
+no_conflict rows a b c d e f g h i j k (inr (inr (inr (inr (inr (inr (inr (inr (inr (inl x)))))))))) = j x
+no_conflict rows a b c d e f g h i j k (inr (inr (inr (inr (inr (inr (inr (inr (inr (inr x)))))))))) = k x
 
 -- ---- orders
 
--- an order is to be found
+-- the order has to be found
 abbrev IsSearch : OrderChoice → Type 0
 IsSearch choice = (choice ≡ Auto) ⊎ (choice ≡ Cones) ⊎ (choice ≡ Merge)
 
--- the words ask for such an order, or it is that of words that name none
+-- such an order is asked for, or it is the default
 where_found : (picked : Bool) (file word : Option Text) (extend : Bool) (default_order choice : OrderChoice) → IsOrderIfPicked picked file word extend default_order choice → IsSearch choice
     → (IsSomeAnd word IsSearchName ⊎ (picked ≡ true)) ⊎ (default_order ≡ choice)
 where_found true file word extend default_order choice is found = inl (inr refl)
@@ -51,7 +53,7 @@ where_found false None (Some word) extend default_order choice is (inr (inl cone
 where_found false None (Some word) extend default_order choice is (inr (inr merge)) = inl (inl (inr (inr (subst (IsChoice None (Some word) extend default_order) merge is))))
 where_found false None None extend default_order choice is found = inr (sym is)
 
--- words that name none ask for no sizes and no order in print then
+-- then the default order comes without sizes and without an order to print
 plain : (limit : Option Text) (sizes print_order : Bool) (choice : OrderChoice) → default_order_of limit sizes print_order ≡ choice → IsSearch choice → (sizes ≡ false) × (print_order ≡ false)
 plain (Some limit) sizes print_order choice is (inl auto) = cc
 plain (Some limit) sizes print_order choice is (inr (inl cones)) = cc
@@ -68,7 +70,7 @@ unset : (b : Bool) → (b ≡ true → ⊥) → b ≡ false
 unset true never = absurd (never refl)
 unset false never = refl
 
--- neither sizes nor an order in print are asked for where an order is to be found
+-- if an order has to be found, neither sizes nor an order to print are asked for
 pub no_flags : (rows : List Row) (choice : OrderChoice) → IsOrderIn rows choice → (HaveConflict rows → ⊥) → (choice ≡ Auto) ⊎ (choice ≡ Cones) ⊎ (choice ≡ Merge)
     → (flag_of (first_of (codes "sizes") rows) ≡ false) × (flag_of (first_of (codes "print-order") rows) ≡ false)
 no_flags rows choice is without_conflict found =
@@ -86,11 +88,23 @@ some_picked (n ∷ ns) share picks are some = refl
 some_picked [] (Some text) picks are some = refl
 some_picked [] None picks are some = absurd (some are)
 
--- where pairs are picked, the order is that of cones
-pub picked_order : (rows : List Row) (picks : Picks) (choice : OrderChoice) → ArePicks (names_in rows) (share_in rows) picks → IsOrderIn rows choice → (picks ≡ All → ⊥) → choice ≡ Cones
+takes : (file : Option Text) (choice : OrderChoice) → IsPickingOrder file choice → TakesPicks choice
+unfolding Rattle.command_line.specs.Picking.takes_picks
+takes (Some path) (ConesByList p) is = refl
+takes (Some path) (Named name) is = absurd is
+takes (Some path) Best is = absurd is
+takes (Some path) Auto is = absurd is
+takes (Some path) Cones is = absurd is
+takes (Some path) Merge is = absurd is
+takes (Some path) (File p) is = absurd is
+takes (Some path) (Extended p) is = absurd is
+takes None choice is = subst TakesPicks (sym is) refl
+
+-- if pairs are picked, the order is by cones
+pub picked_order : (rows : List Row) (picks : Picks) (choice : OrderChoice) → ArePicks (names_in rows) (share_in rows) picks → IsOrderIn rows choice → (picks ≡ All → ⊥) → TakesPicks choice
 picked_order rows picks choice are is some = by (are_picked (names_in rows) (share_in rows)) (some_picked (names_in rows) (share_in rows) picks are some) is
   where
     by : (picked : Bool) → picked ≡ true → IsOrderIfPicked picked (first_of (codes "order-file") rows) (first_of (codes "order") rows)
-        (flag_of (first_of (codes "extend") rows)) (default_order_of (first_of (codes "limit") rows) (flag_of (first_of (codes "sizes") rows)) (flag_of (first_of (codes "print-order") rows))) choice → choice ≡ Cones
-    by true e o = o
-    by false e o = cc
+        (flag_of (first_of (codes "extend") rows)) (default_order_of (first_of (codes "limit") rows) (flag_of (first_of (codes "sizes") rows)) (flag_of (first_of (codes "print-order") rows))) choice → TakesPicks choice
+    by true e o = takes (first_of (codes "order-file") rows) choice o
+    by false e o = absurd (let never : false ≡ true = e in cc)

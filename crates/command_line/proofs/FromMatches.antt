@@ -1,5 +1,5 @@
--- From what the parser has found to the words.
-use Rattle.std.proofs.Common.{◌⊎◌, inl, inr, List, Result, Ok, Err, IfOk, IfErr}
+-- From what the parser has found to the arguments.
+use Rattle.std.proofs.Common.{inl, inr, List, Result, Ok, Err, IfOk, IfErr}
 use Rattle.clap.specs.Words.{Row, Text}
 use Rattle.command_line.specs.declared.options.Options.{Options}
 use Rattle.command_line.specs.declared.reading.Refused.{Refused}

@@ -31,7 +31,7 @@ digits (d ∷ ds) all zero lt e =
     absurd (omega (arith, no.0))
 digits (d ∷ ds) all (suc i) lt e = digits ds all.1 i (omega (arith, lt)) e
 
--- and none stands in a number
+-- and there is none in a number
 pub number_has_none : (text : List ℕ) → IsNumeral 10 (without_leading_plus text) → HasNoSlash text
 number_has_none [] is i lt e = absurd (omega (arith, lt))
 number_has_none (b ∷ text) is i lt e = go (b == 43) refl is i lt e
@@ -49,7 +49,7 @@ has_slash (a ∷ x) u none = has_slash x u (tail_has_none a (x ++ 47 ∷ u) none
 pub unshared : (text : List ℕ) → HasNoSlash text → (s : Share) → IsShare text s → ⊥
 unshared text none s is = has_slash is.number is.count (subst HasNoSlash is.parts none)
 
--- the number and the count of a share stand before its slash and behind it
+-- the number of a share is before its slash, and the count after it
 pub of_split : (text x u : List ℕ) (s : Share) → HasNoSlash x → text ≡ x ++ 47 ∷ u → IsShare text s → IsDecimal x s.number × IsDecimal u s.of
 of_split text x u s none parts is =
     let same = one_cut is.number x is.count u (number_has_none is.number is.is_number.0) none (sym is.parts ∙ parts) in

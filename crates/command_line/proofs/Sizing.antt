@@ -9,7 +9,7 @@ ends : (y : List ℕ) (b : ℕ) → [] ≡ y ++ b ∷ [] → ⊥
 ends [] b e = cc
 ends (d ∷ y) b e = cc
 
--- the last byte is one, and so is what stands before it
+-- if the last bytes are the same, so is what comes before them
 last : (x y : List ℕ) (a b : ℕ) → x ++ a ∷ [] ≡ y ++ b ∷ [] → (x ≡ y) × (a ≡ b)
 last [] [] a b e = (refl, cc)
 last [] (d ∷ y) a b e = let rest : [] ≡ y ++ b ∷ [] = cc in absurd (ends y b rest)
@@ -55,7 +55,7 @@ some_bytes text x a (inl (u, (inr (inl k)), e)) = let is : a ≡ 1048576 = k.1 i
 some_bytes text x a (inl (u, (inr (inr k)), e)) = let is : a ≡ 1073741824 = k.1 in omega arith
 some_bytes text x a (inr p) = let is = p.2 in omega arith
 
--- a text has one size at most
+-- a text has at most one size
 pub same_size : (text : List ℕ) (m n : ℕ) → IsSize text m → IsSize text n → m ≡ n
 same_size text m n a b = parted text b.0 b.1 m b.2 a ∙ sym b.4
 
@@ -68,7 +68,7 @@ unread {E} text x a e is bad n size fits =
     let most : k * 1 ≤ k * a = mul-le k 1 k a (omega arith) (some_bytes text x a is) in
     bad (subst (λ t. IsNumeral 10 (without_leading_plus t)) same.0 size.3, omega arith)
 
--- a number that is read is that of a size, where this is of 64 bits
+-- a number that is read is that of a size, if this fits in 64 bits
 pub read : (E : Type 0) (text x : List ℕ) (a v : ℕ) (r : Option ℕ) → IsInUnits text x a → ParsesUnsigned {E = E} 64 10 x (Ok v) → SomeIff r (v * a < 2 ^ 64) (v * a)
     → MatchOption r ((n : ℕ) → IsSize text n → n < 2 ^ 64 → ⊥) (IsSize text)
 read E text x a v (Some s) is ok some = (x, a, is, ok.0.0, some.1 ∙ ap (λ k. k * a) ok.1)

@@ -1,4 +1,4 @@
--- What clap has against the word `--version`.
+-- What fault clap finds in the argument `--version`.
 use Rattle.std.proofs.Common.{◌≡◌, ◌∙◌, inl, inr, refl, sym, subst, [], ◌∷◌, Option}
 use Rattle.std.specs.Prelude.{codes}
 use Rattle.clap.specs.Words.{IsAmong, Kinds, fault_of}
@@ -28,7 +28,7 @@ reported kind (Help text) is (inr version) = version.1
 reported kind (Mistake text) is t = absurd (t.1 is)
 reported kind OutOfMemory is t = tt
 
--- some fault is none
+-- a list with a fault is not empty
 found : (kinds : Kinds) → kinds ≡ DisplayVersion ∷ [] → kinds ≡ [] → ⊥
 found kinds some none = cc
 

@@ -1,14 +1,15 @@
-//! The arguments of the program, as clap knows them.
+//! The arguments of the program, as the parser clap is given them.
 ghost use Rattle.std.specs.Prelude.{◌≡◌, false, codes};
 ghost use Rattle.clap.specs.Words.{new_rule, rule_of};
-ghost use Rattle.command_line.specs.Words.{TakesMatches, TakesOrders, match_rule, order_rule, order_file_rule, extend_rule, given_rule};
-ghost use Rattle.command_line.specs.Words.{only_rule, share_rule, explain_rule, vcd_rule, workers_rule, limit_rule, memory_rule};
+ghost use Rattle.command_line.specs.Words.{TakesMatches, TakesOrders, match_rule, order_rule, order_file_rule, extend_rule, given_rule, pairs_rule};
+ghost use Rattle.command_line.specs.Words.{only_rule, share_rule, explain_rule, vcd_rule, workers_rule, limit_rule, memory_rule, seconds_rule};
 ghost use Rattle.command_line.specs.Words.{sizes_rule, print_order_rule, TakesFormats, format_rule, TakesAssignments, assignment_rule};
 ghost use Rattle.command_line.specs.Words.{causes_rule, TakesDifferences, difference_rule, verbose_rule};
 
 use clap::{Arg, ArgAction, value_parser};
 use std::alloc::Global;
 
+// The values that these options accept. A value that is not in its list is refused by clap.
 static MATCHES: [&str; 2] = ["name", "position"];
 
 static ORDERS: [&str; 12] = [
@@ -32,7 +33,7 @@ static ASSIGNMENTS: [&str; 3] = ["all", "support", "ones"];
 
 static DIFFERENCES: [&str; 2] = ["least", "any"];
 
-/// `--match`: by what inputs, outputs and registers are paired.
+/// `--match`: whether inputs, outputs and registers are paired by name or by position.
 pub(crate) fn matching<'a>(alloc: Global) -> Arg<'a>
     ensures rule { rule_of result ≡ match_rule result.value_parser }
     ensures parser { TakesMatches result.value_parser }
@@ -57,7 +58,7 @@ pub(crate) fn order<'a>(alloc: Global) -> Arg<'a>
         .value_parser(ORDERS.as_slice())
 }
 
-/// `--order-file`: a file with the order.
+/// `--order-file`: a file with the order of the variables.
 pub(crate) fn order_file<'a>(alloc: Global) -> Arg<'a>
     ensures rule { rule_of result ≡ order_file_rule }
     ensures local { result.global ≡ false }
@@ -67,7 +68,7 @@ pub(crate) fn order_file<'a>(alloc: Global) -> Arg<'a>
         .value_name("F")
 }
 
-/// `--extend`: the file may have other names, and lack some.
+/// `--extend`: the order file may have names that are no variables, and lack variables.
 pub(crate) fn extend<'a>(alloc: Global) -> Arg<'a>
     ensures rule { rule_of result ≡ extend_rule }
     ensures local { result.global ≡ false }
@@ -85,7 +86,15 @@ pub(crate) fn given<'a>(alloc: Global) -> Arg<'a>
     Arg::new(alloc, "given").long("given").value_name("FILE")
 }
 
-/// `--only`: the names whose pairs are judged.
+/// `--pairs`: a file with pairs of names for signals that have other names in the second netlist.
+pub(crate) fn pairs<'a>(alloc: Global) -> Arg<'a>
+    ensures rule { rule_of result ≡ pairs_rule }
+    ensures local { result.global ≡ false }
+{
+    Arg::new(alloc, "pairs").long("pairs").value_name("FILE")
+}
+
+/// `--only`: names, or patterns of names, of the pairs that are judged.
 pub(crate) fn only<'a>(alloc: Global) -> Arg<'a>
     ensures rule { rule_of result ≡ only_rule }
     ensures local { result.global ≡ false }
@@ -96,7 +105,7 @@ pub(crate) fn only<'a>(alloc: Global) -> Arg<'a>
         .action(ArgAction::Append)
 }
 
-/// `--share`: the share of the pairs that is judged.
+/// `--share`: which share of the pairs is judged.
 pub(crate) fn share<'a>(alloc: Global) -> Arg<'a>
     ensures rule { rule_of result ≡ share_rule }
     ensures local { result.global ≡ false }
@@ -104,7 +113,7 @@ pub(crate) fn share<'a>(alloc: Global) -> Arg<'a>
     Arg::new(alloc, "share").long("share").value_name("K/N")
 }
 
-/// `--explain`: the names whose pairs are explained.
+/// `--explain`: names of the pairs that are explained.
 pub(crate) fn explain<'a>(alloc: Global) -> Arg<'a>
     ensures rule { rule_of result ≡ explain_rule }
     ensures local { result.global ≡ false }
@@ -115,7 +124,7 @@ pub(crate) fn explain<'a>(alloc: Global) -> Arg<'a>
         .action(ArgAction::Append)
 }
 
-/// `--vcd`: the file for the values where the first pair differs.
+/// `--vcd`: the file for all values at the first assignment at which a pair differs.
 pub(crate) fn vcd<'a>(alloc: Global) -> Arg<'a>
     ensures rule { rule_of result ≡ vcd_rule }
     ensures local { result.global ≡ false }
@@ -123,7 +132,7 @@ pub(crate) fn vcd<'a>(alloc: Global) -> Arg<'a>
     Arg::new(alloc, "vcd").long("vcd").value_name("FILE")
 }
 
-/// `--workers`: how many threads build, 1 to 16.
+/// `--workers`: how many threads work, 1 to 16.
 pub(crate) fn workers<'a>(alloc: Global) -> Arg<'a>
     ensures rule { rule_of result ≡ workers_rule }
     ensures local { result.global ≡ false }
@@ -135,7 +144,7 @@ pub(crate) fn workers<'a>(alloc: Global) -> Arg<'a>
         .default_value("4")
 }
 
-/// `--limit`: the most nodes.
+/// `--limit`: the most nodes of all diagrams.
 pub(crate) fn limit<'a>(alloc: Global) -> Arg<'a>
     ensures rule { rule_of result ≡ limit_rule }
     ensures local { result.global ≡ false }
@@ -146,7 +155,7 @@ pub(crate) fn limit<'a>(alloc: Global) -> Arg<'a>
         .value_parser(value_parser!(u64).range(1..=4_294_967_295))
 }
 
-/// `--memory`: the bytes for all nodes, if an order is to be found.
+/// `--memory`: how many bytes all nodes may take by the orders auto, cones and merge.
 pub(crate) fn memory<'a>(alloc: Global) -> Arg<'a>
     ensures rule { rule_of result ≡ memory_rule }
     ensures local { result.global ≡ false }
@@ -157,7 +166,18 @@ pub(crate) fn memory<'a>(alloc: Global) -> Arg<'a>
         .default_value("4G")
 }
 
-/// `--sizes`: whether numbers of nodes are printed.
+/// `--seconds`: after how many seconds the run stops.
+pub(crate) fn seconds<'a>(alloc: Global) -> Arg<'a>
+    ensures rule { rule_of result ≡ seconds_rule }
+    ensures local { result.global ≡ false }
+{
+    Arg::new(alloc, "seconds")
+        .long("seconds")
+        .value_name("N")
+        .value_parser(value_parser!(u64).range(1..=4_294_967_295))
+}
+
+/// `--sizes`: whether the report has the numbers of nodes.
 pub(crate) fn sizes<'a>(alloc: Global) -> Arg<'a>
     ensures rule { rule_of result ≡ sizes_rule }
     ensures local { result.global ≡ false }
@@ -167,7 +187,7 @@ pub(crate) fn sizes<'a>(alloc: Global) -> Arg<'a>
         .action(ArgAction::SetTrue)
 }
 
-/// `--print-order`: the order in place of a report.
+/// `--print-order`: whether the order is printed instead of a report.
 pub(crate) fn print_order<'a>(alloc: Global) -> Arg<'a>
     ensures rule { rule_of result ≡ print_order_rule }
     ensures local { result.global ≡ false }
@@ -177,7 +197,7 @@ pub(crate) fn print_order<'a>(alloc: Global) -> Arg<'a>
         .action(ArgAction::SetTrue)
 }
 
-/// `--format`: lines, or one JSON object.
+/// `--format`: whether the report is lines or one JSON object.
 pub(crate) fn format<'a>(alloc: Global) -> Arg<'a>
     ensures rule { rule_of result ≡ format_rule result.value_parser }
     ensures parser { TakesFormats result.value_parser }
@@ -190,7 +210,7 @@ pub(crate) fn format<'a>(alloc: Global) -> Arg<'a>
         .default_value("text")
 }
 
-/// `--assignment`: which variables of an assignment are printed.
+/// `--assignment`: which variables of an assignment are shown.
 pub(crate) fn assignment<'a>(alloc: Global) -> Arg<'a>
     ensures rule { rule_of result ≡ assignment_rule result.value_parser }
     ensures parser { TakesAssignments result.value_parser }
@@ -202,7 +222,7 @@ pub(crate) fn assignment<'a>(alloc: Global) -> Arg<'a>
         .value_parser(ASSIGNMENTS.as_slice())
 }
 
-/// `--causes`: whether the first inner signals that differ are listed.
+/// `--causes`: whether the inner signals at which differences begin are listed.
 pub(crate) fn causes<'a>(alloc: Global) -> Arg<'a>
     ensures rule { rule_of result ≡ causes_rule }
     ensures local { result.global ≡ false }
@@ -212,7 +232,7 @@ pub(crate) fn causes<'a>(alloc: Global) -> Arg<'a>
         .action(ArgAction::SetTrue)
 }
 
-/// `--difference`: which difference of a pair is wanted.
+/// `--difference`: whether the least difference of a pair is sought, or any will do.
 pub(crate) fn difference<'a>(alloc: Global) -> Arg<'a>
     ensures rule { rule_of result ≡ difference_rule result.value_parser }
     ensures parser { TakesDifferences result.value_parser }
@@ -225,7 +245,7 @@ pub(crate) fn difference<'a>(alloc: Global) -> Arg<'a>
         .default_value("least")
 }
 
-/// `--verbose`: whether more than faults is printed on standard error.
+/// `--verbose`: whether standard error gets more than faults.
 pub(crate) fn verbose<'a>(alloc: Global) -> Arg<'a>
     ensures rule { rule_of result ≡ verbose_rule }
     ensures local { result.global ≡ false }
@@ -235,7 +255,7 @@ pub(crate) fn verbose<'a>(alloc: Global) -> Arg<'a>
         .action(ArgAction::SetTrue)
 }
 
-/// The first file.
+/// The path of the first netlist.
 pub(crate) fn first<'a>(alloc: Global) -> Arg<'a>
     ensures rule { rule_of result ≡ new_rule (codes "FIRST") }
     ensures local { result.global ≡ false }
@@ -243,7 +263,7 @@ pub(crate) fn first<'a>(alloc: Global) -> Arg<'a>
     Arg::new(alloc, "FIRST")
 }
 
-/// The second file.
+/// The path of the second netlist.
 pub(crate) fn second<'a>(alloc: Global) -> Arg<'a>
     ensures rule { rule_of result ≡ new_rule (codes "SECOND") }
     ensures local { result.global ≡ false }

@@ -1,38 +1,38 @@
 //! Arguments that exclude each other.
-ghost use Rattle.std.specs.Prelude.{◌≡◌, ◌↔◌, ◌⊎◌, Bool, true, IsSomeAnd, IsTrue, MatchOption, bytes_eq, codes, option_map};
-ghost use Rattle.clap.specs.Words.{found_of, rows_of};
+ghost use Rattle.std.specs.Prelude.{◌≡◌, ◌↔◌, ◌⊎◌, Bool, true, false, IsSomeAnd, IsTrue, MatchOption, bytes_eq, codes, option_map};
+ghost use Rattle.clap.specs.Words.{first_of, found_of, rows_of};
 ghost use Rattle.command_line.specs.declared.options.OrderChoice.{OrderChoice as ChoiceValue};
 ghost use Rattle.command_line.specs.Words.{IsOrderIn, IsChoice, IsPickingName, IsSearchName, GiveTwoOrders, GiveTwoPicks, GiveSearch, GiveSearchWith};
-ghost use Rattle.command_line.specs.Words.{GiveFixedOrder, GivePicksWithFixedOrder, GiveUnusedMemory, GiveUnusedExtend, AskForJson, GiveExplainConflict};
-ghost use Rattle.command_line.specs.Words.{GiveUnusedVcd, GiveCausesConflict, HaveConflict};
+ghost use Rattle.command_line.specs.Words.{GiveFixedOrder, GivePicksWithFixedOrder, GiveWholeOrderFile, GiveUnusedMemory, GiveUnusedExtend, AskForJson, GiveExplainConflict};
+ghost use Rattle.command_line.specs.Words.{GiveUnusedVcd, GiveCausesConflict, GivePairsByPosition, HaveConflict, IsGiven, are_picked, flag_of, names_in, share_in};
 
 use crate::from_matches::{default_order_in, has_picks};
 use crate::options::OrderChoice;
 use crate::values::{is_asked, is_given, word_of};
 use clap::ArgMatches;
 
-/// Two arguments that exclude each other, in the parser's words.
+/// Two arguments that exclude each other, as the refusal names them.
 #[derive(Clone, Copy, Drop)]
 pub(crate) struct Conflict {
     pub one: &'static str,
     pub other: &'static str,
 }
 
-/// Whether the words give an order, and a file of an order.
+/// Whether both an order and an order file are given.
 fn has_two_orders(matches: &ArgMatches<'_>) -> bool
     ensures { IsTrue result ↔ GiveTwoOrders (rows_of (found_of matches.now)) }
 {
     is_given(matches, "order") && is_given(matches, "order-file")
 }
 
-/// Whether the words pick pairs by names, and by a share.
+/// Whether pairs are picked both by names and by a share.
 fn has_two_picks(matches: &ArgMatches<'_>) -> bool
     ensures { IsTrue result ↔ GiveTwoPicks (rows_of (found_of matches.now)) }
 {
     is_given(matches, "only") && is_given(matches, "share")
 }
 
-/// Whether a word names an order that is to be found.
+/// Whether the value of `--order` names an order that has to be found: auto, cones or merge.
 fn is_search_name(word: Option<&str>) -> bool
     ensures { IsTrue result ↔ IsSomeAnd (option_map (λ s. s.now) word.entry) IsSearchName }
 {
@@ -44,7 +44,7 @@ fn is_search_name(word: Option<&str>) -> bool
     }
 }
 
-/// Whether a word names an order in which all pairs are compared.
+/// Whether the value of `--order` names an order in which all pairs are compared: any but auto and cones.
 fn is_fixed_name(word: Option<&str>) -> bool
     ensures { IsTrue result ↔ IsSomeAnd (option_map (λ s. s.now) word.entry) (λ w. IsPickingName w → ⊥) }
 {
@@ -56,35 +56,42 @@ fn is_fixed_name(word: Option<&str>) -> bool
     }
 }
 
-/// Whether the words give an order that is to be found, or pick pairs.
+/// Whether an order is asked for that has to be found, or pairs are picked.
 fn gives_search(matches: &ArgMatches<'_>) -> bool
     ensures { IsTrue result ↔ GiveSearch (rows_of (found_of matches.now)) }
 {
     is_search_name(word_of(matches, "order")) || has_picks(matches)
 }
 
-/// Whether they do, and give this flag.
+/// Whether this is so, and the flag is given.
 fn gives_search_with(matches: &ArgMatches<'_>, flag: &str) -> bool
     ensures { IsTrue result ↔ GiveSearchWith flag.now (rows_of (found_of matches.now)) }
 {
     gives_search(matches) && is_asked(matches, flag)
 }
 
-/// Whether the words give a file of an order, or another order by its name.
+/// Whether an order file is given that is not extended, so that it lists each variable of the whole netlists.
+fn gives_whole_order_file(matches: &ArgMatches<'_>) -> bool
+    ensures { IsTrue result ↔ GiveWholeOrderFile (rows_of (found_of matches.now)) }
+{
+    word_of(matches, "order-file").is_some() && !is_asked(matches, "extend")
+}
+
+/// Whether such a file is given, or an order other than auto and cones by its name.
 fn gives_fixed_order(matches: &ArgMatches<'_>) -> bool
     ensures { IsTrue result ↔ GiveFixedOrder (rows_of (found_of matches.now)) }
 {
-    word_of(matches, "order-file").is_some() || is_fixed_name(word_of(matches, "order"))
+    gives_whole_order_file(matches) || is_fixed_name(word_of(matches, "order"))
 }
 
-/// Whether the words pick pairs, and give such an order.
+/// Whether pairs are picked, and such an order is given.
 fn picks_with_fixed_order(matches: &ArgMatches<'_>) -> bool
     ensures { IsTrue result ↔ GivePicksWithFixedOrder (rows_of (found_of matches.now)) }
 {
     has_picks(matches) && gives_fixed_order(matches)
 }
 
-/// Whether an order is to be found, of a file, a word, and the order where there is neither.
+/// Whether the order has to be found, by the order file, the value of `--order`, and the default if there is neither.
 fn comes_to_search(path: Option<&str>, word: Option<&str>, default_order: OrderChoice<'_>) -> bool
     ensures { (extend : Bool) → let choice = IsChoice (option_map (λ s. s.now) path.entry)
         (option_map (λ s. s.now) word.entry) extend default_order.entry in
@@ -100,10 +107,11 @@ fn comes_to_search(path: Option<&str>, word: Option<&str>, default_order: OrderC
     }
 }
 
-/// Whether an order is to be found.
+/// Whether pairs are picked, or the order has to be found.
 fn searches_order(matches: &ArgMatches<'_>) -> bool
-    ensures { let choice = IsOrderIn (rows_of (found_of matches.now)) in
-        IsTrue result ↔ (choice ChoiceValue.Auto ⊎ choice ChoiceValue.Cones ⊎ choice ChoiceValue.Merge) }
+    ensures { let rows = rows_of (found_of matches.now) in let choice = IsOrderIn rows in
+        IsTrue result ↔ ((are_picked (names_in rows) (share_in rows) ≡ true) ⊎ choice ChoiceValue.Auto ⊎ choice ChoiceValue.Cones
+        ⊎ choice ChoiceValue.Merge) }
 {
     has_picks(matches)
         || comes_to_search(
@@ -113,21 +121,21 @@ fn searches_order(matches: &ArgMatches<'_>) -> bool
         )
 }
 
-/// Whether the words give memory to an order that has no use for it.
+/// Whether `--memory` is given for an order that does not use it.
 fn has_unused_memory(matches: &ArgMatches<'_>) -> bool
     ensures { IsTrue result ↔ GiveUnusedMemory (rows_of (found_of matches.now)) }
 {
     is_given(matches, "memory") && !searches_order(matches)
 }
 
-/// Whether the words ask for the order of a file to be extended, and give no such file.
+/// Whether `--extend` is given without an order file.
 fn has_unused_extend(matches: &ArgMatches<'_>) -> bool
     ensures { IsTrue result ↔ GiveUnusedExtend (rows_of (found_of matches.now)) }
 {
     is_asked(matches, "extend") && word_of(matches, "order-file").is_none()
 }
 
-/// Whether a word is that of JSON.
+/// Whether this is the value `json`.
 fn is_json(word: Option<&str>) -> bool
     ensures { IsTrue result ↔ IsSomeAnd (option_map (λ s. s.now) word.entry) (λ w. bytes_eq w (codes "json") ≡ true) }
 {
@@ -137,14 +145,14 @@ fn is_json(word: Option<&str>) -> bool
     }
 }
 
-/// Whether the words ask for a report as one JSON object.
+/// Whether the report is asked for as one JSON object.
 fn asks_for_json(matches: &ArgMatches<'_>) -> bool
     ensures { IsTrue result ↔ AskForJson (rows_of (found_of matches.now)) }
 {
     is_json(word_of(matches, "format"))
 }
 
-/// Whether the words ask for explanations, and for what has none.
+/// Whether explanations are asked for together with something that has none.
 fn has_explain_conflict(matches: &ArgMatches<'_>) -> bool
     ensures { IsTrue result ↔ GiveExplainConflict (rows_of (found_of matches.now)) }
 {
@@ -154,14 +162,14 @@ fn has_explain_conflict(matches: &ArgMatches<'_>) -> bool
             || asks_for_json(matches))
 }
 
-/// Whether the words ask for the values of a pair that differs, and for an order in print, which compares none.
+/// Whether a VCD is asked for together with `--print-order`, which compares nothing.
 fn has_unused_vcd(matches: &ArgMatches<'_>) -> bool
     ensures { IsTrue result ↔ GiveUnusedVcd (rows_of (found_of matches.now)) }
 {
     is_given(matches, "vcd") && is_asked(matches, "print-order")
 }
 
-/// Whether the words ask for causes, and for what tells none.
+/// Whether causes are asked for together with something that has none.
 fn has_causes_conflict(matches: &ArgMatches<'_>) -> bool
     ensures { IsTrue result ↔ GiveCausesConflict (rows_of (found_of matches.now)) }
 {
@@ -171,8 +179,31 @@ fn has_causes_conflict(matches: &ArgMatches<'_>) -> bool
             || !asks_for_json(matches))
 }
 
-/// The argument that has no explanations.
-fn explain_conflict(matches: &ArgMatches<'_>) -> &'static str {
+/// Whether this is the value `position`.
+fn is_position(word: Option<&str>) -> bool
+    ensures { IsTrue result ↔ IsSomeAnd (option_map (λ s. s.now) word.entry) (λ w. bytes_eq w (codes "position") ≡ true) }
+{
+    match word {
+        Some("position") => true,
+        _ => false,
+    }
+}
+
+/// Whether pairs of names are given together with a pairing by position.
+fn has_pairs_by_position(matches: &ArgMatches<'_>) -> bool
+    ensures { IsTrue result ↔ GivePairsByPosition (rows_of (found_of matches.now)) }
+{
+    is_given(matches, "pairs") && is_position(word_of(matches, "match"))
+}
+
+/// The argument with which there are no explanations, as the refusal names it.
+fn explain_conflict(matches: &ArgMatches<'_>) -> &'static str
+    ensures print_order { flag_of (first_of (codes "print-order") (rows_of (found_of matches.now))) ≡ true → result.now ≡ codes "'--print-order'" }
+    ensures share { let rows = rows_of (found_of matches.now) in
+        flag_of (first_of (codes "print-order") rows) ≡ false → IsGiven (codes "share") rows → result.now ≡ codes "'--share <K/N>'" }
+    ensures format { let rows = rows_of (found_of matches.now) in
+        flag_of (first_of (codes "print-order") rows) ≡ false → (IsGiven (codes "share") rows → ⊥) → result.now ≡ codes "'--format json'" }
+{
     if is_asked(matches, "print-order") {
         "'--print-order'"
     } else if is_given(matches, "share") {
@@ -182,8 +213,15 @@ fn explain_conflict(matches: &ArgMatches<'_>) -> &'static str {
     }
 }
 
-/// The argument that tells no causes.
-fn causes_conflict(matches: &ArgMatches<'_>) -> &'static str {
+/// The argument with which there are no causes, as the refusal names it.
+fn causes_conflict(matches: &ArgMatches<'_>) -> &'static str
+    ensures print_order { flag_of (first_of (codes "print-order") (rows_of (found_of matches.now))) ≡ true → result.now ≡ codes "'--print-order'" }
+    ensures share { let rows = rows_of (found_of matches.now) in
+        flag_of (first_of (codes "print-order") rows) ≡ false → IsGiven (codes "share") rows → result.now ≡ codes "'--share <K/N>'" }
+    ensures format { let rows = rows_of (found_of matches.now) in
+        flag_of (first_of (codes "print-order") rows) ≡ false → (IsGiven (codes "share") rows → ⊥)
+        → result.now ≡ codes "a report other than that of '--format json'" }
+{
     if is_asked(matches, "print-order") {
         "'--print-order'"
     } else if is_given(matches, "share") {
@@ -193,8 +231,25 @@ fn causes_conflict(matches: &ArgMatches<'_>) -> &'static str {
     }
 }
 
-/// The argument that picks pairs.
-fn picking_option(matches: &ArgMatches<'_>) -> &'static str {
+/// The argument that does not use memory, as the refusal names it: if no order is given, the one that makes the
+/// declared order the default.
+fn memory_conflict(matches: &ArgMatches<'_>) -> &'static str {
+    if word_of(matches, "order").is_some() || word_of(matches, "order-file").is_some() {
+        "an order other than auto, cones and merge"
+    } else if is_asked(matches, "print-order") {
+        "'--print-order', which means --order declared if no order is named"
+    } else if is_asked(matches, "sizes") {
+        "'--sizes', which means --order declared if no order is named"
+    } else {
+        "'--limit <N>', which means --order declared if no order is named; --order auto takes both"
+    }
+}
+
+/// The argument that picks pairs, as the refusal names it.
+fn picking_option(matches: &ArgMatches<'_>) -> &'static str
+    ensures only { IsGiven (codes "only") (rows_of (found_of matches.now)) → result.now ≡ codes "--only <NAME>" }
+    ensures share { (IsGiven (codes "only") (rows_of (found_of matches.now)) → ⊥) → result.now ≡ codes "--share <K/N>" }
+{
     if is_given(matches, "only") {
         "--only <NAME>"
     } else {
@@ -202,7 +257,19 @@ fn picking_option(matches: &ArgMatches<'_>) -> &'static str {
     }
 }
 
-/// The argument that asks for an order that is to be found.
+/// The argument that gives an order in which no pairs can be picked, as the refusal names it.
+fn fixed_order(matches: &ArgMatches<'_>) -> &'static str
+    ensures file { GiveWholeOrderFile (rows_of (found_of matches.now)) → result.now ≡ codes "'--order-file <F>' without '--extend'" }
+    ensures name { (GiveWholeOrderFile (rows_of (found_of matches.now)) → ⊥) → result.now ≡ codes "an order other than auto and cones" }
+{
+    if gives_whole_order_file(matches) {
+        "'--order-file <F>' without '--extend'"
+    } else {
+        "an order other than auto and cones"
+    }
+}
+
+/// The argument that asks for an order that has to be found, as the refusal names it.
 fn search_option(matches: &ArgMatches<'_>) -> &'static str {
     match word_of(matches, "order") {
         Some("auto") => "--order auto",
@@ -212,7 +279,7 @@ fn search_option(matches: &ArgMatches<'_>) -> &'static str {
     }
 }
 
-/// The two arguments of the words that exclude each other, where two do.
+/// The first two arguments that exclude each other; None if there are none.
 pub(crate) fn conflict_in(matches: &ArgMatches<'_>) -> Option<Conflict>
     ensures { MatchOption result (HaveConflict (rows_of (found_of matches.now)) → ⊥) (λ _. HaveConflict (rows_of (found_of matches.now))) }
 {
@@ -225,15 +292,9 @@ pub(crate) fn conflict_in(matches: &ArgMatches<'_>) -> Option<Conflict>
     } else if gives_search_with(matches, "print-order") {
         (search_option(matches), "'--print-order'")
     } else if picks_with_fixed_order(matches) {
-        (
-            picking_option(matches),
-            "an order other than auto and cones",
-        )
+        (picking_option(matches), fixed_order(matches))
     } else if has_unused_memory(matches) {
-        (
-            "--memory <SIZE>",
-            "an order other than auto, cones and merge",
-        )
+        ("--memory <SIZE>", memory_conflict(matches))
     } else if has_unused_extend(matches) {
         ("--extend", "an order other than that of '--order-file <F>'")
     } else if has_explain_conflict(matches) {
@@ -242,6 +303,8 @@ pub(crate) fn conflict_in(matches: &ArgMatches<'_>) -> Option<Conflict>
         ("--vcd <FILE>", "'--print-order'")
     } else if has_causes_conflict(matches) {
         ("--causes", causes_conflict(matches))
+    } else if has_pairs_by_position(matches) {
+        ("--pairs <FILE>", "'--match position'")
     } else {
         return None;
     };

@@ -1,34 +1,35 @@
-//! What the matches of the parser ask for.
+//! Options from the matches that the parser has found.
 ghost use Rattle.std.specs.Prelude.{◌≡◌, ◌≢◌, ◌≤◌, ℕ, List, [], Option, Some, None, Err, IfOk, IfSome, IsSomeAnd, codes, map, option_map};
 ghost use Rattle.clap.specs.Words.{first_of, found_of, one_of, rows_of};
-ghost use Rattle.command_line.specs.Words.{IsDifference, IsMatching, flag_of, default_order_of, IsChoice, IsOrderIn, IsForm, IsAssignment, IsNumberIn};
-ghost use Rattle.command_line.specs.Words.{default_limit, IsLimit, IsMemory, GiveBadShare, IsShare, HaveConflict, ArePicks, AreTexts};
+ghost use Rattle.command_line.specs.Words.{IsDifference, IsMatching, flag_of, default_order_of, IsChoice, IsOrderIn, IsPickingOrder, IsForm, IsAssignment, IsNumberIn};
+ghost use Rattle.command_line.specs.Words.{default_limit, IsLimit, IsMemory, IsSeconds, GiveBadShare, IsShare, HaveConflict, ArePicks, AreTexts};
 ghost use Rattle.command_line.specs.Words.{AreOptions, are_picked, explained_in, names_in, share_in};
 ghost use Rattle.command_line.specs.declared.options.OrderChoice.{OrderChoice as ChoiceValue};
 ghost use Rattle.report_text.specs.declared.outcome.Share.{Share as ShareValue};
 
-use crate::options::{DifferenceChoice, Options, OrderChoice, Picks, Texts};
+use crate::options::{Options, OrderChoice, Picks, Texts};
 use crate::share::share_of;
 use crate::size::memory_of;
 use crate::values::{is_asked, names_of, word_of};
 use clap::ArgMatches;
-use net_order::order::Match;
-use report_text::Assignment;
+use net_names::order::Match;
+use net_names::order_name::OrderName;
+use report_text::{Assignment, Difference};
 use std::alloc::{AllocError, Global};
 
-/// The bytes of memory where the words give none. The parser has the same default.
+/// The bytes of memory if none are given. The parser has the same default.
 const DEFAULT_MEMORY: u64 = 4_294_967_296;
 
 /// Why no pairs can be picked.
 #[derive(Clone, Copy, Drop)]
 pub(crate) enum BadPicks {
-    /// The word of a share is none.
+    /// The value of `--share` is no share.
     Share,
-    /// A growth was refused.
+    /// An allocation was refused.
     OutOfMemory,
 }
 
-/// The bytes of memory, where the word is such a number.
+/// The bytes of memory; None if the value is no such number, or too small.
 pub(crate) fn memory_in(word: Option<&str>) -> Option<u64>
     ensures memory { IfSome result (λ n. IfSome (option_map (λ s. s.now) word.entry) (λ text. IsMemory text n)) }
     ensures enough { IfSome result (λ n. 16777216 ≤ n) }
@@ -40,7 +41,7 @@ pub(crate) fn memory_in(word: Option<&str>) -> Option<u64>
     }
 }
 
-/// By position where that word is given.
+/// By position if that value is given, otherwise by name.
 fn matching_of(word: Option<&str>) -> Match
     ensures { IsMatching (option_map (λ s. s.now) word.entry) result }
 {
@@ -50,7 +51,7 @@ fn matching_of(word: Option<&str>) -> Match
     }
 }
 
-/// The order of a file, extended where that is asked for.
+/// The order in a file, extended if that is asked for.
 fn order_in_file<'a>(path: &'a str, extend: bool) -> OrderChoice<'a>
     ensures { (word : Option (List ℕ)) → (default_order : ChoiceValue) → IsChoice (Some path.entry.now) word extend default_order result }
 {
@@ -61,7 +62,7 @@ fn order_in_file<'a>(path: &'a str, extend: bool) -> OrderChoice<'a>
     }
 }
 
-/// The order of a file where one is given, else the order that the word names, and where there is no word this one.
+/// The order in a file if one is given; otherwise the order that the value names, or the default if there is no value.
 fn order_of<'a>(
     path: Option<&'a str>,
     word: Option<&str>,
@@ -74,23 +75,16 @@ fn order_of<'a>(
         return order_in_file(path, extend);
     }
     match word {
-        Some("depth") => OrderChoice::Depth,
-        Some("interleave") => OrderChoice::Interleave,
-        Some("index") => OrderChoice::Index,
-        Some("force") => OrderChoice::Force,
-        Some("msb-first") => OrderChoice::MsbFirst,
-        Some("weights") => OrderChoice::Weights,
-        Some("force-groups") => OrderChoice::ForceGroups,
         Some("best") => OrderChoice::Best,
         Some("auto") => OrderChoice::Auto,
         Some("cones") => OrderChoice::Cones,
         Some("merge") => OrderChoice::Merge,
-        Some(_) => OrderChoice::Declared,
+        Some(name) => OrderChoice::Named(OrderName::of_word(name).unwrap_or(OrderName::Declared)),
         None => default_order,
     }
 }
 
-/// The order where the words name none.
+/// The order if none is given: declared with a limit, sizes or `--print-order`, otherwise auto.
 pub(crate) fn default_order_in(matches: &ArgMatches<'_>) -> OrderChoice<'static>
     ensures { let rows = rows_of (found_of matches.now) in
         result ≡ default_order_of (first_of (codes "limit") rows) (flag_of (first_of (codes "sizes") rows))
@@ -100,18 +94,28 @@ pub(crate) fn default_order_in(matches: &ArgMatches<'_>) -> OrderChoice<'static>
         || is_asked(matches, "sizes")
         || is_asked(matches, "print-order")
     {
-        OrderChoice::Declared
+        OrderChoice::Named(OrderName::Declared)
     } else {
         OrderChoice::Auto
     }
 }
 
-/// The order that was found, which is that of cones where pairs are picked.
+/// The order in which picked pairs are judged: by their cones, first in the order of a file if one is given.
+fn picking_order<'a>(path: Option<&'a str>) -> OrderChoice<'a>
+    ensures { IsPickingOrder (option_map (λ s. s.now) path.entry) result }
+{
+    match path {
+        Some(path) => OrderChoice::ConesByList(path),
+        None => OrderChoice::Cones,
+    }
+}
+
+/// The order that is asked for. If pairs are picked, it is by cones.
 fn order_in<'a>(matches: &ArgMatches<'a>) -> OrderChoice<'a>
     ensures { IsOrderIn (rows_of (found_of matches.now)) result }
 {
     if has_picks(matches) {
-        return OrderChoice::Cones;
+        return picking_order(word_of(matches, "order-file"));
     }
     order_of(
         word_of(matches, "order-file"),
@@ -121,7 +125,7 @@ fn order_in<'a>(matches: &ArgMatches<'a>) -> OrderChoice<'a>
     )
 }
 
-/// Two files where two are given, `-` for the input in place of one, and the input for both where none is given.
+/// Two files if two are given, with standard input for a `-`; standard input for both netlists if none is given.
 fn texts_of<'a>(first: Option<&'a str>, second: Option<&'a str>) -> Texts<'a>
     ensures { AreTexts (option_map (λ s. s.now) first.entry) (option_map (λ s. s.now) second.entry) result }
 {
@@ -135,7 +139,7 @@ fn texts_of<'a>(first: Option<&'a str>, second: Option<&'a str>) -> Texts<'a>
     }
 }
 
-/// As JSON where that word is given.
+/// As JSON if that value is given.
 fn is_json(word: Option<&str>) -> bool
     ensures { IsForm (option_map (λ s. s.now) word.entry) result }
 {
@@ -145,7 +149,7 @@ fn is_json(word: Option<&str>) -> bool
     }
 }
 
-/// Which variables of an assignment are told, where a word says it.
+/// Which variables of an assignment are shown; None if the option is not given.
 fn assignment_of(word: Option<&str>) -> Option<Assignment>
     ensures { IsAssignment (option_map (λ s. s.now) word.entry) result }
 {
@@ -157,17 +161,17 @@ fn assignment_of(word: Option<&str>) -> Option<Assignment>
     }
 }
 
-/// Any difference where that word is given.
-fn difference_of(word: Option<&str>) -> DifferenceChoice
+/// Any difference if that value is given, otherwise the least.
+fn difference_of(word: Option<&str>) -> Difference
     ensures { IsDifference (option_map (λ s. s.now) word.entry) result }
 {
     match word {
-        Some("any") => DifferenceChoice::AnyOne,
-        _ => DifferenceChoice::Least,
+        Some("any") => Difference::AnyOne,
+        _ => Difference::Least,
     }
 }
 
-/// Whether pairs are picked.
+/// Whether pairs are picked, by names or by a share.
 pub(crate) fn has_picks(matches: &ArgMatches<'_>) -> bool
     ensures { let rows = rows_of (found_of matches.now) in result ≡ are_picked (names_in rows) (share_in rows) }
 {
@@ -177,7 +181,7 @@ pub(crate) fn has_picks(matches: &ArgMatches<'_>) -> bool
     }
 }
 
-/// The pairs of these names.
+/// The pairs of these names are picked.
 fn named<'a>(alloc: Global, names: &[&'a str]) -> Result<Picks<'a>, BadPicks>
     requires { names.now ≢ [] }
     ensures picks { IfOk result (ArePicks (map (λ s. s.now) names.now) None) }
@@ -189,7 +193,7 @@ fn named<'a>(alloc: Global, names: &[&'a str]) -> Result<Picks<'a>, BadPicks>
     }
 }
 
-/// The pairs of a share, where there is a word that says one, else all.
+/// The pairs of a share are picked, or all if there is no share.
 fn shared<'a>(word: Option<&'a str>) -> Result<Picks<'a>, BadPicks>
     ensures picks { IfOk result (ArePicks [] (option_map (λ s. s.now) word.entry)) }
     ensures share { result ≡ Err BadPicks.Share → IsSomeAnd
@@ -215,7 +219,7 @@ pub(crate) fn picks_in<'a>(alloc: Global, matches: &ArgMatches<'a>) -> Result<Pi
     }
 }
 
-/// What is to be explained.
+/// The pairs that are to be explained, as they are named.
 pub(crate) fn explained_in<'a>(
     alloc: Global,
     matches: &ArgMatches<'a>,
@@ -228,7 +232,7 @@ pub(crate) fn explained_in<'a>(
     }
 }
 
-/// The number of workers. The parser has its default, and has tested its range.
+/// The number of workers. The parser has a default, and has checked the range.
 fn workers_of(matches: &ArgMatches<'_>) -> u32
     ensures some { 1 ≤ result }
     ensures few { result ≤ 16 }
@@ -237,7 +241,7 @@ fn workers_of(matches: &ArgMatches<'_>) -> u32
     matches.get_one("workers").unwrap_or(0).clamp(1, 16)
 }
 
-/// The limit of nodes where the words give none.
+/// The limit of nodes if none is given.
 fn default_limit(order: OrderChoice<'_>) -> u64
     ensures limit { result ≡ default_limit order.entry }
     ensures some { 1 ≤ result }
@@ -245,11 +249,12 @@ fn default_limit(order: OrderChoice<'_>) -> u64
 {
     match order {
         OrderChoice::Auto | OrderChoice::Cones | OrderChoice::Merge => 4_294_967_295,
+        OrderChoice::ConesByList(_) => 4_294_967_295,
         _ => 67_108_864,
     }
 }
 
-/// The limit of nodes. The parser has tested its range.
+/// The limit of nodes. The parser has checked the range.
 fn limit_of(matches: &ArgMatches<'_>, order: OrderChoice<'_>) -> u64
     ensures some { 1 ≤ result }
     ensures few { result ≤ 4294967295 }
@@ -261,7 +266,14 @@ fn limit_of(matches: &ArgMatches<'_>, order: OrderChoice<'_>) -> u64
         .clamp(1, 4_294_967_295)
 }
 
-/// What the matches say, with this memory, these pairs, and what is to be explained.
+/// After how many seconds the run stops; None if it is not to stop. The parser has checked the range.
+fn seconds_of(matches: &ArgMatches<'_>) -> Option<u64>
+    ensures { IsSeconds (one_of (codes "seconds") (rows_of (found_of matches.now))) result }
+{
+    matches.get_one("seconds")
+}
+
+/// The options that the matches ask for, with those that may have been refused as arguments.
 pub(crate) fn options_of<'a>(
     matches: &ArgMatches<'a>,
     memory: u64,
@@ -281,9 +293,11 @@ pub(crate) fn options_of<'a>(
         order,
         picks,
         given: word_of(matches, "given"),
+        pairs: word_of(matches, "pairs"),
         workers: workers_of(matches),
         limit: limit_of(matches, order),
         memory,
+        seconds: seconds_of(matches),
         sizes: is_asked(matches, "sizes"),
         print_order: is_asked(matches, "print-order"),
         json: is_json(word_of(matches, "format")),

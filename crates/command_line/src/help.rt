@@ -1,6 +1,6 @@
 //! What `--help` prints.
 
-/// The options in groups, by lines of at most 80 columns.
+/// The options in groups, in lines of at most 80 columns.
 pub(crate) static HELP: &str = "\
 Decides for each pair of outputs of two gate netlists in the bench format, and
 for the next states of each pair of registers, whether both compute the same
@@ -15,9 +15,14 @@ Usage: bddcheck [OPTIONS] [FIRST SECOND]
 What is compared:
   --match HOW          pair inputs, outputs and registers by `name`, which is
                        the default, or by `position`, their places in the files
+  --pairs FILE         pair signals that have other names in the second netlist
+                       as this file does, which has the first netlist's name and
+                       the second's on each line; all others by their names
   --given FILE         compare only where the one output of this netlist is 1
   --only NAME          judge only the output and the register of this name of
-                       the first netlist, by their cones; may be given more than
+                       the first netlist, by their cones, and of a register
+                       given as `NEXT name` only that; each `*` in a name
+                       matches any run of characters; may be given more than
                        once
   --share K/N          judge only the K-th of N shares of the pairs, by their
                        cones
@@ -42,8 +47,7 @@ What is printed:
   --print-order        print the names of the variables in their order, as
                        --order-file reads them, and compare nothing
   --verbose            report on standard error how far the run is, which
-                       attempts were given up, which one decided, and how many
-                       pairs are undecided
+                       attempts were given up, and which one decided
 
 How it is decided:
   --order ORDER        order the variables in a given way, or find an order:
@@ -70,7 +74,8 @@ How it is decided:
     index              by the number at the end of the name
     force              close to the gates and variables that each is joined with
   --order-file F       order the variables as this file lists their names; not
-                       with --order
+                       with --order. With --only and --share it needs --extend,
+                       and each pair is judged as by cones, first in this order
   --extend             with --order-file, ignore names that are no variables or
                        are repeated, and append the variables that the file
                        lacks, as declared
@@ -88,13 +93,19 @@ How it is decided:
   --memory SIZE        let auto, cones and merge use no more nodes than so many
                        bytes hold, 16M or more, by default 4G; K, M and G are
                        powers of 1024
+  --seconds N          stop after N seconds, 1 to 4294967295: begin no other
+                       attempt, and give up the one that is made. What was
+                       decided by then is reported, and the other pairs are
+                       UNDECIDED; by best and in a named order there is no
+                       report then
 
   -h, --help           print this help
   -V, --version        print the version
 
 The report has a line EQUAL or DIFFER for each pair of outputs, and after DIFFER
 the least assignment on which the two differ, or one `(may not be the least)`;
-UNDECIDED if no attempt decided the pair and no pattern shows that it differs.
+UNDECIDED if no attempt decided the pair and no pattern shows that it differs;
+then one line on standard error says why, and what may help.
 Lines of the next states of registers follow (NEXT), then lines ONLY
 for outputs and registers without a partner, and last the counts.
 
@@ -107,7 +118,7 @@ Exit status:
   2  The command line, a file, a netlist or the order was refused.
   3  Some pairs are undecided, and none is different or has no partner. Or
      memory ran out, the diagrams have more nodes than the limit, no order fits
-     within it, a thread could not be started, or the report could not be
-     written. Or the report is whole, and the file of --vcd could not be
-     written.
+     within it, a thread could not be started, the seconds were over, or the
+     report could not be written. Or the report is whole, and the file of --vcd
+     could not be written.
 ";

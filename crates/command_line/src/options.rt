@@ -1,33 +1,31 @@
-//! What a command line asks for.
+//! The options that a command line asks for.
 ghost use Rattle.std.specs.Prelude.{◌≡◌, ◌≢◌, ◌≤◌, false};
 ghost use Rattle.command_line.specs.declared.options.OrderChoice.TheVariants.{Auto, Cones, Merge};
 ghost use Rattle.command_line.specs.declared.options.Picks.TheVariants.{All};
+ghost use Rattle.command_line.specs.Picking.{TakesPicks};
 
-use net_order::order::Match;
-use report_text::{Assignment, Share};
+use net_names::order::Match;
+use net_names::order_name::OrderName;
+use report_text::{Assignment, Difference, Share};
 
-/// Where the order of the variables comes from.
+/// The order of the variables that is asked for. Each but the last seven is a named order of `net_order` or `group_order`.
 #[derive(Clone, Copy, Drop, Debug, PartialEq, Eq)]
 pub enum OrderChoice<'a> {
-    Declared,
-    Depth,
-    Interleave,
-    Index,
-    Force,
-    MsbFirst,
-    Weights,
-    ForceGroups,
-    /// The best of the last three is to be found.
+    Named(OrderName),
+    /// The best of `MsbFirst`, `Weights` and `ForceGroups` is to be found.
     Best,
-    /// One of those is to be found, or else orders for each pair; the report is as by declared order.
+    /// One of these three is to be found, or else orders for each pair; the report is as in declared order.
     Auto,
-    /// Orders are to be found for each pair; the report is as by declared order.
+    /// Orders are to be found for each pair; the report is as in declared order.
     Cones,
-    /// The same, after equal signals of both netlists were merged.
+    /// As `Cones`, with an attempt before the others in the order of a file with names, whose path this is. Names that
+    /// are not variables below a pair are ignored, and variables that the file lacks follow.
+    ConesByList(&'a str),
+    /// As `Cones`, after equal inner signals of both netlists were merged.
     Merge,
-    /// The path of a file with the names.
+    /// The path of a file that lists each variable once.
     File(&'a str),
-    /// The path of a file with names, of which those are passed over that are no variables; the variables that it lacks follow.
+    /// The path of a file with names. Those that are no variables are ignored, and variables that it lacks follow.
     Extended(&'a str),
 }
 
@@ -35,25 +33,16 @@ pub enum OrderChoice<'a> {
 #[derive(Drop, Debug)]
 pub enum Picks<'a> {
     All,
-    /// Those of these names.
+    /// Those whose names match one of these patterns. After `NEXT ` a pattern is for next states only.
     Only(Vec<&'a str>),
     /// Those of one share of all.
     Share(Share),
 }
 
-/// Which difference is wanted of a pair that differs, if it is judged by its cones.
-#[derive(Clone, Copy, Drop, Debug, PartialEq, Eq)]
-pub enum DifferenceChoice {
-    /// The least.
-    Least,
-    /// Any that is known.
-    AnyOne,
-}
-
 /// Where the netlists come from.
 #[derive(Clone, Copy, Drop, Debug, PartialEq, Eq)]
 pub enum Texts<'a> {
-    /// Both from standard input, with a line between them.
+    /// Both from standard input, with a line `%%` between them.
     Input,
     /// The paths of two files.
     Files(&'a str, &'a str),
@@ -63,42 +52,47 @@ pub enum Texts<'a> {
     FileAndInput(&'a str),
     /// Standard input as both, which is refused.
     InputTwice,
-    /// One path alone, which is refused.
+    /// Only one path, which is refused.
     One,
 }
 
-/// What the command line asks for.
+/// All options of a command line. The `ghost` facts are what the program needs of them.
 #[derive(Drop, Debug)]
 pub struct Options<'a> {
     pub matching: Match,
     pub order: OrderChoice<'a>,
     pub picks: Picks<'a>,
-    /// The path of the condition's file, where there is a condition.
+    /// The path of the condition's netlist, if there is a condition.
     pub given: Option<&'a str>,
+    /// The path of the file with pairs of names, if some signals have other names in the second netlist.
+    pub pairs: Option<&'a str>,
+    /// How many threads work, 1 to 16.
     pub workers: u32,
-    /// The most nodes, where the memory of the orders auto, cones and merge does not hold fewer.
+    /// The most nodes of all diagrams, unless the memory of the orders auto, cones and merge holds fewer.
     pub limit: u64,
-    /// How many bytes of memory the orders auto, cones and merge may take.
+    /// How many bytes of memory the nodes may take by the orders auto, cones and merge.
     pub memory: u64,
-    /// Whether the report says the sizes of the diagrams, which are no part of a report by auto, by cones or by merge.
+    /// After how many seconds the run stops; None if it does not.
+    pub seconds: Option<u64>,
+    /// Whether the report has the sizes of diagrams. A report by auto, cones or merge has none.
     pub sizes: bool,
     /// Whether the order of the variables is printed, and nothing compared.
     pub print_order: bool,
-    /// Whether the report is one JSON object, and not lines.
+    /// Whether the report is one JSON object instead of lines.
     pub json: bool,
-    /// Whether standard error tells more than faults.
+    /// Whether standard error gets more than faults.
     pub verbose: bool,
     pub texts: Texts<'a>,
-    /// The pairs that are explained behind the report, as its lines call them.
+    /// The pairs that are explained after the report, as its lines name them.
     pub explain: Vec<&'a str>,
-    /// Which variables the assignments of the report tell, where the words say it.
+    /// Which variables the assignments of the report show; None if the option is not given.
     pub assignment: Option<Assignment>,
-    /// The path of the file for the values at the assignment of the first pair that differs, where these are asked for.
+    /// The path of the VCD with all values at the first assignment at which a pair differs, if one is asked for.
     pub vcd: Option<&'a str>,
-    /// Whether the report, which is a JSON object then, tells the causes of the pairs that differ.
+    /// Whether the report, which is a JSON object then, has the causes of differences.
     pub causes: bool,
-    /// Which difference is wanted by the orders auto and cones.
-    pub difference: DifferenceChoice,
+    /// Which difference is wanted by the orders auto, cones and merge.
+    pub difference: Difference,
     ghost some_workers: { 1 ≤ workers },
     ghost few_workers: { workers ≤ 16 },
     ghost some_nodes: { 1 ≤ limit },
@@ -109,5 +103,5 @@ pub struct Options<'a> {
     ghost no_cones_in_print: { order ≡ Cones → print_order ≡ false },
     ghost no_merge_sizes: { order ≡ Merge → sizes ≡ false },
     ghost no_merge_in_print: { order ≡ Merge → print_order ≡ false },
-    ghost picks_by_cones: { picks ≢ All → order ≡ Cones },
+    ghost picks_by_cones: { picks ≢ All → TakesPicks order },
 }

@@ -1,4 +1,4 @@
-//! From the words of a command line to what they ask for.
+//! Reading a command line.
 ghost use Rattle.std.specs.Prelude.{IfOk, IfErr, map, string_bytes};
 ghost use Rattle.clap.specs.Values.{kind_of};
 ghost use Rattle.clap.specs.Words.{app_of, found_of, rows_of};
@@ -15,20 +15,21 @@ use clap::error::ErrorKind;
 use clap::{ArgMatches, Command, Error};
 use std::alloc::Global;
 
+/// The line that `--version` prints.
 static VERSION_LINE: &str = "bddcheck 1.0.0\n";
 
-/// Why the words give no options. The texts are ended by a line feed, and those of mistakes are the parser's own.
+/// Why a command line gives no options. Each text ends with a line feed; those of mistakes are the parser's own.
 #[derive(Drop)]
 pub enum Refused {
     /// `--help` or `--version` was asked for, and this is what is printed.
     Help(String),
-    /// A mistake in the words.
+    /// A mistake in the arguments.
     Mistake(String),
-    /// A growth was refused.
+    /// An allocation was refused.
     OutOfMemory,
 }
 
-/// What `--version` prints.
+/// The answer to `--version`.
 fn version(alloc: Global) -> Refused
     ensures { PrintsVersion result }
 {
@@ -38,7 +39,7 @@ fn version(alloc: Global) -> Refused
     }
 }
 
-/// What `--help` prints.
+/// The answer to `--help`.
 fn help(alloc: Global) -> Refused
     ensures { IsReportedAs ErrorKind.DisplayHelp result }
 {
@@ -48,7 +49,7 @@ fn help(alloc: Global) -> Refused
     }
 }
 
-/// What an error of the parser says.
+/// The answer to an error of the parser.
 fn refusal(alloc: Global, error: &Error) -> Refused
     ensures { IsReportedAs (kind_of error.now) result }
 {
@@ -67,7 +68,7 @@ fn refusal(alloc: Global, error: &Error) -> Refused
     }
 }
 
-/// The options of the words, which begin behind the program's name.
+/// The options that the arguments, without the program's name, ask for.
 pub fn read_options<'a>(alloc: Global, words: &'a [String]) -> Result<Options<'a>, Refused>
     ensures options { IfOk result (AskFor (map string_bytes words.entry.now)) }
     ensures refused { IfErr result (IsRefusal (map string_bytes words.entry.now)) }
@@ -79,7 +80,7 @@ pub fn read_options<'a>(alloc: Global, words: &'a [String]) -> Result<Options<'a
     options_in(alloc, &mut command, &matches)
 }
 
-/// The options of what the parser has found.
+/// The options that the matches of the parser ask for.
 fn options_in<'a>(
     alloc: Global,
     command: &mut Command<'_>,
@@ -108,7 +109,7 @@ fn options_in<'a>(
     }
 }
 
-/// What the parser finds in the words.
+/// The matches of the parser for these arguments.
 fn parsed<'a>(
     alloc: Global,
     command: &mut Command<'a>,
@@ -124,7 +125,7 @@ fn parsed<'a>(
     }
 }
 
-/// A mistake that the parser has not found, told as it tells its own.
+/// A mistake that the parser has not found, reported like those that it finds.
 fn mistake(alloc: Global, command: &mut Command<'_>, kind: ErrorKind, message: &str) -> Refused
     ensures { IsReportedAs kind result }
 {
@@ -134,7 +135,7 @@ fn mistake(alloc: Global, command: &mut Command<'_>, kind: ErrorKind, message: &
     }
 }
 
-/// What is said of two arguments that exclude each other.
+/// The refusal of two arguments that exclude each other.
 fn refuse_conflict(alloc: Global, command: &mut Command<'_>, conflicting: Conflict) -> Refused
     ensures { IsReportedAs ErrorKind.ArgumentConflict result }
 {
@@ -150,7 +151,7 @@ fn refuse_conflict(alloc: Global, command: &mut Command<'_>, conflicting: Confli
     }
 }
 
-/// What is said of a memory that is none, or out of its range.
+/// The refusal of a memory that is no number of bytes, or too small.
 fn bad_memory(alloc: Global, command: &mut Command<'_>, text: &str) -> Refused
     ensures { IsReportedAs ErrorKind.ValueValidation result }
 {
@@ -163,7 +164,7 @@ fn bad_memory(alloc: Global, command: &mut Command<'_>, text: &str) -> Refused
     }
 }
 
-/// What is said of a share that is none.
+/// The refusal of a share that is none.
 fn bad_share(alloc: Global, command: &mut Command<'_>, text: &str) -> Refused
     ensures { IsReportedAs ErrorKind.ValueValidation result }
 {

@@ -1,11 +1,11 @@
-//! Sizes of memory, as words say them.
-ghost use Rattle.std.specs.Prelude.{◌≡◌, ◌<◌, ◌^◌, ℕ, MatchOption};
+//! Sizes of memory, written as `512M`.
+ghost use Rattle.std.specs.Prelude.{◌<◌, ◌^◌, ℕ, MatchOption};
 ghost use Rattle.command_line.specs.Words.{IsInUnits, IsSize, IsMemory};
 
-/// The least memory that is taken, 16 MiB.
+/// The least memory that is accepted, 16 MiB.
 const LEAST_MEMORY: u64 = 16_777_216;
 
-/// The number and the unit of a text, which is a byte where none is named.
+/// The number in a text, and its unit in bytes: K, M and G are powers of 1,024; without a unit it is a byte.
 fn in_units(text: &str) -> (&str, u64)
     ensures { IsInUnits text.now result.0.now result.1 }
 {
@@ -20,7 +20,7 @@ fn in_units(text: &str) -> (&str, u64)
     }
 }
 
-/// The number of bytes that a text says, where that is a number of 64 bits.
+/// The number of bytes that a text is; None if it is no size, or does not fit in 64 bits.
 fn size_of(text: &str) -> Option<u64>
     ensures { MatchOption result ((n : ℕ) → IsSize text.now n → n < 2 ^ 64 → ⊥) (IsSize text.now) }
 {
@@ -31,7 +31,7 @@ fn size_of(text: &str) -> Option<u64>
     number.checked_mul(bytes)
 }
 
-/// The same where it is enough.
+/// The same, if it is at least the least memory.
 pub(crate) fn memory_of(text: &str) -> Option<u64>
     ensures { MatchOption result ((n : ℕ) → IsMemory text.now n → ⊥) (IsMemory text.now) }
 {

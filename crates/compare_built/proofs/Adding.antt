@@ -1,4 +1,4 @@
--- How verdicts are added one by one.
+-- Verdicts that are added one by one.
 use Rattle.std.proofs.Common.{◌≡◌, ◌∙◌, ap, sym, refl, subst, ℕ, ◌+◌, ◌<◌, ◌≤◌, Bool, List, [], ◌∷◌, ◌++◌, map, length, get_or, take, drop, append_assoc, Option, Some}
 use Rattle.std.specs.Prelude.{slice_get, slice_index, All, ◌↔◌}
 use Rattle.std.specs.List.{AllZip}
@@ -36,7 +36,7 @@ zip_map R S f [] (y ∷ ys) a = a
 zip_map R S f (x ∷ xs) [] a = a
 zip_map R S f (x ∷ xs) (y ∷ ys) a = (f x y a.0, zip_map R S f xs ys a.1)
 
--- ---- the verdicts of what is compared
+-- ---- the verdicts of pairs
 
 module _ (asked : Details) (holds : List Bool → Bool) (a b : Circuit) (p : NamingModel) where
   pub start : HaveVerdicts asked holds a b p [] []
@@ -53,12 +53,12 @@ module _ (asked : Details) (holds : List Bool → Bool) (a b : Circuit) (p : Nam
             (zip_push (IsVerdictOf (length p.names) asked holds) h.compared verdicts c v h.are_verdicts (subst (λ m. IsVerdictOf m asked holds c v) levels is));
       }
 
-  -- all have their verdicts
+  -- all pairs have their verdicts
   pub all_added : (all : List Subject) (i : ℕ) (verdicts : List Verdict) → all ≡ subjects a b p → length all ≤ i →
       HaveVerdicts asked holds a b p (take i all) verdicts → HaveVerdicts asked holds a b p (subjects a b p) verdicts
   all_added all i verdicts e le h = subst (λ us. HaveVerdicts asked holds a b p us verdicts) (take_all i all le ∙ e) h
 
-  -- one more verdict, by the references of its subject
+  -- one more pair has its verdict, by its references
   pub next_shown : (reported : (List Bool → Bool) → List Bool → Bool) (S : Nodes) (all : List Subject) (i : ℕ) (role : PairKind) (name : List ℕ) (one two r q : Ref) (v : Verdict) (verdicts more : List Verdict) → S.levels ≡ length p.names → i < length all →
       role ≡ (subject_at all i).role → name ≡ name_of a (subject_at all i).named → one ≡ r → two ≡ q →
       DenotesWhere reported holds a (first_level p) S (subject_at all i).first r → DenotesWhere reported holds b (second_level p) S (subject_at all i).second q →
@@ -77,11 +77,11 @@ module _ (asked : Details) (holds : List Bool → Bool) (a b : Circuit) (p : Nam
       })
       (verdict_where S.levels asked holds (compared_of reported S subject.role (name_of a subject.named) r q) first.1.0 second.1.0 first.1.2 second.1.2 v plain) grown
 
--- what is compared has names
+-- the signals whose names pairs have are signals of the first netlist
 pub all_named : (a b : Circuit) (p : NamingModel) (all : List Subject) → all ≡ subjects a b p → AreSignals a b p → All (λ subject. subject.named < length a.names) all
 all_named a b p all e signals = λ i d lt. (subst (All (IsInside a b)) (sym e) signals.compared i d lt).0
 
--- with the verdicts of what has no partner behind them
+-- with the verdicts of what has no partner after those of the pairs
 pub whole : (asked : Details) (a b : Circuit) (given : Option Circuit) (p : NamingModel) (of_pairs one two : List Verdict) → HaveAllVerdicts asked a b given p of_pairs →
     one ≡ of_pairs ++ unmatched_of_side First a p.outputs.only_first p.registers.only_first →
     two ≡ one ++ unmatched_of_side Second b p.outputs.only_second p.registers.only_second →

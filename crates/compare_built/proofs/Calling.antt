@@ -1,4 +1,4 @@
--- A verdict calls two functions equal exactly where they agree wherever the condition holds.
+-- A verdict says that two functions are equal exactly if they agree wherever the condition holds.
 use Rattle.std.proofs.Common.{ℕ, Bool, List}
 use Rattle.std.specs.Prelude.{◌↔◌}
 use Rattle.report_text.specs.declared.verdict.Verdict.{Verdict}

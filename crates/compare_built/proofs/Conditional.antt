@@ -1,4 +1,4 @@
--- What is compared where a condition holds: its references, and the nodes that it needs.
+-- Pairs restricted to a condition: their references, and the nodes that they need.
 use Rattle.std.proofs.Common.{◌≡◌, ◌∙◌, ◌⊎◌, inl, inr, ap, sym, refl, subst, arith, ℕ, ◌+◌, ◌<◌, ◌≤◌, Bool, List, map, length, get_or, Option, Some, None}
 use Rattle.std.specs.Prelude.{◌&&◌, All, Contains, slice_get, slice_index}
 use Rattle.std.proofs.Math.ListN.{get_or-append}
@@ -50,7 +50,7 @@ module _ (n : ℕ) (Few Values : (List Bool → Bool) → Type 0) (more : (f : L
   complete_less S c = record { present = λ v g few. c.present v g (counted_more v g few) }
 
 module _ (n : ℕ) (Values : (List Bool → Bool) → Type 0) (S T : Nodes) (sound : IsSound S) where
-  -- what is added to needed nodes and is needed itself
+  -- a store of needed nodes to which only needed nodes are added is a store of needed nodes
   lean_next : IsLean n Values (part S) (Has S) (den S) → AddsDescribed S T (IsCounted n Values) → IsLean n Values (part T) (Has T) (den T)
   lean_next lean i = record { counted = λ m v lo hi h e. by m v lo hi e (i.described m h) }
     where
@@ -83,12 +83,12 @@ complete_both n V W T one two = record { present = λ v g c. by v g c c.is_value
     by v g c (inl is) = one.present v g (record { value = c.value; is_value = is; fixed = c.fixed; depends = c.depends })
     by v g c (inr is) = two.present v g (record { value = c.value; is_value = is; fixed = c.fixed; depends = c.depends })
 
--- what the building needs, the comparison needs
+-- what the build needs, the comparison needs
 pub needed_in : (a b : Circuit) (given : Option Circuit) (p : NamingModel) (f : List Bool → Bool) → IsNeededValue a b given p f → IsNeededIn a b given p f
 needed_in a b None p f v = v
 needed_in a b (Some c) p f v = inl v
 
--- ---- the references of what is compared
+-- ---- the references of pairs
 
 map_at : {X Y : Type 0} (f : X → Y) (xs : List X) (i : ℕ) (d : X) (e : Y) → i < length xs → get_or (map f xs) i e ≡ f (get_or xs i d)
 map_at f xs i d e lt = get_or-map f xs i d e lt
@@ -182,7 +182,7 @@ module _ (n m k : Net) (p : NamingModel) (S T : Nodes) (refs : References) (buil
           (built.second.functions (subject_at of i).second (all_inside (circuit n) (circuit m) (Some (circuit k)) p S refs built of all i _ lt).2);
     }
 
-  -- what the wave is asked for is compared
+  -- what the wave is asked for is needed by the comparison
   compared_value : (subject : Subject) → Contains of subject → (r : Ref) → IsFunctionIn (circuit n) (circuit m) p subject (den S r) → IsComparedValue (circuit n) (circuit m) (Some (circuit k)) p (λ x. den S r x && den S given_ref x)
   compared_value subject among r f = record {
     holds = den S given_ref;
@@ -244,7 +244,7 @@ module _ (n m k : Net) (p : NamingModel) (S T : Nodes) (refs : References) (buil
       levels : T.levels ≡ length p.names
       levels = adds.keeps.levels ∙ built.levels
 
-      -- the reference for a place denotes each function that is the subject's where the condition holds
+      -- the reference at a place denotes the function of the pair's signal, restricted to the condition
       denoted : (c : Net) → IsNet c → (level : ℕ → ℕ) (s : ℕ) → s < length c.names → (r : Ref) → DenotesWhere as_built shown.holds (circuit c) level T s r → (f holds whole : List Bool → Bool) →
           HoldsWhere (Some (circuit k)) p holds → IsFunctionOf (circuit c) level (length p.names) s whole → Agree (length p.names) f (restricted holds whole) → (q : Ref) × Has T q × Agree T.levels (den T q) f
       denoted c net_c level s lt r d f holds whole is function restriction = (
@@ -286,21 +286,21 @@ module _ (n m k : Net) (p : NamingModel) (S T : Nodes) (refs : References) (buil
           by (inl le) = le
           by (inr (none, same)) = subst (λ z. count_of z ≤ z.limit) (sym same) need.within
 
--- ---- what a wave leaves, by the lists that it was handed
+-- ---- what a wave leaves, by the lists that are its arguments
 
--- references that were made of a view of what is compared, and a view of them
+-- the references of pairs, made from a list that is equal to that of the pairs
 pub made : (refs : References) (of view : List Subject) (items : List Ref) → items ≡ references refs view → view ≡ of → items ≡ references refs of
 made refs of view items e same = e ∙ ap (references refs) same
 
 pub handed : (refs : References) (of view : List Subject) (items slice : List Ref) → slice ≡ items → items ≡ references refs view → view ≡ of → slice ≡ references refs of
 handed refs of view items slice whole e same = whole ∙ made refs of view items e same
 
--- what is none of those that are there is not there
+-- an option that has no value is None
 pub no_other : {X : Type 0} (o : Option X) → ((x : X) → o ≡ Some x → ⊥) → o ≡ None
 no_other None h = refl
 no_other (Some x) h = absurd (h x refl)
 
--- the output of a condition, read off its list
+-- the output of a condition is the first of its list
 pub given_is : (refs : List Ref) (outputs all : List ℕ) (s : ℕ) (r : Ref) → s ≡ get_or outputs 0 s → outputs ≡ all → 0 < length outputs → slice_get refs s ≡ Some r → reference_of refs (slice_index all 0) ≡ r
 given_is refs outputs all s r at same lt found =
     ap (λ (z : List ℕ). reference_of refs (get_or z 0 0)) (sym same) ∙ ap (reference_of refs) (get_or_default outputs 0 0 s lt ∙ sym at) ∙ there refs s r False found
@@ -318,7 +318,7 @@ module _ (a b : Circuit) (given : Option Circuit) (p : NamingModel) (S : Nodes) 
     shown = subst (DenoteCompared as_built a b None p S of) (sym er) (shown_plain a b given p S refs built of all);
   }
 
--- what is left of a build without a condition is all
+-- all that a comparison without a condition needs is there after the build
 pub all_plain : (a b : Circuit) (p : NamingModel) (S : Nodes) → HasNeed a b None p S → HasAll a b None p S
 all_plain a b p S need = record { lean = need.lean; complete = need.complete; within = need.within }
 
@@ -327,7 +327,7 @@ module _ (n m k : Net) (p : NamingModel) (S T : Nodes) (refs : References) (buil
   pub condition_known : Has S g
   condition_known = subst (Has S) eg (given_known n m k p S T refs built in_range of all)
 
-  -- what is said of the wave's lists is said of those that are meant
+  -- what holds of the wave's lists holds of the references of the pairs
   as_meant : (P : List Ref → Ref → Type 0) → P rs g → P (references refs of) (reference_of refs.given (output_of (circuit k)))
   as_meant P h = subst (λ z. P z (reference_of refs.given (output_of (circuit k)))) er (subst (P rs) (sym eg) h)
 

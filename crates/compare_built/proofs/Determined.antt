@@ -8,8 +8,8 @@ use Rattle.dd_store.proofs.OneSize.{HasSize-one}
 use Rattle.net_bench.specs.Circuit.{Circuit, Net, IsNet, circuit, variables_of}
 use Rattle.net_bench.specs.Labels.{IsLabelling, IsFunctionOf, bit_of}
 use Rattle.net_bench.proofs.Built.{same_labelling}
-use Rattle.net_order.specs.declared.order.Match.{Match}
-use Rattle.net_order.specs.declared.order.Order.{Order}
+use Rattle.net_names.specs.declared.order.Match.{Match}
+use Rattle.net_names.specs.declared.order.Order.{Order}
 use Rattle.net_order.specs.Order.{NamingModel, IsNaming, IsPairing}
 use Rattle.report_text.specs.declared.outcome.Outcome.{Outcome}
 use Rattle.report_text.specs.declared.verdict.Verdict.{Verdict}
@@ -63,7 +63,7 @@ two_sizes true n f g f' g' shown more same other s t =
     let h : s.1 ≡ t.1 = HasSize-one n g' s.1 t.1 (size_as n g g' s.1 other s.3) t.3 in
     s.4 ∙ ap (λ k. Some (k, s.1)) e ∙ ap (λ m. Some (t.0, m)) h ∙ sym t.4
 
--- ---- what is told besides
+-- ---- what is reported besides
 
 two_supports : (asked : Bool) (n : ℕ) (f g f' g' : List Bool → Bool) (shown more : Option (List Bool)) → Agree n f f' → Agree n g g' → IsSupportShown asked n f g shown → IsSupportShown asked n f' g' more → shown ≡ more
 two_supports false n f g f' g' shown more same other s t = s ∙ sym t
@@ -194,7 +194,7 @@ one_condition (Some net) sound p q size same holds holds' h k =
     one_function net sound.0 (slice_index p.given) (slice_index q.given) (same net refl) (length q.names) (output_of (circuit net)) (output_inside net sound.0 sound.1) holds holds'
     (subst (λ z. IsFunctionOf (circuit net) (slice_index p.given) z (output_of (circuit net)) holds) size h) k
 
--- what two comparisons of two netlists in one order find is the same
+-- two comparisons of two netlists in one order have the same findings
 pub one_found : (one two : Net) (given : Option Net) → IsNet one → IsNet two → IfSome given (λ net. IsNet net × HasOneOutput (circuit net)) → (how : Match) (order : Order) (p q : NamingModel) → IsNaming how (circuit one) (circuit two) (option_map circuit given) order p → IsNaming how (circuit one) (circuit two) (option_map circuit given) order q
     → (asked : Details) (found more : Found) → AreVerdicts asked (circuit one) (circuit two) (option_map circuit given) p found → AreVerdicts asked (circuit one) (circuit two) (option_map circuit given) q more → found ≡ more
 one_found one two given sound sound' sound_given how order p q h k asked found more r t =

@@ -10,4 +10,5 @@ pub mod Widening
 pub mod Scattering
 pub mod Supporting
 pub mod Places
+pub mod Patterns
 pub mod Picks

@@ -1,4 +1,4 @@
--- What the store of a build says of the limit.
+-- What follows for the limit from the store of a build.
 use Rattle.std.proofs.Common.{Option, Result, Ok, Err, OnOk, ◌≡◌, ℕ, ◌<◌, ◌≤◌, ◌⊎◌, inl, inr, length, sym, subst, arith, ◌^◌}
 use Rattle.dd_store.specs.Nodes.{Nodes, IsSound, count_of, empty_nodes}
 use Rattle.dd_store.proofs.Storing.{IsStore-empty}
@@ -11,14 +11,14 @@ use Rattle.gate_plan.proofs.Counted.{not_complete}
 use Rattle.compare_built.specs.Limits.{IsNeededIn, HasAllNeeded, HasAll, IsOver, FitsWithin, Exceeds}
 use Rattle.compare_built.proofs.Conditional.{lean_more, complete_less, needed_in}
 
--- a store that grew from one without nodes tells that it had none
+-- the store with which a build begins has no nodes
 pub none_before : (n limit : ℕ) (T : Nodes) → IsSound T → T.levels ≡ n → T.limit ≡ limit → count_of (empty_nodes n limit) ≡ 0
 none_before n limit T sound levels same =
     let few : n ≤ 4096 = (let k = sound.few_levels in omega arith) in
     let small : limit < 2 ^ 32 = subst (λ m. m < 2 ^ 32) same sound.small_limit in
     sym (IsStore-empty n limit few small).counted
 
--- what holds anyhow holds of an answer
+-- a fact holds also after a call that may fail
 pub on_ok : {T E P : Type 0} (r : Result T E) → P → OnOk r P
 on_ok (Ok value) h = h
 on_ok (Err fault) h = tt
@@ -42,7 +42,7 @@ over limit a b given p T sound levels same o = record {
   over = subst (λ m. (m < count_of T) ⊎ ((count_of T ≡ m) × (HasAllNeeded a b given p T → ⊥))) same o.over;
 }
 
--- a build that was refused has needed nodes alone, and so has the comparison
+-- the store of a build that failed with Full has only nodes that the build needs, and so that the comparison needs
 pub exceeds : (limit : ℕ) (a b : Circuit) (given : Option Circuit) (p : NamingModel) (T : Nodes) (e : WaveFault) → IsSound T → T.levels ≡ length p.names → T.limit ≡ limit → IsLeanFor a b given p T →
     e ≡ Full → IsBuildFault (length p.names) (IsNeededValue a b given p) T e → Exceeds limit a b given p
 exceeds limit a b given p T e sound levels same lean is fault =

@@ -8,6 +8,7 @@ use Rattle.std.proofs.lemmas.List.Elements.{filter-append, filter_more}
 use Rattle.std.proofs.lemmas.List.Folds.{list_any_at}
 use Rattle.net_bench.specs.Circuit.{Circuit}
 use Rattle.net_order.specs.Order.{NamingModel, name_of, names_of}
+use Rattle.report_text.specs.declared.cause.PairName.{PairName}
 use Rattle.report_text.specs.declared.outcome.PairKind.{PairKind}
 use Rattle.report_text.specs.declared.outcome.PairKind.TheVariants.{Output, NextState}
 use Rattle.report_text.specs.declared.outcome.Share.{Share}
@@ -16,7 +17,7 @@ use Rattle.report_text.specs.declared.verdict.Verdict.{Verdict}
 use Rattle.report_text.specs.declared.verdict.Verdict.TheVariants.{Unmatched}
 use Rattle.compare_built.specs.declared.pair_filter.PairFilter.TheVariants.{All as AllPairs, Only, Share as InShare}
 use Rattle.compare_built.specs.declared.subject.Subject.{Subject}
-use Rattle.compare_built.specs.PairSelection.{ArePicked, AreShares, IsNamedIn, is_unmatched_of, is_one_of, is_pair_of, of_share}
+use Rattle.compare_built.specs.PairSelection.{ArePicked, AreShares, HasPicked, is_unmatched_of, is_one_of, is_pair_of, of_share}
 use Rattle.compare_built.specs.PairSelection.ArePicked.{all, named, shared}
 use Rattle.compare_built.specs.Report.{unmatched_of_side, unmatched_verdicts, subjects}
 
@@ -85,29 +86,29 @@ module _ (k : ℕ) (ss : List Subject) (ks : List ℕ) (i : ℕ) (s : Subject) (
       ap (λ z. z ++ of_share k rest) same ∙
       ap (λ z. old ++ z) (sym (ap (of_share k) (zipped ss ks i s low each here) ∙ serpentine_first k (get_or ks i 0) s rest false fails)) ∙ done
 
--- ---- the lines of what has no partner
+-- ---- the lines of outputs and registers without a partner
 
-unmatched_filtered : (c : Circuit) (names : List (List ℕ)) (role : PairKind) (ss : List ℕ) →
-    filter (is_unmatched_of names) (map (Unmatched First role) (names_of c ss)) ≡ map (Unmatched First role) (names_of c (filter (is_one_of c names) ss))
-unmatched_filtered c names role [] = refl
-unmatched_filtered c names role (s ∷ ss) =
-    let rest = unmatched_filtered c names role ss in
-    elim (is_one_of c names s) as (λ b. cond b (Unmatched First role (name_of c s) ∷ filter (is_unmatched_of names) (map (Unmatched First role) (names_of c ss))) (filter (is_unmatched_of names) (map (Unmatched First role) (names_of c ss)))
-    ≡ map (Unmatched First role) (names_of c (cond b (s ∷ filter (is_one_of c names) ss) (filter (is_one_of c names) ss)))) [
+unmatched_filtered : (c : Circuit) (patterns : List PairName) (role : PairKind) (ss : List ℕ) →
+    filter (is_unmatched_of patterns) (map (Unmatched First role) (names_of c ss)) ≡ map (Unmatched First role) (names_of c (filter (is_one_of c patterns role) ss))
+unmatched_filtered c patterns role [] = refl
+unmatched_filtered c patterns role (s ∷ ss) =
+    let rest = unmatched_filtered c patterns role ss in
+    elim (is_one_of c patterns role s) as (λ b. cond b (Unmatched First role (name_of c s) ∷ filter (is_unmatched_of patterns) (map (Unmatched First role) (names_of c ss))) (filter (is_unmatched_of patterns) (map (Unmatched First role) (names_of c ss)))
+    ≡ map (Unmatched First role) (names_of c (cond b (s ∷ filter (is_one_of c patterns role) ss) (filter (is_one_of c patterns role) ss)))) [
       | true ↦ ap (λ vs. Unmatched First role (name_of c s) ∷ vs) rest
       | false ↦ rest
     ]
 
-pub unmatched_by_name : (c : Circuit) (names : List (List ℕ)) (outputs registers some more : List ℕ) (first second third : List Verdict) → some ≡ filter (is_one_of c names) outputs → more ≡ filter (is_one_of c names) registers →
+pub unmatched_by_name : (c : Circuit) (patterns : List PairName) (outputs registers some more : List ℕ) (first second third : List Verdict) → some ≡ filter (is_one_of c patterns Output) outputs → more ≡ filter (is_one_of c patterns NextState) registers →
     first ≡ [] → second ≡ first ++ map (Unmatched First Output) (names_of c some) → third ≡ second ++ map (Unmatched First NextState) (names_of c more) →
-    third ≡ filter (is_unmatched_of names) (unmatched_of_side First c outputs registers)
-unmatched_by_name c names outputs registers some more first second third some_is more_is none second_is third_is =
+    third ≡ filter (is_unmatched_of patterns) (unmatched_of_side First c outputs registers)
+unmatched_by_name c patterns outputs registers some more first second third some_is more_is none second_is third_is =
     third_is ∙ ap (λ xs. xs ++ map (Unmatched First NextState) (names_of c more)) (second_is ∙ ap (λ xs. xs ++ map (Unmatched First Output) (names_of c some)) none) ∙
     ap (λ xs. map (Unmatched First Output) (names_of c xs) ++ map (Unmatched First NextState) (names_of c more)) some_is ∙
-    ap (λ xs. map (Unmatched First Output) (names_of c (filter (is_one_of c names) outputs)) ++ map (Unmatched First NextState) (names_of c xs)) more_is ∙
-    ap (λ xs. xs ++ map (Unmatched First NextState) (names_of c (filter (is_one_of c names) registers))) (sym (unmatched_filtered c names Output outputs)) ∙
-    ap (λ xs. filter (is_unmatched_of names) (map (Unmatched First Output) (names_of c outputs)) ++ xs) (sym (unmatched_filtered c names NextState registers)) ∙
-    sym (filter-append (is_unmatched_of names) (map (Unmatched First Output) (names_of c outputs)) (map (Unmatched First NextState) (names_of c registers)))
+    ap (λ xs. map (Unmatched First Output) (names_of c (filter (is_one_of c patterns Output) outputs)) ++ map (Unmatched First NextState) (names_of c xs)) more_is ∙
+    ap (λ xs. xs ++ map (Unmatched First NextState) (names_of c (filter (is_one_of c patterns NextState) registers))) (sym (unmatched_filtered c patterns Output outputs)) ∙
+    ap (λ xs. filter (is_unmatched_of patterns) (map (Unmatched First Output) (names_of c outputs)) ++ xs) (sym (unmatched_filtered c patterns NextState registers)) ∙
+    sym (filter-append (is_unmatched_of patterns) (map (Unmatched First Output) (names_of c outputs)) (map (Unmatched First NextState) (names_of c registers)))
 
 -- ---- what is picked
 
@@ -115,7 +116,7 @@ module _ (a b : Circuit) (p : NamingModel) (pairs ss : List Subject) (ls : List 
   pub picked_all : ls ≡ unmatched_verdicts a b p → ArePicked a b p AllPairs pairs ls
   picked_all unmatched_lines = subst (λ xs. ArePicked a b p AllPairs xs ls) (sym is) (subst (ArePicked a b p AllPairs (subjects a b p)) (sym unmatched_lines) all)
 
-  pub picked_named : (names : Vec (List ℕ) Global) → ((n : List ℕ) → Contains names.items n → IsNamedIn a n) → ss ≡ filter (is_pair_of a names.items) pairs →
+  pub picked_named : (names : Vec PairName Global) → ((n : PairName) → Contains names.items n → HasPicked a n) → ss ≡ filter (is_pair_of a names.items) pairs →
       ls ≡ filter (is_unmatched_of names.items) (unmatched_of_side First a p.outputs.only_first p.registers.only_first) → ArePicked a b p (Only names) ss ls
   picked_named names known some unmatched_lines =
       subst (λ xs. ArePicked a b p (Only names) xs ls) (sym (some ∙ ap (filter (is_pair_of a names.items)) is)) (subst (ArePicked a b p (Only names) (filter (is_pair_of a names.items) (subjects a b p))) (sym unmatched_lines) (named known))

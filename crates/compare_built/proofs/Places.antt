@@ -6,11 +6,11 @@ use Rattle.std.proofs.lemmas.List.Elements.{All-append, All-cons, All-nil, All-w
 use Rattle.std.proofs.Math.Seq.{get_or-append_seam}
 use Rattle.compare_built.specs.Scatter.{ArePlaces}
 
--- among more
+-- places below n are below n + 1
 pub places_kept : (n : ℕ) (places : List ℕ) → ArePlaces n places → ArePlaces (n + 1) places
 places_kept n places h = record { below = All-weaker (λ l. l < n) (λ l. l < n + 1) (λ l lt. omega (arith, lt)) places h.below; rising = h.rising }
 
--- and one more
+-- n can be added at the end
 pub places_more : (n : ℕ) (places : List ℕ) → ArePlaces n places → ArePlaces (n + 1) (places ++ n ∷ [])
 places_more n places h = record {
   below = All-append (λ l. l < n + 1) places (n ∷ []) (places_kept n places h).below (All-cons (λ l. l < n + 1) n [] (omega arith) (All-nil (λ l. l < n + 1)));

@@ -1,10 +1,11 @@
--- Two orders of the variables of the same netlists: what is a function over the one is a function over the other.
+-- Two orders of the variables of the same netlists: a function over the variables in one order is a function over them
+-- in the other.
 use Rattle.std.proofs.Common.{◌≡◌, ◌∙◌, ap, sym, refl, subst, arith, inl, inr, ℕ, ◌+◌, ◌<◌, ◌≤◌, Bool, true, false, List, [], ◌∷◌, ◌++◌}
 use Rattle.std.proofs.Common.{map, length, get_or, take, Option, Some, None, All}
-use Rattle.std.specs.Prelude.{bytes_eq, cond, nat_lt, slice_get, slice_index, unwrap_or, IfSome, IsTrue, ◌↔◌}
+use Rattle.std.specs.Prelude.{bytes_eq, cond, nat_lt, slice_get, slice_index, unwrap_or, IfSome}
 use Rattle.std.specs.List.{IsDistinct, position_or_len}
 use Rattle.std.proofs.lemmas.Bool.{cases_lt, false_from_ne_true, ltb-true, true≢false}
-use Rattle.std.proofs.lemmas.List.{ext_get_or, length-map, length-take, get_or-map, get_or-take, map_more}
+use Rattle.std.proofs.lemmas.List.{length-map, length-take, get_or-map, get_or-take, map_more}
 use Rattle.std.proofs.lemmas.List.Elements.{Contains-get_or}
 use Rattle.std.proofs.lemmas.Map.Keys.{apart_from_distinct}
 use Rattle.std.proofs.lemmas.Option.{get_or_from_slice_get}
@@ -13,11 +14,11 @@ use Rattle.counter_walk.proofs.Arranging.{length-assignment_by_level, get_or-ass
 use Rattle.dd_store.specs.declared.reference.Ref.{Ref}
 use Rattle.dd_store.specs.Functions.{Agree}
 use Rattle.dd_store.specs.Nodes.{Nodes}
-use Rattle.gate_plan.specs.Building.{IsPaired, reference_of}
+use Rattle.gate_plan.specs.Building.{reference_of}
 use Rattle.net_bench.specs.Circuit.{Circuit, is_name_in, variables_of, with_name}
 use Rattle.net_bench.specs.Labels.{IsFunctionOf}
 use Rattle.net_bench.proofs.Numbers.{contained_in, in_distinct, name_itself, number_at, number_low, numbers_differ}
-use Rattle.net_order.specs.declared.order.Match.{Match}
+use Rattle.net_names.specs.declared.order.Match.{Match}
 use Rattle.net_order.specs.Order.{HasLevels, NamingModel, NamedNetlistModel, all_names, both, first_level, given_side, level_of, named, names_by, own, second_level}
 use Rattle.net_order.specs.Tables.{IsKnown}
 use Rattle.net_order.proofs.AllNames.{known_given, known_sides}
@@ -28,17 +29,17 @@ use Rattle.net_order.proofs.Steps.{taken_more}
 use Rattle.compare_built.specs.declared.subject.Subject.{Subject}
 use Rattle.compare_built.specs.Arrangement.{ArePairings, places_among}
 use Rattle.compare_built.specs.Comparing.{AreCompared, DenoteCompared, AreSignals, DenotesWhere, IsInside, as_built, subject_at}
-use Rattle.compare_built.specs.Conditions.{AgreeWhere, HoldsWhere, output_of}
+use Rattle.compare_built.specs.Conditions.{HoldsWhere, output_of}
 use Rattle.compare_built.specs.Report.{next_subject, output_subject, subjects}
 
 -- ---- functions
 
 module _ (n : ℕ) (order : List ℕ) (full : length order ≡ n) where
-  -- functions that agree by level agree as arranged
+  -- functions that agree by level agree in the other order
   pub agree_arranged : (f g : List Bool → Bool) → Agree n f g → Agree n (by_declared order f) (by_declared order g)
   agree_arranged f g same x len = same (assignment_by_level order x) (length-assignment_by_level order x ∙ full)
 
-  -- the function of a signal where its variables have other levels: the same labelling serves
+  -- the function of a signal whose variables have other levels: the same labelling is consistent
   pub function_arranged : (c : Circuit) (level other : ℕ → ℕ) (s : ℕ) (f : List Bool → Bool) → All (λ v. level v < n) (variables_of c) →
       All (λ v. get_or order (level v) 0 ≡ other v) (variables_of c) → IsFunctionOf c level n s f → IsFunctionOf c other n s (by_declared order f)
   function_arranged c level other s f low at is x len =
@@ -71,7 +72,7 @@ module _ (n : ℕ) (order : List ℕ) (full : length order ≡ n) where
 
 -- ---- places of names
 
--- a table of names that are apart has one more
+-- a table of the first names gets one more, which it does not have yet
 pub table_more : (names table new : List (List ℕ)) (i : ℕ) (n : List ℕ) → IsDistinct bytes_eq names → i < length names → slice_get names i ≡ Some n →
     table ≡ take i names → new ≡ with_name table n → new ≡ take (i + 1) names
 table_more names table new i n apart lt at taken grown = taken_more [] table names i n at lt new absent grown taken
@@ -98,7 +99,7 @@ low_or k m =
       | false ↦ λ e. omega arith
     ] refl
 
--- a name's place is not past the names
+-- the place of a name is at most the number of names
 pub place_low : (names : List (List ℕ)) (n : List ℕ) → level_of names n ≤ length names
 place_low names n = low_or (position_or_len (λ m. bytes_eq m n) names) (length names)
 
@@ -163,7 +164,7 @@ module _ (how : Match) (a b : Circuit) (given : Option Circuit) (q p : NamingMod
       ap length h.first.naming.names ∙ ordered_count (both how a b) (given_side given) h.first_order h.first.naming.fit ∙
       sym (ap length h.second.naming.names ∙ ordered_count (both how a b) (given_side given) h.second_order h.second.naming.fit)
 
-  -- what a variable's name is, it is one of the names
+  -- a variable's name is one of the names
   all_first : AmongNames (all_names (both how a b) (given_side given)) q.names
   all_first n e =
       ap (λ ns. is_name_in ns n) h.first.naming.names ∙
@@ -202,9 +203,9 @@ module _ (how : Match) (a b : Circuit) (given : Option Circuit) (q p : NamingMod
         place_at p.names q.names (level_of q.names n) (number_low q.names n (side_there i d lt)) ∙
         ap (level_of p.names) (number_at q.names n [] (side_there i d lt)) ∙ ap (λ ns. level_of ns n) h.second.naming.names ∙ sym (also i d lt)
 
-  -- ---- what is compared
+  -- ---- pairs
 
-  -- the same outputs and registers are compared, whatever the order
+  -- the same outputs and registers are compared in each order
   same_subjects : subjects a b q ≡ subjects a b p
   same_subjects =
       ap (λ c. map output_subject c.pairs ++ map (next_subject a b) q.registers.pairs) (h.first.naming.outputs ∙ sym h.second.naming.outputs) ∙
@@ -235,7 +236,7 @@ module _ (how : Match) (a b : Circuit) (given : Option Circuit) (q p : NamingMod
       (side_low (own c) q.given p.given known has also) (side_at (own c) q.given p.given known has also)
       (subst (λ m. IsFunctionOf c (slice_index q.given) m (output_of c) holds) many is)
 
-  -- the diagrams over the one order denote the functions over the other
+  -- diagrams in the one order denote the functions in the other
   module _ (S : Nodes) (of : List Subject) (refs : List Ref) (c : AreCompared as_built a b given q S of refs) where
     levels_are : S.levels ≡ length p.names
     levels_are = c.levels ∙ many

@@ -1,4 +1,4 @@
--- Functions where a condition holds, and the verdicts of them.
+-- Functions restricted to a condition, and their verdicts.
 use Rattle.std.proofs.Common.{◌≡◌, ◌≢◌, ◌∙◌, ap, sym, refl, subst, ℕ, Bool, true, false, List, length, Option, None}
 use Rattle.std.specs.Prelude.{◌&&◌, ◌↔◌, IsTrue}
 use Rattle.dd_store.specs.Functions.{Agree, Before, IsLeastDifference}
@@ -37,13 +37,13 @@ extras_as asked n f g f' g' shown same other s = record {
   support = support_as asked.support n f g f' g' shown.support same other s.support;
 }
 
--- ---- values where the condition holds
+-- ---- values of restricted functions
 
--- with the condition, the value
+-- if the condition holds, the value is that of the function
 pub with_one : (h b : Bool) → IsTrue h → (h && b) ≡ b
 with_one h b e = ap (λ z. z && b) e
 
--- where two restricted values differ, the condition holds
+-- if two restricted values differ, the condition holds
 pub holds_there : (h a b : Bool) → ((h && a) ≢ (h && b)) → IsTrue h
 holds_there true a b ne = refl
 holds_there false a b ne = absurd (ne refl)
@@ -68,11 +68,11 @@ module _ (n : ℕ) (holds f g f' g' : List Bool → Bool) (first : Agree n f' (r
         least = λ y len before h. sym (with_one (holds y) (f y) h) ∙ sym (first y len) ∙ l.least y len before ∙ second y len ∙ with_one (holds y) (g y) h;
       }
 
--- where the condition holds everywhere
+-- if the condition holds everywhere
 pub least_everywhere : (n : ℕ) (f g : List Bool → Bool) (x : List Bool) → IsLeastDifference n f g x → IsLeastWhere n everywhere f g x
 least_everywhere n f g x l = record { bits = l.bits; satisfies = refl; differ = l.differ; least = λ y len before h. l.least y len before }
 
--- agreement everywhere of restricted functions
+-- restricted functions agree everywhere if the functions agree wherever the condition holds
 pub agree_both : (n : ℕ) (holds f g : List Bool → Bool) → AgreeWhere n holds f g → Agree n (restricted holds f) (restricted holds g)
 agree_both n holds f g same = λ x len. by x len (holds x) refl
   where
@@ -93,7 +93,7 @@ least_both n holds f g x l = record {
 
 -- ---- verdicts
 
--- the verdict of the plain functions of restrictions is the verdict where the condition holds
+-- the verdict of restricted functions without a condition is that of the functions with the condition
 pub verdict_where : (n : ℕ) (asked : Details) (holds : List Bool → Bool) (d : Compared) (f g : List Bool → Bool) → Agree n d.first (restricted holds f) → Agree n d.second (restricted holds g) →
     (v : Verdict) → IsVerdictOf n asked everywhere d v → IsVerdictOf n asked holds (record { role = d.role; name = d.name; first = f; second = g }) v
 verdict_where n asked holds d f g first second v (where_equal {shown = shown} agree size) =

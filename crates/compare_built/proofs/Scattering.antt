@@ -1,4 +1,4 @@
--- Assignments that are picked out of others, and those that are spread over more places.
+-- Assignments of which the bits at some places are picked, and assignments that are spread over more places.
 use Rattle.std.proofs.Common.{◌≡◌, ◌∙◌, ap, sym, refl, subst, arith, inl, inr, ◌⊎◌, ℕ, zero, suc, ◌<◌, Bool, true, false, List, [], ◌∷◌}
 use Rattle.std.proofs.Common.{length, get_or, replicate, All}
 use Rattle.std.specs.Prelude.{◌↔◌, fold, zip, set, IsTrue}
@@ -21,7 +21,7 @@ pub as_long : (bits : List Bool) (ats : List (ℕ × Bool)) → length (fold wit
 as_long bits [] = refl
 as_long bits (at ∷ ats) = as_long (set bits at.0 at.1) ats ∙ length-set bits at.0 at.1
 
--- a bit is what it was where it is before all places
+-- a bit before all places does not change
 before_all : (bits : List Bool) (places : List ℕ) (x : List Bool) (u : ℕ) → ((j : ℕ) → j < length places → u < get_or places j 0) →
     get_or (with_bits bits places x) u false ≡ get_or bits u false
 before_all bits [] x u h = refl
@@ -43,7 +43,7 @@ was_or_set bits (l ∷ places) (b ∷ x) u e = elim (was_or_set (set bits l b) p
   | inr (j, low, at) ↦ inr (suc j, omega (arith, low), at)
 ]
 
--- each place has its bit where the places rise
+-- each place has its bit, if the places rise
 at_its_place : (bits : List Bool) (places : List ℕ) (x : List Bool) (i : ℕ) → All (λ l. l < length bits) places →
     ((i j : ℕ) → i < j → j < length places → get_or places i 0 < get_or places j 0) → length x ≡ length places → i < length places →
     get_or (with_bits bits places x) (get_or places i 0) false ≡ get_or x i false
@@ -131,7 +131,7 @@ module _ (n : ℕ) (places : List ℕ) (are : ArePlaces n places) where
             })
       ]
 
-  -- functions agree wherever a condition holds exactly where they do as functions of what is picked
+  -- functions agree wherever a condition holds exactly if they do as functions of the picked bits
   pub agree_where_picked : (holds f g : List Bool → Bool) →
       AgreeWhere (length places) holds f g ↔ AgreeWhere n (λ x. holds (bits_at places x)) (λ x. f (bits_at places x)) (λ x. g (bits_at places x))
   agree_where_picked holds f g = (

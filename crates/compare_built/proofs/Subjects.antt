@@ -1,5 +1,5 @@
--- What is compared: signals of the two netlists.
-use Rattle.std.proofs.Common.{◌≡◌, ◌≢◌, ◌∙◌, ap, sym, refl, subst, ℕ, zero, suc, ◌+◌, ◌<◌, ◌≤◌, true, false, cond, List, [], ◌∷◌, ◌++◌, map, length, get_or, drop, append_assoc, arith, eq-eqb, length-append, Option, Some, None, All}
+-- The signals of pairs are signals of the two netlists.
+use Rattle.std.proofs.Common.{◌≡◌, ◌≢◌, ◌∙◌, ap, sym, refl, subst, ℕ, suc, ◌+◌, ◌<◌, ◌≤◌, true, false, cond, List, [], ◌∷◌, ◌++◌, map, length, get_or, drop, append_assoc, arith, eq-eqb, length-append, Option, Some, None, All}
 use Rattle.std.specs.Prelude.{◌==◌, ◌||◌, find, slice_get, slice_index}
 use Rattle.std.proofs.lemmas.Grind.{get_or_default_zero}
 use Rattle.std.proofs.lemmas.List.{drop_more, get_or-append-add, get_or-map, get_or_append_left, length-map}
@@ -11,8 +11,8 @@ use Rattle.net_bench.specs.declared.netlist.GateLine.{GateLine}
 use Rattle.net_bench.specs.declared.netlist.Role.{Role}
 use Rattle.net_bench.specs.declared.netlist.Role.TheVariants.{Undefined, Input, Gate, Register}
 use Rattle.net_bench.specs.Circuit.{Circuit, HasRole, Net, IsNet, circuit, variables_of}
-use Rattle.net_order.specs.declared.order.Match.{Match}
-use Rattle.net_order.specs.declared.order.Order.{Order}
+use Rattle.net_names.specs.declared.order.Match.{Match}
+use Rattle.net_names.specs.declared.order.Order.{Order}
 use Rattle.net_order.specs.Order.{NamingModel, IsNaming, gate_operands, is_member, registers_of}
 use Rattle.net_order.proofs.Matching.{pairs_inside, only_first_inside, only_second_inside, register_pairs_in, register_pairs_inside, only_first_next_inside, only_second_next_inside}
 use Rattle.compare_built.specs.Report.{next_of, next_subject, output_subject, subjects}
@@ -51,7 +51,7 @@ first_of s (g ∷ gates) e =
       | false ↦ λ other k. first_later s g gates other (first_of s gates k)
     ] refl e
 
--- what a register takes next is a signal
+-- the next state of a register is a signal
 next_low : (n : Net) → IsNet n → (s : ℕ) → is_member s (registers_of (circuit n)) ≡ true → next_of (circuit n) s < length n.names
 next_low n sound s e =
     let first = first_of s n.registers e in
@@ -65,7 +65,7 @@ none_of s [] h = refl
 none_of s (g ∷ gates) h = ap (λ b. cond b (Some g) (find (λ x. x.out == s) gates)) (differs g.out s (h 0 g (omega arith))) ∙ none_of s gates (λ k d low. h (suc k) d (omega arith))
 
 module _ (n : Net) (sound : IsNet n) where
-  -- a register's signal is the variable at its place behind the inputs
+  -- a register's signal is the variable at its place after the inputs
   register_at : (k : ℕ) (d : GateLine) → k < length n.registers → slice_index (variables_of (circuit n)) (length n.inputs + k) ≡ (get_or n.registers k d).out
   register_at k d low = get_or-append-add n.inputs (map (λ (g : GateLine). g.out) n.registers) k 0 ∙ get_or-map (λ (g : GateLine). g.out) n.registers k d 0 low
 
@@ -84,18 +84,18 @@ module _ (n : Net) (sound : IsNet n) where
       let place = position_or_len_is (λ (h : GateLine). h.out == s) n.registers p g (omega (arith, low)) (λ k less. differs _ s (before k less)) (λ _. eq-eqb _ s its) in
       ap (λ o. slice_index (gate_operands o) 0) (find_at (λ (h : GateLine). h.out == s) n.registers ∙ ap (slice_get n.registers) place ∙ at)
 
-  -- what is no register takes nothing
+  -- a signal that is no register has signal 0 as its next state
   next_of_other : (s : ℕ) → All (λ g. g.out ≢ s) n.registers → next_of (circuit n) s ≡ 0
   next_of_other s none = ap (λ o. slice_index (gate_operands o) 0) (none_of s n.registers none)
 
-  -- a number that is no signal
+  -- so has a number that is no signal
   pub next_of_nothing : (s : ℕ) → length n.names ≤ s → next_of (circuit n) s ≡ 0
   next_of_nothing s past = next_of_other s (λ k d low same.
       let its : slice_index (variables_of (circuit n)) (length n.inputs + k) ≡ s = register_at k d low ∙ same in
       let inside : slice_index (variables_of (circuit n)) (length n.inputs + k) < length n.names = sound.variables (length n.inputs + k) 0 (omega (arith, low, variables_length)) in
       omega (arith, its, inside, past))
 
-  -- an input, and the signal of a gate
+  -- so have an input and the signal of a gate
   pub next_by_role : (s : ℕ) (r : Role) → HasRole n s r → ((p : ℕ) → r ≡ Register p → ⊥) → next_of (circuit n) s ≡ 0
   next_by_role s Undefined role none = absurd role
   next_by_role s Input (i, less, at) none = next_of_other s (λ k d low same.

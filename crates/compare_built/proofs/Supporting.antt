@@ -1,6 +1,6 @@
 -- On which variables functions depend: of functions that agree, and of functions of what is picked.
-use Rattle.std.proofs.Common.{◌≡◌, ◌≢◌, ◌∙◌, ap, sym, refl, subst, arith, inl, inr, ◌⊎◌, ℕ, zero, suc, ◌+◌, ◌<◌, Bool, true, false, List, [], ◌∷◌, ◌++◌, length, get_or, replicate, take, drop, All}
-use Rattle.std.specs.Prelude.{◌↔◌, fold, zip, set}
+use Rattle.std.proofs.Common.{◌≡◌, ◌≢◌, ◌∙◌, ap, sym, refl, subst, arith, inl, inr, ◌⊎◌, ℕ, zero, suc, ◌+◌, ◌<◌, Bool, true, false, List, [], ◌∷◌, ◌++◌, length, get_or, replicate, take, drop}
+use Rattle.std.specs.Prelude.{◌↔◌, set}
 use Rattle.std.proofs.Math.ListN.{length-replicate}
 use Rattle.std.proofs.lemmas.Bool.{cases_eq, true≢false}
 use Rattle.std.proofs.lemmas.List.{ext_get_or, length-append, length-set, get_or-set_same, get_or-set_other, get_or-replicate}
@@ -8,7 +8,7 @@ use Rattle.dd_store.specs.Functions.{Agree, DependsOn}
 use Rattle.counter_walk.specs.Support.{IsSupportOf}
 use Rattle.net_cone.specs.Spreading.{bits_at}
 use Rattle.net_cone.proofs.Spreading.{length-bits_at, bit-bits_at}
-use Rattle.compare_built.specs.Scatter.{scattered, with_bit}
+use Rattle.compare_built.specs.Scatter.{scattered}
 use Rattle.compare_built.proofs.Scattering.{length-scattered, was_or_set, with_bits}
 
 -- ---- functions that agree
@@ -82,12 +82,12 @@ from_set n v f d =
 
 -- ---- places apart
 
--- the places are below n, and no two are one
+-- the places are below n and distinct
 pub record AreApart (n : ℕ) (places : List ℕ) : Type 0 where
   pub below : (i : ℕ) → i < length places → get_or places i 0 < n
   pub apart : (i j : ℕ) → i < length places → j < length places → get_or places i 0 ≡ get_or places j 0 → i ≡ j
 
--- a value stands at a place, or at none
+-- a value is at a place, or at none
 find_place : (places : List ℕ) (v : ℕ) → ((i : ℕ) × (i < length places) × (get_or places i 0 ≡ v)) ⊎ ((j : ℕ) → j < length places → get_or places j 0 ≢ v)
 find_place [] v = inr (λ j low. absurd (omega (arith, low)))
 find_place (l ∷ places) v = elim (cases_eq l v) [

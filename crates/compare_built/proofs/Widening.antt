@@ -4,8 +4,8 @@ use Rattle.std.specs.Prelude.{IsSomeAnd}
 use Rattle.dd_store.specs.declared.reference.Ref.{Ref}
 use Rattle.dd_store.specs.Nodes.{Nodes, IsSound}
 use Rattle.net_bench.specs.Circuit.{Circuit}
-use Rattle.net_order.specs.declared.order.Match.{Match}
-use Rattle.net_order.specs.declared.order.Order.{Order}
+use Rattle.net_names.specs.declared.order.Match.{Match}
+use Rattle.net_names.specs.declared.order.Order.{Order}
 use Rattle.net_order.specs.Order.{NamingModel}
 use Rattle.wave_engine.specs.Bounds.{AreMoreThan, ArePast}
 use Rattle.gate_plan.specs.Asking.{IsPast}
@@ -19,7 +19,7 @@ use Rattle.compare_built.specs.Conditions.{output_of}
 use Rattle.compare_built.specs.Report.{subjects}
 use Rattle.compare_built.specs.Widths.{IsWideWhere, IsTooWide, AreTooWide}
 
--- the wave of what is compared where the condition holds, by the lists that it was handed
+-- the wave that restricts the pairs to the condition, by the lists that are its arguments
 pub wide_where : (a b c : Circuit) (p : NamingModel) (S : Nodes) (refs : References) → IsSound S → AreBuilt a b (Some c) p S refs → (of : List Subject) → of ≡ subjects a b p → (rs : List Ref) → rs ≡ references refs of →
     (g : Ref) → reference_of refs.given (output_of c) ≡ g → (o : Option ℕ) → ArePast o S (conjunctions rs g) → IsSomeAnd o (λ n. IsWideWhere n a b c p)
 wide_where a b c p S refs sound built of all rs er g is None past = absurd past
@@ -31,7 +31,7 @@ wide_where a b c p S refs sound built of all rs er g is (Some n) past = record {
   more = subst (λ z. AreMoreThan n S (conjunctions z (reference_of refs.given (output_of c)))) (er ∙ ap (references refs) all) (subst (λ z. AreMoreThan n S (conjunctions rs z)) (sym is) past);
 }
 
--- a comparison is too wide where one of its waves is
+-- a comparison is too wide if one of its waves is
 pub wide_build : (a b : Circuit) (given : Option Circuit) (p : NamingModel) (o : Option ℕ) → IsPast o (length p.names) (levelled a b given p) → IsSomeAnd o (λ n. IsTooWide n a b given p)
 wide_build a b given p None past = absurd past
 wide_build a b given p (Some n) past = inl past

@@ -1,4 +1,4 @@
--- What a comparison has at hand before its verdicts are found, and how far it has come.
+-- The states of a comparison: the diagrams are built, the pairs have their references, the pairs have their verdicts.
 use Rattle.std.specs.Prelude.{◌≡◌, ℕ, ◌+◌, ◌<◌, ⊤, Bool, false, List, ◌++◌, length, map, All, IfSome, Option, slice_index_or}
 use Rattle.std.specs.List.{AllZip}
 use Rattle.net_bench.specs.Circuit.{Circuit}
@@ -20,11 +20,11 @@ use Rattle.report_text.specs.declared.verdict.Verdict.{Verdict}
 use Rattle.compare_built.specs.Conditions.{HoldsWhere, restricted}
 use Rattle.compare_built.specs.Report.{Compared, AreFunctions, IsVerdictOf, subjects}
 
--- what is compared are signals of the netlists
+-- the signals of a pair are signals of the netlists
 abbrev pub IsInside : Circuit → Circuit → Subject → Type 0
 IsInside a b subject = (subject.named < length a.names) × (subject.first < length a.names) × (subject.second < length b.names)
 
--- what is compared, and what has no partner, are signals of the netlists
+-- the signals of all pairs, and those without a partner, are signals of the netlists
 pub record AreSignals (a b : Circuit) (p : NamingModel) : Type 0 where
   pub compared : All (IsInside a b) (subjects a b p)
   pub only_first : All (λ s. s < length a.names) p.outputs.only_first
@@ -40,40 +40,41 @@ pub record AreBuilt (a b : Circuit) (given : Option Circuit) (p : NamingModel) (
   pub condition : IfSome given (λ c. AreDiagrams c (given_level p) S refs.given)
   pub signals : AreSignals a b p
 
--- the subject at this place
+-- the pair at this place
 abbrev pub subject_at : List Subject → ℕ → Subject
 subject_at of i = slice_index_or of i (record { role = Output; named = 0; first = 0; second = 0 })
 
--- the references of what is compared: the first netlist's of each, then the second's
+-- the references of the pairs: those of all first signals, then those of all second signals
 abbrev pub references : References → List Subject → List Ref
 references refs of = map (λ subject. reference_of refs.first subject.first) of
     ++ map (λ subject. reference_of refs.second subject.second) of
 
--- what a diagram denotes, told as it is: over the variables by level
+-- a denotation as it is built: over the variables by level
 abbrev pub as_built : (List Bool → Bool) → List Bool → Bool
 as_built f = f
 
--- what a diagram denotes, as it is told: over the variables by level, or in another order
+-- a denotation as it is reported: over the variables by level, or in another order
 abbrev pub as_reported : VerdictOrder → (List Bool → Bool) → List Bool → Bool
 as_reported (ByLevel asked) f = as_built f
 as_reported (Arranged order support) f = by_declared order.now f
 
--- where verdicts are told in another order than that of n levels, it has each level's variable
+-- the order in which verdicts are reported is that of the n levels, or has the variable of each of them once
 abbrev pub IsVerdictOrder : ℕ → VerdictOrder → Type 0
 IsVerdictOrder n (ByLevel asked) = ⊤
 IsVerdictOrder n (Arranged order support) = IsOrder n order.now
 
--- what is told besides
+-- the details that are reported besides verdicts
 abbrev pub details_of : VerdictOrder → Details
 details_of (ByLevel asked) = asked
 details_of (Arranged order support) = record { sizes = false; support = support }
 
--- r denotes the function of a signal where the condition holds, as it is told
+-- r denotes, as it is reported, the function of a signal, restricted to the condition
 abbrev pub DenotesWhere : (reported : (List Bool → Bool) → List Bool → Bool) → (List Bool → Bool) → Circuit → (ℕ → ℕ) → Nodes → ℕ → Ref → Type 0
 DenotesWhere reported holds c level S s r = Has S r × ((whole : List Bool → Bool) × IsFunctionOf c level S.levels s whole
     × Agree S.levels (reported (den S r)) (restricted holds whole))
 
--- the references of what is compared denote its functions where the condition holds, as they are told over the variables of the pairing
+-- the references of the pairs denote, as they are reported, the functions of the pairs' signals, restricted to the
+-- condition, over the variables of the pairing
 pub record DenoteCompared (reported : (List Bool → Bool) → List Bool → Bool) (a b : Circuit) (given : Option Circuit) (p : NamingModel) (S : Nodes)
     (of : List Subject) (refs : List Ref) : Type 0 where
   pub holds : List Bool → Bool
@@ -83,7 +84,7 @@ pub record DenoteCompared (reported : (List Bool → Bool) → List Bool → Boo
   pub second : (i : ℕ) → i < length of → DenotesWhere reported holds b (second_level p) S (subject_at of i).second
       (reference_of refs (length of + i))
 
--- this is compared, and these are the references of a store for it
+-- these are all pairs, and these are their references in the store
 pub record AreCompared (reported : (List Bool → Bool) → List Bool → Bool) (a b : Circuit) (given : Option Circuit) (p : NamingModel) (S : Nodes)
     (of : List Subject) (refs : List Ref) : Type 0 where
   pub levels : S.levels ≡ length p.names
@@ -91,18 +92,18 @@ pub record AreCompared (reported : (List Bool → Bool) → List Bool → Bool) 
   pub all : of ≡ subjects a b p
   pub shown : DenoteCompared reported a b given p S of refs
 
--- these are the verdicts of what is compared
+-- these are the verdicts of these pairs, for this condition
 pub record HaveVerdicts (asked : Details) (holds : List Bool → Bool) (a b : Circuit) (p : NamingModel) (of : List Subject)
     (verdicts : List Verdict) : Type 0 where
   pub compared : List Compared
   pub functions : AllZip (AreFunctions a b p) of compared
   pub are_verdicts : AllZip (IsVerdictOf (length p.names) asked holds) compared verdicts
 
--- the verdicts of all that is compared, for the condition
+-- these are the verdicts of all pairs, for the condition of a comparison
 abbrev pub HaveAllVerdicts : Details → Circuit → Circuit → Option Circuit → NamingModel → List Verdict → Type 0
 HaveAllVerdicts asked a b given p verdicts = (holds : List Bool → Bool) × HoldsWhere given p holds
     × HaveVerdicts asked holds a b p (subjects a b p) verdicts
 
--- two functions of this role and name, whose diagrams these are, as they are told
+-- the pair of the functions that these references denote, as they are reported, with this role and name
 abbrev pub compared_of : (reported : (List Bool → Bool) → List Bool → Bool) → Nodes → PairKind → List ℕ → Ref → Ref → Compared
 compared_of reported S role name first second = record { role = role; name = name; first = reported (den S first); second = reported (den S second) }

@@ -1,4 +1,5 @@
--- What is known of a pair before an attempt is made: a pattern at which it differs, or that its signals are equal inside.
+-- What is known of a pair before an attempt is made: a pattern at which it differs, or that its signals are equal
+-- inside.
 use Rattle.std.specs.Prelude.{◌<◌, ◌+◌, ℕ, Bool, false, List, length, Option, None}
 use Rattle.net_bench.specs.Circuit.{Circuit}
 use Rattle.net_order.specs.Order.{NamingModel}
@@ -18,7 +19,7 @@ pub record IsEqualInside (a b : Circuit) (p : NamingModel) (s : Subject) : Type 
   pub functions : AreFunctions a b p s compared
   pub agree : AgreeWhere (length p.names) everywhere compared.first compared.second
 
--- the patterns at which two netlists are evaluated: a function of how many variables and gates they have
+-- the patterns at which two netlists are evaluated, which depend only on the numbers of variables and gates
 abbrev pub patterns_of : Circuit → Circuit → NamingModel → Patterns
 patterns_of a b p = patterns_for (length p.names) (length a.gates + length b.gates)
 
@@ -34,7 +35,7 @@ IsShownAt a b given p s number = IsShownBy a b given p (patterns_of a b p) (sign
 abbrev pub IsUnshown : Circuit → Circuit → Option Circuit → NamingModel → Subject → Type 0
 IsUnshown a b given p s = (number : ℕ) → number < pattern_count (patterns_of a b p) → IsShownAt a b given p s number → ⊥
 
--- what is reported of a difference of which it is not known that it is the least
+-- what is reported besides a difference that may not be the least
 abbrev pub shown_extras : Extras
 shown_extras = record { least = false; support = None; sizes = None }
 
@@ -43,7 +44,7 @@ pub data IsShownDifference (n : ℕ) (holds : List Bool → Bool) (c : Compared)
   shown : {x : List Bool} → IsDifferenceWhere n holds c.first c.second x
       → IsShownDifference n holds c (Differs c.role c.name x (c.first x) (c.second x) shown_extras)
 
--- The same of a pair.
+-- The same for a pair, whose functions are those of its signals.
 pub record IsShownVerdict (a b : Circuit) (given : Option Circuit) (p : NamingModel) (s : Subject) (v : Verdict) : Type 0 where
   pub holds : List Bool → Bool
   pub condition : HoldsWhere given p holds

@@ -1,3 +1,4 @@
+pub mod Picking
 pub mod Devices
 pub mod Conditions
 pub mod Report
@@ -10,7 +11,8 @@ pub mod Limits
 pub mod Widths
 pub mod Attempts
 pub mod Cones
+pub mod NamePatterns
 pub mod PairSelection
-pub mod Texts
 pub mod Scatter
 pub mod Details
+pub mod Findings

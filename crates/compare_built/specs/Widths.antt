@@ -1,8 +1,8 @@
 -- How many requests the waves of a comparison reach.
 use Rattle.std.specs.Prelude.{◌⊎◌, ℕ, length, Option, Some, IsSomeAnd}
 use Rattle.net_bench.specs.Circuit.{Circuit}
-use Rattle.net_order.specs.declared.order.Match.{Match}
-use Rattle.net_order.specs.declared.order.Order.{Order}
+use Rattle.net_names.specs.declared.order.Match.{Match}
+use Rattle.net_names.specs.declared.order.Order.{Order}
 use Rattle.net_order.specs.Order.{NamingModel}
 use Rattle.dd_store.specs.Nodes.{Nodes, IsSound}
 use Rattle.wave_engine.specs.Bounds.{AreMoreThan}
@@ -15,7 +15,8 @@ use Rattle.compare_built.specs.Comparing.{AreBuilt, references}
 use Rattle.compare_built.specs.Conditions.{output_of}
 use Rattle.compare_built.specs.Report.{subjects}
 
--- In some store that has the diagrams of the netlists and of the condition, the wave of what is compared reaches more than n requests.
+-- In some store that has the diagrams of the netlists and of the condition, the wave that restricts the pairs to the
+-- condition reaches more than n requests.
 pub record IsWideWhere (n : ℕ) (a b c : Circuit) (p : NamingModel) : Type 0 where
   pub store : Nodes
   pub sound : IsSound store
@@ -23,7 +24,8 @@ pub record IsWideWhere (n : ℕ) (a b c : Circuit) (p : NamingModel) : Type 0 wh
   pub are_built : AreBuilt a b (Some c) p store built
   pub more : AreMoreThan n store (conjunctions (references built (subjects a b p)) (reference_of built.given (output_of c)))
 
--- one wave of a comparison reaches more than n requests: one of the building, or that of what is compared where the condition holds
+-- one wave of a comparison reaches more than n requests: one of the build, or the one that restricts the pairs to the
+-- condition
 abbrev pub IsTooWide : ℕ → Circuit → Circuit → Option Circuit → NamingModel → Type 0
 IsTooWide n a b given p = IsWide n (length p.names) (levelled a b given p) ⊎ IsSomeAnd given (λ c. IsWideWhere n a b c p)
 

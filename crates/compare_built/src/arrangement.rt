@@ -1,14 +1,14 @@
-//! How the variables of one pairing stand in another of the same netlists.
+//! The places of one pairing's variables in another pairing of the same netlists.
 ghost use Rattle.std.specs.Prelude.{◌≡◌, bytes_eq, IfOk};
 ghost use Rattle.std.specs.List.{IsDistinct};
 ghost use Rattle.compare_built.specs.Arrangement.{places_among};
 
 use net_bench::name_table::NameTable;
-use net_order::names::Names;
+use net_names::names::Names;
 use net_order::pairing::Pairing;
 use std::alloc::{AllocError, Global};
 
-/// Names as a table, which finds each one's place.
+/// Returns a table of the names, in which each is found in constant time on average. Fails if memory is refused.
 fn table_of(alloc: Global, names: &Names) -> Result<NameTable, AllocError>
     requires { IsDistinct bytes_eq names.now }
     ensures { IfOk result (λ table. table ≡ names.now) }
@@ -20,7 +20,9 @@ fn table_of(alloc: Global, names: &Names) -> Result<NameTable, AllocError>
     Ok(table)
 }
 
-/// For each level of a pairing, the place of its variable among the names of another.
+/// Returns, for each level of `built`, the place of its variable among the names of `reported`, which has the same
+/// variables in another order. So a verdict over the levels of the diagrams can be reported in the order of `reported`.
+/// Fails if memory is refused.
 pub fn arrangement(
     alloc: Global,
     built: &Pairing,

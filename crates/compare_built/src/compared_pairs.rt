@@ -1,6 +1,6 @@
-//! What is compared, and its diagrams where the condition holds.
+//! The pairs that a comparison compares, and their diagrams restricted to the condition.
 ghost use Rattle.std.specs.Prelude.{◌≡◌, ◌≢◌, ◌++◌, ◌-◌, ◌^◌, ◌<◌, length, map, All, OnOk, IfOk, IfErr, IsSomeAnd};
-ghost use Rattle.expand_work.specs.Bounds.{most_of};
+ghost use Rattle.expand_work.specs.Bounds.{MayStop, most_of};
 ghost use Rattle.net_bench.specs.Circuit.{circuit};
 ghost use Rattle.net_order.specs.Order.{condition};
 ghost use Rattle.dd_store.specs.Nodes.{IsSound};
@@ -27,14 +27,17 @@ use std::alloc::{AllocError, Global};
 use std::sync::Wait;
 use std::thread::Threads;
 
-/// What is compared, in the order of the report, and its diagrams: the first netlist's of each, then the second's.
+/// The pairs that are compared, in the order of the report, and their diagrams: those of the first netlist's signals,
+/// then those of the second's, each in the order of the pairs.
 #[derive(Drop)]
 pub struct ComparedPairs {
     pub subjects: Vec<Subject>,
     pub references: Vec<Ref>,
 }
 
-/// The signal that a register takes next, in constant time. For what is no register of the netlist it is the first signal.
+/// Returns the signal whose value the register takes next: its operand. It looks the register up by its role, in
+/// constant time. For a signal that is no register of the netlist it returns signal 0, so that no caller has to show
+/// that it is one.
 fn next_state(net: &Netlist, register: Signal) -> Signal
     ensures { result ≡ next_of (circuit net.now) register }
 {
@@ -47,7 +50,7 @@ fn next_state(net: &Netlist, register: Signal) -> Signal
     }
 }
 
-/// Puts the pairs of outputs at the end.
+/// Appends the pairs of outputs.
 fn add_outputs(naming: &Naming, subjects: &mut Vec<Subject>) -> Result<(), AllocError>
     ensures { OnOk result (subjects.new.items ≡ subjects.old.items ++ map output_subject naming.now.outputs.pairs) }
 {
@@ -64,7 +67,7 @@ fn add_outputs(naming: &Naming, subjects: &mut Vec<Subject>) -> Result<(), Alloc
     Ok(())
 }
 
-/// Puts the next states of the pairs of registers at the end.
+/// Appends, for each pair of registers, the pair of their next states, under the name of the first netlist's register.
 fn add_next_states(
     one: &Netlist,
     two: &Netlist,
@@ -87,7 +90,8 @@ fn add_next_states(
     Ok(())
 }
 
-/// All that is compared, in the order of the report.
+/// Returns all pairs of two netlists, in the order of the report: outputs, then next states. Fails if memory is
+/// refused.
 pub fn subjects_of(
     alloc: Global,
     first: &Netlist,
@@ -102,7 +106,7 @@ pub fn subjects_of(
     Ok(subjects)
 }
 
-/// Puts the first netlist's diagrams of what is compared at the end.
+/// Appends the diagram of each pair's first signal.
 fn add_first(
     built: &CircuitDiagrams,
     subjects: &[Subject],
@@ -118,7 +122,7 @@ fn add_first(
     Ok(())
 }
 
-/// Puts the second netlist's diagrams of what is compared at the end.
+/// Appends the diagram of each pair's second signal.
 fn add_second(
     built: &CircuitDiagrams,
     subjects: &[Subject],
@@ -134,7 +138,7 @@ fn add_second(
     Ok(())
 }
 
-/// The diagrams of what is compared: the first netlist's of each, then the second's.
+/// Returns the diagrams of all first signals, then those of all second signals.
 fn references_of(
     alloc: Global,
     built: &CircuitDiagrams,
@@ -150,8 +154,9 @@ fn references_of(
     Ok(references)
 }
 
-/// What is compared, and its diagrams where the condition holds, which one wave makes of those that are built. Without a condition they
-/// are those.
+/// Returns all pairs and their diagrams. With a condition, one wave makes the And of each diagram and the condition's,
+/// so that two references are equal exactly if the functions agree wherever the condition holds (Bryant 1986). Without
+/// one, the diagrams are those of the build. Fails as `gate_plan::conjoin` does, and if memory is refused.
 pub fn compared_pairs_of<H: Threads + Wait + Sync, G: Monitor>(
     task: &Task<'_, H>,
     store: &mut Store,
@@ -171,14 +176,15 @@ pub fn compared_pairs_of<H: Threads + Wait + Sync, G: Monitor>(
         result ≡ Err (CheckFault.Wave WaveFault.Full) → IsOver (circuit task.now.first.now) (circuit task.now.second.now)
         (condition task.now.given) pairing.now store.new }
     ensures past { result ≡ Err (CheckFault.Wave WaveFault.TooManyRequests)
-        → IsSomeAnd (G.bound crew.now.monitor.now) (λ n. IsSomeAnd
+        → IsSomeAnd (G.bound crew.now.monitor.now).requests (λ n. IsSomeAnd
         (condition task.now.given) (λ c. IsWideWhere n (circuit task.now.first.now) (circuit task.now.second.now) c pairing.now)) }
-    ensures needs_no_thread { most_of (G.bound crew.now.monitor.now) < 2 ^ 64 - 1 → result ≢ Err (CheckFault.Wave WaveFault.NoWorker) }
+    ensures needs_no_thread { most_of (G.bound crew.now.monitor.now).requests < 2 ^ 64 - 1 → result ≢ Err (CheckFault.Wave WaveFault.NoWorker) }
+    ensures stopped { result ≡ Err (CheckFault.Wave WaveFault.Stopped) → MayStop (G.bound crew.now.monitor.now) }
     ensures err { IfErr result IsComparisonFault }
 {
-    let _ = store.levels();
-    let _ = task.first.inputs();
-    let _ = task.second.inputs();
+    let _ = store.levels(); // For the proof.
+    let _ = task.first.inputs(); // For the proof.
+    let _ = task.second.inputs(); // For the proof.
     let subjects = subjects_of(task.alloc, task.first, task.second, pairing.naming())?;
     let references = references_of(task.alloc, built, subjects.as_slice())?;
     let Some(given) = task.given else {

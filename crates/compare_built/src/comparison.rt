@@ -1,6 +1,6 @@
-//! What a comparison of two netlists finds, within so many nodes.
+//! The comparison of two netlists in one order of the variables, within a limit of nodes.
 ghost use Rattle.std.specs.Prelude.{◌≡◌, ◌≢◌, ◌<◌, ◌-◌, ◌^◌, false, IfOk, IfErr, IsSomeAnd, OnOk, Err};
-ghost use Rattle.expand_work.specs.Bounds.{most_of};
+ghost use Rattle.expand_work.specs.Bounds.{MayStop, most_of};
 ghost use Rattle.net_bench.specs.Circuit.{circuit};
 ghost use Rattle.net_order.specs.Order.{condition};
 ghost use Rattle.gate_plan.specs.Building.{IsPaired};
@@ -26,7 +26,8 @@ use report_text::Verdict;
 use std::sync::Wait;
 use std::thread::Threads;
 
-/// What is shown of two netlists that are paired, in a store of its own, within so many nodes.
+/// Builds the diagrams of two netlists in a new store of at most `limit` nodes, and returns the store with the pairs
+/// that are compared and their diagrams. Fails as `gate_plan::build` does, and if memory is refused.
 fn built_within<H: Threads + Wait + Sync, G: Monitor>(
     task: &Task<'_, H>,
     pairing: &Pairing,
@@ -43,12 +44,13 @@ fn built_within<H: Threads + Wait + Sync, G: Monitor>(
     ensures full { result ≡ Err (CheckFault.Wave WaveFault.Full)
         → Exceeds limit (circuit task.now.first.now) (circuit task.now.second.now) (condition task.now.given) pairing.now }
     ensures past { result ≡ Err (CheckFault.Wave WaveFault.TooManyRequests)
-        → IsSomeAnd (G.bound monitor.now) (λ n. IsTooWide n (circuit task.now.first.now) (circuit task.now.second.now)
+        → IsSomeAnd (G.bound monitor.now).requests (λ n. IsTooWide n (circuit task.now.first.now) (circuit task.now.second.now)
         (condition task.now.given) pairing.now) }
-    ensures needs_no_thread { most_of (G.bound monitor.now) < 2 ^ 64 - 1 → result ≢ Err (CheckFault.Wave WaveFault.NoWorker) }
+    ensures needs_no_thread { most_of (G.bound monitor.now).requests < 2 ^ 64 - 1 → result ≢ Err (CheckFault.Wave WaveFault.NoWorker) }
+    ensures stopped { result ≡ Err (CheckFault.Wave WaveFault.Stopped) → MayStop (G.bound monitor.now) }
 {
-    let _ = task.first.inputs();
-    let _ = task.second.inputs();
+    let _ = task.first.inputs(); // For the proof.
+    let _ = task.second.inputs(); // For the proof.
     let levels = pairing.names().len() as u16;
     let mut store = Store::new(task.alloc, levels, limit)?;
     let crew = Crew {
@@ -68,7 +70,9 @@ fn built_within<H: Threads + Wait + Sync, G: Monitor>(
     Ok((store, shown))
 }
 
-/// The verdicts of what is shown of two netlists, as they are told over the variables of a pairing.
+/// Returns the verdicts of the pairs whose diagrams a store has, then those of outputs and registers without a partner.
+/// Their assignments are over the variables of `pairing`, in the order that `verdict_order` says. No wave is needed, so
+/// it fails only if memory is refused.
 fn verdicts_in<H>(
     task: &Task<'_, H>,
     pairing: &Pairing,
@@ -85,6 +89,7 @@ fn verdicts_in<H>(
     ensures never_out_of_nodes { result ≢ Err (CheckFault.Wave WaveFault.Full) }
     ensures never_too_many_requests { result ≢ Err (CheckFault.Wave WaveFault.TooManyRequests) }
     ensures needs_no_thread { result ≢ Err (CheckFault.Wave WaveFault.NoWorker) }
+    ensures never_stopped { result ≢ Err (CheckFault.Wave WaveFault.Stopped) }
 {
     let comparison = Comparison {
         first: task.first,
@@ -99,7 +104,15 @@ fn verdicts_in<H>(
     Ok(verdicts_of(task.alloc, &comparison)?)
 }
 
-/// What a comparison of two netlists that are paired finds, within so many nodes.
+/// Compares two netlists within `limit` nodes, and returns a verdict for each line of the report. Their assignments are
+/// over the variables of `pairing`, by level.
+///
+/// The diagrams are built by waves (Ochi, Yasuoka and Yajima 1993), as shared diagrams with complement edges, so a pair
+/// is equal exactly if its two references are (Bryant 1986). Each comparison has a store of its own.
+///
+/// Fails with Full if the limit is too small, with TooManyRequests if a wave has more requests than the monitor allows,
+/// with Stopped if the monitor has stopped the run, with NoWorker if there is no bound and a thread could not be
+/// started, and with OutOfMemory.
 pub fn compare<H: Threads + Wait + Sync, G: Monitor>(
     task: &Task<'_, H>,
     pairing: &Pairing,
@@ -116,9 +129,10 @@ pub fn compare<H: Threads + Wait + Sync, G: Monitor>(
     ensures full { result ≡ Err (CheckFault.Wave WaveFault.Full)
         → Exceeds limit (circuit task.now.first.now) (circuit task.now.second.now) (condition task.now.given) pairing.now }
     ensures past { result ≡ Err (CheckFault.Wave WaveFault.TooManyRequests)
-        → IsSomeAnd (G.bound monitor.now) (λ n. IsTooWide n (circuit task.now.first.now) (circuit task.now.second.now)
+        → IsSomeAnd (G.bound monitor.now).requests (λ n. IsTooWide n (circuit task.now.first.now) (circuit task.now.second.now)
         (condition task.now.given) pairing.now) }
-    ensures needs_no_thread { most_of (G.bound monitor.now) < 2 ^ 64 - 1 → result ≢ Err (CheckFault.Wave WaveFault.NoWorker) }
+    ensures needs_no_thread { most_of (G.bound monitor.now).requests < 2 ^ 64 - 1 → result ≢ Err (CheckFault.Wave WaveFault.NoWorker) }
+    ensures stopped { result ≡ Err (CheckFault.Wave WaveFault.Stopped) → MayStop (G.bound monitor.now) }
 {
     let (store, shown) = built_within(task, pairing, limit, monitor)?;
     let asked = details_in(task.settings);
@@ -131,8 +145,10 @@ pub fn compare<H: Threads + Wait + Sync, G: Monitor>(
     )
 }
 
-/// What a comparison of two netlists finds, within so many nodes, told over the variables of another pairing of them than that by which
-/// the diagrams are built.
+/// Compares two netlists as `compare` does, but returns verdicts whose assignments are over the variables of
+/// `declared`, another pairing of the same netlists: the least difference is the least in that order. The diagrams, and
+/// so the limit and the faults, are those of `pairing`. The sizes of diagrams depend on their order, so they cannot be
+/// asked for.
 pub fn compare_as_declared<H: Threads + Wait + Sync, G: Monitor>(
     task: &Task<'_, H>,
     pairing: &Pairing,
@@ -152,9 +168,10 @@ pub fn compare_as_declared<H: Threads + Wait + Sync, G: Monitor>(
     ensures full { result ≡ Err (CheckFault.Wave WaveFault.Full)
         → Exceeds limit (circuit task.now.first.now) (circuit task.now.second.now) (condition task.now.given) pairing.now }
     ensures past { result ≡ Err (CheckFault.Wave WaveFault.TooManyRequests)
-        → IsSomeAnd (G.bound monitor.now) (λ n. IsTooWide n (circuit task.now.first.now) (circuit task.now.second.now)
+        → IsSomeAnd (G.bound monitor.now).requests (λ n. IsTooWide n (circuit task.now.first.now) (circuit task.now.second.now)
         (condition task.now.given) pairing.now) }
-    ensures needs_no_thread { most_of (G.bound monitor.now) < 2 ^ 64 - 1 → result ≢ Err (CheckFault.Wave WaveFault.NoWorker) }
+    ensures needs_no_thread { most_of (G.bound monitor.now).requests < 2 ^ 64 - 1 → result ≢ Err (CheckFault.Wave WaveFault.NoWorker) }
+    ensures stopped { result ≡ Err (CheckFault.Wave WaveFault.Stopped) → MayStop (G.bound monitor.now) }
 {
     let (store, shown) = built_within(task, pairing, limit, monitor)?;
     let order = arrangement(task.alloc, pairing, declared)?;

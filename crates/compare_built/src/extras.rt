@@ -1,4 +1,5 @@
-//! What is told of two diagrams beside their verdict: their sizes, and the variables on which one of them depends.
+//! What a verdict reports besides the values of a pair: the sizes of the two diagrams, and the variables on which one
+//! of the two functions depends.
 ghost use Rattle.std.specs.Prelude.{◌≡◌, false, IfOk};
 ghost use Rattle.counter_walk.specs.DeclaredOrder.{IsOrder, by_declared};
 ghost use Rattle.counter_walk.specs.Support.{IsSupportOf};
@@ -13,7 +14,7 @@ use dd_store::{Ref, Store};
 use report_text::{Bits, Extras, PairKind};
 use std::alloc::{AllocError, Global};
 
-/// What a verdict speaks of, and the two diagrams that it compares.
+/// The role and the name under which a pair is reported, and its two diagrams.
 #[derive(Clone, Copy, Drop)]
 pub struct Diagrams<'a> {
     pub role: PairKind,
@@ -22,7 +23,7 @@ pub struct Diagrams<'a> {
     pub second: Ref,
 }
 
-/// The size of a diagram, where it is asked for.
+/// Returns the number of nodes of a diagram, or none if sizes are not asked for. Fails if memory is refused.
 pub fn size_of(store: &Store, reference: Ref, asked: bool) -> Result<Option<u64>, AllocError>
     requires { Has store.now reference }
     ensures { IfOk result (λ shown. IsSizeShown asked store.now.levels (den store.now reference) shown) }
@@ -35,7 +36,7 @@ pub fn size_of(store: &Store, reference: Ref, asked: bool) -> Result<Option<u64>
     }
 }
 
-/// The sizes of two diagrams, where they are asked for.
+/// Returns the numbers of nodes of two diagrams, or none if sizes are not asked for.
 fn sizes_of(
     store: &Store,
     first: Ref,
@@ -55,7 +56,7 @@ fn sizes_of(
     }
 }
 
-/// The variables on which one of two diagrams depends, by level, where they are asked for.
+/// Returns, for each level, whether one of two functions depends on its variable, or none if support is not asked for.
 fn support_in(
     alloc: Global,
     store: &Store,
@@ -75,7 +76,8 @@ fn support_in(
     }
 }
 
-/// What is reported of two diagrams besides their least difference.
+/// Returns what the verdict of two different functions reports besides its assignment, which is the least difference.
+/// The support is by level. Fails if memory is refused.
 pub fn extras_of(
     alloc: Global,
     store: &Store,
@@ -96,7 +98,7 @@ pub fn extras_of(
     })
 }
 
-/// The places of an order, in more bits each.
+/// Returns an order with its places as 32-bit numbers, as `scatter_bits` takes them.
 fn as_places(alloc: Global, order: &[u16]) -> Result<Vec<u32>, AllocError>
     ensures { IfOk result (λ v. v.items ≡ order.now) }
 {
@@ -107,7 +109,7 @@ fn as_places(alloc: Global, order: &[u16]) -> Result<Vec<u32>, AllocError>
     Ok(places)
 }
 
-/// The variables on which one of two diagrams depends, in another order.
+/// Returns, for each place of an order, whether one of two functions depends on the variable there.
 fn arranged_support(
     alloc: Global,
     store: &Store,
@@ -126,7 +128,7 @@ fn arranged_support(
     Ok(Bits::of(declared))
 }
 
-/// The same where they are asked for.
+/// Returns the same, or none if support is not asked for.
 fn arranged_support_in(
     alloc: Global,
     store: &Store,
@@ -148,7 +150,9 @@ fn arranged_support_in(
     }
 }
 
-/// What is told of two diagrams besides, in another order of the variables, without sizes.
+/// Returns what the verdict of two different functions reports besides its assignment, which is the least difference in
+/// another order. The support is in that order too. There are no sizes, since those of diagrams in that order are not
+/// known. Fails if memory is refused.
 pub fn arranged_extras(
     alloc: Global,
     store: &Store,

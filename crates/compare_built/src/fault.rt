@@ -1,63 +1,37 @@
 //! Why a comparison has no report.
-ghost use Rattle.std.specs.Prelude.{◌≡◌, Some};
-ghost use Rattle.compare_built.specs.Texts.{check_fault_text};
+ghost use Rattle.std.specs.Prelude.{◌≡◌};
 ghost use Rattle.compare_built.specs.declared.fault.CheckFault.TheVariants as check_faults;
 
 use expand_work::WaveFault;
 use net_bench::fault::BenchFault;
-use net_order::order::OrderFault;
+use net_names::order::OrderFault;
 use std::alloc::AllocError;
-use std::fmt;
-use thiserror::Error;
 
-/// Why a comparison has no report, in the order in which the causes are looked for.
-#[derive(Clone, Copy, Drop, Debug, PartialEq, Eq, Error)]
+/// Why a comparison has no report. The causes are listed in the order in which they are looked for.
+#[derive(Clone, Copy, Drop, Debug, PartialEq, Eq)]
 pub enum CheckFault {
-    /// The first text was not accepted.
+    /// The first text is refused.
     First(BenchFault),
-    /// The second text was not accepted.
+    /// The second text is refused.
     Second(BenchFault),
-    /// The condition's text was not accepted.
+    /// The condition's text is refused.
     Given(BenchFault),
     /// The condition has no output, or more than one.
     GivenOutputs,
+    /// An explanation is asked for by a name that no output or register of the first netlist has.
+    Explain,
     /// The netlists have no pairing.
     Order(OrderFault),
-    /// Some pairs are asked for by names, and the first netlist has no output and no register of one of these names.
+    /// A name pattern by which pairs are picked matches no output and no register of the first netlist.
     Only,
-    /// Some pairs are to be explained, and the first netlist has not each of these outputs and registers.
-    Explain,
-    /// The diagrams were not built.
+    /// A wave has failed, so the diagrams were not built.
     Wave(WaveFault),
-    /// Orders were tried, and every attempt was given up, not all of them for their nodes.
+    /// Orders were tried, and every attempt was given up, at least one of them for another cause than its nodes.
     GivenUp,
-    /// The report could not be written, or not all of it.
+    /// The report was not written, or not all of it.
     Write,
-    /// A growth was refused elsewhere: for the store, the comparison or the report's text.
+    /// Memory was refused outside a wave: for the store, the comparison or the text of the report.
     OutOfMemory,
-}
-
-impl fmt::Display for CheckFault {
-    ghost output = { λ f. Some (check_fault_text f) };
-
-    fn fmt<W: fmt::Write>(&self, f: &mut fmt::Formatter<W>) -> fmt::Result {
-        match self {
-            CheckFault::First(fault) => write!(f, "first: {fault}"),
-            CheckFault::Second(fault) => write!(f, "second: {fault}"),
-            CheckFault::Given(fault) => write!(f, "given: {fault}"),
-            CheckFault::GivenOutputs => write!(f, "given: not exactly one output"),
-            CheckFault::Order(fault) => write!(f, "order: {fault}"),
-            CheckFault::Only => write!(f, "only: no such output or register"),
-            CheckFault::Explain => write!(f, "explain: no such output or register"),
-            CheckFault::Wave(fault) => write!(f, "build: {fault}"),
-            CheckFault::GivenUp => write!(
-                f,
-                "build: given up in each order; more memory, or a good order by --order-file, may help"
-            ),
-            CheckFault::Write => write!(f, "report: cannot be written"),
-            CheckFault::OutOfMemory => write!(f, "out of memory"),
-        }
-    }
 }
 
 impl From<AllocError> for CheckFault {

@@ -1,22 +1,24 @@
-//! Which pairs are compared.
+//! The choice of the pairs that are compared.
 
 ghost use Rattle.std.specs.Prelude.{◌≡◌};
 ghost use Rattle.compare_built.specs.PairSelection.{share_of};
 
-use report_text::{Name, Share};
+use report_text::{PairName, Share};
 
-/// Which pairs of outputs and of next states are compared, and so have lines in the report.
+/// Which pairs of outputs and of next states are compared. Only these have a line in the report.
 #[derive(Drop)]
 pub enum PairFilter {
+    /// All pairs.
     All,
-    /// Those of the first netlist's outputs and registers of these names.
-    Only(Vec<Name>),
-    /// Those of one share of all.
+    /// The pairs whose name, that of the first netlist's output or register, matches one of these patterns. A pattern
+    /// of a next state picks only registers. Each `*` of a pattern matches any run of bytes.
+    Only(Vec<PairName>),
+    /// The pairs of one share, for a comparison that several machines divide.
     Share(Share),
 }
 
 impl PairFilter {
-    /// The share that it is, where it is one.
+    /// Returns the share, or none if the pairs are not chosen by a share.
     pub fn share(&self) -> Option<Share>
         ensures { result ≡ share_of self.now }
     {

@@ -1,11 +1,12 @@
-//! What is found over some of the variables, told over all.
+//! Verdicts over the variables of cones, as verdicts over all variables.
 ghost use Rattle.std.specs.Prelude.{◌≡◌, ◌<◌, All, IfOk};
 ghost use Rattle.compare_built.specs.Scatter.{scattered, scatter_support, widened_verdict};
 
 use report_text::{Bits, Extras, Name, PairKind, Verdict};
 use std::alloc::{AllocError, Global};
 
-/// The assignment of so many bits that has these bits at the places, and 0 elsewhere.
+/// Returns the assignment of `levels` bits that has the given bits at the given places, in order, and 0 elsewhere.
+/// Fails if memory is refused.
 pub fn scatter_bits(
     alloc: Global,
     bits: &[bool],
@@ -22,7 +23,7 @@ pub fn scatter_bits(
     Ok(all_bits)
 }
 
-/// Marks over the variables at the places over all variables, where there are some.
+/// Returns a support over the variables at the places as one over all variables; none stays none.
 fn scatter_support(
     alloc: Global,
     support_bits: Option<Bits>,
@@ -39,8 +40,9 @@ fn scatter_support(
     Ok(Some(Bits::of(all_bits)))
 }
 
-/// A verdict over the variables at the places as the verdict of this role and name over all variables, one at each level. Sizes are not
-/// told. Time is linear in the levels.
+/// Returns a verdict over the variables at the places as the verdict of this role and name over all variables: the
+/// variables that the verdict does not have are 0 in its assignment. Sizes are left out, as they are those of diagrams
+/// in the cones' order. Takes time linear in `levels`. Fails if memory is refused.
 pub fn widen_verdict(
     alloc: Global,
     verdict: Verdict,

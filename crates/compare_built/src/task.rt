@@ -1,4 +1,4 @@
-//! What is compared, and what the comparison stands in.
+//! The netlists that a comparison compares, and what it uses for that.
 ghost use Rattle.std.specs.Prelude.{IfSome};
 ghost use Rattle.net_order.specs.Order.{condition};
 ghost use Rattle.compare_built.specs.Conditions.{HasOneOutput, one_output-prop};
@@ -7,7 +7,8 @@ use crate::settings::Settings;
 use net_bench::netlist::Netlist;
 use std::alloc::Global;
 
-/// What a comparison stands in: the threads and the memory that it may use, how it is done, and who bounds and watches its waves.
+/// What a comparison uses: the threads and the memory of its caller, its settings, and the monitor that bounds and
+/// watches its waves.
 #[derive(Drop)]
 pub struct Context<'a, H, G> {
     pub rt: &'a H,
@@ -16,7 +17,8 @@ pub struct Context<'a, H, G> {
     pub monitor: &'a G,
 }
 
-/// Two netlists that are to be compared, with a condition or without, and how.
+/// Two netlists that are compared, with a condition or without, the settings, and the threads and the memory of the
+/// caller. A condition has exactly one output.
 #[derive(Drop)]
 pub struct Task<'a, H> {
     pub rt: &'a H,

@@ -1,4 +1,4 @@
-//! The verdicts of outputs and registers that have no partner.
+//! The verdicts of outputs and registers without a partner.
 ghost use Rattle.std.specs.Prelude.{◌≡◌, ◌++◌, ◌<◌, length, map, All, OnOk};
 ghost use Rattle.net_bench.specs.Circuit.{circuit};
 ghost use Rattle.net_order.specs.Order.{names_of};
@@ -9,7 +9,8 @@ use net_order::naming::Naming;
 use report_text::{Name, PairKind, Side, Verdict};
 use std::alloc::{AllocError, Global};
 
-/// Puts the verdicts of signals of one netlist that have no partner at the end.
+/// Appends a verdict for each of these signals, which have no partner in the other netlist. Fails if memory is refused;
+/// then some verdicts may have been appended.
 pub fn add_unmatched(
     alloc: Global,
     verdicts: &mut Vec<Verdict>,
@@ -29,7 +30,8 @@ pub fn add_unmatched(
     Ok(())
 }
 
-/// Puts the verdicts of the first netlist's outputs that have no partner at the end, then of its registers.
+/// Appends a verdict for each of the first netlist's outputs without a partner, then for each of its registers. Fails
+/// as `add_unmatched` does.
 pub fn add_first_unmatched(
     alloc: Global,
     verdicts: &mut Vec<Verdict>,
@@ -54,7 +56,8 @@ pub fn add_first_unmatched(
     )
 }
 
-/// Puts the verdicts of the second netlist's outputs that have no partner at the end, then of its registers.
+/// Appends a verdict for each of the second netlist's outputs without a partner, then for each of its registers. Fails
+/// as `add_unmatched` does.
 pub fn add_second_unmatched(
     alloc: Global,
     verdicts: &mut Vec<Verdict>,

@@ -1,18 +1,18 @@
-//! In which order of the variables verdicts are told, and what is told besides.
+//! The order of the variables in which verdicts are reported, and the details that are reported besides.
 ghost use Rattle.std.specs.Prelude.{◌≡◌};
 ghost use Rattle.compare_built.specs.Details.{details_in, wants_support};
 
 use crate::settings::Settings;
 use report_text::Assignment;
 
-/// What is told besides verdicts: the sizes of the functions, and on which variables they depend.
+/// What is reported besides verdicts: the sizes of the diagrams, and the variables on which the functions depend.
 #[derive(Clone, Copy, Drop)]
 pub struct Details {
     pub sizes: bool,
     pub support: bool,
 }
 
-/// Whether the variables are told on which the functions depend.
+/// Whether the variables are reported on which the functions depend: only if assignments show just these.
 pub fn wants_support(which: Option<Assignment>) -> bool
     ensures { result ≡ wants_support which }
 {
@@ -22,7 +22,7 @@ pub fn wants_support(which: Option<Assignment>) -> bool
     }
 }
 
-/// What settings ask for.
+/// Returns the details that the settings ask for.
 pub fn details_in(settings: &Settings) -> Details
     ensures { result ≡ details_in settings.now }
 {
@@ -32,11 +32,12 @@ pub fn details_in(settings: &Settings) -> Details
     }
 }
 
-/// In which order of the variables verdicts are told.
+/// The order of the variables in which verdicts are reported.
 #[derive(Clone, Copy, Drop)]
 pub enum VerdictOrder<'a> {
-    /// That of the diagrams' levels.
+    /// The order of the diagrams' levels.
     ByLevel { asked: Details },
-    /// Another one, which has for each level the place of its variable. The sizes are not told, as they are those of the levels' order.
+    /// Another order, which has for each level the place of its variable. Sizes are not reported, as they are those of
+    /// diagrams in the order of the levels.
     Arranged { order: &'a [u16], support: bool },
 }

@@ -1,4 +1,4 @@
-//! The comparison of two netlists whose diagrams stand in one store: a verdict for each line of the report.
+//! A verdict for each line of the report, of two netlists whose diagrams are in one store.
 ghost use Rattle.std.specs.Prelude.{◌≡◌, ◌+◌, ◌<◌, false, length, All, IfOk};
 ghost use Rattle.counter_walk.specs.DeclaredOrder.{IsOrder, by_declared};
 ghost use Rattle.net_bench.specs.Circuit.{circuit};
@@ -7,7 +7,7 @@ ghost use Rattle.dd_store.specs.View.{Has};
 ghost use Rattle.gate_plan.specs.Building.{reference_of};
 ghost use Rattle.compare_built.specs.Conditions.{everywhere};
 ghost use Rattle.compare_built.specs.Report.{IsVerdictOf, AreVerdicts};
-ghost use Rattle.compare_built.specs.Comparing.{AreCompared, AreSignals, HaveAllVerdicts, IsVerdictOrder, as_built, as_reported, compared_of};
+ghost use Rattle.compare_built.specs.Comparing.{AreCompared, HaveAllVerdicts, IsVerdictOrder, as_built, as_reported, compared_of};
 ghost use Rattle.compare_built.specs.Comparing.{subject_at, details_of};
 
 use crate::extras::{Diagrams, arranged_extras, extras_of, size_of};
@@ -21,8 +21,9 @@ use net_order::pairing::Pairing;
 use report_text::{Bits, Name, Verdict};
 use std::alloc::{AllocError, Global};
 
-/// Two netlists, how they are paired, what is compared of them, the diagrams of this, the first netlist's of each and then the second's,
-/// and how the verdicts are told over the variables of the pairing.
+/// Two netlists with their pairing, the pairs that are compared, and the diagrams of these, those of all first signals
+/// before those of all second ones. `verdict_order` says in which order of the pairing's variables verdicts are
+/// reported.
 #[derive(Clone, Copy, Drop)]
 pub struct Comparison<'a> {
     pub first: &'a Netlist,
@@ -35,7 +36,8 @@ pub struct Comparison<'a> {
     pub verdict_order: VerdictOrder<'a>,
 }
 
-/// The verdict of two functions, over the variables by level.
+/// Returns the verdict of two functions, over the variables by level: they are equal exactly if there is no least
+/// difference.
 fn verdict_of(
     alloc: Global,
     store: &Store,
@@ -72,7 +74,8 @@ fn verdict_of(
     }
 }
 
-/// The verdict of two functions, over the variables in another order, which has for each level the place of its variable.
+/// Returns the verdict of two functions, over the variables in another order, which has for each level the place of its
+/// variable. The difference is the least in that order; its bits are put at their levels to evaluate both functions.
 fn arranged_verdict(
     alloc: Global,
     store: &Store,
@@ -113,7 +116,7 @@ fn arranged_verdict(
     }
 }
 
-/// The verdict of two functions, as it is told.
+/// Returns the verdict of two functions in the order in which verdicts are reported.
 fn reported_verdict(
     alloc: Global,
     store: &Store,
@@ -134,7 +137,7 @@ fn reported_verdict(
     }
 }
 
-/// The role, the name and the diagrams of what is compared at this place.
+/// Returns the role, the name and the two diagrams of the pair at this place.
 fn diagrams_of<'a>(of: &Comparison<'a>, place: usize) -> Diagrams<'a>
     requires place { place < length of.now.subjects.now }
     requires named { All (λ subject. subject.named < length of.now.first.now.names) of.now.subjects.now }
@@ -153,7 +156,7 @@ fn diagrams_of<'a>(of: &Comparison<'a>, place: usize) -> Diagrams<'a>
     }
 }
 
-/// The verdicts of all that is compared.
+/// Returns the verdicts of all pairs, in their order.
 fn verdicts_of_pairs(alloc: Global, of: &Comparison<'_>) -> Result<Vec<Verdict>, AllocError>
     requires compared { AreCompared (as_reported of.now.verdict_order) (circuit of.now.first.now) (circuit of.now.second.now)
         (condition of.now.given) of.now.pairing.now of.now.store.now of.now.subjects.now of.now.references.now }
@@ -170,7 +173,8 @@ fn verdicts_of_pairs(alloc: Global, of: &Comparison<'_>) -> Result<Vec<Verdict>,
     Ok(verdicts)
 }
 
-/// What a comparison finds, in the order of the report.
+/// Returns the verdicts of all pairs, then those of the outputs and registers without a partner, in the order of the
+/// report. Fails if memory is refused.
 pub fn verdicts_of(alloc: Global, of: &Comparison<'_>) -> Result<Vec<Verdict>, AllocError>
     requires compared { AreCompared (as_reported of.now.verdict_order) (circuit of.now.first.now) (circuit of.now.second.now)
         (condition of.now.given) of.now.pairing.now of.now.store.now of.now.subjects.now of.now.references.now }

@@ -1,20 +1,20 @@
--- What is known of pairs without an attempt.
-use Rattle.std.proofs.Common.{◌≡◌, ◌∙◌, refl, subst, sym, inl, inr, ℕ, ◌+◌, ◌<◌, set, Bool, true, false, List, [], ◌∷◌, arith, length, get_or, All, Option, Some, None}
+-- Verdicts that are known without an attempt.
+use Rattle.std.proofs.Common.{◌≡◌, ◌∙◌, refl, subst, sym, inl, inr, ℕ, ◌+◌, ◌<◌, set, Bool, true, false, List, [], ◌∷◌, arith, length, get_or, Option, Some, None}
 use Rattle.std.specs.Prelude.{⊤, IfSome, is_some}
 use Rattle.std.specs.List.{AllZip}
 use Rattle.std.proofs.lemmas.Bool.{cases_eq}
 use Rattle.std.proofs.lemmas.List.{get_or-set_other, get_or-set_same, get_or_default}
+use Rattle.expand_work.specs.Bounds.{WaveBound}
 use Rattle.net_bench.specs.Circuit.{Circuit, circuit}
-use Rattle.net_order.specs.Order.{NamingModel, condition, name_of}
+use Rattle.net_order.specs.Order.{NamingModel, condition}
 use Rattle.net_patterns.specs.declared.counterexample.ShownPattern.{ShownPattern}
 use Rattle.report_text.specs.declared.verdict.Verdict.{Verdict}
-use Rattle.report_text.specs.declared.verdict.Verdict.TheVariants.{Equal}
 use Rattle.compare_built.specs.Cones.{MayShow, cone_limit}
 use Rattle.compare_built.specs.Details.{unsized}
 use Rattle.compare_built.specs.Facts.{IsShownVerdict}
 use Rattle.compare_built.specs.Scatter.{IsOfNet}
-use Rattle.compare_built.specs.declared.settings.Difference.{Difference}
-use Rattle.compare_built.specs.declared.settings.Difference.TheVariants.{AnyOne}
+use Rattle.report_text.specs.declared.difference.Difference.{Difference}
+use Rattle.report_text.specs.declared.difference.Difference.TheVariants.{AnyOne}
 use Rattle.compare_built.specs.declared.subject.Subject.{Subject}
 use Rattle.pair_facts.specs.PairFacts.{IsFirstShown}
 use Rattle.cone_check.specs.declared.pair_cones.ConeContext.{ConeContext}
@@ -26,22 +26,22 @@ use Rattle.cone_check.proofs.Filling.{each_known}
 -- ---- one pair
 
 module _ (a b : Circuit) (given : Option Circuit) (p : NamingModel) (s : Subject) where
-  -- what was known stays
+  -- a verdict that was known is kept
   pub stays_known : (pattern : Option ShownPattern) (known : Option Verdict) → is_some known ≡ true → IsShownElse a b given p s pattern known known
   stays_known pattern (Some v) is = refl
   stays_known pattern None is = absurd (let never : false ≡ true = is in cc)
 
-  -- nothing is known without a pattern
+  -- without a pattern there is no verdict
   pub stays_unknown : (known : Option Verdict) → is_some known ≡ false → IsShownElse a b given p s None known known
   stays_unknown (Some v) is = absurd (let never : true ≡ false = is in cc)
   stays_unknown None is = refl
 
-  -- and with one its difference is
+  -- with a pattern there is the difference that it shows
   pub becomes_known : (pattern : ShownPattern) (known : Option Verdict) (v : Verdict) → is_some known ≡ false → IsShownVerdict a b given p s v → IsShownElse a b given p s (Some pattern) known (Some v)
   becomes_known pattern (Some w) v is shown = absurd (let never : true ≡ false = is in cc)
   becomes_known pattern None v is shown = shown
 
--- one place more
+-- the verdicts of one more place
 pub shown_more : (a b : Circuit) (given : Option Circuit) (p : NamingModel) (ss : List Subject) (shown : List (Option ShownPattern)) (before known : List (Option Verdict)) (k : ℕ) (s : Subject) (old new : Option Verdict) →
     k < length ss → length shown ≡ length ss → k < length known → s ≡ get_or ss k s → old ≡ get_or before k None → IsShownElse a b given p s (get_or shown k None) old new →
     ((i : ℕ) (t : Subject) (pattern : Option ShownPattern) → i < k → IsShownElse a b given p (get_or ss i t) (get_or shown i pattern) (get_or before i None) (get_or known i None)) →
@@ -71,7 +71,7 @@ module _ {H : Type 0} (context : ConeContext H) where
   abbrev pub ShownStep : Subject → Option ShownPattern → (known new : Option Verdict) → Type 0
   ShownStep = IsShownElse (circuit context.task.now.first.now) (circuit context.task.now.second.now) (condition context.task.now.given) context.naming.now
 
-  -- pairs that are equal inside are equal, and of the others nothing is known
+  -- pairs that are equal inside are Equal, and the others have no verdict
   equal_known : (net : IfSome (condition context.task.now.given) IsOfNet) (s : Subject) (e : Bool) → IsEqualIf (circuit context.task.now.first.now) (circuit context.task.now.second.now) context.naming.now s e →
       IsKnown (IsDecidedIn context known_limit) (λ t. ⊤) s (or_equal (circuit context.task.now.first.now) s e None)
   equal_known net s true is =
@@ -109,7 +109,7 @@ module _ {H : Type 0} (context : ConeContext H) where
       each_known {F = Option ShownPattern} ShownFact ShownStep (IsKnown (IsDecidedIn context known_limit) (λ t. ⊤)) (IsKnown (IsDecidedIn context known_limit) (λ t. ⊤)) (any_step is) ss shown known new facts before are.each are.places
 
   -- the differences that patterns show of pairs that are left
-  last_step : (bound : Option ℕ) (s : Subject) (pattern : Option ShownPattern) (o n : Option Verdict) → ShownFact s pattern → IsKnown (IsDecidedIn context known_limit) (StaysUndecided context bound) s o → ShownStep s pattern o n →
+  last_step : (bound : WaveBound) (s : Subject) (pattern : Option ShownPattern) (o n : Option Verdict) → ShownFact s pattern → IsKnown (IsDecidedIn context known_limit) (StaysUndecided context bound) s o → ShownStep s pattern o n →
       IsKnown (IsFinalVerdict context bound) (λ t. StaysUndecided context bound t × IsUnshownIn context t) s n
   last_step bound s pattern (Some v) n fact known made =
       subst (IsKnown (IsFinalVerdict context bound) (λ t. StaysUndecided context bound t × IsUnshownIn context t) s) (sym made)
@@ -121,7 +121,7 @@ module _ {H : Type 0} (context : ConeContext H) where
       reported_shown (unsized context.task.now.settings.now.assignment) context.task.now.settings.now.difference (FitIn context known_limit) (StaysUndecided context bound) (IsUnshownIn context) (circuit context.task.now.first.now)
       (circuit context.task.now.second.now) (condition context.task.now.given) context.naming.now s v (shown_if_left context.task.now.settings.now.difference (StaysUndecided context bound s) known) made
 
-  pub shown_last : (bound : Option ℕ) (ss : List Subject) (shown : List (Option ShownPattern)) (known new : List (Option Verdict)) → AllZip ShownFact ss shown →
+  pub shown_last : (bound : WaveBound) (ss : List Subject) (shown : List (Option ShownPattern)) (known new : List (Option Verdict)) → AllZip ShownFact ss shown →
       AllZip (IsKnown (IsDecidedIn context known_limit) (StaysUndecided context bound)) ss known →
       AreShownElse (circuit context.task.now.first.now) (circuit context.task.now.second.now) (condition context.task.now.given) context.naming.now ss shown known new →
       AllZip (IsKnown (IsFinalVerdict context bound) (λ t. StaysUndecided context bound t × IsUnshownIn context t)) ss new

@@ -1,10 +1,12 @@
--- Jobs that are dealt to batches, judged, and gathered by place.
-use Rattle.std.proofs.Common.{◌≡◌, ◌∙◌, ap, sym, refl, subst, arith, ℕ, zero, suc, ◌+◌, ◌<◌, List, [], ◌∷◌, ◌++◌, map, length, get_or, set, take, All, Option, append_assoc, length-append}
-use Rattle.std.proofs.lemmas.List.{get_or_append_left, length-map, map-append, take_more}
+-- Jobs that are dealt to batches, judged and sorted by place.
+use Rattle.std.proofs.Common.{◌≡◌, ◌∙◌, ap, sym, refl, subst, arith, inl, inr, ℕ, zero, suc, ◌+◌, ◌<◌, List, [], ◌∷◌, ◌++◌, map, length, get_or, set, take, All, append_assoc, length-append}
+use Rattle.std.proofs.lemmas.Bool.{cases_eq}
+use Rattle.std.proofs.lemmas.List.{get_or-set_other, get_or-set_same, get_or_append_left, get_or_default, length-map, map-append, take_more}
 use Rattle.std.specs.Prelude.{IsPermutation, flat_map}
 use Rattle.std.specs.List.{AllZip}
 use Rattle.std.proofs.lemmas.List.Elements.{All-append, All-cons, All-nil, All-tail}
 use Rattle.std.proofs.lemmas.List.Sorted.{All-permutation, IsPermutation-append_left, IsPermutation-append_right, IsPermutation-map, IsPermutation-refl, IsPermutation-to_front, IsPermutation-trans}
+use Rattle.expand_work.specs.Bounds.{WaveBound}
 use Rattle.rayon.proofs.ListFacts.{AllZip-append}
 use Rattle.expand_work.specs.declared.crew.Workers.{Workers}
 use Rattle.compare_built.specs.declared.subject.Subject.{Subject}
@@ -14,7 +16,7 @@ use Rattle.cone_check.specs.declared.batches.PairJob.{PairJob}
 use Rattle.cone_check.specs.ConeRounds.{IsJobResult}
 use Rattle.cone_check.specs.Batches.{AreJobsDone, AreJobsFor, IsJobDone, IsJobFor, jobs_in, jobs_of, put_at, workers_of}
 
--- ---- one job more
+-- ---- one more job
 
 moved : {X : Type 0} (xs ys : List X) (x : X) → IsPermutation ((xs ++ ys) ++ x ∷ []) ((xs ++ x ∷ []) ++ ys)
 moved xs ys x =
@@ -22,7 +24,7 @@ moved xs ys x =
     (subst (IsPermutation (xs ++ (ys ++ x ∷ []))) (sym (append_assoc xs (x ∷ []) ys))
     (IsPermutation-append_right xs (ys ++ x ∷ []) (x ∷ ys) (IsPermutation-to_front ys x)))
 
--- a batch with one job more
+-- a batch with one more job
 pub put_is : (batches : List Batch) (n : ℕ) (job : PairJob) (old new : Batch) → n < length batches → old ≡ get_or batches n old → new.jobs.items ≡ old.jobs.items ++ job ∷ [] →
     jobs_in (set batches n new) ≡ put_at n job (jobs_in batches)
 put_is [] n job old new low is grown = absurd (omega (arith, low))
@@ -44,7 +46,7 @@ length_put n x [] = refl
 length_put zero x (batch ∷ batches) = refl
 length_put (suc n) x (batch ∷ batches) = ap suc (length_put n x batches)
 
--- there are as many batches as before
+-- the number of batches is the same
 pub long_put : (old new : List Batch) (n : ℕ) (job : PairJob) → jobs_in new ≡ put_at n job (jobs_in old) → length new ≡ length old
 long_put old new n job is = sym (length-map new (λ (b : Batch). b.jobs.items)) ∙ ap length is ∙ length_put n job (jobs_in old) ∙ length-map old (λ (b : Batch). b.jobs.items)
 
@@ -67,26 +69,26 @@ added ss ps k job old new low at of shuffled are =
       pairs = All-permutation (IsJobFor ss) (old ++ job ∷ []) new shuffled (All-append (IsJobFor ss) old (job ∷ []) are.pairs (All-cons (IsJobFor ss) job [] of (All-nil (IsJobFor ss))));
     }
 
--- the pair at one place more is dealt
+-- the pair at one more place is dealt
 pub dealt_more : (ss : List Subject) (ps : List ℕ) (k n : ℕ) (job : PairJob) (old new : List Batch) → k < length ps → n < length old → job.place ≡ get_or ps k 0 → IsJobFor ss job → jobs_in new ≡ put_at n job (jobs_in old) →
     AreJobsFor ss (take k ps) (jobs_of old) → AreJobsFor ss (take (k + 1) ps) (jobs_of new)
 dealt_more ss ps k n job old new low inside at of put are =
     added ss ps k job (jobs_of old) (jobs_of new) low at of
     (subst (λ hs. IsPermutation (jobs_of old ++ job ∷ []) (flat hs)) (sym put) (flat_put n job (jobs_in old) (let e = length-map old (λ (b : Batch). b.jobs.items) in omega (arith, inside, e)))) are
 
--- nothing is dealt yet
+-- before the first place there are no jobs
 pub dealt_none : (ss : List Subject) (ps : List ℕ) (batches : List Batch) → jobs_of batches ≡ [] → AreJobsFor ss (take 0 ps) (jobs_of batches)
 dealt_none ss ps batches none = subst (AreJobsFor ss []) (sym none) (record { one_for_each = IsPermutation-refl []; pairs = All-nil (IsJobFor ss) })
 
 -- ---- jobs of places
 
--- what holds of the values holds of what they are of
+-- a property of the values of a function is one of its arguments
 pub all_unmap : {X : Type 0} {Y : Type 0} (P : Y → Type 0) (f : X → Y) (xs : List X) → All P (map f xs) → All (λ x. P (f x)) xs
 all_unmap P f [] all i d low = absurd (omega (arith, low))
 all_unmap P f (x ∷ xs) all zero d low = all 0 (f x) (omega arith)
 all_unmap P f (x ∷ xs) all (suc i) d low = all_unmap P f xs (All-tail P (f x) (map f xs) all) i d (omega (arith, low))
 
--- what holds of all pairs holds of those of the jobs
+-- a property of all pairs is one of the pairs of the jobs
 pub jobs_inside : (P : Subject → Type 0) (ss : List Subject) (ps : List ℕ) (jobs : List PairJob) → All P ss → All (λ p. p < length ss) ps → AreJobsFor ss ps jobs → All (λ (t : PairJob). P t.subject) jobs
 jobs_inside P ss ps jobs all low are i d lt =
     let t = get_or jobs i d in
@@ -95,7 +97,7 @@ jobs_inside P ss ps jobs all low are i d lt =
 
 -- ---- batches by place
 
--- what holds of each batch's jobs, of all jobs
+-- a relation of the jobs of each batch is one of all jobs
 pub zip_in : (R : PairJob → PairJob → Type 0) (old new : List Batch) → length new ≡ length old →
     ((i : ℕ) (b : Batch) → i < length old → AllZip R (get_or old i b).jobs.items (get_or new i b).jobs.items) → AllZip R (jobs_of old) (jobs_of new)
 zip_in R [] [] long each = tt
@@ -111,26 +113,39 @@ all_back : {X : Type 0} (P : X → Type 0) (xs ys : List X) → All P (xs ++ ys)
 all_back P [] ys all = all
 all_back P (x ∷ xs) ys all = all_back P xs ys (All-tail P x (xs ++ ys) all)
 
--- what holds of all jobs, of one batch's
+-- a property of all jobs is one of the jobs of each batch
 pub batch_in : (P : PairJob → Type 0) (batches : List Batch) (i : ℕ) (batch : Batch) → i < length batches → batch ≡ get_or batches i batch → All P (jobs_of batches) → All P batch.jobs.items
 batch_in P [] i batch low is all = absurd (omega (arith, low))
 batch_in P (b ∷ batches) zero batch low is all = subst (λ (x : Batch). All P x.jobs.items) (sym is) (all_front P b.jobs.items (jobs_of batches) all)
 batch_in P (b ∷ batches) (suc i) batch low is all = batch_in P batches i batch (omega (arith, low)) is (all_back P b.jobs.items (jobs_of batches) all)
 
--- what a call left of a batch
+-- the same relation of the batches that a call was given and has left
 pub left_there : (R : PairJob → PairJob → Type 0) (x y a b : Batch) → a ≡ x → b ≡ y → AllZip R a.jobs.items b.jobs.items → AllZip R x.jobs.items y.jobs.items
 left_there R x y a b ax by h = subst (λ (v : Batch). AllZip R x.jobs.items v.jobs.items) by (subst (λ (v : Batch). AllZip R v.jobs.items b.jobs.items) ax h)
 
--- by place
+-- a relation at each place is one of the lists
 pub zip_of : {X : Type 0} (R : X → X → Type 0) (old new : List X) → length new ≡ length old → ((i : ℕ) (x : X) → i < length old → R (get_or old i x) (get_or new i x)) → AllZip R old new
 zip_of R [] [] long each = tt
 zip_of R [] (y ∷ new) long each = absurd (omega (arith, long))
 zip_of R (x ∷ old) [] long each = absurd (omega (arith, long))
 zip_of R (x ∷ old) (y ∷ new) long each = (each 0 x (omega arith), zip_of R old new (omega (arith, long)) (λ i z lt. each (suc i) z (omega (arith, lt))))
 
--- ---- what judging leaves
+-- one more element: the new one at its place
+pub one_more_done : {X : Type 0} (R : X → X → Type 0) (olds items : List X) (k : ℕ) (old new : X) →
+    k < length olds → k < length items → old ≡ get_or olds k old → R old new →
+    ((i : ℕ) (x : X) → i < k → R (get_or olds i x) (get_or items i x)) →
+    (i : ℕ) (x : X) → i < k + 1 → R (get_or olds i x) (get_or (set items k new) i x)
+one_more_done R olds items k old new low lower at step made i x lt = elim (cases_eq i k) [
+  | inl same ↦
+      subst (λ j. R (get_or olds j x) (get_or (set items k new) j x)) (sym same)
+      (subst (R (get_or olds k x)) (sym (get_or-set_same items k new x lower))
+      (subst (λ o. R o new) (at ∙ get_or_default olds k old x low) step))
+  | inr other ↦ subst (R (get_or olds i x)) (sym (get_or-set_other items k i new x other)) (made i x (omega (arith, lt, other)))
+]
 
-module _ {H : Type 0} (whole : ConeContext H) (budget : ℕ) (bound : Option ℕ) where
+-- ---- jobs that are judged
+
+module _ {H : Type 0} (whole : ConeContext H) (budget : ℕ) (bound : WaveBound) where
   same_places : (old new : List PairJob) → AllZip (IsJobDone whole budget bound) old new → map (λ (t : PairJob). t.place) new ≡ map (λ (t : PairJob). t.place) old
   same_places [] [] each = refl
   same_places [] (y ∷ new) each = absurd each

@@ -1,14 +1,12 @@
--- Pairs that are judged by their cones: what a comparison of cones says of the whole.
-use Rattle.std.proofs.Common.{◌≡◌, sym, refl, subst, arith, ◌⊎◌, inl, inr, ℕ, ◌<◌, ◌≤◌, ◌*◌, Bool, true, false, List, [], ◌∷◌, map, length, All, Option, Some, None, min}
-use Rattle.std.specs.Prelude.{◌==◌, IfSome, cond, filter, zip, option_map, slice_index}
-use Rattle.std.proofs.lemmas.List.Elements.{All-cons, All-filter, All-head, All-nil, All-tail}
-use Rattle.expand_work.specs.Bounds.{most_of}
+-- What a comparison of a pair's cones implies for the whole comparison.
+use Rattle.std.proofs.Common.{◌≡◌, sym, refl, subst, arith, ◌⊎◌, inl, inr, ℕ, ◌<◌, ◌≤◌, Bool, List, [], ◌∷◌, length, Option, Some, None}
+use Rattle.std.specs.Prelude.{IfSome, option_map, slice_index}
+use Rattle.expand_work.specs.Bounds.{MayStop, WaveBound}
 use Rattle.gate_plan.proofs.Signals.{function, some_function}
 use Rattle.net_bench.specs.Circuit.{Circuit, Net, IsNet, circuit}
-use Rattle.net_bench.specs.Labels.{IsFunctionOf}
-use Rattle.net_order.specs.declared.order.Match.{Match}
-use Rattle.net_order.specs.declared.order.Match.TheVariants.{Name}
-use Rattle.net_order.specs.declared.order.Order.{Order}
+use Rattle.net_names.specs.declared.order.Match.{Match}
+use Rattle.net_names.specs.declared.order.Match.TheVariants.{Name}
+use Rattle.net_names.specs.declared.order.Order.{Order}
 use Rattle.net_order.specs.Order.{IsPairing, NamingModel, condition, max_variables, name_of, variables_in}
 use Rattle.report_text.specs.declared.verdict.Verdict.{Verdict}
 use Rattle.report_text.specs.declared.verdict.Verdict.TheVariants.{Equal, Undecided}
@@ -19,22 +17,21 @@ use Rattle.compare_built.specs.Details.{unsized}
 use Rattle.compare_built.specs.declared.strategy.Candidate.{Candidate}
 use Rattle.compare_built.specs.declared.subject.Subject.{Subject}
 use Rattle.compare_built.specs.declared.task.Task.{Task}
+use Rattle.compare_built.specs.Attempts.{requests_within}
 use Rattle.compare_built.specs.Candidates.{IsPairingBy}
+use Rattle.compare_built.specs.declared.strategy.AttemptOrder.{AttemptOrder}
 use Rattle.compare_built.specs.declared.strategy.AttemptOrder.TheVariants.{Computed}
-use Rattle.compare_built.specs.Conditions.{HoldsWhere, everywhere, output_of}
-use Rattle.compare_built.specs.declared.settings.Difference.{Difference}
-use Rattle.compare_built.specs.declared.settings.Difference.TheVariants.{Least, AnyOne}
+use Rattle.report_text.specs.declared.difference.Difference.{Difference}
+use Rattle.report_text.specs.declared.difference.Difference.TheVariants.{Least, AnyOne}
 use Rattle.compare_built.specs.Facts.{IsEqualInside, IsShownVerdict}
-use Rattle.compare_built.specs.Cones.{AreCones, FitByCones, IsUndecidedWithin, IsConeVerdict, IsVerdictOrUndecided, MayShow}
+use Rattle.compare_built.specs.Cones.{AreCones, FitByCones, IsConeAttempt, IsListedGivenUp, IsPairingInListed, IsUndecidedWithin, IsConeVerdict, IsVerdictOrUndecided, MayShow}
 use Rattle.compare_built.specs.Cones.IsVerdictOrUndecided.{decided, merged, shown, undecided}
-use Rattle.compare_built.specs.declared.pair_filter.PairFilter.{PairFilter}
-use Rattle.cone_check.specs.ConeRounds.{IsKnown}
+use Rattle.cone_check.specs.ConeRounds.{AreConesWithin, IsKnown, IsListedLeft, IsPairedInListed}
 use Rattle.compare_built.specs.Limits.{Exceeds, FitsWithin}
-use Rattle.compare_built.specs.PairSelection.{ArePicked, is_pair_of, of_share}
-use Rattle.compare_built.specs.PairSelection.ArePicked.{all, named, shared}
-use Rattle.compare_built.specs.Report.{AreVerdicts, Compared, subjects}
+use Rattle.compare_built.specs.PairSelection.ArePicked.{named}
+use Rattle.compare_built.specs.Report.{AreVerdicts, Compared}
 use Rattle.compare_built.specs.Scatter.{IsConePairing, IsOfNet, widened_verdict}
-use Rattle.order_search.specs.Trials.{HasTooManyVariables, IsDecidedWithin, IsCandidateGivenUp}
+use Rattle.order_search.specs.Trials.{HasTooManyVariables, IsCandidateGivenUp, IsPairedBy}
 use Rattle.compare_built.specs.Widths.{IsTooWide}
 use Rattle.pair_facts.proofs.Conditional.{some_holds}
 use Rattle.cone_check.proofs.ConeVerdicts.{reported_widened}
@@ -50,7 +47,7 @@ shown_before : (difference : Difference) (left : Type 0) → MayShow difference 
 shown_before Least left never = absurd never
 shown_before AnyOne left may = tt
 
--- the verdict of a pair that is decided is its verdict, whatever is left, and if more nodes are allowed
+-- the verdict of a pair that is decided does not depend on what is left, and holds also if more nodes are allowed
 pub reported_decided : (asked : Details) (difference : Difference) (within more other unshown : Subject → Type 0) (a b : Circuit) (given : Option Circuit) (p : NamingModel) (s : Subject) (v : Verdict) → (within s → more s) →
     IsConeVerdict asked difference within (λ t. ⊥) (λ t. ⊥) a b given p s v → IsConeVerdict asked difference more other unshown a b given p s v
 reported_decided asked difference within more other unshown a b given p s v wider t = record {
@@ -67,14 +64,13 @@ reported_decided asked difference within more other unshown a b given p s v wide
     by n holds c v (shown may is) = shown (shown_before difference (other s) may) is
     by n holds c v (undecided never none) = absurd never
 
--- where fewer nodes are enough, so are more
-pub more_nodes : (budget limit : ℕ) (a b : Circuit) (given : Option Circuit) (p : NamingModel) (s : Subject) → budget ≤ limit → FitByCones budget a b given p s → FitByCones limit a b given p s
-more_nodes budget limit a b given p s le few = record {
+-- if fewer nodes are enough, so are more
+pub more_nodes : (order : Option Order) (budget limit : ℕ) (a b : Circuit) (given : Option Circuit) (p : NamingModel) (s : Subject) → budget ≤ limit → FitByCones order budget a b given p s → FitByCones order limit a b given p s
+more_nodes order budget limit a b given p s le few = record {
   first = few.first;
   second = few.second;
   condition = few.condition;
   cones = few.cones;
-  order = few.order;
   pairing = few.pairing;
   paired = few.paired;
   fit = record {
@@ -87,7 +83,7 @@ more_nodes budget limit a b given p s le few = record {
   };
 }
 
--- a pair that is left, and that no pattern shows to differ, is undecided
+-- a pair that is left, and that no pattern shows to differ, is Undecided
 pub reported_left : (asked : Details) (difference : Difference) (within left unshown : Subject → Type 0) (n m : Net) (given : Option Circuit) (p : NamingModel) (s : Subject) → IsNet n → IsNet m → IfSome given IsOfNet → left s → unshown s →
     IsConeVerdict asked difference within left unshown (circuit n) (circuit m) given p s (Undecided s.role (name_of (circuit n) s.named))
 reported_left asked difference within left unshown n m given p s first second net is none =
@@ -111,7 +107,7 @@ reported_left asked difference within left unshown n m given p s first second ne
       verdict = undecided is none;
     }
 
--- a pair that is equal inside is equal
+-- a pair that is equal inside is Equal
 pub reported_equal : (asked : Details) (difference : Difference) (within left unshown : Subject → Type 0) (a b : Circuit) (given : Option Circuit) (p : NamingModel) (s : Subject) → IfSome given IsOfNet → IsEqualInside a b p s →
     IsConeVerdict asked difference within left unshown a b given p s (Equal s.role (name_of a s.named) None)
 reported_equal asked difference within left unshown a b given p s net is =
@@ -127,7 +123,7 @@ reported_equal asked difference within left unshown a b given p s net is =
           (subst (λ role. IsVerdictOrUndecided (length p.names) asked difference (within s) (left s) (unshown s) holds.0 c (Equal role c.name None)) is.functions.role reported);
     }
 
--- a difference that a pattern shows is one
+-- a difference that a pattern shows is a verdict of the pair
 pub reported_shown : (asked : Details) (difference : Difference) (within left unshown : Subject → Type 0) (a b : Circuit) (given : Option Circuit) (p : NamingModel) (s : Subject) (v : Verdict) → MayShow difference (left s) → IsShownVerdict a b given p s v →
     IsConeVerdict asked difference within left unshown a b given p s v
 reported_shown asked difference within left unshown a b given p s v may is = record {
@@ -151,32 +147,58 @@ module _ {H : Type 0} (task : Task H) (k m : Circuit) (w : Option Circuit) (by_n
   pub verdicts_of_cones : (asked : Details) (q : NamingModel) (found : Found) → AreVerdicts asked (circuit task.first.now) (circuit task.second.now) (condition task.given) q found → AreVerdicts asked k m w q found
   verdicts_of_cones asked q found h = as_cones (λ how a b g. AreVerdicts asked a b g q found) h
 
-  pub left_by_cones : (a b : Circuit) (c : Option Circuit) (p : NamingModel) (s : Subject) → AreCones a b c p s k m w → (budget : ℕ) (bound : Option ℕ) →
-      ((x : Candidate) → IsCandidateGivenUp task budget bound x) → IsUndecidedWithin budget bound a b c p s
-  left_by_cones a b c p s cones budget bound earlier_given_up = record {
+  -- an attempt in an order that is listed
+  listed_pairing : (order : Option Order) (q : NamingModel) → IsPairedInListed task order q → IsPairingInListed order k m w q
+  listed_pairing None q h = absurd h
+  listed_pairing (Some o) q h = pairing_of_cones o q h
+
+  attempt_pairing : (order : Option Order) (q : NamingModel) → ((t : AttemptOrder) × IsPairedBy task t q) ⊎ IsPairedInListed task order q → IsConeAttempt order k m w q
+  attempt_pairing order q (inl h) = inl (h.0, as_cones (λ how a b g. IsPairingBy how a b g h.0 q) h.1)
+  attempt_pairing order q (inr h) = inr (listed_pairing order q h)
+
+  listed_left : (order : Option Order) (budget : ℕ) (bound : WaveBound) → IsListedLeft task order budget bound → IsListedGivenUp order budget bound k m w
+  listed_left None budget bound h = tt
+  listed_left (Some o) budget bound h = (
+    h.0,
+    pairing_of_cones o h.0 h.1,
+    as_cones (λ how a b g. Exceeds budget a b g h.0 ⊎ IsTooWide (requests_within budget bound) a b g h.0 ⊎ MayStop bound) h.2,
+  )
+
+  pub left_by_cones : (a b : Circuit) (c : Option Circuit) (p : NamingModel) (s : Subject) → AreCones a b c p s k m w → (order : Option Order) (budget : ℕ) (bound : WaveBound) →
+      ((x : Candidate) → IsCandidateGivenUp task budget bound x) → IsListedLeft task order budget bound → IsUndecidedWithin order budget bound a b c p s
+  left_by_cones a b c p s cones order budget bound earlier_given_up listed = inl (record {
     first = k;
     second = m;
     condition = w;
     cones = cones;
-    cause = inr (λ x. as_cones (λ how a b g. (q : NamingModel) × IsPairingBy how a b g (Computed x) q × (Exceeds budget a b g q ⊎ IsTooWide (min (budget * 8) (most_of bound)) a b g q))
-        ((earlier_given_up x).pairing, (earlier_given_up x).paired, (earlier_given_up x).cause));
-  }
+    cause = inr (
+      λ x. as_cones (λ how a b g. (q : NamingModel) × IsPairingBy how a b g (Computed x) q × (Exceeds budget a b g q ⊎ IsTooWide (requests_within budget bound) a b g q ⊎ MayStop bound))
+          ((earlier_given_up x).pairing, (earlier_given_up x).paired, (earlier_given_up x).cause),
+      listed_left order budget bound listed,
+    );
+  })
 
-  pub many_by_cones : (a b : Circuit) (c : Option Circuit) (p : NamingModel) (s : Subject) → AreCones a b c p s k m w → (budget : ℕ) (bound : Option ℕ) → HasTooManyVariables task → IsUndecidedWithin budget bound a b c p s
-  many_by_cones a b c p s cones budget bound many = record {
+  pub many_by_cones : (a b : Circuit) (c : Option Circuit) (p : NamingModel) (s : Subject) → AreCones a b c p s k m w → (order : Option Order) (budget : ℕ) (bound : WaveBound) → HasTooManyVariables task → IsUndecidedWithin order budget bound a b c p s
+  many_by_cones a b c p s cones order budget bound many = inl (record {
     first = k;
     second = m;
     condition = w;
     cones = cones;
     cause = inl (as_cones (λ how a b g. max_variables < length (variables_in how a b g)) many);
+  })
+
+  pub within_by_cones : (a b : Circuit) (c : Option Circuit) (p : NamingModel) (s : Subject) → AreCones a b c p s k m w → (order : Option Order) (budget : ℕ) → AreConesWithin task order budget → FitByCones order budget a b c p s
+  within_by_cones a b c p s cones order budget few = record {
+    first = k;
+    second = m;
+    condition = w;
+    cones = cones;
+    pairing = few.pairing;
+    paired = attempt_pairing order few.pairing few.paired;
+    fit = as_cones (λ how a b g. FitsWithin budget a b g few.pairing) few.fit;
   }
 
-  pub within_by_cones : (a b : Circuit) (c : Option Circuit) (p : NamingModel) (s : Subject) → AreCones a b c p s k m w → (budget : ℕ) → IsDecidedWithin task budget → FitByCones budget a b c p s
-  within_by_cones a b c p s cones budget few =
-      let h = as_cones (λ how a b g. IsPairingBy how a b g few.order few.pairing × FitsWithin budget a b g few.pairing) (few.paired, few.fit) in
-      record { first = k; second = m; condition = w; cones = cones; order = few.order; pairing = few.pairing; paired = h.0; fit = h.1 }
-
--- a verdict by cones, or none, over all variables
+-- a verdict by cones, if there is one, is a verdict over all variables
 pub known_by_cones : (which : Option Assignment) (a b : Circuit) (given : Option Circuit) (p : NamingModel) (s : Subject) (k m : Circuit) (w : Option Circuit) (places : List ℕ) (q : NamingModel) →
     IsConePairing a b given p s k m w places q → (difference : Difference) (within left : Subject → Type 0) (found reported : Option Verdict) →
     reported ≡ option_map (widened_verdict s.role (name_of a s.named) (length p.names) places) found →

@@ -1,4 +1,4 @@
--- The names of variables that a pairing gives: distinct for distinct variables of a netlist.
+-- The names that a pairing gives to variables: distinct variables of a netlist have distinct names.
 use Rattle.std.proofs.Common.{◌≡◌, ◌≢◌, ◌∙◌, ap, sym, refl, subst, arith, inl, inr, ℕ, zero, suc, ◌<◌, Bool, true, false, List, [], ◌∷◌, ◌++◌, ◌+◌, length, length-append, get_or, map, set, take, All, Contains, Option, Some}
 use Rattle.std.specs.Prelude.{◌==◌, ◌||◌, cond, slice_index, IfSome}
 use Rattle.std.specs.declared.alloc.Global.{Global}
@@ -9,9 +9,9 @@ use Rattle.std.proofs.lemmas.List.Elements.{All-contains, All-more, All-weaker, 
 use Rattle.net_bench.specs.Circuit.{HaveNoRepeats, Circuit, IsNet, Net, circuit, is_name_in, variables_of}
 use Rattle.net_bench.proofs.Numbers.{in_distinct, number_at}
 use Rattle.net_cone.specs.Cones.{AreNames}
-use Rattle.net_order.specs.declared.order.Match.{Match}
-use Rattle.net_order.specs.declared.order.Match.TheVariants.{Name, Position}
-use Rattle.net_order.specs.declared.order.Order.{Order}
+use Rattle.net_names.specs.declared.order.Match.{Match}
+use Rattle.net_names.specs.declared.order.Match.TheVariants.{Name, Position}
+use Rattle.net_names.specs.declared.order.Order.{Order}
 use Rattle.net_order.specs.Order.{HasLevels, IsNaming, NamingModel, NamedNetlistModel, all_names, both, given_side, is_member, level_of, name_of, named, names_by, own, partner, registers_of}
 use Rattle.net_order.specs.Tables.{IsKnown}
 use Rattle.net_order.proofs.AllNames.{known_given, known_sides}
@@ -42,7 +42,7 @@ own_apart n sound s t cs ct e =
 once_rest : (t : ℕ) (ts : List ℕ) → HaveNoRepeats (t ∷ ts) → HaveNoRepeats ts
 once_rest t ts once i j lt low e = once (suc i) (suc j) (omega (arith, lt)) (omega (arith, low)) e
 
--- what stands behind the first is another
+-- the others differ from the first
 others : (t : ℕ) (ts : List ℕ) → HaveNoRepeats (t ∷ ts) → All (λ u. t ≢ u) ts
 others t ts once i d low e = once 0 (suc i) (omega arith) (omega (arith, low)) (e ∙ same ts i d 0 low)
   where
@@ -172,6 +172,12 @@ pub texts_more : (f : ℕ → List ℕ) (old new : List (Vec ℕ Global)) (v : V
     texts old ≡ map f (take i places) → texts new ≡ map f (take (i + 1) places)
 texts_more f old new v places i lt grown is before =
     ap texts grown ∙ map-append (λ (w : Vec ℕ Global). w.items) old (v ∷ []) ∙ ap (λ ts. ts ++ v.items ∷ []) before ∙ ap (λ n. map f (take i places) ++ n ∷ []) is ∙ sym (map_more f places i 0 lt)
+
+-- the same of names that are made from the names of a list
+pub names_more : (f : List ℕ → List ℕ) (old new : List (Vec ℕ Global)) (v : Vec ℕ Global) (names : List (List ℕ)) (i : ℕ) → i < length names → new ≡ old ++ v ∷ [] → v.items ≡ f (get_or names i []) →
+    texts old ≡ map f (take i names) → texts new ≡ map f (take (i + 1) names)
+names_more f old new v names i lt grown is before =
+    ap texts grown ∙ map-append (λ (w : Vec ℕ Global). w.items) old (v ∷ []) ∙ ap (λ ts. ts ++ v.items ∷ []) before ∙ ap (λ n. map f (take i names) ++ n ∷ []) is ∙ sym (map_more f names i [] lt)
 
 -- the levels of variables, place by place
 pub all_below : (vs : List ℕ) (level : ℕ → ℕ) (n : ℕ) → ((s : ℕ) → Contains vs s → level s < n) → All (λ s. level s < n) vs

@@ -1,4 +1,5 @@
--- The cones of a pair as two netlists that are paired by name: their one pair, and where their variables stand.
+-- The cones of a pair as two netlists that are paired by name: they have one pair, and each of their variables has a
+-- place.
 use Rattle.std.proofs.Common.{◌≡◌, ◌∙◌, ap, sym, subst, arith, inl, inr, ℕ, ◌<◌, Bool, true, List, [], ◌∷◌, ◌++◌}
 use Rattle.std.proofs.Common.{map, length, get_or, Option, Some, None, All}
 use Rattle.std.specs.Prelude.{Contains, bytes_eq, cond, slice_index}
@@ -16,9 +17,9 @@ use Rattle.net_bench.proofs.OneLabelling.{at_contained}
 use Rattle.net_cone.specs.Cones.{variable_name}
 use Rattle.net_cone.specs.Spreading.{bits_at}
 use Rattle.net_cone.proofs.Spreading.{widened_where}
-use Rattle.net_order.specs.declared.order.Match.{Match}
-use Rattle.net_order.specs.declared.order.Match.TheVariants.{Name}
-use Rattle.net_order.specs.declared.order.Order.{Order}
+use Rattle.net_names.specs.declared.order.Match.{Match}
+use Rattle.net_names.specs.declared.order.Match.TheVariants.{Name}
+use Rattle.net_names.specs.declared.order.Order.{Order}
 use Rattle.net_order.specs.Order.{HasLevels, NamingModel, IsNaming, NamedNetlistModel, all_names, both, given_side, level_of, name_of, named, names_by, pairs_by_name, registers_of, signal_named, unmatched, where_among, with_pair, without_pair}
 use Rattle.net_order.specs.Tables.{IsKnown}
 use Rattle.net_order.proofs.Members.{contains_member, member_head}
@@ -30,8 +31,8 @@ use Rattle.compare_built.specs.Scatter.{IsOfNet}
 
 -- ---- names
 
--- a name stands at one place
-one_place : (names : List (List ℕ)) → AreApart names → (u v : ℕ) → u < length names → v < length names → get_or names u [] ≡ get_or names v [] → u ≡ v
+-- a name has one place
+pub one_place : (names : List (List ℕ)) → AreApart names → (u v : ℕ) → u < length names → v < length names → get_or names u [] ≡ get_or names v [] → u ≡ v
 one_place names apart u v low lower e = elim (cases_lt u v) [
   | inl less ↦ absurd (apart u v less lower e)
   | inr ge ↦ elim (cases_lt v u) [
@@ -40,7 +41,7 @@ one_place names apart u v low lower e = elim (cases_lt u v) [
   ]
 ]
 
--- and is found there
+-- and the search finds it there
 pub found_there : (names : List (List ℕ)) → AreApart names → (n : List ℕ) (u : ℕ) → u < length names → get_or names u [] ≡ n → find names n ≡ Some u
 found_there names apart n u low at =
     let (i, found) = found_of names n (contained_in names n (subst (Contains names) at (Contains-get_or names u [] low))) in
@@ -49,14 +50,14 @@ found_there names apart n u low at =
 -- ---- namings
 
 module _ (how : Match) (a b : Circuit) (given : Option Circuit) (order : Order) (p : NamingModel) (h : IsNaming how a b given order p) where
-  -- the names of a naming are apart
+  -- the names of a naming are distinct
   pub names_apart : AreApart p.names
   names_apart u v less low e =
       let distinct : IsDistinct bytes_eq p.names = subst (IsDistinct bytes_eq) (sym h.names) (ordered_different (both how a b) (given_side given) order h.fit) in
       let other = apart_from_distinct bytes_eq p.names u v [] distinct less low in
       true≢false (sym (name_itself (get_or p.names u [])) ∙ ap (bytes_eq (get_or p.names u [])) e ∙ other)
 
-  -- each variable of a side has a level, and its name stands there
+  -- each variable of a netlist has a level, at which the naming has its name
   pub name_at : (side : NamedNetlistModel) (levels : List ℕ) → IsKnown (all_names (both how a b) (given_side given)) side → HasLevels (names_by how a b given order) side levels →
       (t : ℕ) → Contains (variables_of side.net) t → (slice_index levels t < length p.names) × (get_or p.names (slice_index levels t) [] ≡ named side t)
   name_at side levels known has t among =
@@ -94,7 +95,7 @@ module _ (c : Circuit) (levels : List ℕ) (p : NamingModel) (root : ℕ) (cone 
   pub out_name : name_of cone out ≡ 111 ∷ []
   out_name = subst (λ (d : Circuit). name_of d out ≡ 111 ∷ []) is.is_part is.cone_of.last_name
 
-  -- where its variables stand among the places
+  -- the places of the cone's variables
   module _ (places : List ℕ) (below : All (λ l. l < length p.names) places) (apart : AreApart p.names)
       (low : (s : ℕ) → Contains (variables_of c) s → slice_index levels s < length p.names) (own_names : List (List ℕ)) (own_levels : List ℕ)
       (own : own_names ≡ map (variable_name p.names) places)
@@ -127,7 +128,7 @@ module _ (c : Circuit) (levels : List ℕ) (p : NamingModel) (root : ℕ) (cone 
         sym given_name ∙ sym (behind (get_or p.names (get_or places i 0) []) (get_or is.names s []) (as_placed ∙ own_name)) in
         (within, one_place p.names apart (slice_index levels s) (get_or places i 0) (low s variable) (below i 0 within) one)
 
-    -- a function over the places is one over all levels
+    -- a function over the variables at the places is a function over all levels
     pub function_widened : IsOfNet c → (n count : ℕ) → count ≡ length places → (f : List Bool → Bool) → IsFunctionOf cone (slice_index own_levels) count out f →
         IsFunctionOf c (slice_index levels) n root (λ x. f (bits_at places x))
     function_widened net n count size f h =
@@ -159,7 +160,7 @@ module _ (k m : Circuit) (w : Option Circuit) (order : Order) (q : NamingModel) 
   register_pairs : q.registers.pairs ≡ []
   register_pairs = ap (λ c. c.pairs) h.registers ∙ ap (pairs_by_name k m (registers_of m)) first_none
 
-  -- what is compared of them
+  -- the only pair of the cones
   pub one_subject : subjects k m q ≡ output_subject (s, t) ∷ []
   one_subject =
       ap (λ os. map output_subject os ++ map (next_subject k m) q.registers.pairs) output_pairs ∙
@@ -177,7 +178,7 @@ module _ (k m : Circuit) (w : Option Circuit) (order : Order) (q : NamingModel) 
   only_second_next : q.registers.only_second ≡ []
   only_second_next = ap (λ c. c.only_second) h.registers ∙ ap (unmatched m k (registers_of k)) second_none
 
-  -- nothing of them has no partner
+  -- each of their outputs has a partner
   pub no_unmatched : unmatched_verdicts k m q ≡ []
   no_unmatched =
       let e = only_first in

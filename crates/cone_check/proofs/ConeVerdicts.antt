@@ -1,4 +1,4 @@
--- The verdict of a pair by its cones, over the variables of its naming.
+-- The verdict of a pair by its cones, over the variables of the naming.
 use Rattle.std.proofs.Common.{◌≡◌, ◌∙◌, ap, sym, refl, subst, arith, inl, inr, ℕ, ◌+◌, ◌<◌, Bool, true, false, List, [], ◌∷◌, ◌++◌, length, get_or, Option, Some, None}
 use Rattle.std.specs.Prelude.{IfSome, slice_index}
 use Rattle.std.specs.List.{AllZip}
@@ -7,7 +7,7 @@ use Rattle.net_bench.specs.Circuit.{Circuit, find}
 use Rattle.net_bench.specs.Labels.{IsFunctionOf}
 use Rattle.net_cone.specs.Cones.{variable_name}
 use Rattle.net_cone.specs.Spreading.{bits_at}
-use Rattle.net_order.specs.declared.order.Match.TheVariants.{Name}
+use Rattle.net_names.specs.declared.order.Match.TheVariants.{Name}
 use Rattle.net_order.specs.Order.{HasLevels, NamingModel, all_names, both, given_side, name_of, names_by, own}
 use Rattle.net_order.specs.Tables.{IsKnown}
 use Rattle.net_order.proofs.AllNames.{known_given, known_sides}
@@ -20,7 +20,7 @@ use Rattle.report_text.specs.declared.assignment.Assignment.{Assignment}
 use Rattle.compare_built.specs.Details.{wants_support, unsized}
 use Rattle.compare_built.specs.declared.subject.Subject.{Subject}
 use Rattle.compare_built.specs.Conditions.{HoldsWhere, output_of, restricted}
-use Rattle.compare_built.specs.declared.settings.Difference.{Difference}
+use Rattle.report_text.specs.declared.difference.Difference.{Difference}
 use Rattle.compare_built.specs.Cones.{IsConditionCone, IsConeVerdict}
 use Rattle.compare_built.specs.Cones.IsVerdictOrUndecided.{decided}
 use Rattle.compare_built.specs.Report.{AreFunctions, AreVerdicts, Compared, IsSupportShown, IsVerdictOf, unmatched_verdicts, output_subject, subjects}
@@ -35,11 +35,11 @@ use Rattle.compare_built.proofs.Scattering.{agree_where_picked, least_where_pick
 
 -- ---- verdicts
 
--- two functions of what is picked, of this role and name
+-- the two functions over the variables at the places, with this role and name
 abbrev pub picked_of : (places : List ℕ) → PairKind → (name : List ℕ) → Compared → Compared
 picked_of places role name c = record { role = role; name = name; first = λ x. c.first (bits_at places x); second = λ x. c.second (bits_at places x) }
 
--- places that rise are apart
+-- rising places are distinct
 apart : (n : ℕ) (places : List ℕ) → ArePlaces n places → AreApart n places
 apart n places are = record {
   below = λ i low. are.below i 0 low;
@@ -52,13 +52,13 @@ apart n places are = record {
   ];
 }
 
--- marks over the places are marks over all levels
+-- the support over the places is the support over all levels
 support_widened : (asked : Bool) (n : ℕ) (places : List ℕ) → ArePlaces n places → (f g : List Bool → Bool) (shown : Option (List Bool)) →
     IsSupportShown asked (length places) f g shown → IsSupportShown asked n (λ x. f (bits_at places x)) (λ x. g (bits_at places x)) (scatter_support n places shown)
 support_widened false n places are f g shown is = ap (scatter_support n places) is
 support_widened true n places are f g shown is = (scattered n places is.0, levels_scattered n places (apart n places are) f g is.0 is.1, ap (scatter_support n places) is.2)
 
--- a verdict over the places is one over all levels
+-- a verdict over the places is a verdict over all levels
 pub verdict_widened : (which : Option Assignment) (n : ℕ) (places : List ℕ) → ArePlaces n places → (holds : List Bool → Bool) (c : Compared) (role : PairKind) (name : List ℕ) (v : Verdict) →
     IsVerdictOf (length places) (unsized which) holds c v → IsVerdictOf n (unsized which) (λ x. holds (bits_at places x)) (picked_of places role name c) (widened_verdict role name n places v)
 verdict_widened which n places are holds c role name v (where_equal agree size) = where_equal ((agree_where_picked n places are holds c.first c.second).0 agree) refl
@@ -67,7 +67,7 @@ verdict_widened which n places are holds c role name v (where_different {x = x} 
     (bits_at-scattered n places are x least.bits) (where_different (least_where_picked n places are holds c.first c.second x least)
     (record { least = more.least; sizes = refl; support = support_widened (wants_support which) n places are (restricted holds c.first) (restricted holds c.second) shown.support more.support }))
 
--- the one pair that is compared, and its verdict
+-- The verdict of the only pair.
 record IsOne (which : Option Assignment) (k m : Circuit) (q : NamingModel) (s : Subject) (holds : List Bool → Bool) (v : Verdict) : Type 0 where
   compared : Compared
   functions : AreFunctions k m q s compared
@@ -128,7 +128,7 @@ module _ (a b : Circuit) (given : Option Circuit) (p : NamingModel) (s : Subject
   size : length q.names ≡ length places
   size = ap length is.names ∙ length-map places (variable_name p.names)
 
-  -- two cones are one pair, and nothing of them has no partner
+  -- two cones have one pair, and all their outputs have partners
   pub one_verdict : (which : Option Assignment) (found : Found) → AreVerdicts (unsized which) k m w q found → length found.verdicts ≡ 1
   one_verdict which found are =
       let fs : AllZip (AreFunctions k m q) (own_subject ∷ []) are.compared = subst (λ of. AllZip (AreFunctions k m q) of are.compared) one_compared are.functions in
@@ -150,7 +150,7 @@ module _ (a b : Circuit) (given : Option Circuit) (p : NamingModel) (s : Subject
       (name_at Name k m w is.order q is.paired.naming (record { how = Name; name_source = k; net = m }) q.second (known_sides (both Name k m) (given_side w)).1.0 is.paired.naming.second) is.second (length p.names)
       (length q.names) size f h
 
-  -- where the condition holds
+  -- the assignments at which the condition holds
   condition_widened : (g v : Option Circuit) → g ≡ given → v ≡ w → IsConditionCone g p v → (holds : List Bool → Bool) → HoldsWhere v q holds → HoldsWhere g p (λ x. holds (bits_at places x))
   condition_widened None None same also cone holds h = ap (λ f x. f (bits_at places x)) h
   condition_widened None (Some v) same also cone holds h = absurd cone
@@ -190,7 +190,7 @@ module _ (a b : Circuit) (given : Option Circuit) (p : NamingModel) (s : Subject
         verdict = decided few verdict (exact n (unsized which) holds compared (widened_verdict s.role (name_of a s.named) n places v) verdict);
       }
 
-  -- so the last verdict of what a comparison finds is the one that is meant
+  -- so the last verdict that a comparison finds is that of the pair
   pub reported_last : (which : Option Assignment) (difference : Difference) (within left unshown : Subject → Type 0) (front : List Verdict) (v : Verdict) → within s → AreVerdicts (unsized which) k m w q (record { variables = q.names; verdicts = front ++ v ∷ [] }) →
       IsConeVerdict (unsized which) difference within left unshown a b given p s (widened_verdict s.role (name_of a s.named) (length p.names) places v)
   reported_last which difference within left unshown front v few are =

@@ -1,4 +1,4 @@
--- What is known of pairs, place by place.
+-- Verdicts of pairs that are known, place by place.
 use Rattle.std.proofs.Common.{◌≡◌, refl, subst, sym, arith, ℕ, zero, suc, ◌<◌, List, [], ◌∷◌, length, get_or, Option, Some, None}
 use Rattle.std.specs.List.{AllZip}
 use Rattle.report_text.specs.declared.verdict.Verdict.{Verdict}
@@ -6,7 +6,7 @@ use Rattle.compare_built.specs.declared.subject.Subject.{Subject}
 use Rattle.cone_check.specs.ConeRounds.{IsKnown, all_or_undecided, or_undecided}
 use Rattle.net_bench.specs.Circuit.{Circuit}
 
--- what a round leaves of a pair: its verdict if it had one, and else what is found now
+-- after a round a pair has its verdict from before, and if it had none, the one that was found
 abbrev pub IsKept : (reported : Subject → Verdict → Type 0) (now : Subject → Type 0) → Subject → (known new : Option Verdict) → Type 0
 IsKept reported now s (Some v) new = new ≡ Some v
 IsKept reported now s None new = IsKnown reported now s new
@@ -17,7 +17,7 @@ kept_one reported before now after both s (Some v) new h k = subst (IsKnown repo
 kept_one reported before now after both s None None h k = both s h k
 kept_one reported before now after both s None (Some v) h k = k
 
--- what is known of all pairs after a round
+-- the verdicts of all pairs after a round
 pub kept_known : (reported : Subject → Verdict → Type 0) (before now after : Subject → Type 0) → ((s : Subject) → before s → now s → after s) →
     (ss : List Subject) (known new : List (Option Verdict)) → AllZip (IsKnown reported before) ss known → length new ≡ length known →
     ((i : ℕ) (s : Subject) → i < length ss → IsKept reported now (get_or ss i s) (get_or known i None) (get_or new i None)) → AllZip (IsKnown reported after) ss new
@@ -31,7 +31,7 @@ kept_known reported before now after both (s ∷ ss) (o ∷ known) (n ∷ new) h
   kept_known reported before now after both ss known new h.1 (omega (arith, long)) (λ i t lt. each (suc i) t (omega (arith, lt))),
 )
 
--- what is left is less sure
+-- a weaker property of the pairs that are left
 pub known_weaker : (reported : Subject → Verdict → Type 0) (before after : Subject → Type 0) → ((s : Subject) → before s → after s) → (ss : List Subject) (known : List (Option Verdict)) →
     AllZip (IsKnown reported before) ss known → AllZip (IsKnown reported after) ss known
 known_weaker reported before after f [] [] h = tt
@@ -40,7 +40,7 @@ known_weaker reported before after f (s ∷ ss) [] h = absurd h
 known_weaker reported before after f (s ∷ ss) (None ∷ known) h = (f s h.0, known_weaker reported before after f ss known h.1)
 known_weaker reported before after f (s ∷ ss) (Some v ∷ known) h = (h.0, known_weaker reported before after f ss known h.1)
 
--- what is known of each pair after a step that uses a fact of each
+-- the verdicts of all pairs after a step that uses a fact of each
 pub each_known : {F : Type 0} (Fact : Subject → F → Type 0) (Step : Subject → F → (known new : Option Verdict) → Type 0) (Before After : Subject → Option Verdict → Type 0) →
     ((s : Subject) (f : F) (o n : Option Verdict) → Fact s f → Before s o → Step s f o n → After s n) → (ss : List Subject) (fs : List F) (known new : List (Option Verdict)) →
     AllZip Fact ss fs → AllZip Before ss known → length new ≡ length known →
@@ -66,14 +66,14 @@ reported_known a reported left out at_reported at_left (s ∷ ss) [] h = absurd 
 reported_known a reported left out at_reported at_left (s ∷ ss) (Some v ∷ known) h = (at_reported s v h.0, reported_known a reported left out at_reported at_left ss known h.1)
 reported_known a reported left out at_reported at_left (s ∷ ss) (None ∷ known) h = (at_left s h.0, reported_known a reported left out at_reported at_left ss known h.1)
 
--- there is one for each pair
+-- there is one verdict for each pair
 pub length_known : (reported : Subject → Verdict → Type 0) (left : Subject → Type 0) (ss : List Subject) (known : List (Option Verdict)) → AllZip (IsKnown reported left) ss known → length known ≡ length ss
 length_known reported left [] [] h = refl
 length_known reported left [] (o ∷ known) h = absurd h
 length_known reported left (s ∷ ss) [] h = absurd h
 length_known reported left (s ∷ ss) (o ∷ known) h = let e = length_known reported left ss known h.1 in omega (arith, e)
 
--- what holds at each place of two lists
+-- the elements at each place of two lists are related
 pub zip_at : {A B : Type 0} (R : A → B → Type 0) (xs : List A) (ys : List B) (i : ℕ) (d : A) (e : B) → AllZip R xs ys → i < length xs → R (get_or xs i d) (get_or ys i e)
 zip_at R [] ys i d e h lt = absurd (omega arith)
 zip_at R (x ∷ xs) [] i d e h lt = absurd h

@@ -9,3 +9,6 @@ pub mod Sharing
 pub mod Written
 pub mod ConeTasks
 pub mod AtOnce
+pub mod Retold
+pub mod EqualCones
+pub mod JudgingOrder

@@ -1,8 +1,8 @@
--- Workers that batches share.
+-- Workers that are shared by batches.
 use Rattle.std.proofs.Common.{◌≡◌, ℕ, suc, ◌+◌, ◌*◌, ◌/◌, ◌%◌, ◌≤◌, List, All}
 use Rattle.std.specs.Prelude.{min, sum}
 
--- so many batches have their workers
+-- The first batches, up to a place, have their workers.
 pub record SharedSoFar (workers batches place : ℕ) (parts : List ℕ) : Type 0 where
   pub some : All (λ n. 1 ≤ n) parts
   pub even : All (λ n. n ≤ suc (workers / batches)) parts

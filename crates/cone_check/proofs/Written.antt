@@ -1,10 +1,11 @@
--- What jobs have come to, written where it belongs, and what a round leaves by it.
+-- The results of jobs, written at the places of their pairs, and the round that they make.
 use Rattle.std.proofs.Common.{◌≡◌, ◌≢◌, ◌∙◌, ap, sym, refl, subst, arith, inl, inr, ◌⊎◌, ℕ, zero, suc, ◌<◌, Bool, true, false, List, [], ◌∷◌, map, length, get_or, set, All, Option, Some, None, Result, Ok, Err}
 use Rattle.std.specs.Prelude.{Contains, IsPermutation, cond, filter, is_some, not}
 use Rattle.std.proofs.lemmas.Bool.{cases_eq}
 use Rattle.std.proofs.lemmas.List.{get_or-set_other, get_or-set_same, get_or_default, length-set}
 use Rattle.std.proofs.lemmas.List.Elements.{All-tail, filter_passes, All-filter}
 use Rattle.std.proofs.lemmas.List.Sorted.{All-permutation, Contains-permutation}
+use Rattle.expand_work.specs.Bounds.{MayStop, WaveBound}
 use Rattle.report_text.specs.declared.verdict.Verdict.{Verdict}
 use Rattle.compare_built.specs.declared.fault.CheckFault.{CheckFault}
 use Rattle.compare_built.specs.declared.subject.Subject.{Subject}
@@ -37,7 +38,7 @@ in_filter p (y ∷ xs) x passes (suc k, low, at) = elim (p y) as (λ b. Contains
   | false ↦ in_filter p xs x passes (k, omega (arith, low), at)
 ]
 
--- ---- what is written
+-- ---- results that are written
 
 after_ok : (r : Result (Option Verdict) CheckFault) (next : Option Verdict → Result (List (Option Verdict)) CheckFault) (all : List (Option Verdict)) → after r next ≡ Ok all →
     (o : Option Verdict) × (r ≡ Ok o) × (next o ≡ Ok all)
@@ -55,7 +56,7 @@ written_long (t ∷ jobs) known all e =
     let (o, is, rest) = after_ok t.ended (λ o. written (set known t.place o) jobs) all e in
     written_long jobs (set known t.place o) all rest ∙ length-set known t.place o
 
--- one job more is written
+-- the result of one more job is written
 pub written_step : (known new : List (Option Verdict)) (rest more : List PairJob) (t : PairJob) (o : Option Verdict) (whole : Result (List (Option Verdict)) CheckFault) → rest ≡ t ∷ more → t.ended ≡ Ok o →
     new ≡ set known t.place o → written known rest ≡ whole → written new more ≡ whole
 written_step known new rest more t o whole next is grown same =
@@ -67,7 +68,7 @@ low_step known new rest more t p o next grown low =
     subst (λ n. All (λ (u : PairJob). u.place < n) more) (sym (ap length grown ∙ length-set known p o))
     (All-tail (λ (u : PairJob). u.place < length known) t more (subst (All (λ (u : PairJob). u.place < length known)) next low))
 
--- a fault is one of a job's
+-- a fault is that of one of the jobs
 pub written_fault : (R : CheckFault → Type 0) (jobs : List PairJob) (known : List (Option Verdict)) (fault : CheckFault) → All (λ (t : PairJob). t.ended ≡ Err fault → R fault) jobs → written known jobs ≡ Err fault → R fault
 written_fault R [] known fault ends e = cc
 written_fault R (t ∷ jobs) known fault ends e = elim (after_err t.ended (λ o. written (set known t.place o) jobs) fault e) [
@@ -79,7 +80,7 @@ module _ (P : ℕ → Option Verdict → Type 0) where
   abbrev Ends : PairJob → Type 0
   Ends t = (o : Option Verdict) → t.ended ≡ Ok o → P t.place o
 
-  -- what holds of each job holds at its place; elsewhere what held before
+  -- a property of each result is one of its place; at other places the property from before holds
   pub written_all : (jobs : List PairJob) (known all : List (Option Verdict)) → All Ends jobs → All (λ (t : PairJob). t.place < length known) jobs → written known jobs ≡ Ok all →
       (i : ℕ) → i < length known → (Contains (map (λ (t : PairJob). t.place) jobs) i) ⊎ (P i (get_or known i None)) → P i (get_or all i None)
   written_all [] known all ends low e i lt (inl among) = absurd (nothing_in i among)
@@ -104,14 +105,14 @@ none_at : (o : Option Verdict) → not (is_some o) ≡ true → o ≡ None
 none_at None e = refl
 none_at (Some v) e = cc
 
--- those that are left have no verdict, and are as many places as there are
+-- the pairs that are left have no verdict, and their places are in range
 pub left_none : (known : List (Option Verdict)) (order : List ℕ) → All (λ p. get_or known p None ≡ None) (filter (is_left known) order)
 left_none known order i d low = none_at (get_or known (get_or (filter (is_left known) order) i d) None) (filter_passes (is_left known) order i d low)
 
 pub left_low : (known : List (Option Verdict)) (order : List ℕ) (n : ℕ) → IsPermutation (numbers_below n) order → All (λ p. p < n) (filter (is_left known) order)
 left_low known order n shuffled = All-filter (is_left known) (λ p. p < n) order (All-permutation (λ p. p < n) (numbers_below n) order shuffled (numbers_inside n))
 
-module _ {H : Type 0} (whole : ConeContext H) (budget : ℕ) (bound : Option ℕ) (ss : List Subject) (known : List (Option Verdict)) (order : List ℕ) (jobs : List PairJob)
+module _ {H : Type 0} (whole : ConeContext H) (budget : ℕ) (bound : WaveBound) (ss : List Subject) (known : List (Option Verdict)) (order : List ℕ) (jobs : List PairJob)
     (long : length known ≡ length ss) (shuffled : IsPermutation (numbers_below (length ss)) order) (done : AreJobsDone whole budget bound ss (filter (is_left known) order) jobs) where
   abbrev At : ℕ → Option Verdict → Type 0
   At i o = (s : Subject) → IsPlaceOfRound whole budget bound (get_or ss i s) (get_or known i None) o
@@ -154,7 +155,7 @@ module _ {H : Type 0} (whole : ConeContext H) (budget : ℕ) (bound : Option ℕ
   fault_of fault e = written_fault EndsPairs jobs known fault (λ i d low is. subst (IsJobResult whole budget bound (get_or jobs i d).subject) is (done.ended i d low)) e
 
 -- a round that has no pair to judge
-pub round_none : {H : Type 0} (whole : ConeContext H) (budget : ℕ) (bound : Option ℕ) (ss : List Subject) (known : List (Option Verdict)) (order : List ℕ) → length known ≡ length ss → IsPermutation (numbers_below (length ss)) order →
+pub round_none : {H : Type 0} (whole : ConeContext H) (budget : ℕ) (bound : WaveBound) (ss : List Subject) (known : List (Option Verdict)) (order : List ℕ) → length known ≡ length ss → IsPermutation (numbers_below (length ss)) order →
     length (filter (is_left known) order) ≡ 0 → IsRoundOf whole budget bound ss known known
 round_none whole budget bound ss known order long shuffled none = record { each = refl; places = λ i s lt. at i lt (get_or known i None) refl (get_or ss i s) }
   where
@@ -163,3 +164,11 @@ round_none whole budget bound ss known order long shuffled none = record { each 
     at i lt None e s =
         absurd (nothing_among i (filter (is_left known) order) none (in_filter (is_left known) order i (ap (λ (o : Option Verdict). not (is_some o)) e)
         (Contains-permutation (numbers_below (length ss)) order i shuffled (i, let n = numbers_long (length ss) in omega (arith, lt, n), number_at (length ss) i i lt))))
+
+-- a round that does not begin since the run has stopped
+pub round_stopped : {H : Type 0} (whole : ConeContext H) (budget : ℕ) (bound : WaveBound) (ss : List Subject) (known : List (Option Verdict)) → MayStop bound → IsRoundOf whole budget bound ss known known
+round_stopped whole budget bound ss known stops = record { each = refl; places = λ i s lt. at (get_or known i None) (get_or ss i s) }
+  where
+    at : (o : Option Verdict) (s : Subject) → IsPlaceOfRound whole budget bound s o o
+    at (Some v) s = refl
+    at None s = inr stops

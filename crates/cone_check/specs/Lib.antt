@@ -1,3 +1,5 @@
 pub mod ConeRounds
 pub mod Batches
 pub mod KnownPairs
+pub mod EqualCones
+pub mod JudgingOrder

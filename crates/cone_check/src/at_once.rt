@@ -1,4 +1,5 @@
-//! What is known of pairs without an attempt: that they are equal inside, or that a pattern shows a difference.
+//! Pairs whose verdict is known without an attempt: those that are equal inside (docs/EQUAL_INSIDE.md), and those at
+//! which a simulated pattern shows a difference.
 ghost use Rattle.std.specs.Prelude.{◌≡◌, ◌<◌, All, IfOk, OnOk, length};
 ghost use Rattle.std.specs.List.{AllZip};
 ghost use Rattle.net_bench.specs.Circuit.{circuit};
@@ -10,17 +11,16 @@ ghost use Rattle.cone_check.specs.KnownPairs.{AreOrEqual, AreShownElse};
 
 use crate::pair_cones::ConeContext;
 use crate::remaining::no_verdicts;
-use compare_built::settings::Difference;
 use compare_built::subject::Subject;
 use compare_built::task::Task;
 use net_bench::netlist::Netlist;
 use net_order::naming::Naming;
 use net_patterns::ShownPattern;
 use pair_facts::shown_verdict;
-use report_text::{Name, Verdict};
+use report_text::{Difference, Name, Verdict};
 use std::alloc::{AllocError, Global};
 
-/// Writes the verdict of a pair that is equal inside.
+/// Sets the verdict Equal, without a size, if the pair is equal inside. Fails if memory is refused.
 fn put_equal(
     alloc: Global,
     first: &Netlist,
@@ -41,7 +41,7 @@ fn put_equal(
     Ok(())
 }
 
-/// The verdicts of the pairs that are equal inside.
+/// Returns for each pair the verdict Equal if it is equal inside, and none otherwise.
 fn equal_verdicts(
     alloc: Global,
     first: &Netlist,
@@ -65,7 +65,7 @@ fn equal_verdicts(
     Ok(known)
 }
 
-/// Writes a difference of a pair that has no verdict yet, if a pattern shows one.
+/// Sets the difference that the pattern shows, if there is a pattern and the pair has no verdict yet.
 fn put_shown<H>(
     task: &Task<'_, H>,
     naming: &Naming,
@@ -88,7 +88,8 @@ fn put_shown<H>(
     Ok(())
 }
 
-/// Writes a difference of each pair that has no verdict yet and that a pattern shows to differ.
+/// Sets the difference of each pair that has no verdict yet and that a pattern shows to differ. Such a difference need
+/// not be the least one. Fails if memory is refused.
 pub fn put_all_shown<H>(
     task: &Task<'_, H>,
     naming: &Naming,
@@ -115,8 +116,10 @@ pub fn put_all_shown<H>(
     Ok(())
 }
 
-/// What is known of the pairs before an attempt is made: those that are equal inside are equal, and if any difference is asked for, those
-/// that a pattern shows to differ have it.
+/// Returns the verdicts that are known before an attempt is made. By place, `equal` has whether a pair was found to be
+/// equal inside, and `shown` the first pattern that shows it to differ, if there is one. A pair that is equal inside is
+/// Equal. A pair that a pattern shows to differ has this difference, but only if any difference is asked for: with
+/// `Difference::Least` an attempt has to find the least one. Fails if memory is refused.
 pub fn known_at_once<H>(
     context: &ConeContext<'_, H>,
     subjects: &[Subject],
@@ -140,7 +143,7 @@ pub fn known_at_once<H>(
     }
 }
 
-/// What is known at once with the differences that patterns show.
+/// Adds the differences that patterns show to the verdicts that are known.
 fn with_shown<H>(
     context: &ConeContext<'_, H>,
     subjects: &[Subject],

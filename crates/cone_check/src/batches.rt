@@ -1,4 +1,4 @@
-//! The pairs of a round as jobs, dealt to batches: each batch is judged by one thread, with workers for its waves.
+//! The pairs of a round as jobs in batches. One thread judges a batch, and has workers of its own for the waves.
 ghost use Rattle.std.specs.Prelude.{◌≡◌, ◌+◌, ◌++◌, ◌∷◌, [], ◌<◌, ◌≤◌, length, All, IfOk, OnOk};
 ghost use Rattle.std.specs.List.Sorted.{IsNonDecreasingBy, IsPermutation};
 ghost use Rattle.compare_built.specs.PairSelection.{serpentine_share};
@@ -12,16 +12,18 @@ use pair_facts::serpentine_share;
 use report_text::Verdict;
 use std::alloc::{AllocError, Global};
 
-/// A pair that a round judges, and what it comes to: its verdict, or none where each attempt was given up.
+/// A pair that a round judges, and its result.
 #[derive(Drop)]
 pub struct PairJob {
-    /// Where the pair is among all.
+    /// The place of the pair among all pairs.
     pub place: usize,
     pub subject: Subject,
+    /// The verdict, or `Ok(None)` if the pair is not judged yet or was left undecided. It is kept in the job, since the
+    /// thread of a batch returns nothing.
     pub ended: Result<Option<Verdict>, CheckFault>,
 }
 
-/// Pairs that one thread judges, one after the other, and the workers that do their waves.
+/// The pairs that one thread judges, one after the other, and the workers that do their waves.
 #[derive(Drop)]
 pub struct Batch {
     pub workers: Workers,
@@ -29,7 +31,7 @@ pub struct Batch {
 }
 
 impl PairJob {
-    /// A pair that is not judged yet.
+    /// Returns the job of a pair that is not judged yet.
     fn of(place: usize, subject: Subject) -> PairJob
         ensures place { result.place ≡ place }
         ensures subject { result.subject ≡ subject }
@@ -43,7 +45,7 @@ impl PairJob {
 }
 
 impl Batch {
-    /// Adds a job after the others.
+    /// Adds a job after the others. Fails if memory is refused.
     fn add(&mut self, job: PairJob) -> Result<(), AllocError>
         ensures jobs { OnOk result (self.new.jobs.items ≡ self.old.jobs.items ++ job ∷ []) }
         ensures workers { self.new.workers ≡ self.old.workers }
@@ -53,7 +55,8 @@ impl Batch {
     }
 }
 
-/// The workers of the batch at this place, if so many batches share so many workers.
+/// Returns the number of workers of the batch at this place, if `batches` batches share `workers` workers. If they
+/// cannot be shared evenly, the first batches have one more than the others.
 fn batch_workers(workers: u32, batches: u32, place: u32) -> Workers
     requires some { 1 ≤ batches }
     requires few { batches ≤ workers }
@@ -64,7 +67,7 @@ fn batch_workers(workers: u32, batches: u32, place: u32) -> Workers
     Workers::new(workers / batches + more)
 }
 
-/// So many batches that have no job and share so many workers.
+/// Returns `count` batches without jobs, which share the workers. Fails if memory is refused.
 fn empty_batches(alloc: Global, workers: u32, count: u32) -> Result<Vec<Batch>, AllocError>
     requires some { 1 ≤ count }
     requires few { count ≤ workers }
@@ -82,7 +85,7 @@ fn empty_batches(alloc: Global, workers: u32, count: u32) -> Result<Vec<Batch>, 
     Ok(batches)
 }
 
-/// The batch of the job that so many come before, of so many batches.
+/// Returns the number of the batch, counted from 0, into which the job at this position goes in serpentine order.
 fn batch_number(batches: u32, position: usize) -> usize
     requires { 1 ≤ batches }
     ensures value { result + 1 ≡ serpentine_share batches position }
@@ -91,7 +94,7 @@ fn batch_number(batches: u32, position: usize) -> usize
     (serpentine_share(batches, position) - 1) as usize
 }
 
-/// Adds a job after those of a batch.
+/// Adds a job to the batch of this number, after its other jobs.
 fn add_job(batches: &mut Vec<Batch>, number: usize, job: PairJob) -> Result<(), AllocError>
     requires { number < length batches.old.items }
     ensures jobs { OnOk result (jobs_in batches.new.items ≡ put_at number job (jobs_in batches.old.items)) }
@@ -101,7 +104,9 @@ fn add_job(batches: &mut Vec<Batch>, number: usize, job: PairJob) -> Result<(), 
     Ok(())
 }
 
-/// The pairs at these places as jobs, dealt to so many batches in serpentine order.
+/// Returns the jobs of the pairs at these places, in `count` batches, which share the workers. The jobs are dealt in
+/// serpentine order, to batch 1, 2, .. n, n, .. 2, 1, and so on, so that batches have about the same weight if the
+/// places are sorted by weight. Fails if memory is refused.
 pub fn dealt(
     alloc: Global,
     subjects: &[Subject],
@@ -127,7 +132,8 @@ pub fn dealt(
     Ok(batches)
 }
 
-/// The jobs of all batches, by place.
+/// Returns the jobs of all batches, sorted by place: so it does not depend on the number of batches which of several
+/// faults is the first. Fails if memory is refused.
 pub fn gathered(alloc: Global, batches: Vec<Batch>) -> Result<Vec<PairJob>, AllocError>
     ensures same { IfOk result (λ v. IsPermutation (jobs_of batches.items) v.items) }
     ensures by_place { IfOk result (λ v. IsNonDecreasingBy (λ (t : PairJobValue). t.place) v.items) }

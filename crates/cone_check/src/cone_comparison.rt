@@ -1,56 +1,60 @@
-//! A comparison by cones, pair by pair.
+//! The comparison of two netlists pair by pair, each pair by its cones.
 ghost use Rattle.std.specs.Prelude.{◌≡◌, ◌<◌, ◌++◌, length, All, IfOk, IfErr, IfSome};
 ghost use Rattle.std.specs.List.{AllZip};
 ghost use Rattle.net_bench.specs.Circuit.{circuit};
-ghost use Rattle.net_order.specs.declared.order.Order.TheVariants.{Declared};
+ghost use Rattle.net_names.specs.declared.order.Order.TheVariants.{Declared};
 ghost use Rattle.net_order.specs.Order.{condition};
 ghost use Rattle.compare_built.specs.Comparing.{IsInside};
-ghost use Rattle.compare_built.specs.Cones.{IsConditionCone};
-ghost use Rattle.cone_check.specs.ConeRounds.{EndsPairs, IsEqualIf, IsInContext, IsConeContext, IsFoundByCones, IsFinalVerdict, IsPairVerdict};
+ghost use Rattle.compare_built.specs.Cones.{IsConditionCone, cone_limit};
+ghost use Rattle.cone_check.specs.ConeRounds.{AreKnownAtOnce, EndsPairs, IsDecidedIn, IsEqualIf, IsInContext, IsKnown, IsConeContext, IsFoundByCones, IsFinalVerdict, IsPairVerdict, StaysUndecided};
 ghost use Rattle.cone_check.specs.ConeRounds.{all_or_undecided, circuit_in, or_undecided};
 ghost use Rattle.pair_facts.specs.PairFacts.{IsFirstShown};
 ghost use Rattle.compare_built.specs.PairSelection.{ArePicked};
 ghost use Rattle.compare_built.specs.Scatter.{IsOfNet};
 ghost use Rattle.order_search.specs.Trials.{IsNamingIn};
-ghost use Rattle.report_text.specs.Findings.{found_of};
+ghost use Rattle.compare_built.specs.Findings.{found_of};
 
 use crate::at_once::{known_at_once, put_all_shown};
-use crate::pair_cones::ConeContext;
+use crate::equal_cones::{Distinct, distinct_pairs, told_of_all};
+use crate::judging_order::shown_flags;
+use crate::pair_cones::{ConeContext, cone_order, cones_of, places_of};
 use crate::rounds::judge_all;
-use crate::variable_names::{NetlistRole, names_in};
+use crate::variable_names::names_in;
 use compare_built::fault::CheckFault;
+use compare_built::found::Verdicts;
 use compare_built::subject::Subject;
 use compare_built::task::Task;
 use expand_work::Monitor;
 use net_bench::netlist::Netlist;
 use net_cone::{Cone, cone_of, gate_signals};
 use net_order::naming::Naming;
+use net_order::netlist_role::NetlistRole;
 use net_patterns::ShownPattern;
 use pair_facts::PairFacts;
-use report_text::{Name, Verdict, Verdicts};
+use report_text::{Name, Verdict};
 use std::alloc::{AllocError, Global};
 use std::sync::Wait;
 use std::thread::Threads;
 
-/// The cone of the condition's output, where there is one.
+/// Returns the cone of the condition's output, if there is a condition.
 fn given_cone<H>(task: &Task<'_, H>, naming: &Naming) -> Result<Option<Cone>, AllocError>
     requires { IsNamingIn task.now Declared naming.now }
     ensures cone { IfOk result (λ cone. IsConditionCone (condition task.now.given) naming.now (circuit_in cone)) }
     ensures net { IfOk result (λ cone. IfSome (condition task.now.given) IsOfNet) }
 {
-    let _ = task.first.inputs();
-    let _ = task.second.inputs();
+    let _ = task.first.inputs(); // For the proof.
+    let _ = task.second.inputs(); // For the proof.
     let Some(given) = task.given else {
         return Ok(None);
     };
     let names = names_in(task.alloc, given, naming, NetlistRole::Given)?;
     let gates = gate_signals(task.alloc, given)?;
-    let root = given.outputs()[0];
+    let root = given.outputs()[0]; // A condition has exactly one output.
     let cone = cone_of(task.alloc, given, root, names.as_slice(), gates.as_slice())?;
     Ok(Some(cone))
 }
 
-/// The verdict of a pair: Undecided, if there is none.
+/// Returns the verdict of a pair, which is Undecided if none is known.
 fn or_undecided(
     alloc: Global,
     first: &Netlist,
@@ -69,7 +73,7 @@ fn or_undecided(
     }
 }
 
-/// The verdicts of all pairs.
+/// Returns the verdicts of all pairs.
 fn verdicts_or_undecided(
     alloc: Global,
     first: &Netlist,
@@ -90,7 +94,95 @@ fn verdicts_or_undecided(
     Ok(all)
 }
 
-/// The verdicts of these pairs: at once, by their cones, or by patterns if they are left.
+/// Notifies the monitor of a pair that has no verdict, with the number of variables of its cones.
+fn notify_undecided<H, G: Monitor>(
+    context: &ConeContext<'_, H>,
+    subject: &Subject,
+    known: &Option<Verdict>,
+    monitor: &G,
+) -> Result<(), AllocError>
+    requires ready { IsConeContext context.now }
+    requires in_range { IsInContext context.now subject.now }
+{
+    if known.is_none() {
+        let cones = cones_of(context, subject)?;
+        monitor.at_undecided(places_of(context, &cones)?.len());
+    }
+    Ok(())
+}
+
+/// Notifies the monitor of each pair that has no verdict. If the run has stopped, it does not: computing the cones
+/// would delay the end of the run.
+fn notify_all_undecided<H, G: Monitor>(
+    context: &ConeContext<'_, H>,
+    subjects: &[Subject],
+    known: &[Option<Verdict>],
+    monitor: &G,
+) -> Result<(), AllocError>
+    requires ready { IsConeContext context.now }
+    requires in_range { All (IsInContext context.now) subjects.now }
+    requires one_for_each { length known.now ≡ length subjects.now }
+{
+    if monitor.has_stopped() {
+        return Ok(());
+    }
+    for place in 0..subjects.len() {
+        notify_undecided(context, &subjects[place], &known[place], monitor)?;
+    }
+    Ok(())
+}
+
+/// Notifies the monitor of the number of pairs that take the verdict of another pair, if there are any.
+fn notify_equal_cones<G: Monitor>(distinct: &Distinct, monitor: &G) {
+    let pairs = distinct.numbers.len();
+    let same = pairs.saturating_sub(distinct.subjects.len());
+    if same > 0 {
+        monitor.at_equal_cones(same, pairs);
+    }
+}
+
+/// Judges pairs by their cones, in each round first those that no pattern shows to differ. Only one of the pairs that
+/// have the same cones is judged, and the others take its verdict.
+fn judge_distinct<H: Threads + Wait + Sync, G: Monitor>(
+    context: &ConeContext<'_, H>,
+    subjects: &[Subject],
+    known: Vec<Option<Verdict>>,
+    shown: &[Option<ShownPattern>],
+    monitor: &G,
+) -> Result<Vec<Option<Verdict>>, CheckFault>
+    requires ready { IsConeContext context.now }
+    requires in_range { All (IsInContext context.now) subjects.now }
+    requires at_once { AreKnownAtOnce context.now subjects.now known.items }
+    requires shown { length shown.now ≡ length subjects.now }
+    ensures known { IfOk result (λ known. AllZip (IsKnown (IsDecidedIn context.now (cone_limit context.now.task.now.settings.now.limit))
+        (StaysUndecided context.now (G.bound monitor.now))) subjects.now known.items) }
+    ensures ends { IfErr result EndsPairs }
+{
+    let task = context.task;
+    let _ = task.first.inputs(); // For the proof.
+    let _ = task.second.inputs(); // For the proof.
+    let distinct = distinct_pairs(context, subjects, known.as_slice())?;
+    notify_equal_cones(&distinct, monitor);
+    let Distinct {
+        subjects: judged,
+        known,
+        numbers,
+    } = distinct;
+    let flags = shown_flags(task.alloc, numbers.as_slice(), shown)?;
+    let found = judge_all(context, judged.as_slice(), known, flags.as_slice(), monitor)?;
+    let all = told_of_all(
+        task.alloc,
+        task.first,
+        subjects,
+        numbers.as_slice(),
+        found.as_slice(),
+    )?;
+    Ok(all)
+}
+
+/// Returns the verdicts of these pairs: those known at once, then those that the cones give, and for pairs that are
+/// left the differences that patterns show. The last step does not depend on the setting, since a difference that need
+/// not be the least is better than none.
 fn judged<H: Threads + Wait + Sync, G: Monitor>(
     context: &ConeContext<'_, H>,
     subjects: &[Subject],
@@ -109,16 +201,17 @@ fn judged<H: Threads + Wait + Sync, G: Monitor>(
     ensures ends { IfErr result EndsPairs }
 {
     let task = context.task;
-    let _ = task.first.inputs();
-    let _ = task.second.inputs();
+    let _ = task.first.inputs(); // For the proof.
+    let _ = task.second.inputs(); // For the proof.
     let known = known_at_once(context, subjects, equal, shown)?;
-    let mut known = judge_all(context, subjects, known, monitor)?;
+    let mut known = judge_distinct(context, subjects, known, shown, monitor)?;
     put_all_shown(task, context.naming, subjects, shown, &mut known)?;
+    notify_all_undecided(context, subjects, known.as_slice(), monitor)?;
     let verdicts = verdicts_or_undecided(task.alloc, task.first, subjects, known)?;
     Ok(verdicts)
 }
 
-/// Puts lines after others.
+/// Returns the verdicts with the lines of the unmatched signals after them.
 fn and_unmatched(
     mut verdicts: Vec<Verdict>,
     mut unmatched_lines: Vec<Verdict>,
@@ -129,7 +222,8 @@ fn and_unmatched(
     Ok(verdicts)
 }
 
-/// The verdicts of these pairs, with what their cones have in common.
+/// Judges the pairs after the parts that their cones share were made: the names of variables, the signals of gates and
+/// the cone of the condition.
 fn judge_selected<H: Threads + Wait + Sync, G: Monitor>(
     task: &Task<'_, H>,
     naming: &Naming,
@@ -146,13 +240,14 @@ fn judge_selected<H: Threads + Wait + Sync, G: Monitor>(
     ensures verdicts { IfOk result (λ v. AllZip (IsPairVerdict task.now (G.bound monitor.now) naming.now) subjects.now v.items) }
     ensures ends { IfErr result EndsPairs }
 {
-    let _ = task.first.inputs();
-    let _ = task.second.inputs();
+    let _ = task.first.inputs(); // For the proof.
+    let _ = task.second.inputs(); // For the proof.
     let first = names_in(task.alloc, task.first, naming, NetlistRole::First)?;
     let second = names_in(task.alloc, task.second, naming, NetlistRole::Second)?;
     let first_gates = gate_signals(task.alloc, task.first)?;
     let second_gates = gate_signals(task.alloc, task.second)?;
     let given = given_cone(task, naming)?;
+    let order = cone_order(task.alloc, &task.settings.order)?;
     let context = ConeContext {
         task,
         naming,
@@ -161,13 +256,19 @@ fn judge_selected<H: Threads + Wait + Sync, G: Monitor>(
         first_gates: first_gates.as_slice(),
         second_gates: second_gates.as_slice(),
         given: &given,
+        order: &order,
     };
     judged(&context, subjects, equal, shown, monitor)
 }
 
-/// Judges each pair that is picked, and reports what is found over the variables of the naming in declared order. Of a pair that is equal
-/// inside, and if any difference is asked for, of one that a pattern shows to differ, the verdict is known at once. The others are judged by
-/// their cones. One that is left has the difference that a pattern shows, or is undecided.
+/// Judges each pair that is selected, and returns the verdicts over the variables of the naming, which is in declared
+/// order, with the lines of unmatched signals after them.
+///
+/// The verdict of a pair that is equal inside is known at once, and if any difference is asked for, so is that of a
+/// pair that a pattern shows to differ. The other pairs are judged by their cones. A pair that they leave undecided has
+/// the difference that a pattern shows, if there is one, and is Undecided otherwise.
+///
+/// Fails only if memory is refused, to a wave or elsewhere. An attempt that is given up is no fault.
 pub fn verdicts_by_cones<H: Threads + Wait + Sync, G: Monitor>(
     task: &Task<'_, H>,
     naming: Naming,

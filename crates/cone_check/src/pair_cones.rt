@@ -1,53 +1,59 @@
-//! The cones of one pair, and the comparison that they make.
+//! The cones of one pair, and the task of comparing them.
 ghost use Rattle.std.specs.Prelude.{◌≡◌, ◌<◌, ◌≤◌, ◌∷◌, length, map, None, Ok, All, IfOk, IfErr, IfSome};
-ghost use Rattle.net_bench.specs.Circuit.{circuit};
 ghost use Rattle.net_cone.specs.Cones.{variable_name};
-ghost use Rattle.net_order.specs.declared.order.Order.{Order as OrderValue};
+ghost use Rattle.net_names.specs.declared.order.Order.{Order as OrderValue};
 ghost use Rattle.net_order.specs.Order.{condition};
 ghost use Rattle.cone_check.specs.ConeRounds.{AreConesOf, EndsPairs, IsConeTask, IsPairSettings, IsInContext, IsConeContext, circuit_in};
+ghost use Rattle.compare_built.specs.Attempts.{cone_names, cone_order};
 ghost use Rattle.compare_built.specs.Scatter.{ArePlaces};
 ghost use Rattle.order_search.specs.Trials.{EndsAtOnce, HasTooManyVariables, IsPairingIn};
 
-use crate::variable_names::{NetlistRole, level_in};
+use crate::variable_names::level_in;
 use compare_built::fault::CheckFault;
 use compare_built::settings::Settings;
+use compare_built::strategy::Strategy;
 use compare_built::subject::Subject;
 use compare_built::task::Task;
 use net_bench::netlist::{Netlist, Signal};
 use net_cone::{Cone, cone_of};
-use net_order::names::{MAX_NAMES, Names};
+use net_names::names::{MAX_NAMES, Names};
+use net_names::order::{Order, OrderFault};
 use net_order::naming::Naming;
-use net_order::order::{Order, OrderFault};
+use net_order::netlist_role::NetlistRole;
 use net_order::pairing::Pairing;
 use order_search::trials::paired;
 use std::alloc::{AllocError, Global};
 
-/// What pairs of two netlists are judged with, one by one.
+/// What all pairs have in common when they are judged by their cones.
 #[derive(Drop)]
 pub struct ConeContext<'a, H> {
+    /// The comparison of the whole netlists.
     pub task: &'a Task<'a, H>,
     /// The naming of the netlists in declared order.
     pub naming: &'a Naming,
-    /// The names of the first netlist's variables by signal, as the naming has them.
+    /// By signal, the names that the variables of the first netlist have in the naming. Other signals have the empty
+    /// name.
     pub first: &'a [Vec<u8>],
-    /// Those of the second's.
+    /// The same of the second netlist.
     pub second: &'a [Vec<u8>],
-    /// The signals of the first netlist's gates, in text order.
+    /// The signals of the first netlist's gates, in the order of the text.
     pub first_gates: &'a [Signal],
-    /// Those of the second's.
+    /// The same of the second netlist.
     pub second_gates: &'a [Signal],
-    /// The cone of the condition's output, where there is one.
+    /// The cone of the condition's output, if there is a condition.
     pub given: &'a Option<Cone>,
+    /// The order of cones that is tried before those of the candidates, if the settings give one.
+    pub order: &'a Option<Order>,
 }
 
-/// The cones of a pair's two signals.
+/// The cones of a pair: that of its signal in the first netlist, and that of its signal in the second one.
 #[derive(Drop)]
 pub struct Cones {
     pub first: Cone,
     pub second: Cone,
 }
 
-/// The cones of a pair.
+/// Returns the cones of a pair. Fails if memory is refused.
 pub(crate) fn cones_of<H>(
     context: &ConeContext<'_, H>,
     subject: &Subject,
@@ -77,7 +83,8 @@ pub(crate) fn cones_of<H>(
     Ok(Cones { first, second })
 }
 
-/// Marks the levels of the variables that a cone has.
+/// Sets the flag of each level that the cone has a variable of. The sources of a cone begin with those of its
+/// variables, which are its inputs, so only as many sources as inputs are visited.
 fn add_levels(has_level: &mut [bool], naming: &Naming, part: NetlistRole, cone: &Cone) {
     for (source, _) in cone.sources().iter().zip(cone.net.inputs()) {
         let level = level_in(naming, part, *source) as usize;
@@ -87,7 +94,7 @@ fn add_levels(has_level: &mut [bool], naming: &Naming, part: NetlistRole, cone: 
     }
 }
 
-/// The places of what is marked, rising.
+/// Returns the places of the flags that are set, in rising order.
 fn true_places(alloc: Global, has_level: &[bool]) -> Result<Vec<u32>, AllocError>
     requires { length has_level.now ≤ MAX_NAMES }
     ensures places { IfOk result (λ v. ArePlaces (length has_level.now) v.items) }
@@ -102,7 +109,8 @@ fn true_places(alloc: Global, has_level: &[bool]) -> Result<Vec<u32>, AllocError
     Ok(places)
 }
 
-/// The levels of the variables that the cones of a pair and of the condition have, rising. Time is linear in the levels and in the cones.
+/// Returns the levels of all variables of the cones of a pair and of the condition's cone, in rising order. Takes time
+/// linear in the number of levels and in the size of the cones. Fails if memory is refused.
 pub(crate) fn places_of<H>(
     context: &ConeContext<'_, H>,
     cones: &Cones,
@@ -130,7 +138,7 @@ pub(crate) fn places_of<H>(
     true_places(context.task.alloc, has_level.as_slice())
 }
 
-/// The name in a cone of a variable of this name.
+/// Returns the name that a variable has in cones. The letter `v` before it keeps it apart from the names of gates.
 fn cone_name(alloc: Global, name: &[u8]) -> Result<Vec<u8>, AllocError>
     ensures { IfOk result (λ v. v.items ≡ 118 ∷ name.now) }
 {
@@ -140,7 +148,32 @@ fn cone_name(alloc: Global, name: &[u8]) -> Result<Vec<u8>, AllocError>
     Ok(whole)
 }
 
-/// The names in cones of the variables at these levels.
+/// Returns the names that the variables of a list have in cones.
+fn cone_names(alloc: Global, names: &Names) -> Result<Names, AllocError>
+    ensures { IfOk result (λ list. list ≡ cone_names names.now) }
+{
+    let mut list = Vec::new(alloc);
+    for place in 0..names.len() {
+        list.push(cone_name(alloc, names.at(place))?)?;
+    }
+    Ok(Names::of(list))
+}
+
+/// Returns the order of cones that is tried before those of the candidates, if the settings give one. It is an extended
+/// order, since the names of the list and the variables of a pair's cones need not be the same.
+pub(crate) fn cone_order(alloc: Global, order: &Strategy) -> Result<Option<Order>, AllocError>
+    ensures { IfOk result (λ o. o ≡ cone_order order.now) }
+{
+    match order {
+        Strategy::ConesByList(names) => {
+            let names = cone_names(alloc, names)?;
+            Ok(Some(Order::Extended(names)))
+        }
+        _ => Ok(None),
+    }
+}
+
+/// Returns the names that the variables at these levels have in cones.
 fn names_at(alloc: Global, names: &Names, places: &[u32]) -> Result<Names, AllocError>
     requires low { All (λ place. place < length names.now) places.now }
     requires few { length places.now ≤ MAX_NAMES }
@@ -154,7 +187,7 @@ fn names_at(alloc: Global, names: &Names, places: &[u32]) -> Result<Names, Alloc
     Ok(Names::of(list))
 }
 
-/// A condition's cone as a netlist.
+/// Returns the netlist of the condition's cone, if there is a condition.
 fn net_of(given: &Option<Cone>) -> Option<&Netlist>
     ensures { condition result ≡ circuit_in given.now }
 {
@@ -164,7 +197,7 @@ fn net_of(given: &Option<Cone>) -> Option<&Netlist>
     }
 }
 
-/// The comparison of a pair's cones.
+/// Returns the task of comparing a pair's cones, under the condition's cone if there is one.
 pub(crate) fn task_of<'a, H>(
     context: &ConeContext<'a, H>,
     settings: &'a Settings,
@@ -184,8 +217,8 @@ pub(crate) fn task_of<'a, H>(
     }
 }
 
-/// A fault of a comparison as it is told, where its netlists are known to be counted and their variables few: their pairing can then fail
-/// for want of memory alone.
+/// Returns the fault of a comparison of cones as a fault of the whole comparison. Cones are paired by name, in an order
+/// that lists their variables, and too many variables are handled before; so if no pairing is made, memory was refused.
 pub fn as_comparison_fault(fault: CheckFault) -> CheckFault
     requires { EndsAtOnce fault }
     ensures { EndsPairs result }
@@ -196,8 +229,8 @@ pub fn as_comparison_fault(fault: CheckFault) -> CheckFault
     }
 }
 
-/// The pairing of a pair's cones whose variables stand as in the whole's. There is none where the cones have more variables together than
-/// a pairing has.
+/// Returns the pairing of a pair's cones, whose variables are in the same order as in the whole comparison. There is
+/// none if the cones together have more variables than a pairing can have. Fails only if memory is refused.
 pub(crate) fn cone_pairing<H>(
     task: &Task<'_, H>,
     names: &Names,

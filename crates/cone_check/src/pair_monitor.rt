@@ -1,9 +1,10 @@
-//! The monitor of a pair's comparison.
+//! The monitor of the comparison of one pair's cones.
 
 use dd_store::Watch;
 use expand_work::{AttemptEnd, Monitor};
 
-/// A monitor that is notified of what happens inside a pair's attempts, but not of how they end: it is notified once of each round.
+/// A monitor that passes on what happens within the attempts of a pair, but not how they end: that is reported once for
+/// each round, with the number of pairs left. The methods that are not here are not called within an attempt.
 #[derive(Drop)]
 pub struct PairMonitor<'a, G> {
     pub monitor: &'a G,
@@ -28,6 +29,10 @@ impl<'a, G: Monitor> Monitor for PairMonitor<'a, G> {
 
     fn most_requests(&self) -> usize {
         self.monitor.most_requests()
+    }
+
+    fn has_stopped(&self) -> bool {
+        self.monitor.has_stopped()
     }
 
     fn at_rank(&self, rank: u32, ranks: u32, nodes: u64) {

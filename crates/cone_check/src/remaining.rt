@@ -1,4 +1,4 @@
-//! What is known of the pairs, by place: which of them have a verdict, and which are left.
+//! By place, the verdicts of pairs that are known, and the pairs that are left, which have none yet.
 ghost use Rattle.std.specs.Prelude.{◌≡◌, ◌<◌, ◌≤◌, length, set, filter, None, Ok, Err, All, IfOk, IfErr};
 ghost use Rattle.cone_check.specs.declared.batches.PairJob.{PairJob as PairJobValue};
 ghost use Rattle.cone_check.specs.Batches.{is_left, written};
@@ -8,7 +8,7 @@ use compare_built::fault::CheckFault;
 use report_text::Verdict;
 use std::alloc::{AllocError, Global};
 
-/// No verdicts yet, for so many pairs.
+/// Returns no verdict for each of `count` pairs. Fails if memory is refused.
 pub fn no_verdicts(alloc: Global, count: usize) -> Result<Vec<Option<Verdict>>, AllocError>
     ensures one_for_each { IfOk result (λ v. length v.items ≡ count) }
     ensures none { IfOk result (λ v. All (λ o. o ≡ None) v.items) }
@@ -20,7 +20,7 @@ pub fn no_verdicts(alloc: Global, count: usize) -> Result<Vec<Option<Verdict>>, 
     Ok(known)
 }
 
-/// Those of these places whose pairs have no verdict yet, in the same order.
+/// Returns those of these places at which no verdict is known, in the same order. Fails if memory is refused.
 pub fn left_in(
     alloc: Global,
     order: &[usize],
@@ -39,7 +39,7 @@ pub fn left_in(
     Ok(left)
 }
 
-/// Writes what is known of the pair at this place.
+/// Sets the verdict at a place.
 fn put(all: &mut Vec<Option<Verdict>>, place: usize, one: Option<Verdict>)
     requires { place < length all.old.items }
     ensures { all.new.items ≡ set all.old.items place one }
@@ -47,7 +47,8 @@ fn put(all: &mut Vec<Option<Verdict>>, place: usize, one: Option<Verdict>)
     all[place] = one;
 }
 
-/// What is known after these jobs: what each has come to, at its place. The first fault is the result.
+/// Returns the verdicts with the results of these jobs, each at the place of its pair. Fails with the first fault among
+/// the results; a pair without a verdict is no fault.
 pub fn written(
     known: Vec<Option<Verdict>>,
     jobs: Vec<PairJob>,
@@ -65,7 +66,7 @@ pub fn written(
     Ok(all)
 }
 
-/// How many pairs have no verdict yet.
+/// Returns the number of pairs that have no verdict yet.
 pub fn count_left(known: &[Option<Verdict>]) -> usize
     ensures { result ≤ length known.now }
 {

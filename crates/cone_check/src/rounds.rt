@@ -1,4 +1,5 @@
-//! Pairs that are judged by their cones, in rounds of budgets that grow.
+//! Rounds in which pairs are judged by their cones, each round within a larger budget than the one before. So no pair
+//! that a small budget decides waits for a hard one, and the smaller a budget is, the more pairs can be judged at once.
 ghost use Rattle.std.specs.Prelude.{◌≡◌, ◌<◌, ◌≤◌, ◌*◌, ◌^◌, length, All, IfOk, IfErr, IsPermutation};
 ghost use Rattle.std.specs.List.{AllZip};
 ghost use Rattle.net_order.specs.Force.{numbers_below};
@@ -8,6 +9,7 @@ ghost use Rattle.cone_check.specs.ConeRounds.{AreKnownAtOnce, EndsPairs, IsJobRe
 ghost use Rattle.cone_check.specs.Batches.{AreAtOnce, AreJobsDone, IsJobDone, jobs_of, pairs_at_once};
 
 use crate::batches::{Batch, PairJob, dealt, gathered};
+use crate::judging_order::judging_order;
 use crate::pair_cones::ConeContext;
 use crate::pairs::{judge_pair, pair_settings};
 use crate::remaining::{count_left, left_in, written};
@@ -16,14 +18,13 @@ use compare_built::settings::Settings;
 use compare_built::subject::Subject;
 use expand_work::{AttemptEnd, Monitor};
 use order_search::budget_search::{FIRST_BUDGET, GROWTH};
-use pair_facts::weight_order;
-use reduce_up::fork_each;
 use report_text::Verdict;
 use std::alloc::AllocError;
 use std::sync::Wait;
 use std::thread::Threads;
+use thread_map::fork_each;
 
-/// Judges the pair of a job.
+/// Judges the pair of a job, and keeps the result in it.
 fn run_job<H: Threads + Wait + Sync, G: Monitor>(
     context: &ConeContext<'_, H>,
     settings: &Settings,
@@ -61,7 +62,7 @@ fn run_jobs<H: Threads + Wait + Sync, G: Monitor>(
     }
 }
 
-/// Judges the pairs of a batch, one after the other, by its workers.
+/// Judges the pairs of a batch, one after the other, with the workers of the batch.
 fn run_batch<H: Threads + Wait + Sync, G: Monitor>(
     context: &ConeContext<'_, H>,
     batch: &mut Batch,
@@ -77,7 +78,8 @@ fn run_batch<H: Threads + Wait + Sync, G: Monitor>(
     run_jobs(context, &settings, &mut batch.jobs, budget, monitor);
 }
 
-/// Judges the pairs of all batches at once, those of each batch on one thread.
+/// Judges the pairs of all batches at the same time, with a thread for each batch. The caller's thread judges the last
+/// batch, and those whose threads cannot be started.
 fn run_batches<H: Threads + Wait + Sync, G: Monitor>(
     context: &ConeContext<'_, H>,
     batches: &mut [Batch],
@@ -97,7 +99,8 @@ fn run_batches<H: Threads + Wait + Sync, G: Monitor>(
     fork_each(context.task.rt, batches, &run);
 }
 
-/// How many pairs are judged at once, if so many are left.
+/// Returns how many pairs are judged at the same time if `left` are left: at most one for each worker, and no more than
+/// can each have the budget while all of them are within the limit.
 fn pairs_at_once(settings: &Settings, budget: u64, left: usize) -> u32
     requires some { 1 ≤ budget }
     requires within { budget ≤ settings.now.limit }
@@ -111,7 +114,8 @@ fn pairs_at_once(settings: &Settings, budget: u64, left: usize) -> u32
     fit.min(left as u64) as u32
 }
 
-/// Judges the pairs at these places, several at once, each within so many nodes.
+/// Judges the pairs at these places, several at the same time, each within `budget` nodes. Fails if memory is refused;
+/// a fault of a pair is in its job.
 fn judge_at<H: Threads + Wait + Sync, G: Monitor>(
     context: &ConeContext<'_, H>,
     subjects: &[Subject],
@@ -136,7 +140,7 @@ fn judge_at<H: Threads + Wait + Sync, G: Monitor>(
     gathered(alloc, batches)
 }
 
-/// Tells the monitor how many pairs a round has left.
+/// Notifies the monitor of the number of pairs that are left after a round.
 fn notify_round<G: Monitor>(known: &[Option<Verdict>], budget: u64, monitor: &G) {
     let end = AttemptEnd::Left {
         left: count_left(known),
@@ -145,8 +149,8 @@ fn notify_round<G: Monitor>(known: &[Option<Verdict>], budget: u64, monitor: &G)
     monitor.at_attempt(budget, end);
 }
 
-/// Judges the pairs that have no verdict yet, each within so many nodes, and notifies the monitor how many are left. A round that has none
-/// to judge is not reported.
+/// Judges the pairs that have no verdict yet, each within `budget` nodes, and notifies the monitor of the number that
+/// is left. A round that has no pair to judge, or does not begin since the run has stopped, is not reported.
 fn judge_round<H: Threads + Wait + Sync, G: Monitor>(
     context: &ConeContext<'_, H>,
     subjects: &[Subject],
@@ -165,6 +169,9 @@ fn judge_round<H: Threads + Wait + Sync, G: Monitor>(
     ensures round { IfOk result (λ all. IsRoundOf context.now budget (G.bound monitor.now) subjects.now known.items all.items) }
     ensures ends { IfErr result EndsPairs }
 {
+    if monitor.has_stopped() {
+        return Ok(known);
+    }
     let left = left_in(context.task.alloc, order, known.as_slice())?;
     let count = left.len();
     if count == 0 {
@@ -176,19 +183,24 @@ fn judge_round<H: Threads + Wait + Sync, G: Monitor>(
     Ok(all)
 }
 
-/// The most nodes that a pair may need by its cones, where this is the limit of a run.
+/// Returns the most nodes that the cones of one pair may need in a run with this limit: a quarter of it, so that also
+/// in the last round four pairs can be judged at the same time, and at least 1.
 pub fn cone_limit(limit: u64) -> u64
     ensures { result ≡ cone_limit limit }
 {
     (limit / 4).max(1)
 }
 
-/// Judges pairs by their cones within budgets that grow up to a quarter of the limit, each time those that are left. Before the first, what
-/// is known at once is known.
+/// Judges pairs by their cones in rounds, each of which judges the pairs that are left. The budgets grow from
+/// `FIRST_BUDGET` by the factor `GROWTH`, and the last one is the `cone_limit` of the run. Verdicts that are known at
+/// once are kept, and their pairs are not judged. In each round the pairs that no pattern shows to differ, by their
+/// flags, come first, and of those and of the others the ones with the most gates in their cones. Fails only if memory
+/// is refused, to a wave or elsewhere.
 pub(crate) fn judge_all<H: Threads + Wait + Sync, G: Monitor>(
     context: &ConeContext<'_, H>,
     subjects: &[Subject],
     known: Vec<Option<Verdict>>,
+    flags: &[bool],
     monitor: &G,
 ) -> Result<Vec<Option<Verdict>>, CheckFault>
     requires ready { IsConeContext context.now }
@@ -198,9 +210,8 @@ pub(crate) fn judge_all<H: Threads + Wait + Sync, G: Monitor>(
         (StaysUndecided context.now (G.bound monitor.now))) subjects.now known.items) }
     ensures ends { IfErr result EndsPairs }
 {
-    let task = context.task;
-    let limit = cone_limit(task.settings.limit);
-    let order = weight_order(task.alloc, task.first, task.second, subjects)?;
+    let limit = cone_limit(context.task.settings.limit);
+    let order = judging_order(context, subjects, flags)?;
     let mut known = known;
     let mut budget = FIRST_BUDGET;
     while budget < limit {

@@ -1,4 +1,4 @@
-//! The names of variables, by signal, as a naming has them.
+//! The names that a naming gives to the variables of a netlist, by signal.
 ghost use Rattle.std.specs.Prelude.{◌≡◌, ◌<◌, length, slice_index, All, IfOk};
 ghost use Rattle.net_bench.specs.Circuit.{circuit, variables_of};
 ghost use Rattle.compare_built.specs.Cones.{AreNamed};
@@ -6,17 +6,10 @@ ghost use Rattle.cone_check.specs.ConeRounds.{levels_in, texts};
 
 use net_bench::netlist::{Netlist, Signal};
 use net_order::naming::Naming;
+use net_order::netlist_role::NetlistRole;
 use std::alloc::{AllocError, Global};
 
-/// One of the netlists of a comparison.
-#[derive(Clone, Copy, Drop)]
-pub enum NetlistRole {
-    First,
-    Second,
-    Given,
-}
-
-/// The level of a variable of this netlist.
+/// Returns the level of a variable of this netlist in the naming.
 pub fn level_in(naming: &Naming, part: NetlistRole, variable: Signal) -> u32
     ensures { result ≡ slice_index (levels_in part naming.now) variable }
 {
@@ -27,7 +20,7 @@ pub fn level_in(naming: &Naming, part: NetlistRole, variable: Signal) -> u32
     }
 }
 
-/// So many empty names.
+/// Returns `count` empty names.
 fn no_names(alloc: Global, count: usize) -> Result<Vec<Vec<u8>>, AllocError>
     ensures { IfOk result (λ names. length names.items ≡ count) }
 {
@@ -38,7 +31,8 @@ fn no_names(alloc: Global, count: usize) -> Result<Vec<Vec<u8>>, AllocError>
     Ok(names)
 }
 
-/// The names of a netlist's variables, by signal, as a naming has them. Other signals have the empty name.
+/// Returns by signal the names that the naming gives to the variables of the netlist. Other signals have the empty
+/// name. Fails if memory is refused.
 pub fn names_in(
     alloc: Global,
     net: &Netlist,

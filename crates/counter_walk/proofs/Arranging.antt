@@ -1,4 +1,4 @@
--- Functions of the bits by level at assignments as declared.
+-- Functions of the bits by level, at assignments in declared order.
 use Rattle.std.proofs.Common.{◌≡◌, ℕ, zero, suc, ◌<◌, ◌≤◌, Bool, true, false, List, [], ◌∷◌, ◌⊎◌, inl, inr, length, get_or, replicate, ◌↔◌, refl, sym, ◌∙◌, ap, subst, arith}
 use Rattle.std.proofs.Math.ListN.{set, length-replicate}
 use Rattle.std.proofs.lemmas.Bool.{cases_eq, cases_lt}
@@ -45,7 +45,7 @@ assignment_by_level-set n order x v b o lt len =
               ∙ sym (get_or-set_other (assignment_by_level order x) v i b false other)
         ]
 
--- ---- an assignment as declared for one by level
+-- ---- an assignment in declared order for one by level
 
 -- the bits of the first k levels, each for its variable
 declared_of : ℕ → List ℕ → List Bool → ℕ → List Bool
@@ -106,7 +106,7 @@ before_cases (true ∷ x) (false ∷ y) e = inr (inr first)
 before_cases (true ∷ x) (true ∷ y) e = below true x y (before_cases x y (omega arith))
 before_cases (false ∷ x) (false ∷ y) e = below false x y (before_cases x y (omega arith))
 
--- two functions have one least difference
+-- two functions have at most one least difference
 pub least_once : (n : ℕ) (f g : List Bool → Bool) (x y : List Bool) → IsLeastDifference n f g x → IsLeastDifference n f g y → x ≡ y
 least_once n f g x y k m = elim (before_cases x y (k.bits ∙ sym m.bits)) [
   | inl same ↦ same
@@ -114,7 +114,7 @@ least_once n f g x y k m = elim (before_cases x y (k.bits ∙ sym m.bits)) [
   | inr (inr before) ↦ absurd (m.differ (k.least y m.bits before))
 ]
 
--- and that of equal functions is the same
+-- equal functions have the same least difference
 least_alike : (n : ℕ) (f g f' g' : List Bool → Bool) (x : List Bool) → Agree n f f' → Agree n g g' → IsLeastDifference n f g x
     → IsLeastDifference n f' g' x
 least_alike n f g f' g' x af ag k = record {
@@ -123,7 +123,7 @@ least_alike n f g f' g' x af ag k = record {
   least = λ y len before. sym (af y len) ∙ k.least y len before ∙ ag y len;
 }
 
--- so two orders of the levels give one assignment where the functions of the bits as declared are the same
+-- two orders of the levels give the same assignment if the functions of the bits in declared order are the same
 pub one_in_all_orders : (n : ℕ) (order order' : List ℕ) (f g f' g' : List Bool → Bool) (x y : List Bool)
     → Agree n (by_declared order f) (by_declared order' f')
     → Agree n (by_declared order g) (by_declared order' g') → IsLeastDifferenceDeclared n order f g x → IsLeastDifferenceDeclared n order' f' g' y → x ≡ y
@@ -132,7 +132,7 @@ one_in_all_orders n order order' f g f' g' x y af ag k m =
 
 -- ---- the order of the levels
 
--- where each variable stands at its own level, an assignment is what it was
+-- if each variable is at its own level, an assignment by level is the one in declared order
 pub assignment_by_level-same : (n : ℕ) (order : List ℕ) (x : List Bool) → length order ≡ n → ((v : ℕ) → v < n → get_or order v 0 ≡ v) → length x ≡ n
     → assignment_by_level order x ≡ x
 assignment_by_level-same n order x full own len =
@@ -140,7 +140,7 @@ assignment_by_level-same n order x full own len =
     (λ i lt. let long : length (assignment_by_level order x) ≡ length order = length-assignment_by_level order x in
     get_or-assignment_by_level order x i (omega arith) ∙ ap (λ k. get_or x k false) (own i (omega arith)))
 
--- and the least difference as declared is that in the order of the levels
+-- if each variable is at its own level, the least difference in declared order is that by level
 pub least_by_level : (n : ℕ) (order : List ℕ) (f g : List Bool → Bool) (bits : List Bool) → length order ≡ n
     → ((v : ℕ) → v < n → get_or order v 0 ≡ v)
     → IsLeastDifferenceDeclared n order f g bits ↔ IsLeastDifference n f g bits

@@ -1,4 +1,4 @@
--- A function of the bits as declared that a variable divides.
+-- Functions of the bits in declared order, divided by a variable.
 use Rattle.std.proofs.Common.{ℕ, ◌<◌, Bool, false, cond, List, get_or}
 use Rattle.dd_store.specs.Functions.{Agree}
 use Rattle.counter_walk.specs.Lines.{IsIndependentOf}

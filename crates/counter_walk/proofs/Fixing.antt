@@ -1,4 +1,5 @@
--- Fixing the variables of a function one after the other, as declared: 0 where it can still be 1, else 1.
+-- Fixing the variables of a function one after the other, as declared: to 0 if the function can still be 1, and
+-- otherwise to 1.
 use Rattle.std.proofs.Common.{◌≡◌, ℕ, zero, suc, ◌+◌, ◌<◌, Bool, true, false, true≢false, List, [], ◌∷◌, ◌++◌, length, get_or, refl, sym, ◌∙◌, ap, subst, arith, inl, inr}
 use Rattle.std.proofs.Math.ListN.{set}
 use Rattle.std.proofs.lemmas.Bool.{cases_lt, cases_Bool, false_from_ne_true}
@@ -20,7 +21,7 @@ pub record IsFixed (n : ℕ) (h : List Bool → Bool) (bits : List Bool) : Type 
   pub least : (y : List Bool) → length y ≡ n → (e : ℕ) → e < length bits → ((k : ℕ) → k < e → get_or y k false ≡ get_or bits k false)
       → get_or y e false ≡ false → get_or bits e false ≡ true → h y ≡ false
 
--- where one assignment comes before another
+-- one assignment comes before another at some bit
 record FirstBefore (x y : List Bool) : Type 0 where
   place : ℕ
   within : place < length y

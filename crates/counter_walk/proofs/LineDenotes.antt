@@ -1,4 +1,4 @@
--- Lines that stand for functions.
+-- Lines and their functions.
 use Rattle.std.proofs.Common.{◌≡◌, ℕ, ◌+◌, ◌-◌, ◌<◌, ◌≤◌, Bool, true, false, cond, ◌||◌, List, [], ◌∷◌, ◌++◌, length, get_or, slice_get, replicate, Some, refl, sym, ◌∙◌, ap, subst, arith, inl, inr}
 use Rattle.std.proofs.Math.ListN.{set, length-replicate}
 use Rattle.std.proofs.lemmas.Bool.{cases_lt, cases_Bool, or_cases, or_left, or_right}
@@ -23,25 +23,25 @@ use Rattle.counter_walk.proofs.Choosing.{IsChoice}
 use Rattle.counter_walk.proofs.Fixing.{Can, IsFixed, fixed_free, fixed_zero, fixed_one}
 use Rattle.counter_walk.proofs.Pairing.{pair_same}
 
--- ---- a line more
+-- ---- one more line
 
 pub LineDenotes-push : (n : ℕ) (lines : List DiffLine) (l : DiffLine) (p : ℕ) (h : List Bool → Bool) → LineDenotes n lines p h → LineDenotes n (lines ++ l ∷ []) p h
 LineDenotes-push n lines l _ _ (terminal p h b e q) = terminal p h b (slice_get-append lines (l ∷ []) p (Terminal b) e) q
 LineDenotes-push n lines l _ _ (branch p h d low high lo hi e s t f g q) =
     branch p h d low high lo hi (slice_get-append lines (l ∷ []) p (Branch d low high) e) (LineDenotes-push n lines l low lo s) (LineDenotes-push n lines l high hi t) f g q
 
--- a place that stands for a function is one of the lines
+-- a place with a function is that of a line
 pub LineDenotes-within : (n : ℕ) (lines : List DiffLine) (p : ℕ) (h : List Bool → Bool) → LineDenotes n lines p h → p < length lines
 LineDenotes-within n lines _ _ (terminal p h b e q) = slice_get_within lines p (Terminal b) e
 LineDenotes-within n lines _ _ (branch p h d low high lo hi e s t f g q) = slice_get_within lines p (Branch d low high) e
 
--- it stands for each function that agrees with it
+-- a line that has a function has each function that agrees with it
 pub LineDenotes-agree : (n : ℕ) (lines : List DiffLine) (p : ℕ) (h k : List Bool → Bool) → Agree n k h → LineDenotes n lines p h → LineDenotes n lines p k
 LineDenotes-agree n lines _ _ k same (terminal p h b e q) = terminal p k b e (λ x len. same x len ∙ q x len)
 LineDenotes-agree n lines _ _ k same (branch p h d low high lo hi e s t f g q) =
     branch p k d low high lo hi e s t f g (λ x len. same x len ∙ q x len)
 
--- a line that may be put at the end for a function
+-- a line that may be added for a function
 pub data IsLineFor (n : ℕ) (lines : List DiffLine) (h : List Bool → Bool) : DiffLine → Type 0 where
   for_constant : (b : Bool) → Agree n h (λ x. b) → IsLineFor n lines h (Terminal b)
   for_choice : (d low high : ℕ) (lo hi : List Bool → Bool) → LineDenotes n lines low lo → LineDenotes n lines high hi → IsChoice n d h lo hi
@@ -54,7 +54,7 @@ LineDenotes-last n lines h _ (for_choice d low high lo hi s t k) =
     let l : DiffLine = Branch d low high in
     branch (length lines) h d low high lo hi (slice_get-push lines l) (LineDenotes-push n lines l low lo s) (LineDenotes-push n lines l high hi t) k.low k.high k.chosen
 
--- what a line for a function names
+-- the places in a line for a function
 named : (n : ℕ) (lines : List DiffLine) (h : List Bool → Bool) (l : DiffLine) → IsLineFor n lines h l
     → (d low high : ℕ) → l ≡ Branch d low high → (d < n) × (low < length lines) × (high < length lines)
 named n lines h _ (for_constant b q) d low high e = absurd (cc)
@@ -67,7 +67,7 @@ named n lines h _ (for_choice v lw hg lo hi s t k) d low high e =
     let same_high : hg ≡ high = cc in
     (omega arith, omega arith, omega arith)
 
--- a function has a line at a place, and what stood stands
+-- a function has a line at a place, and all lines before are kept
 pub record IsAdded (S : Nodes) (order : List ℕ) (h : List Bool → Bool) (old new : DiffTable) (at : ℕ) : Type 0 where
   pub table : IsDiffTable S order new
   pub keeps : (p : ℕ) (k : List Bool → Bool) → LineDenotes S.levels old.lines.items p k → LineDenotes S.levels new.lines.items p k
@@ -108,7 +108,7 @@ added S order old new k l t is grown u =
       place = last;
     }
 
--- the line of a function, before it is put at the end
+-- the line of a function, before it is added
 pub record IsReady (S : Nodes) (order : List ℕ) (h : List Bool → Bool) (old t : DiffTable) (l : DiffLine) : Type 0 where
   pub table : IsDiffTable S order t
   pub keeps : (p : ℕ) (k : List Bool → Bool) → LineDenotes S.levels old.lines.items p k → LineDenotes S.levels t.lines.items p k
@@ -148,9 +148,9 @@ placed S order old t new k l (Ok p) i at grown u =
     added S order t new k l i.table i.line grown (subst (λ n. Updates pair_eq.it t.places new.places k (Some n)) at u) in
     record { table = m.table; keeps = λ q z s. m.keeps q z (i.keeps q z s); place = subst (λ n. LineDenotes S.levels new.lines.items n h) (sym at) m.place }
 
--- ---- marking
+-- ---- which functions can be 1
 
--- what is marked at a place does not change what is before it
+-- a later bit does not change what an earlier one says
 line_satisfiable-set : (lines : List DiffLine) (bits satisfiable : List Bool) (i p : ℕ) (v : Bool) (l : DiffLine) → AreInOrder lines → slice_get lines p ≡ Some l
     → p ≤ i
     → line_satisfiable bits (set satisfiable i v) l ≡ line_satisfiable bits satisfiable l
@@ -178,9 +178,9 @@ marked_more lines bits satisfiable i v x o at within is done p l lt e =
           ∙ sym (line_satisfiable-set lines bits satisfiable i p v l o e (omega arith))
     ]
 
--- ---- what marks say
+-- ---- what the bits say
 
--- what stands at a line does not depend on a variable that no line reads
+-- the function of a line does not depend on a variable that no line reads
 lines_free : (n : ℕ) (lines : List DiffLine) (reads : List Bool) (d : ℕ) → AreRead lines reads → get_or reads d false ≡ false
     → (p : ℕ) (h : List Bool → Bool) → LineDenotes n lines p h → IsIndependentOf n d h
 lines_free n lines reads d all off _ _ (terminal p h c e q) b x len = q (set x d b) (length-set x d b ∙ len) ∙ sym (q x len)
@@ -198,7 +198,7 @@ lines_free n lines reads d all off _ _ (branch p h v low high lo hi e s t f g q)
         let g : true ≡ false = sym f ∙ off in
         cc
 
--- a mark tells whether a function can be 1
+-- the bit of a place says whether its function can be 1
 IsAbleIff : (n : ℕ) (bits satisfiable : List Bool) → ℕ → (List Bool → Bool) → Type 0
 IsAbleIff n bits satisfiable p h = (get_or satisfiable p false ≡ true → Can n h bits) × (Can n h bits → get_or satisfiable p false ≡ true)
 
@@ -219,7 +219,7 @@ module _ (n : ℕ) (lines : List DiffLine) (bits satisfiable : List Bool) (termi
         one = q some full;
       }
 
-  -- the same assignment, for the function that its bit chooses
+  -- an assignment at which the function is 1 is one at which the function chosen by its bit is 1
   to_chosen : (d : ℕ) (h lo hi : List Bool → Bool) → IsChoice n d h lo hi → (z : Can n h bits) (b : Bool) → get_or z.at d false ≡ b
       → Can n (cond b hi lo) bits
   to_chosen d h lo hi k z true is = record {
@@ -250,7 +250,7 @@ module _ (n : ℕ) (lines : List DiffLine) (bits satisfiable : List Bool) (termi
     one = k.chosen z.at z.size ∙ ap (λ c. cond c (hi z.at) (lo z.at)) is ∙ z.one;
   }
 
-  -- any assignment, where the bit is not fixed
+  -- any assignment, if the bit is not fixed
   set_bit : (d : ℕ) (g : List Bool → Bool) → IsIndependentOf n d g → length bits ≤ d → (b : Bool) → Can n g bits → Can n g bits
   set_bit d g f past b z = record {
     at = set z.at d b;
@@ -326,7 +326,7 @@ module _ (n : ℕ) (lines : List DiffLine) (bits satisfiable : List Bool) (termi
     unfolding IsAbleIff
     unable_cannot p h s f z = let t : get_or satisfiable p false ≡ true = (able_iff p h s).1 z in let g : true ≡ false = sym t ∙ f in cc
 
--- ---- a variable more
+-- ---- one more variable
 
 module _ (n : ℕ) (lines : List DiffLine) (of : ReadVariablesBelow n lines) (root : ℕ) (h : List Bool → Bool) (stands : LineDenotes n lines root h) where
   pub turn_free : (reads bits more : List Bool) → length bits < n → AreRead lines reads → get_or reads (length bits) false ≡ false

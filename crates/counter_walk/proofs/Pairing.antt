@@ -1,4 +1,4 @@
--- Pairs of references, and the functions that tell where they differ.
+-- Pairs of references, and the exclusive or of their functions.
 use Rattle.std.proofs.Common.{◌≡◌, ℕ, ◌-◌, ◌<◌, ◌≤◌, Bool, true, false, not, cond, List, [], length, get_or, min, refl, sym, ◌∙◌, ap, subst, arith}
 use Rattle.std.proofs.Math.ListN.{set}
 use Rattle.dd_store.specs.declared.reference.Ref.{Ref}
@@ -27,7 +27,7 @@ pair_same x y e =
     let g : x.second ≡ y.second = ref_same x.second y.second (grind arith) in
     λ i. record { first = f i; second = g i }
 
--- ---- pairs that differ where two references do
+-- ---- pairs with the exclusive or of two references
 
 unlike_swapped : (a b : Bool) → unlike a b ≡ unlike b a
 unlike_swapped true true = refl
@@ -53,7 +53,7 @@ top_most S w False h = omega arith
 top_most S w True h = omega arith
 top_most S w (Node m b) h = let lt : m.level < S.levels = w.reduced.placed m h.0 h.1 in omega arith
 
--- where references are equal, and where they are complements of each other
+-- the exclusive or of equal references, and of complements
 den_same : (S : Nodes) (f g : Ref) → f ≡ g → (x : List Bool) → unlike (den S f x) (den S g x) ≡ false
 den_same S f g e x = unlike_same (den S f x) (den S g x) (ap (λ z. den S z x) e)
 
@@ -102,7 +102,7 @@ pair_of_swapped S f g p k = record {
   alike = λ x. k.alike x ∙ unlike_swapped (den S g x) (den S f x);
 }
 
--- ---- the function that tells where references differ
+-- ---- the exclusive or of two references
 
 pub differs_same : (S : Nodes) (order : List ℕ) (f g : Ref) → f ≡ g → Agree S.levels (differs S order f g) (λ x. false)
 differs_same S order f g e x len = den_same S f g e (assignment_by_level order x)
@@ -142,7 +142,7 @@ module _ (S : Nodes) (w : IsSound S) (order : List ℕ) (o : IsOrder S.levels or
       let two : den S g (assignment_by_level order (set x d b)) ≡ den S g y = ap (den S g) at ∙ walk-set S.levels (node S) w.reduced g y v b hg.0 hg.1 in
       λ i. unlike (one i) (two i)
 
-  -- two references differ where their cofactors do
+  -- the exclusive or of two references chooses between those of their cofactors
   pub choice_of : (v : ℕ) (f g f_low f_high g_low g_high : Ref) → Has S f → Has S g → v < S.levels → v ≤ top S f → v ≤ top S g
       → f_low ≡ cofactor_of S f v false → f_high ≡ cofactor_of S f v true → g_low ≡ cofactor_of S g v false → g_high ≡ cofactor_of S g v true
       → IsChoice S.levels (get_or order v 0) (differs S order f g) (differs S order f_low g_low) (differs S order f_high g_high)
@@ -180,7 +180,7 @@ level_here S w f g a b v hf hg ne other ea eb e =
     let lt : min (top S f) (top S g) < S.levels = below_levels S w f g hf hg ne other in
     (omega arith, omega arith, omega arith)
 
--- from two references to cofactors of their pair the levels that are left get fewer
+-- from two references to cofactors of their pair there are fewer levels left
 pub falls : (S : Nodes) (f g : Ref) (p : DiffPair) (v : ℕ) (x y : Ref) → IsDiffPairOf S f g p → v < S.levels → v ≤ top S p.first → v ≤ top S p.second
     → min (top S p.first) (top S p.second) ≤ v → v < top S x → v < top S y
     → S.levels - min (top S x) (top S y) < S.levels - min (top S f) (top S g)

@@ -1,4 +1,4 @@
--- Which levels a walk below references meets, and on which bits their functions depend.
+-- Which levels a walk below references visits, and on which bits their functions depend.
 use Rattle.std.proofs.Common.{◌≡◌, ℕ, zero, suc, ◌<◌, ◌≤◌, ◌⊎◌, inl, inr, Bool, true, false, List, ◌∷◌, ◌++◌, length, drop, refl, sym, ◌∙◌, ap, subst, arith, get_or, replicate, cond, eq-eqb}
 use Rattle.std.proofs.Math.ListN.{set}
 use Rattle.std.proofs.lemmas.Bool.{cases_eq}
@@ -13,13 +13,13 @@ use Rattle.dd_store.specs.Parts.{Part, IsReachable, top_of, step_of}
 use Rattle.dd_store.specs.Parts.Part.{leaf, node}
 use Rattle.dd_store.specs.Parts.IsReachable.{here, at_low, at_high}
 use Rattle.dd_store.specs.View.{Has, part, top}
-use Rattle.dd_store.proofs.References.{node_below, node_for, NodeOf}
+use Rattle.dd_store.proofs.References.{node_below, node_for}
 use Rattle.dd_store.proofs.View.{parts, denotes, same_ref, top-part, cofactor-step}
 use Rattle.dd_store.specs.contracts.reference.ReferencePartialEq.TheImpl.{eq-value as ref_eq}
 use Rattle.counter_walk.specs.declared.support.SupportWalk.{SupportWalk}
 use Rattle.counter_walk.specs.Support.{AreMarkedBelow, IsMarked, IsSoundWalk, HasNodeBelow}
 
--- ---- marks
+-- ---- the bits of levels
 
 pub marked_more : (xs : List Bool) (i v : ℕ) → i < length xs → get_or xs v false ≡ true → get_or (set xs i true) v false ≡ true
 marked_more xs i v lt is =
@@ -44,9 +44,9 @@ no_mark (suc n) (suc v) = no_mark n v
 pub unmarked : (xs : List Bool) (n v : ℕ) → xs ≡ replicate n false → get_or xs v false ≡ true → ⊥
 unmarked xs n v e is = let none : get_or xs v false ≡ false = ap (λ ys. get_or ys v false) e ∙ no_mark n v in cc
 
--- ---- what is met
+-- ---- what is reached
 
--- where a node stands below r, its function depends on the bit of the node's level
+-- if a node of a level is below r, the function of r depends on the level's bit
 module _ (S : Nodes) (w : IsSound S) where
   of_fixed : (v : ℕ) (f g : List Bool → Bool) → IsFixedSomehow S.levels v f g → DependsOn S.levels v g → DependsOn S.levels v f
   of_fixed v f g (p, hp, i) (q, r, hq, hr, ne) = (
@@ -62,7 +62,7 @@ module _ (S : Nodes) (w : IsSound S) where
       let k = node_below Ref same_ref S.levels (part S) (Has S) (den S) (parts S w) (denotes S w) r m v lo hi h met e in
       of_fixed v (den S r) (den S m) k.0 k.1
 
-  -- and where it depends on that bit, such a node stands there
+  -- if the function of r depends on a level's bit, a node of this level is below r
   pub stands : (r : Ref) (v : ℕ) → Has S r → DependsOn S.levels v (den S r) → HasNodeBelow S r v
   stands r v h (q, x, hq, hx, ne) =
       let g : List Bool → Bool = λ (y : List Bool). den S r (q ++ drop v y) in
@@ -97,7 +97,7 @@ module _ (S : Nodes) (w : IsSound S) where
   pub by_high : (r lo hi : Ref) (u v : ℕ) → part S r ≡ node u lo hi → HasNodeBelow S hi v → HasNodeBelow S r v
   by_high r lo hi u v e (m, a, b, met, f) = (m, a, b, through r hi m (at_high here e) met, f)
 
-  -- what is met is r, or is met below one of its children
+  -- what is reached from a node is the node, or is reached from one of its children
   Under : (lo hi r m : Ref) → Type 0
   Under lo hi r m = (m ≡ r) ⊎ (IsReachable (part S) lo m ⊎ IsReachable (part S) hi m)
 
@@ -137,7 +137,7 @@ module _ (S : Nodes) (w : IsSound S) where
       by (inr (inl i)) = inr (inl (m, a, b, i, f))
       by (inr (inr i)) = inr (inr (m, a, b, i, f))
 
-  -- nothing stands below a terminal
+  -- from a terminal nothing else is reached
   only_itself : (r m : Ref) (c : Bool) → part S r ≡ leaf c → IsReachable (part S) r m → m ≡ r
   only_itself r _ c e here = refl
   only_itself r a c e (at_low {m = m} {hi = b} {v = v} met f) =
@@ -181,7 +181,7 @@ module _ (S : Nodes) (w : IsSound S) where
           let second : b ≡ hi = sym (high ∙ chosen a b true is) in
           is ∙ ap (λ z. node v z b) first ∙ ap (λ z. node v lo z) second
 
-  -- a reference at the last level or below it has nothing below
+  -- below a reference at the last level or deeper there is no node
   pub nothing_below : (r : Ref) (v : ℕ) → Has S r → S.levels ≤ top S r → HasNodeBelow S r v → ⊥
   nothing_below r v h le s = by (kind r h)
     where
@@ -191,7 +191,8 @@ module _ (S : Nodes) (w : IsSound S) where
 
   -- ---- a node and its children, one after the other
 
-  -- all levels below are marked: its own, those below the first child, then those below the second
+  -- the bits of all levels below are set: that of the node, those below the low child, and then those below the high
+  -- child
   pub all_below : (r lo hi : Ref) (v : ℕ) (a b c : SupportWalk) → part S r ≡ node v lo hi → IsMarked a v → ((u : ℕ) → IsMarked a u → IsMarked b u) → AreMarkedBelow S b lo
       → ((u : ℕ) → IsMarked b u → IsMarked c u) → AreMarkedBelow S c hi → AreMarkedBelow S c r
   all_below r lo hi v a b c is own first low second high u s = elim (splits r lo hi v u is s) [
@@ -200,7 +201,7 @@ module _ (S : Nodes) (w : IsSound S) where
     | inr (inr below) ↦ high u below
   ]
 
-  -- and no others
+  -- no other bits than those of levels below the reference are set in addition
   pub only_below : (r lo hi : Ref) (v : ℕ) (old a b c : SupportWalk) → part S r ≡ node v lo hi → ((u : ℕ) → IsMarked a u → IsMarked old u ⊎ (v ≡ u))
       → ((u : ℕ) → IsMarked b u → IsMarked a u ⊎ HasNodeBelow S lo u) → ((u : ℕ) → IsMarked c u → IsMarked b u ⊎ HasNodeBelow S hi u)
       → (u : ℕ) → IsMarked c u → IsMarked old u ⊎ HasNodeBelow S r u
@@ -215,7 +216,7 @@ module _ (S : Nodes) (w : IsSound S) where
     | inr below ↦ inr (by_high r lo hi v u is below)
   ]
 
--- a reference more is seen, below which all is marked
+-- one more reference was visited, and all bits below it are set
 pub seen_more : (S : Nodes) (met new : SupportWalk) (r : Ref) → IsSoundWalk S met → new.levels ≡ met.levels → Updates ref_eq.it met.seen new.seen r true → AreMarkedBelow S new r → IsSoundWalk S new
 seen_more S met new r m same u all = record {
   each_level = ap (λ l. length l.items) same ∙ m.each_level;
@@ -228,7 +229,7 @@ seen_more S met new r m same u all = record {
         let before : contains ref_eq.it met.seen q ≡ true = sym (ap (λ t. cond t true (contains ref_eq.it met.seen q)) e) ∙ has in
         ap (λ l. get_or l.items v false) same ∙ m.seen q before v s
 
--- a level more is marked
+-- the bit of one more level is set
 pub level_more : (S : Nodes) (met new : SupportWalk) (v : ℕ) → IsSoundWalk S met → v < S.levels → new.seen ≡ met.seen → new.levels.items ≡ set met.levels.items v true → IsSoundWalk S new
 level_more S met new v m lt seen same =
     let full : length met.levels.items ≡ S.levels = m.each_level in

@@ -1,7 +1,9 @@
-//! The least difference of two functions in declared order, whatever order the levels have. The variables are fixed one after the other as
-//! declared: 0 where the functions can still differ under what is fixed, else 1. Whether they can is found by one pass over lines that
-//! stand for pairs of references, from the lowest level up, and only for the variables that these lines read; the others are 0. The store
-//! gets no node.
+//! The least difference of two functions in declared order, whatever the order of the levels. The
+//! variables are fixed one after the other as declared: to 0 if the functions can still differ
+//! then, and otherwise to 1. Whether they can is found by one pass over a list of lines, the
+//! diagram of the exclusive or of both functions, from the lowest level up; this is done only for
+//! variables that the lines read, and the others are 0. The store gets no node, so a full one is no
+//! obstacle.
 ghost use Rattle.std.specs.Prelude.{◌≡◌, ◌<◌, ◌++◌, ◌∷◌, [], ℕ, List, Bool, length};
 ghost use Rattle.std.specs.Prelude.{IfOk, OnOk, MatchOption};
 ghost use Rattle.std.specs.HashMap.{Updates};
@@ -18,29 +20,29 @@ use dd_store::{Ref, Store};
 use std::alloc::{AllocError, Global};
 use std::collections::HashMap;
 
-/// Two references, for the function that is 1 where they differ.
+/// Two references, for the function that is 1 at the assignments at which theirs differ.
 #[derive(Clone, Copy, PartialEq, Eq, Hash)]
 struct DiffPair {
     first: Ref,
     second: Ref,
 }
 
-/// What stands for a pair: a value, where the two are equal or complements of each other, or the declared variable of the upper of the two
-/// and the places of the pairs of their cofactors.
+/// A node of the diagram of such a function: its value, if the two references are equal or complements of each other;
+/// otherwise the declared variable of the upper level of the two, and the places of the lines for the cofactors.
 #[derive(Clone, Copy, Drop)]
 enum DiffLine {
     Terminal(bool),
     Branch { variable: u16, low: u32, high: u32 },
 }
 
-/// The lines of pairs, those of cofactors before those of their pairs, and the place of each pair.
+/// The lines of pairs, each after those of its cofactors, and the place of each pair's line.
 #[derive(Drop)]
 struct DiffTable {
     lines: Vec<DiffLine>,
     places: HashMap<DiffPair, u32>,
 }
 
-/// Two references, both complemented where the first has a mark.
+/// Returns two references, both complemented if the first has a complement bit.
 fn with_regular_first(first: Ref, second: Ref) -> DiffPair
     ensures { result ≡ record { first = complement_by (is_complement first) first; second = complement_by (is_complement first) second } }
 {
@@ -51,7 +53,8 @@ fn with_regular_first(first: Ref, second: Ref) -> DiffPair
     }
 }
 
-/// The pair whose line serves f and g, in either order, and both complemented; one pair serves all that are equal, and one all complements.
+/// Returns the pair that represents f and g: the exclusive or does not change if they are exchanged or both
+/// complemented. There is one pair for all equal references, and one for all complements of each other.
 fn normal(f: Ref, g: Ref) -> DiffPair
     ensures { (S : Nodes) → IsSound S → Has S f → Has S g → IsDiffPairOf S f g result }
 {
@@ -73,7 +76,8 @@ fn normal(f: Ref, g: Ref) -> DiffPair
     with_regular_first(f, g)
 }
 
-/// Puts the line of a pair at the end.
+/// Adds the line of a pair at the end, and returns its place. Fails if memory is refused, or if there are 2^32 - 1
+/// lines.
 fn add_line(table: &mut DiffTable, pair: DiffPair, line: DiffLine) -> Result<u32, AllocError>
     ensures place { IfOk result (λ p. p ≡ length table.old.lines.items) }
     ensures lines { OnOk result (table.new.lines.items ≡ table.old.lines.items ++ line ∷ []) }
@@ -89,7 +93,7 @@ fn add_line(table: &mut DiffTable, pair: DiffPair, line: DiffLine) -> Result<u32
     Ok(place)
 }
 
-/// The place of the line of two references, which is added where it is not there, after those of their cofactors.
+/// Returns the place of the line of two references. If there is none, it is added, after those of the cofactors.
 fn place_of(
     store: &Store,
     order: &[u16],
@@ -106,7 +110,7 @@ fn place_of(
         LineDenotes store.now.levels table.new.lines.items p h) }
     ensures place { IfOk result (λ p. LineDenotes store.now.levels table.new.lines.items p (differs store.now order.now f g)) }
 {
-    let _ = store.levels();
+    let _ = store.levels(); // For the proof.
     let pair = normal(f, g);
     if let Some(place) = table.places.get(&pair) {
         return Ok(*place);
@@ -128,7 +132,7 @@ fn place_of(
     add_line(table, pair, line)
 }
 
-/// Whether each of the variables stands in a line.
+/// Returns, for each variable, whether a line has it.
 fn variables_read(
     alloc: Global,
     lines: &[DiffLine],
@@ -147,7 +151,8 @@ fn variables_read(
     Ok(reads)
 }
 
-/// Whether what stands at a line can still be 1 where the first variables have these bits, by whether those at its two places can.
+/// Whether a line's function can still be 1 if the first variables have these bits, by whether those of its two places
+/// can.
 fn is_satisfiable(line: DiffLine, bits: &[bool], satisfiable: &[bool]) -> bool
     requires { (d low high : ℕ) → line ≡ DiffLine.Branch d low high → (low < length satisfiable.now) × (high < length satisfiable.now) }
     ensures { result ≡ line_satisfiable bits.now satisfiable.now line }
@@ -169,7 +174,8 @@ fn is_satisfiable(line: DiffLine, bits: &[bool], satisfiable: &[bool]) -> bool
     }
 }
 
-/// Marks the lines that can still be 1 where the first variables have these bits, from the lowest level up.
+/// Finds for each line whether its function can still be 1 if the first variables have these bits, from the lowest
+/// level up.
 fn find_satisfiable(lines: &[DiffLine], bits: &[bool], satisfiable: &mut [bool])
     requires lines { AreInOrder lines.now }
     requires one_per_line { length satisfiable.old ≡ length lines.now }
@@ -180,10 +186,10 @@ fn find_satisfiable(lines: &[DiffLine], bits: &[bool], satisfiable: &mut [bool])
     }
 }
 
-/// The least assignment in declared order at which two functions differ, in lexicographic order with 0 before 1 and the bit of the variable
-/// that is declared first first; None where they agree everywhere. For each level, the top one first, `order` has the place of its variable
-/// as declared. The assignment is the same in every order of the levels. Where both functions are conjoined with a condition before, it is
-/// the least that satisfies it.
+/// Returns the least assignment in declared order at which two functions differ: the least in lexicographic order, with
+/// 0 before 1, the bit of the first declared variable first. Returns none if they agree everywhere. `order` has, for
+/// each level from the top, the place of its variable as declared. The result is the same for every order of the
+/// levels. If both functions were conjoined with a condition, the result satisfies it. Fails if memory is refused.
 pub fn least_difference_declared(
     alloc: Global,
     store: &Store,
@@ -222,7 +228,7 @@ pub fn least_difference_declared(
     Ok(Some(bits))
 }
 
-/// An assignment as declared as one by level, for `value`.
+/// Returns an assignment in declared order as one by level, as `value` takes it.
 pub fn by_level(alloc: Global, bits: &[bool], order: &[u16]) -> Result<Vec<bool>, AllocError>
     requires { IsOrder (length bits.now) order.now }
     ensures { IfOk result (λ levels. levels.items ≡ assignment_by_level order.now bits.now) }

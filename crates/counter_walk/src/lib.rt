@@ -1,14 +1,17 @@
-//! Comparing two functions of a store: whether they are equal, and the least assignment at which they differ.
+//! Comparing two functions of a store: whether they are equal, the least assignment at which they
+//! differ, and the variables that they depend on.
 //!
-//! **Promises.** `same` is equality of functions (`functions`) and of references (`references`), `value` the denotation
-//! (`value`). `least_difference` answers the least assignment by level at which two functions differ, `least_difference_declared`
-//! the least as declared, in any order of the levels, or none where they agree (`least`); `by_level` turns one into the
-//! other. `support_of` tells exactly the levels on whose bits one of two functions depends. No call makes nodes.
+//! **Promises.** `same` is equality of functions (`functions`) and of references (`references`),
+//! and `value` is the denotation at an assignment (`value`). `least_difference` returns the least
+//! assignment by level at which two functions differ, and `least_difference_declared` the least in
+//! declared order, for any order of the levels; both return none if the functions agree (`least`).
+//! `by_level` turns an assignment in declared order into one by level. `support_of` returns exactly
+//! the levels on whose bits one of two functions depends. No call makes nodes.
 //!
-//! **Only tests show** that ample memory suffices (`wave_tests`).
+//! **Only tests show** that nothing is refused if there is ample memory (`wave_tests`).
 //!
-//! **Begin** here: a walk down both diagrams at once, to 1 only where the children for 0 are equal; as declared in
-//! `least`, with `specs/DeclaredOrder`.
+//! **Begin** here: `least_difference` walks down both diagrams at once. The least difference in
+//! declared order is in `least`, with `specs/DeclaredOrder`.
 #![tactic(auto)]
 
 ghost use Rattle.std.specs.Prelude.{◌≡◌, ◌<◌, ◌≤◌, ◌↔◌, IsTrue, length, MatchOption, IfOk};
@@ -25,7 +28,7 @@ pub use least::{by_level, least_difference_declared};
 use std::alloc::{AllocError, Global};
 pub use support::support_of;
 
-/// The reference below `r` for a bit of the level, or `r` itself where it stands below the level.
+/// Returns the cofactor of a reference for a bit of a level.
 fn step_down(store: &Store, r: Ref, level: u16, bit: bool) -> Ref
     requires in_store { Has store.now r }
     requires level { level < store.now.levels }
@@ -35,8 +38,8 @@ fn step_down(store: &Store, r: Ref, level: u16, bit: bool) -> Ref
     store.cofactor(r, level, bit)
 }
 
-/// Whether two references of one store denote one function. It need not look at the store, since the references of
-/// reduced diagrams are equal exactly where their functions are (Bryant 1986).
+/// Whether two references of one store denote the same function. No store is needed, because references of reduced
+/// diagrams are equal exactly if their functions are (Bryant 1986).
 pub fn same(f: Ref, g: Ref) -> bool
     ensures references { IsTrue result ↔ (f ≡ g) }
     ensures functions { (S : Nodes) → IsSound S → Has S f → Has S g → IsTrue result ↔ Agree S.levels (den S f) (den S g) }
@@ -44,7 +47,7 @@ pub fn same(f: Ref, g: Ref) -> bool
     f == g
 }
 
-/// The value of a reference under an assignment, which has a bit for each level, the top level's first.
+/// Returns the value of a function at an assignment, which has a bit for each level, the top level's first.
 pub fn value(store: &Store, f: Ref, bits: &[bool]) -> bool
     requires in_store { Has store.now f }
     requires one_bit_per_level { length bits.now ≡ store.now.levels }
@@ -57,9 +60,9 @@ pub fn value(store: &Store, f: Ref, bits: &[bool]) -> bool
     same(at, Ref::TRUE)
 }
 
-/// The least assignment at which two references differ, in lexicographic order with 0 before 1 and the top level's bit
-/// first; None where they denote one function. It walks down both diagrams at once, and goes to 1 only where the two
-/// children for 0 are equal.
+/// Returns the least assignment at which two functions differ: the least in lexicographic order, with 0 before 1, the
+/// top level's bit first. Returns none if they are equal. It walks down both diagrams at once, and takes the high
+/// children only if the two low ones are equal. Fails if memory is refused.
 pub fn least_difference(
     alloc: Global,
     store: &Store,

@@ -1,5 +1,5 @@
-//! The levels on which functions depend: those at which nodes stand below their references. Each reference is met once, and the store gets
-//! no node.
+//! The levels on which functions depend. In reduced diagrams these are the levels of the nodes
+//! below their references. Each reference is visited once, and the store gets no node.
 ghost use Rattle.std.specs.Prelude.{◌⊎◌, ℕ, IfOk, OnOk};
 ghost use Rattle.dd_store.specs.Nodes.{den};
 ghost use Rattle.dd_store.specs.View.{Has};
@@ -9,14 +9,14 @@ use dd_store::{Ref, Store};
 use std::alloc::{AllocError, Global};
 use std::collections::HashSet;
 
-/// The references whose nodes a walk has met, and whether a node was met at each level.
+/// The references that a walk has visited, and for each level whether a node of it was visited.
 #[derive(Drop)]
 struct SupportWalk {
     seen: HashSet<Ref>,
     levels: Vec<bool>,
 }
 
-/// Marks the levels of the nodes below a reference.
+/// Sets the bits of the levels of all nodes below a reference.
 fn visit(store: &Store, met: &mut SupportWalk, r: Ref) -> Result<(), AllocError>
     requires in_store { Has store.now r }
     requires met { IsSoundWalk store.now met.old }
@@ -37,8 +37,8 @@ fn visit(store: &Store, met: &mut SupportWalk, r: Ref) -> Result<(), AllocError>
     Ok(())
 }
 
-/// A bit for each level, which is 1 exactly where one of the two functions depends on the bit of the level. Time is linear in the nodes
-/// of the two diagrams.
+/// Returns a bit for each level, which is set exactly if one of the two functions depends on the bit of the level. The
+/// time is linear in the number of nodes of both diagrams. Fails if memory is refused.
 pub fn support_of(alloc: Global, store: &Store, f: Ref, g: Ref) -> Result<Vec<bool>, AllocError>
     requires first_in_store { Has store.now f }
     requires second_in_store { Has store.now g }

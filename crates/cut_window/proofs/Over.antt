@@ -1,5 +1,5 @@
--- The window law: if the leaves have the values that they have in the graph, each node above them has its value in the graph. So what
--- agrees over a cut is equivalent.
+-- The law of windows: if the leaves have the values that they have in the graph, each node above them has its value in
+-- the graph. So literals that agree over a cut are equivalent.
 use Rattle.std.proofs.Common.{◌≡◌, ℕ, zero, suc, ◌<◌, Bool, List, [], ◌∷◌, map, Option, Some, None, slice_get, refl, sym, ap, ◌∙◌, arith}
 use Rattle.std.proofs.lemmas.List.{length-map}
 use Rattle.std.proofs.lemmas.Option.{none-some, same_Some}
@@ -36,8 +36,8 @@ module _ (g : List Node) (ordered : (n : ℕ) (m : Node) → slice_get g n ≡ S
       ap (operation_at (value_over_within n g leaves x y) x) e ∙
       operation-same (value_over_within n g leaves x y) (node_over g leaves x y) x n m (ordered n m e) (λ i low. over-more n (suc i) i low (omega arith))
 
-  -- if the leaves have their own values, each node has its own
-  -- the step at one node, if those below have theirs
+  -- ---- if the leaves have their own values, each node has its own
+  -- the value of one node, if those below have theirs
   leaf_bits-step : AreLeafValues g leaves x y → (k n : ℕ) → n < suc k → ((i : ℕ) → i < n → value_over_within k g leaves x y i ≡ value_within k g x i)
       → (o : Option ℕ) → place_of leaves n ≡ o → value_over_within (suc k) g leaves x y n ≡ value_within (suc k) g x n
   unfolding value_within value_over_within node_value
@@ -67,7 +67,7 @@ leaf_values-leaf_bits g x [] i n e = absurd (none-some n e)
 leaf_values-leaf_bits g x (l ∷ leaves) zero n e = ap (node_value g x) (same_Some l n e)
 leaf_values-leaf_bits g x (l ∷ leaves) (suc i) n e = leaf_values-leaf_bits g x leaves i n e
 
--- what agrees over a cut is equivalent
+-- literals that agree over a cut are equivalent
 pub equivalent_from_over : (g : List Node) → IsGraph g → (leaves : List ℕ) (a b : Parts) → AgreeOver g leaves a b → AreEquivalent g a b
 equivalent_from_over g sound leaves a b agree x =
     let y = leaf_values g x leaves in

@@ -6,7 +6,7 @@ use Rattle.std.proofs.lemmas.Option.{none-some, same_Some}
 use Rattle.slot_table.specs.Lists.{IsIn, IsOnce}
 use Rattle.cut_window.specs.Windows.{place_of}
 
--- what is found is there
+-- what is found is in the list
 found_from : (leaves : List ℕ) (n start i : ℕ) → position_from (λ l. l == n) start leaves ≡ Some i
     → (j : ℕ) × (i ≡ start + j) × (slice_get leaves j ≡ Some n)
 found_from [] n start i e = absurd (none-some i e)
@@ -21,7 +21,7 @@ found_from (l ∷ leaves) n start i e = elim (cases_Bool (l == n)) [
       (suc more.0, omega (arith, more.1), more.2))
 ]
 
--- what is not found is not there
+-- what is not found is not in the list
 missed_from : (leaves : List ℕ) (n start j : ℕ) → position_from (λ l. l == n) start leaves ≡ None → slice_get leaves j ≡ Some n → ⊥
 missed_from [] n start j e at = none-some n at
 missed_from (l ∷ leaves) n start zero e at =
@@ -73,7 +73,7 @@ place_of-above nodes cut i n once high at = by_place (place_of (take cut nodes) 
         let same : j ≡ i = once j i n front.1 at in
         absurd (omega (arith, front.0))
 
--- and neither has a node outside of the window
+-- a node that is not in the window has no place
 pub place_of-absent : (nodes : List ℕ) (cut n : ℕ) → (IsIn nodes n → ⊥) → place_of (take cut nodes) n ≡ None
 place_of-absent nodes cut n absent = by_place (place_of (take cut nodes) n) refl
   where

@@ -1,4 +1,4 @@
--- Windows as clauses see them.
+-- Windows as contracts see them.
 use Rattle.std.specs.Prelude.{ℕ, List, take}
 
 -- the nodes of a window, and how many of them, from the first on, are its leaves

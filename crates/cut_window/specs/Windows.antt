@@ -11,12 +11,13 @@ use Rattle.cut_window.specs.declared.finding.Finding.TheVariants.{Equal, Complem
 abbrev pub place_of : List ℕ → ℕ → Option ℕ
 place_of leaves n = position_from (λ l. l == n) 0 leaves
 
--- for a leaf its bit of y, for any other node its value b
+-- the value of a node: for the leaf at a place its bit of y, for any other node b
 abbrev pub leaf_or : List Bool → Bool → Option ℕ → Bool
 leaf_or y b None = b
 leaf_or y b (Some i) = bit y i
 
--- the value of node n if it is found in at most k steps down, where leaves have their bits of y and other variables their bits of x
+-- the value of node n if at most k steps down find it, with the bits of y for leaves and the bits of x for other
+-- variables
 unfoldable pub value_over_within : ℕ → List Node → List ℕ → List Bool → List Bool → ℕ → Bool
 value_over_within zero g leaves x y n = false
 value_over_within (suc k) g leaves x y n = leaf_or y (operation_at (value_over_within k g leaves x y) x (slice_get g n)) (place_of leaves n)
@@ -42,14 +43,14 @@ pub record DifferOver (g : List Node) (leaves : List ℕ) (a b : Parts) (y : Lis
 abbrev pub AreLeafValues : List Node → List ℕ → List Bool → List Bool → Type 0
 AreLeafValues g leaves x y = (i n : ℕ) → slice_get leaves i ≡ Some n → bit y i ≡ node_value g x n
 
--- what a finding about two literals means over a cut
+-- what a finding about two literals means over the leaves
 abbrev pub HoldsOver : List Node → List ℕ → Parts → Parts → Finding → Type 0
 HoldsOver g leaves a b Equal = AgreeOver g leaves a b
 HoldsOver g leaves a b Complement = AgreeOver g leaves a (negated b)
 HoldsOver g leaves a b (Differ bits) = DifferOver g leaves a b bits.items
 HoldsOver g leaves a b GivenUp = Unit {0}
 
--- and what it means at every assignment of the variables: a difference over the leaves means nothing there
+-- what a finding means at every assignment of the variables: a difference over the leaves means nothing there
 abbrev pub Holds : List Node → Parts → Parts → Finding → Type 0
 Holds g a b Equal = AreEquivalent g a b
 Holds g a b Complement = AreEquivalent g a (negated b)

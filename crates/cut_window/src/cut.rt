@@ -1,4 +1,5 @@
-//! Cuts below two nodes, which grow from the nodes downwards.
+//! Cuts below two nodes, which grow from the nodes downwards. All of it is heuristic: no proof
+//! knows anything of it.
 use crate::force::force;
 use crate::leaf_order::{Below, LeafOrder, walk};
 use crate::node_table::NodeTable;
@@ -9,16 +10,18 @@ use pair_graph::Graph;
 use std::alloc::{AllocError, Global};
 use std::collections::BinaryHeap;
 
-/// The most nodes that a window has above its leaves.
+/// The most nodes of a window above its leaves.
 const MAX_ABOVE: usize = 8192;
 
-/// Up to so many nodes may be above the leaves while leaves are expanded that only one of the two nodes reaches.
+/// A leaf that only one of the two nodes reaches is expanded as long as fewer nodes than this are above the leaves, or
+/// fewer than eight times the wanted size if that is more.
 const UNSHARED: usize = 256;
 
-/// More turns than a window can have.
+/// More entries than the queue can get while one window grows. It only bounds the loop.
 const MAX_TURNS: usize = 1 << 24;
 
-/// Bits of what is known of a node: that the first of the two nodes reaches it, that the second does, and that it is above the leaves.
+/// The bits of what is known of a node: the first of the two nodes reaches it, the second does, both do, and it is
+/// above the leaves.
 const FIRST: u64 = 1;
 
 const SECOND: u64 = 2;
@@ -27,36 +30,38 @@ const BOTH: u64 = 3;
 
 pub(crate) const ABOVE: u64 = 4;
 
-/// Which leaf is expanded next. A leaf whose operands are both in the window already always comes first, since the cut gets smaller.
+/// Which leaf is expanded next. A leaf whose operands are both in the window already is always the first, since
+/// expanding it makes the cut smaller.
 #[derive(Clone, Copy, Debug, PartialEq, Eq)]
 pub enum CutKind {
-    /// First a leaf that only one of the two nodes reaches; then the leaf with most operands that are in the window or that another
-    /// leaf has as well.
+    /// First a leaf that only one of the two nodes reaches; then the leaf with the most operands that are in the window
+    /// or are operands of another leaf too.
     Shared,
     /// The leaf of the highest rank.
     Rank,
 }
 
-/// How soon a leaf is expanded, the greatest first: its class, its rank, and its number.
+/// The priority of a leaf in the queue, the greatest first: its class, its rank and its number.
 type Turn = (u32, u32, u32);
 
-/// The window below two nodes, as far as it has grown. Nothing is promised of it: a window is judged whatever it has.
+/// The window below two nodes, as far as it has grown. Nothing is promised of it, because a window may have any nodes.
 #[derive(Drop)]
 pub struct Cut {
     kind: CutKind,
     leaves: Vec<u32>,
-    /// Of each leaf its place among the leaves.
+    /// For each leaf its place among the leaves.
     places: NodeTable,
     above: Vec<u32>,
     known: NodeTable,
     users: Users,
-    /// Each leaf that may be expanded has its turn here, and older turns that were sooner.
+    /// The leaves that may be expanded, by priority. Entries that are out of date are skipped or replaced when they are
+    /// taken.
     queue: BinaryHeap<Turn>,
     scratch: NodeTable,
 }
 
 impl Cut {
-    /// A cut of no nodes.
+    /// Returns a cut without nodes.
     pub fn new(alloc: Global) -> Cut {
         Cut {
             kind: CutKind::Shared,
@@ -70,7 +75,7 @@ impl Cut {
         }
     }
 
-    /// Begins again with a window that has only two nodes, as leaves.
+    /// Begins again with a window that has only the two nodes, as leaves.
     pub fn start(
         &mut self,
         graph: &Graph,
@@ -90,12 +95,22 @@ impl Cut {
         Ok(())
     }
 
-    /// How many nodes are above the leaves.
+    /// Returns how many nodes are above the leaves.
     pub fn above(&self) -> usize {
         self.above.len()
     }
 
-    /// The leaves, in no particular order.
+    /// Puts the nodes above the leaves into the order of their numbers, each after its operands.
+    pub fn sort(&mut self) {
+        self.above.sort_unstable();
+    }
+
+    /// The nodes above the leaves: by number, if the cut has not grown since they were sorted.
+    pub fn nodes_above(&self) -> &[u32] {
+        self.above.as_slice()
+    }
+
+    /// Returns the leaves, in no particular order.
     pub fn leaves(&self) -> &[u32] {
         self.leaves.as_slice()
     }
@@ -107,7 +122,8 @@ impl Cut {
             .all(|leaf| operands_of(graph, *leaf).is_none())
     }
 
-    /// Expands leaves until about so many nodes are above the cut. Whether there is one more now.
+    /// Expands leaves until about `size` nodes are above the cut. Returns whether there is at least one more than
+    /// before.
     pub fn grow(
         &mut self,
         graph: &Graph,
@@ -128,7 +144,8 @@ impl Cut {
         Ok(self.above.len() > before)
     }
 
-    /// The window, its leaves in an order that is found by a walk below the two nodes, or from there by FORCE.
+    /// Returns the window. Its leaves are in the order of a walk down from the two nodes, or in the one that FORCE
+    /// makes of it.
     pub fn window(
         &mut self,
         alloc: Global,
@@ -137,11 +154,7 @@ impl Cut {
         roots: (u32, u32),
         order: LeafOrder,
     ) -> Result<Window, AllocError> {
-        let mut above = Vec::new(alloc);
-        for node in &self.above {
-            above.push(*node)?;
-        }
-        above.sort_unstable();
+        self.sort();
         let below = Below {
             graph,
             ranks,
@@ -150,24 +163,24 @@ impl Cut {
         };
         let walked = walk(alloc, &below, &mut self.scratch)?;
         if order == LeafOrder::Walk {
-            return Window::new(alloc, walked.as_slice(), above.as_slice());
+            return Window::new(alloc, walked.as_slice(), self.above.as_slice());
         }
-        let (leaves, nodes) = (walked.as_slice(), above.as_slice());
+        let (leaves, nodes) = (walked.as_slice(), self.above.as_slice());
         let forced = force(alloc, graph, leaves, nodes, &mut self.scratch)?;
         Window::new(alloc, forced.as_slice(), nodes)
     }
 
-    /// Notes that a node is reached from one of the two nodes, or from both. Whether it is a new leaf.
+    /// Notes that a node is reached from one of the two nodes, or from both. Returns whether it is a new leaf.
     fn reach(&mut self, graph: &Graph, node: u32, side: u64) -> Result<bool, AllocError> {
         if node == 0 {
             return Ok(false);
         }
         if let Some(known) = self.known.get(node) {
-            self.known.set(node, known | side);
+            self.known.replace(node, known | side);
             return Ok(false);
         }
-        self.known.set(node, side);
-        self.places.set(node, self.leaves.len() as u64);
+        self.known.set(node, side)?;
+        self.places.set(node, self.leaves.len() as u64)?;
         self.leaves.push(node)?;
         if let Some((first, second)) = operands_of(graph, node) {
             self.users.add(first, node)?;
@@ -195,11 +208,11 @@ impl Cut {
         }
         self.leaves.swap_remove(place);
         if let Some(moved) = self.leaves.get(place) {
-            self.places.set(*moved, place as u64);
+            self.places.replace(*moved, place as u64);
         }
     }
 
-    /// Takes a leaf into the window, with its operands as leaves.
+    /// Moves a leaf above the cut; its operands become leaves if they are not in the window yet.
     fn expand(
         &mut self,
         graph: &Graph,
@@ -209,7 +222,7 @@ impl Cut {
     ) -> Result<(), AllocError> {
         self.remove_leaf(node);
         let side = self.known.get(node).unwrap_or(0) & BOTH;
-        self.known.set(node, side | ABOVE);
+        self.known.replace(node, side | ABOVE);
         self.above.push(node)?;
         let Some((first, second)) = operands_of(graph, node) else {
             return Ok(());
@@ -226,7 +239,7 @@ impl Cut {
         Ok(())
     }
 
-    /// Gives each leaf its turn.
+    /// Puts all leaves that may be expanded into the queue.
     fn queue_leaves(
         &mut self,
         graph: &Graph,
@@ -243,7 +256,7 @@ impl Cut {
         Ok(())
     }
 
-    /// Gives a leaf its turn, if it may be expanded.
+    /// Puts a leaf into the queue, if it may be expanded.
     fn queue_leaf(
         &mut self,
         graph: &Graph,
@@ -257,8 +270,8 @@ impl Cut {
         Ok(())
     }
 
-    /// Gives turns to a new leaf and to those leaves that may have a sooner turn because of it: those that share an operand with it, and
-    /// those that have it as an operand.
+    /// Puts into the queue a new leaf, and those leaves whose priority may be higher because of it: those that share an
+    /// operand with it, and those that have it as an operand.
     fn queue_near(
         &mut self,
         graph: &Graph,
@@ -278,7 +291,7 @@ impl Cut {
         Ok(())
     }
 
-    /// Gives each leaf that has this node as an operand its turn.
+    /// Puts into the queue each leaf that has this node as an operand.
     fn queue_users(
         &mut self,
         graph: &Graph,
@@ -299,8 +312,8 @@ impl Cut {
         Ok(())
     }
 
-    /// The leaf to be expanded next, or none if the window is large enough or has only variables as leaves. A turn whose leaf has a later
-    /// one by now is given anew.
+    /// Returns the leaf to be expanded next, or none if the window is large enough or has only variables as leaves. A
+    /// leaf whose priority has become lower is put into the queue again.
     fn next(
         &mut self,
         graph: &Graph,
@@ -322,7 +335,7 @@ impl Cut {
         Ok(None)
     }
 
-    /// How soon a leaf is expanded, the greatest number first, or none if it is not.
+    /// Returns the class of a leaf, the greatest first, or none if the leaf is not to be expanded.
     fn class_of(&self, graph: &Graph, node: u32, size: usize) -> Option<u32> {
         let (first, second) = operands_of(graph, node)?;
         if self.known.has(first) && self.known.has(second) {

@@ -7,9 +7,9 @@ pub enum Finding {
     Equal,
     /// They have complementary values at every assignment.
     Complement,
-    /// They have different values if the leaves have these bits. Below the leaves these bits may exclude each other: then it is no
-    /// difference at an assignment of the variables.
+    /// They have different values if the leaves have these bits. There may be no assignment of the variables at which
+    /// the leaves have them; then this is no difference of the literals.
     Differ(Vec<bool>),
-    /// Nothing: the window lacks a node that is needed, or its diagrams do not fit into a budget.
+    /// Nothing: the window lacks a node that is needed, or its diagrams do not fit into the budget.
     GivenUp,
 }

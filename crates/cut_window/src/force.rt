@@ -1,23 +1,23 @@
-//! The FORCE heuristic for the leaves of a window. After Aloul, Markov and Sakallah, "FORCE: a fast and easy-to-implement
-//! variable-ordering heuristic", GLSVLSI 2003.
+//! The FORCE heuristic for the order of a window's leaves: Aloul, Markov and Sakallah, "FORCE: a
+//! fast and easy-to-implement variable-ordering heuristic", GLSVLSI 2003.
 use crate::node_table::NodeTable;
 use crate::ranks::operands_of;
 use pair_graph::Graph;
 use std::alloc::{AllocError, Global};
 
-/// Positions are multiples of 1/65536.
+/// Positions are in units of 1/65536.
 const UNIT: u64 = 1 << 16;
 
-/// How often all positions are made whole numbers again.
+/// How many times all positions are replaced by their ranks.
 const TURNS: u32 = 3;
 
-/// How often before that each vertex moves to the middle of its edges.
+/// How many times each vertex is moved to the mean of its edges' centres before its position is replaced by its rank.
 const STEPS: u32 = 15;
 
-/// An edge: a node above the leaves with its two operands, as places among the vertices.
+/// An edge joins a node above the leaves and its two operands, by their places among the vertices.
 type Edge = (usize, usize, usize);
 
-/// The number at a place of a list, or 0.
+/// Returns the number at a place of a list, or 0 if there is none.
 fn number_at(numbers: &[u64], place: usize) -> u64 {
     match numbers.get(place) {
         Some(number) => *number,
@@ -25,14 +25,15 @@ fn number_at(numbers: &[u64], place: usize) -> u64 {
     }
 }
 
-/// Adds to the number at a place.
+/// Adds to the number at a place, if there is one.
 fn add_at(numbers: &mut [u64], place: usize, more: u64) {
     if place < numbers.len() {
         numbers[place] = numbers[place].wrapping_add(more);
     }
 }
 
-/// The edges of a window, and for each vertex a first position: its place for a leaf, the middle of its operands for another node.
+/// Returns the edges of a window, and puts into `at` a first position for each vertex: its place for a leaf, and for
+/// another node the middle of its operands.
 fn edges_of(
     alloc: Global,
     graph: &Graph,
@@ -43,7 +44,7 @@ fn edges_of(
 ) -> Result<Vec<Edge>, AllocError> {
     places.clear(graph.len())?;
     for leaf in leaves {
-        places.set(*leaf, at.len() as u64);
+        places.set(*leaf, at.len() as u64)?;
         at.push((at.len() as u64).wrapping_mul(UNIT))?;
     }
     let mut edges = Vec::new(alloc);
@@ -52,7 +53,7 @@ fn edges_of(
         let (first, second) = operands_of(graph, *node).unwrap_or((0, 0));
         let first = places.get(first).unwrap_or(place as u64) as usize;
         let second = places.get(second).unwrap_or(place as u64) as usize;
-        places.set(*node, place as u64);
+        places.set(*node, place as u64)?;
         let sum = number_at(at.as_slice(), first).wrapping_add(number_at(at.as_slice(), second));
         at.push(sum / 2)?;
         edges.push((place, first, second))?;
@@ -60,7 +61,7 @@ fn edges_of(
     Ok(edges)
 }
 
-/// Moves each vertex to the middle of the middles of its edges.
+/// Moves each vertex to the mean of the centres of its edges.
 fn step(edges: &[Edge], at: &mut [u64], sums: &mut [u64], counts: &mut [u64]) {
     for place in 0..sums.len() {
         sums[place] = 0;
@@ -89,7 +90,7 @@ fn step(edges: &[Edge], at: &mut [u64], sums: &mut [u64], counts: &mut [u64]) {
     }
 }
 
-/// The vertices by position.
+/// Returns the vertices by position.
 fn by_position(alloc: Global, at: &[u64]) -> Result<Vec<usize>, AllocError> {
     let mut order = Vec::new(alloc);
     for place in 0..at.len() {
@@ -99,7 +100,8 @@ fn by_position(alloc: Global, at: &[u64]) -> Result<Vec<usize>, AllocError> {
     Ok(order)
 }
 
-/// The leaves of a window, moved towards what they are connected with. They begin in this order. `places` may have anything before.
+/// Returns the leaves of a window in the order in which FORCE leaves them, last position first, from the order in which
+/// they are given. `places` is overwritten.
 pub(crate) fn force(
     alloc: Global,
     graph: &Graph,

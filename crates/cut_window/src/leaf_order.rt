@@ -8,9 +8,10 @@ use std::alloc::{AllocError, Global};
 /// An order of a window's leaves.
 #[derive(Clone, Copy, Debug, PartialEq, Eq)]
 pub enum LeafOrder {
-    /// As a walk down from the two nodes meets them, at each node the operand of higher rank first.
+    /// As a depth-first walk down from the two nodes reaches them, at each node first through the operand of higher
+    /// rank.
     Walk,
-    /// From there by FORCE (Aloul, Markov and Sakallah 2003).
+    /// What FORCE makes of this order (Aloul, Markov and Sakallah 2003).
     Force,
 }
 
@@ -23,7 +24,8 @@ pub(crate) struct Below<'a> {
     pub(crate) roots: (u32, u32),
 }
 
-/// The leaves as a walk down from the two roots meets them. `seen` may have anything before.
+/// Returns the leaves in the order in which a depth-first walk down from the two roots reaches them. `seen` is
+/// overwritten.
 pub(crate) fn walk(
     alloc: Global,
     below: &Below<'_>,
@@ -42,7 +44,7 @@ pub(crate) fn walk(
         if known == 0 || seen.has(node) {
             continue;
         }
-        seen.set(node, 1);
+        seen.set(node, 1)?;
         if known < ABOVE {
             leaves.push(node)?;
         } else {
@@ -52,7 +54,7 @@ pub(crate) fn walk(
     Ok(leaves)
 }
 
-/// Puts the operands of a node on a stack, that of higher rank on top.
+/// Puts the operands of a node on a stack, the one of higher rank on top.
 fn push_operands(below: &Below<'_>, node: u32, waiting: &mut Vec<u32>) -> Result<(), AllocError> {
     if let Some((first, second)) = operands_of(below.graph, node) {
         let falls = below.ranks.at(first) >= below.ranks.at(second);

@@ -2,7 +2,8 @@
 use pair_graph::{Graph, Node};
 use std::alloc::{AllocError, Global};
 
-/// The nodes of the operands of a node, or none if it is the constant, a variable or no node.
+/// Returns the nodes of the operands of a node, or none if the node is the constant or a variable, or is not in the
+/// graph.
 pub(crate) fn operands_of(graph: &Graph, node: u32) -> Option<(u32, u32)> {
     if node as usize >= graph.len() {
         return None;
@@ -13,21 +14,22 @@ pub(crate) fn operands_of(graph: &Graph, node: u32) -> Option<(u32, u32)> {
     }
 }
 
-/// By node its rank: 0 for the constant and for variables, for an operation 1 more than the greatest of its operands'.
+/// The rank of each node, by number: 0 for the constant and for variables, and for an operation 1 more than the
+/// greatest of its operands'.
 #[derive(Drop)]
 pub struct NodeRanks {
     ranks: Vec<u32>,
 }
 
 impl NodeRanks {
-    /// The ranks of no nodes.
+    /// Returns the ranks of no nodes.
     pub fn new(alloc: Global) -> NodeRanks {
         NodeRanks {
             ranks: Vec::new(alloc),
         }
     }
 
-    /// Adds the ranks of nodes that the graph has got since.
+    /// Adds the ranks of the nodes that the graph has got since the last call. Fails if memory is refused.
     pub fn extend(&mut self, graph: &Graph) -> Result<(), AllocError> {
         for node in self.ranks.len()..graph.len() {
             let rank = match operands_of(graph, node as u32) {
@@ -39,7 +41,7 @@ impl NodeRanks {
         Ok(())
     }
 
-    /// The rank of a node, 0 if it has none yet.
+    /// Returns the rank of a node, or 0 if it has none yet.
     pub fn at(&self, node: u32) -> u32 {
         match self.ranks.get(node as usize) {
             Some(rank) => *rank,

@@ -2,18 +2,19 @@
 use crate::node_table::NodeTable;
 use std::alloc::{AllocError, Global};
 
-/// By node the leaves that had it as an operand since the table was emptied, and how many of them still have it.
+/// For each node the leaves that have had it as an operand since the table was emptied, and how many of them still have
+/// it.
 #[derive(Drop)]
 pub(crate) struct Users {
-    /// Of each node the place after that of its last user, below.
+    /// For each node the place of its last user in `users`, plus 1.
     heads: NodeTable,
     counts: NodeTable,
-    /// Each user, with the place after that of the user before it, or 0.
+    /// Each user, with the place of the same node's user before it, plus 1, or 0 if there is none.
     users: Vec<(u32, usize)>,
 }
 
 impl Users {
-    /// No users.
+    /// Returns a table without users.
     pub(crate) fn new(alloc: Global) -> Users {
         Users {
             heads: NodeTable::new(alloc),
@@ -22,46 +23,45 @@ impl Users {
         }
     }
 
-    /// Removes all, and makes room for so many nodes.
+    /// Removes all users, and makes room for `nodes` nodes.
     pub(crate) fn clear(&mut self, nodes: usize) -> Result<(), AllocError> {
         self.users.clear();
         self.heads.clear(nodes)?;
         self.counts.clear(nodes)
     }
 
-    /// How many users there were.
+    /// Returns how many users there have been.
     pub(crate) fn len(&self) -> usize {
         self.users.len()
     }
 
-    /// How many users a node has.
+    /// Returns how many users a node has.
     pub(crate) fn count(&self, node: u32) -> u64 {
         self.counts.get(node).unwrap_or(0)
     }
 
-    /// One more user of a node.
+    /// Adds a user of a node.
     pub(crate) fn add(&mut self, node: u32, user: u32) -> Result<(), AllocError> {
         let before = self.heads.get(node).unwrap_or(0) as usize;
         self.users.push((user, before))?;
         let last = self.users.len() as u64;
-        self.heads.set(node, last);
+        self.heads.set(node, last)?;
         let count = self.count(node).saturating_add(1);
-        self.counts.set(node, count);
-        Ok(())
+        self.counts.set(node, count)
     }
 
-    /// One user less of a node.
+    /// Counts one user of a node less.
     pub(crate) fn remove(&mut self, node: u32) {
         let count = self.count(node).saturating_sub(1);
-        self.counts.set(node, count);
+        self.counts.replace(node, count);
     }
 
-    /// The place after that of the last user of a node, or 0.
+    /// Returns the place of the last user of a node, plus 1, or 0 if it has none.
     pub(crate) fn first(&self, node: u32) -> usize {
         self.heads.get(node).unwrap_or(0) as usize
     }
 
-    /// The user before a place, and the place after that of the user before it; none if there is none.
+    /// Returns the user before a place, and the next place to ask for; or none at place 0.
     pub(crate) fn at(&self, place: usize) -> Option<(u32, usize)> {
         match self.users.get(place.saturating_sub(1)) {
             Some(found) if place > 0 => Some(*found),

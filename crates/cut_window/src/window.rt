@@ -6,8 +6,8 @@ use slot_table::{Refusal, SlotTable};
 use std::alloc::{AllocError, Global};
 use std::marker::Model;
 
-/// Some nodes of a graph by number: the leaves of a cut, then nodes above it, each after its operands. Leaf i is at level i of the
-/// diagrams over the window.
+/// Some nodes of a graph, by number: the leaves of a cut, and then nodes above it, each after its operands. Leaf i is
+/// at level i of the diagrams over the window.
 #[derive(Drop)]
 pub struct Window {
     nodes: SlotTable<u32>,
@@ -28,7 +28,7 @@ impl Model for Window {
 /// The most nodes of a window.
 const MAX_NODES: usize = 1 << 20;
 
-/// Adds those nodes that are not there yet, as long as there is room.
+/// Adds those nodes that are not there yet, as long as there is room. Fails if memory is refused.
 fn add_all(nodes: &mut SlotTable<u32>, more: &[u32]) -> Result<(), AllocError>
     ensures { length nodes.old ≤ length nodes.new }
 {
@@ -42,7 +42,8 @@ fn add_all(nodes: &mut SlotTable<u32>, more: &[u32]) -> Result<(), AllocError>
 }
 
 impl Window {
-    /// A window of these leaves and these nodes above them. Any nodes will do: if the window lacks a node that is needed, it shows nothing.
+    /// Returns a window of these leaves and these nodes above them. Any nodes are allowed: if the window lacks a node
+    /// that is needed, it shows nothing. Fails if memory is refused.
     pub fn new(alloc: Global, leaves: &[u32], above: &[u32]) -> Result<Window, AllocError> {
         let mut nodes = SlotTable::new(alloc);
         add_all(&mut nodes, leaves)?;
@@ -51,24 +52,24 @@ impl Window {
         Ok(Window { nodes, cut })
     }
 
-    /// How many leaves there are.
+    /// Returns the number of leaves.
     pub fn leaves(&self) -> usize
         ensures value { result ≡ self.now.cut }
         ensures among { self.now.cut ≤ length self.now.nodes }
         ensures once { IsOnce self.now.nodes }
     {
-        let _ = self.nodes.as_slice();
+        let _ = self.nodes.as_slice(); // For the proof.
         self.cut
     }
 
-    /// The nodes, the leaves first.
+    /// Returns the nodes, the leaves first.
     pub fn nodes(&self) -> &[u32]
         ensures { result.now ≡ self.now.nodes }
     {
         self.nodes.as_slice()
     }
 
-    /// The place of a node among the window's nodes.
+    /// Returns the place of a node among the window's nodes, or none.
     pub fn place(&self, node: u32) -> Option<u32>
         ensures { MatchOption result (IsIn self.now.nodes node → ⊥) (λ i. slice_get self.now.nodes i ≡ Some node) }
     {

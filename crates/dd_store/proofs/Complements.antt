@@ -1,4 +1,4 @@
--- Marks: turning one twice changes nothing, and a marked reference has the complement's values.
+-- Complement bits: complementing twice changes nothing, and the complement has the complemented values.
 use Rattle.std.proofs.Common.{◌≡◌, ℕ, suc, zero, Bool, true, false, not, ◌+◌, ◌%◌, List, refl, sym, ◌∙◌, ap}
 pub use Rattle.std.proofs.Math.Bool.{not-not}
 use Rattle.dd_store.specs.declared.reference.NodeId.{NodeId}
@@ -17,7 +17,7 @@ pub complemented-twice : (b v : Bool) → complemented b (complemented b v) ≡ 
 complemented-twice true v = not-not v
 complemented-twice false v = refl
 
--- turning a mark twice changes nothing
+-- complementing twice changes nothing
 pub negate-negate : (r : Ref) → negate_of (negate_of r) ≡ r
 negate-negate False = refl
 negate-negate True = refl
@@ -30,7 +30,7 @@ complement_by-twice false r = refl
 pub complement_both-twice : (b : Bool) (p : Pair) → complement_both b (complement_both b p) ≡ p
 complement_both-twice b p = let lo = complement_by-twice b p.0 in let hi = complement_by-twice b p.1 in λ i. (lo i, hi i)
 
--- references with one mark more are equal where they were
+-- references are equal if their complements are
 pub complement_by-one : (b : Bool) (r s : Ref) → complement_by b r ≡ complement_by b s → r ≡ s
 complement_by-one b r s e = sym (complement_by-twice b r) ∙ ap (complement_by b) e ∙ complement_by-twice b s
 
@@ -39,7 +39,7 @@ is_complement-negate False = refl
 is_complement-negate True = refl
 is_complement-negate (Node m b) = refl
 
--- a reference loses its own mark
+-- a reference without its own complement bit has none
 pub regular-complement_by : (r : Ref) → is_complement (complement_by (is_complement r) r) ≡ false
 regular-complement_by False = refl
 regular-complement_by True = refl
@@ -49,11 +49,11 @@ regular-complement_by (Node m false) = refl
 pub regular_pair-regular : (lo hi : Ref) → is_complement (regular_pair lo hi).1 ≡ false
 regular_pair-regular lo hi = regular-complement_by hi
 
--- a pair whose second has no mark is as a node has it
+-- a pair whose second has no complement bit is as nodes have it
 pub regular_pair-same : (lo hi : Ref) → is_complement hi ≡ false → regular_pair lo hi ≡ (lo, hi)
 regular_pair-same lo hi regular = ap (λ b. complement_both b (lo, hi)) regular
 
--- a node has a pair and the pair of the complements alike
+-- a pair and the pair of the complements have the same form in nodes
 pub regular_pair-complemented : (b : Bool) (p : Pair) → regular_pair (complement_by b p.0) (complement_by b p.1) ≡ regular_pair p.0 p.1
 regular_pair-complemented false p = refl
 regular_pair-complemented true p = ap (λ c. complement_both c (complement_both true p)) (is_complement-negate p.1) ∙ again (is_complement p.1)
@@ -62,7 +62,7 @@ regular_pair-complemented true p = ap (λ c. complement_both c (complement_both 
     again true = refl
     again false = complement_both-twice true p
 
--- so they belong to one shard
+-- a pair and the pair as nodes have it belong to one shard
 pub shard_of_regular : (lo hi : Ref) → shard_of_pair (regular_pair lo hi).0 (regular_pair lo hi).1 ≡ shard_of_pair lo hi
 shard_of_regular lo hi =
     ap (λ (p : Pair). (block_of p.0 + block_of p.1) % 16) (regular_pair-same (regular_pair lo hi).0 (regular_pair lo hi).1 (regular_pair-regular lo hi))
@@ -70,12 +70,12 @@ shard_of_regular lo hi =
 pub shard_of_complemented : (b : Bool) (p : Pair) → shard_of_pair (complement_by b p.0) (complement_by b p.1) ≡ shard_of_pair p.0 p.1
 shard_of_complemented b p = ap (λ (q : Pair). (block_of q.0 + block_of q.1) % 16) (regular_pair-complemented b p)
 
--- a node's reference with a mark
+-- the complement of a node's reference, by its complement bit
 pub complement_by-node : (b : Bool) (m : NodeId) → complement_by b (Node m false) ≡ Node m b
 complement_by-node true m = refl
 complement_by-node false m = refl
 
--- a mark changes neither the level nor whether the reference is there
+-- complementing changes neither the level nor whether the reference is in the graph
 pub top-complement_by : (n : ℕ) (b : Bool) (r : Ref) → top n (complement_by b r) ≡ top n r
 top-complement_by n false r = refl
 top-complement_by n true False = refl
@@ -88,7 +88,7 @@ IsRef-complement_by g true False i = tt
 IsRef-complement_by g true True i = tt
 IsRef-complement_by g true (Node m c) i = i
 
--- a mark turns the value
+-- complementing changes the value
 pub walk-negate : (k : ℕ) (g : Graph) (r : Ref) (x : List Bool) → walk k g (negate_of r) x ≡ not (walk k g r x)
 unfolding walk
 walk-negate zero g False x = refl

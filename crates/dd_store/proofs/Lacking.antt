@@ -1,5 +1,5 @@
--- Where no node of a level has two references as children, no reference denotes the function that is the one where the
--- level's bit is 0 and the other where it is 1, and that reads no bit before.
+-- If no node of a level has two references as children, then no reference denotes the function that is the one if the
+-- level's bit is 0 and the other if it is 1, and that reads no bit before.
 use Rattle.std.proofs.Common.{◌≡◌, ◌≢◌, ℕ, suc, ◌+◌, ◌-◌, ◌<◌, ◌≤◌, Bool, true, false, List, [], ◌∷◌, ◌++◌, length, take, drop, refl, sym, ◌∙◌, ap, subst, arith, append_assoc, inl, inr, length-take, length-drop}
 use Rattle.std.proofs.lemmas.List.{length-append, take-append-drop}
 use Rattle.std.proofs.lemmas.Bool.{cases_lt}
@@ -17,7 +17,7 @@ module _ (R : Type 0) (same : (a b : R) → Dec (a ≡ b)) (n : ℕ) (part : R �
       ∙ free R same n part Has den S D (length x) (suc v) (omega arith) r hr lr (q ++ d ∷ []) (q ++ e ∷ []) x (longer q d v hq) (longer q e v hq) refl
       ∙ ap (den r) (seam q e x)
 
-  -- two references below a level that agree where the level's bit is b are equal
+  -- two references below a level that agree whenever the level's bit is b are equal
   pub equal_at : (v : ℕ) → v < n → (b : Bool) (a c : R) → Has a → Has c → suc v ≤ top_of n (part a) → suc v ≤ top_of n (part c)
       → ((q x : List Bool) → length q ≡ v → v + suc (length x) ≡ n → den a (q ++ b ∷ x) ≡ den c (q ++ b ∷ x)) → a ≡ c
   equal_at v lt b a c ha hc la lc h = canonical R same n part Has den S D a c ha hc (λ y hy. cut (take v y) (drop v y) (simp length-take (omega arith)) (simp length-drop (omega arith)) y (take-append-drop v y))
@@ -27,7 +27,8 @@ module _ (R : Type 0) (same : (a b : R) → Dec (a ≡ b)) (n : ℕ) (part : R �
       cut q (d ∷ x) hq hx y e =
           subst (λ z. den a z ≡ den c z) e (unread v lt a ha la q d b x hq (omega arith) ∙ h q x hq (omega arith) ∙ unread v lt c hc lc q b d x hq (omega arith))
 
-  -- and they differ somewhere, whatever the bits up to the level are
+  -- if lo and hi are different references below level v, a function that is lo's for the bit 0 of this level and hi's
+  -- for the bit 1 depends on this bit
   module _ (v : ℕ) (lt : v < n) (lo hi : R) (hlo : Has lo) (hhi : Has hi) (tlo : v < top_of n (part lo)) (thi : v < top_of n (part hi)) (differ : lo ≢ hi) (F : List Bool → Bool)
       (low : (q x : List Bool) → length q ≡ v → v + suc (length x) ≡ n → den lo (q ++ false ∷ x) ≡ F (q ++ false ∷ x))
       (high : (q x : List Bool) → length q ≡ v → v + suc (length x) ≡ n → den hi (q ++ true ∷ x) ≡ F (q ++ true ∷ x)) where

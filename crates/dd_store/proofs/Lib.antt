@@ -1,6 +1,5 @@
 pub mod Adding
 pub mod AddingAll
-pub mod Apart
 pub mod Canonical
 pub mod Growing
 pub mod Lacking

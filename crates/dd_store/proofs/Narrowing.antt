@@ -40,7 +40,7 @@ module _ (ns : List (ℕ × ℕ)) (all : AllShortWords ns) where
       let w = mapped pair_at ns at.0 p at.1 in
       none w.0 (all at.0 w.0 w.1) w.2
 
-  -- words are there where their pair is
+  -- if the table has a pair, it has its words
   pub words_in : (p : Pair) (n : ℕ × ℕ) → AreWordsOf p (Some n) → IsIn (map pair_at ns) p → IsIn ns n
   words_in p n their at =
       let w = mapped pair_at ns at.0 p at.1 in

@@ -66,7 +66,7 @@ all_at-more parts k s part lt is =
     ap (λ z. all_at z s) (take_more parts k part lt ∙ ap (λ z. take k parts ++ z ∷ []) (sym is))
     ∙ all_at-push (take k parts) part s
 
--- a reference stays the name of its pair where pairs are added
+-- a reference stays that of its pair if pairs are added
 pub IsReferenceAt-kept : (v s : ℕ) (list old new : List Pair) → Grows list old new → (p : Pair) (r : Ref) → IsReferenceAt v s old p r → IsReferenceAt v s new p r
 IsReferenceAt-kept v s list old new g p r n = (n.0, n.1, g.kept n.0 (regular_pair p.0 p.1) n.2)
 

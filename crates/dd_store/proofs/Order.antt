@@ -50,14 +50,14 @@ ref_cmp_itself (Node m b) = rw (nodes_cmp m m b b, node_cmp_itself m, bit_itself
 pub node_cmp_total : IsTotalOrder node_cmp
 node_cmp_total = total-law
 
--- a node comes before another exactly where the derived order says so
+-- a node comes before another exactly if the derived order says so
 pub node_lt-cmp : (a b : NodeId) → node_lt a b ≡ is_lt (node_cmp a b)
 node_lt-cmp a b = grind (arith, nat_tests)
 
 nodes_lt-cmp : (l m : NodeId) (b c : Bool) → ref_lt (Node l b) (Node m c) ≡ is_lt (ref_cmp (Node l b) (Node m c))
 nodes_lt-cmp l m b c = grind (node_lt-cmp l m, arith, nat_tests)
 
--- a reference comes before another exactly where the derived order says so
+-- a reference comes before another exactly if the derived order says so
 pub ref_lt-cmp : (a b : Ref) → ref_lt a b ≡ is_lt (ref_cmp a b)
 ref_lt-cmp False False = refl
 ref_lt-cmp False True = refl

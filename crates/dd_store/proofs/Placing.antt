@@ -33,7 +33,7 @@ pub record Placing (S T : Nodes) (count v : ℕ) (lo hi : Ref) (s : ℕ) (ps new
   pub room_is : room ≡ S.limit - count
   pub written : ◌≡◌ {A = Nodes} T (record { levels = S.levels; limit = S.limit; shards = set S.shards (16 * v + s) new })
 
--- with room, the numbers of places do not end
+-- if a shard has room for one more pair, its places have numbers of 32 bits
 pub placing_room : (S : Nodes) (count v : ℕ) (lo hi : Ref) (s : ℕ) (ps : List Pair) (room : ℕ) → IsStore S count → v < S.levels
     → s ≡ shard_of_pair lo hi → ps ≡ get_or S.shards (16 * v + s) ps → room ≡ S.limit - count → 0 < room → length ps + room < 2 ^ 32
 placing_room S count v lo hi s ps room k lt is read by some =

@@ -22,7 +22,7 @@ regular_read list n p lt is =
 pub in_regular : (list : List Pair) (p : Pair) → IsIn list p → IsIn (regular_list list) (regular_pair p.0 p.1)
 in_regular list p h = (h.0, slice_get-map (λ (q : Pair). regular_pair q.0 q.1) list h.0 ∙ ap (option_map (λ (q : Pair). regular_pair q.0 q.1)) h.1)
 
--- and nothing else
+-- what is there as a node has it comes from a pair of the list
 pub of_regular : (list : List Pair) (q : Pair) → IsIn (regular_list list) q → (p : Pair) × IsIn list p × (regular_pair p.0 p.1 ≡ q)
 of_regular list q h = let w = mapped (λ (p : Pair). regular_pair p.0 p.1) list h.0 q h.1 in (w.0, (h.0, w.1), w.2)
 

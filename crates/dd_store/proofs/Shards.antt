@@ -1,4 +1,4 @@
--- The shards of a store, seen as their shards.
+-- The shards of a store, as the code has them and as contracts see them.
 use Rattle.std.proofs.Common.{◌≡◌, ℕ, List, length, get_or, set, sym, ◌∙◌, ap, refl, zero, suc, [], ◌∷◌}
 use Rattle.std.proofs.lemmas.List.{map-set, length-map}
 use Rattle.dd_store.specs.declared.level.ShardState.{ShardState}

@@ -32,7 +32,7 @@ part-children S v lo hi False h = absurd (none_some (lo, hi) h.1)
 part-children S v lo hi True h = absurd (none_some (lo, hi) h.1)
 part-children S v lo hi (Node m b) h = ap (part_of m) h.1 ∙ ap (λ u. node u lo hi) h.0
 
--- a reference with two children is a node that has them, with a mark or without
+-- a reference with two children refers to a node that has them, with a complement bit or without
 pub of_part : (S : Nodes) (r : Ref) (v : ℕ) (lo hi : Ref) → Has S r → part S r ≡ node v lo hi
     → (m : NodeId) × (b : Bool) × (r ≡ Node m b) × (m.level ≡ v) × (children S (Node m b) ≡ Some (lo, hi))
 of_part S r v lo hi h e =

@@ -71,7 +71,7 @@ module _ (w : Widened) where
   pub small : (n m : ℕ) → n ≡ total (shards_of_level w.v w.xs) → m ≡ total w.ys → w.count - n + m < 2 ^ 49
   small n m is now = let e = counted n m is now in let b = count-small after sound in omega arith
 
--- the same, once something else was taken out of the shards
+-- the level with other shards that have the same pairs, since something else was taken out of them
 abbrev pub taken : (w : Widened) (zs : List ShardState) → length zs ≡ length w.ys → pairs_of zs ≡ pairs_of w.ys → Widened
 taken w zs len same = record {
   S = w.S;

@@ -1,4 +1,4 @@
--- The words of references: of a node that has a name, with a mark, and in order.
+-- The words of references: those of nodes, their complement bits, and their order.
 use Rattle.std.proofs.Common.{◌≡◌, ℕ, ◌+◌, ◌-◌, ◌*◌, ◌/◌, ◌%◌, ◌^◌, ◌<◌, ◌≤◌, ◌==◌, Bool, true, false, not, nat_eq, refl, sym, ◌∙◌, ap, subst, arith, inl, inr}
 use Rattle.std.proofs.lemmas.Bool.Decides.{nat_tests}
 use lib.Bits.{xor_add_and, and_mask, xor_zero_r}
@@ -93,7 +93,7 @@ long_kept : (w v : ℕ) → IsLongWord w → long_node v ≡ long_node w → 2 ^
 unfolding IsLongWord
 long_kept w v m one big small = is_long_word v (long_node w) big small one m.2 m.3
 
--- another word of the same kind: it differs in bit 0 alone
+-- a word that differs only in bit 0 is one of the same node
 pub other_complement_bit : (w v : ℕ) → IsNodeWord w → v / 2 ≡ w / 2 → IsNodeWord v × (node_of v ≡ node_of w)
 other_complement_bit w v h same = elim (kind_of w h) [
   | kind_near k l ↦ (
@@ -175,14 +175,14 @@ complemented_terminal w v small half bit = elim (cases_eq w 0) [
       (inl (omega arith), ap reference_of zero ∙ sym (ap (λ z. negate_of (reference_of z)) e))
 ]
 
--- a word with a mark more
+-- the word of the complement
 pub complement_word : (w : ℕ) (b : Bool) → IsWord w
     → IsWord (bit_xor w (bool_byte b)) × (reference_of (bit_xor w (bool_byte b)) ≡ complement_by b (reference_of w))
 complement_word w false h = (subst (λ (z : ℕ). IsWord z) (sym (xor_zero_r w)) h, ap reference_of (xor_zero_r w))
 complement_word w true (inl small) = let k = flipped w in complemented_terminal w (bit_xor w 1) small k.0 k.1
 complement_word w true (inr h) = let k = flipped w in complemented_node w (bit_xor w 1) h k.0 k.1
 
--- two words are one where they refer to one thing
+-- two words are equal exactly if they refer to the same
 pub same_words : (a b : ℕ) → IsWord a → IsWord b → nat_eq a b ≡ ref_eq.it (reference_of a) (reference_of b)
 same_words a b h k =
     compared ref_eq.it ref_same word_of ref_eq-itself reference_of a b (word_of-reference_of a h) (word_of-reference_of b k)

@@ -16,7 +16,7 @@ use Rattle.dd_store.specs.WordLaws.{is_node, named_near, named_far, kind_of, pas
 use Rattle.dd_store.specs.WordLaws.Kind.{kind_near, kind_far, kind_long}
 use Rattle.dd_store.proofs.Order.{ref_cmp_itself, ref_lt-cmp}
 
--- of two near words the smaller one refers to the node that comes first, or to the same without a mark
+-- of two near words the smaller one refers to the node that comes first, or to the same without a complement bit
 near_order : (a b : ℕ) → 2 ^ 22 ≤ a → a < b → b < 2 ^ 30 → ref_lt (Node (near_node a) (a % 2 == 1)) (Node (near_node b) (b % 2 == 1)) ≡ true
 near_order a b some lt small = grind (arith, nat_tests)
 
@@ -29,7 +29,7 @@ apart : (a b : ℕ) → a < 2 ^ 30 → 2 ^ 30 + 2 ^ 26 ≤ b → b < 2 ^ 31
     → ref_lt (Node (near_node a) (a % 2 == 1)) (Node (far_node b) (b % 2 == 1)) ≡ true
 apart a b small some big = grind (arith, nat_tests)
 
--- what stands for a word of a node
+-- what the word of a node refers to
 node_at : (w : ℕ) (m : NodeId) → IsNodeWord w → node_of w ≡ m → reference_of w ≡ Node m (w % 2 == 1)
 node_at w m h e = is_node w (past_terminals w h) ∙ ap (λ z. Node z (w % 2 == 1)) e
 
@@ -80,7 +80,7 @@ less a b h k lt small =
     is_less (ref_cmp (reference_of a) (reference_of b))
     (sym (ref_lt-cmp (reference_of a) (reference_of b)) ∙ words_in_order a b h k lt small)
 
--- the other way round
+-- comparing the other way round
 turned_order : (x y : Reference) → ref_cmp x y ≡ Less → ref_cmp y x ≡ Greater
 turned_order x y e = (ref_total.total-law).antisymm y x ∙ ap ordering_reverse e
 

@@ -1,4 +1,4 @@
--- The derived `==` of nodes and of references tells them apart.
+-- The derived `==` of nodes and of references holds of equal ones only.
 use Rattle.std.proofs.Common.{◌≡◌, sym, true, refl, arith, true≢false}
 use Rattle.std.proofs.lemmas.Bool.Decides.{nat_tests}
 use Rattle.dd_store.specs.declared.reference.NodeId.{NodeId}

@@ -1,7 +1,7 @@
 -- Shared binary decision diagrams as a set of nodes (Bryant, 1986).
 --
--- A graph gives some names a node: a pair of references, low and high. There is one terminal, True, and a reference may have
--- a mark, which complements it. The graph knows no tables, shards or orders of making.
+-- A graph gives some names a node: a pair of references, low and high. There is one terminal, True, and a reference may
+-- have a complement bit. The graph knows nothing of tables, shards or the order of making.
 use Rattle.std.specs.Prelude.{◌≡◌, ℕ, suc, zero, ◌<◌, Bool, true, false, cond, List, slice_index_or, Option, Some, None}
 use Rattle.dd_store.specs.declared.reference.NodeId.{NodeId}
 use Rattle.dd_store.specs.declared.reference.Ref.{Ref}
@@ -12,7 +12,7 @@ use Rattle.dd_store.specs.Complements.{is_complement, complemented}
 abbrev pub Pair : Type 0
 Pair = Ref × Ref
 
--- the children of each node, low and high; None where no node has the name
+-- the children of each node, low and high; None if no node has the name
 abbrev pub Graph : Type 0
 Graph = NodeId → Option Pair
 
@@ -20,7 +20,7 @@ Graph = NodeId → Option Pair
 abbrev pub bit : List Bool → ℕ → Bool
 bit x v = slice_index_or x v false
 
--- the level of a reference: a terminal stands below all n levels
+-- the level of a reference in a graph of n levels; a terminal is below all of them
 abbrev pub top : ℕ → Ref → ℕ
 top n False = n
 top n True = n
@@ -32,7 +32,8 @@ IsRef g False = Unit {0}
 IsRef g True = Unit {0}
 IsRef g (Node m b) = (p : Pair) × (g m ≡ Some p)
 
--- the value that at most k steps from r find, each mark on the way turning it; a path in a graph of n levels has at most n steps
+-- the value that at most k steps from r find, complemented once for each complement bit on the way; a path in a graph
+-- of n levels has at most n steps
 unfoldable pub walk : ℕ → Graph → Ref → List Bool → Bool
 walk k g False x = false
 walk k g True x = true
@@ -40,9 +41,9 @@ walk zero g (Node m b) x = b
 walk (suc k) g (Node m b) x =
     complemented b (elim (g m) [ None ↦ false | Some p ↦ walk k g (cond (bit x m.level) p.1 p.0) x ])
 
--- ordered and reduced, for n levels
+-- a graph of n levels is ordered and reduced
 pub record IsReduced (n : ℕ) (g : Graph) : Type 0 where
-  -- a node stands at one of the levels
+  -- each node is at one of the levels
   pub placed : (m : NodeId) (p : Pair) → g m ≡ Some p → m.level < n
   -- its children are references of the graph
   pub closed : (m : NodeId) (p : Pair) → g m ≡ Some p → IsRef g p.0 × IsRef g p.1
@@ -50,7 +51,7 @@ pub record IsReduced (n : ℕ) (g : Graph) : Type 0 where
   pub ordered : (m : NodeId) (p : Pair) → g m ≡ Some p → (m.level < top n p.0) × (m.level < top n p.1)
   -- no node has equal children
   pub proper : (m : NodeId) (p : Pair) → g m ≡ Some p → ¬ (p.0 ≡ p.1)
-  -- no high edge has a mark
+  -- no high edge has a complement bit
   pub regular : (m : NodeId) (p : Pair) → g m ≡ Some p → is_complement p.1 ≡ false
   -- no two nodes of a level have equal children
   pub unique : (l m : NodeId) (p : Pair) → g l ≡ Some p → g m ≡ Some p → l.level ≡ m.level → l ≡ m

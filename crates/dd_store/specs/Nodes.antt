@@ -24,7 +24,7 @@ pub record Nodes : Type 0 where
 abbrev pub shard_at : Nodes → ℕ → ℕ → List Pair
 shard_at S v s = slice_index_or S.shards (16 * v + s) []
 
--- the store as a graph: a name stands for what its shard holds at its index
+-- the store as a graph: a name has the pair that is in its shard at its index
 unfoldable pub node : Nodes → Graph
 node S m = cond (nat_lt m.shard 16) (slice_get (shard_at S m.level m.shard) m.index) None
 
@@ -36,43 +36,43 @@ count_of S = sum_by (λ (ps : List Pair). length ps) S.shards
 abbrev pub den : Nodes → Ref → List Bool → Bool
 den S r x = walk S.levels (node S) r x
 
--- what is true of every store
+-- the invariant of every store
 pub record IsSound (S : Nodes) : Type 0 where
   -- the nodes are ordered and reduced
   pub reduced : IsReduced S.levels (node S)
-  -- a node lies in the shard of its children
+  -- the shard of a node follows from its children
   pub sharded : (m : NodeId) (p : Pair) → node S m ≡ Some p → m.shard ≡ shard_of_pair p.0 p.1
-  -- there are 16 shards for each level, and few enough levels and nodes for the numbers of a name
+  -- there are 16 shards for each level, and no more levels and nodes than names can have
   pub shaped : length S.shards ≡ 16 * S.levels
   pub few_levels : S.levels ≤ 4096
   pub small_limit : S.limit < 2 ^ 32
   pub within_limit : (i : ℕ) → length (slice_index_or S.shards i []) ≤ S.limit
 
--- T is a store of the same shape that has the nodes of S, under their names
+-- T has the levels and the limit of S, and its nodes under the same names
 pub record Extends (S T : Nodes) : Type 0 where
   pub levels : T.levels ≡ S.levels
   pub limit : T.limit ≡ S.limit
   pub nodes : (m : NodeId) (p : Pair) → node S m ≡ Some p → node T m ≡ Some p
 
--- the children of a reference, those of its node complemented where it has a mark; a terminal has none
+-- the children of a reference, those of its node, complemented if it has a complement bit; a terminal has none
 abbrev pub children : Nodes → Ref → Option Pair
 children S False = None
 children S True = None
 children S (Node m b) = option_map (complement_both b) (node S m)
 
--- the low child of a node; of a terminal, itself
+-- the low child of a reference; that of a terminal is the terminal
 abbrev pub low_of : Nodes → Ref → Ref
 low_of S r = unwrap_or (option_map (λ (p : Pair). p.0) (children S r)) r
 
--- the high child of a node; of a terminal, itself
+-- the high child of a reference; that of a terminal is the terminal
 abbrev pub high_of : Nodes → Ref → Ref
 high_of S r = unwrap_or (option_map (λ (p : Pair). p.1) (children S r)) r
 
--- the cofactor of a reference for a bit of level v, where it does not stand above v
+-- the cofactor of a reference for a bit of level v, if it is not above v
 abbrev pub cofactor_of : Nodes → Ref → ℕ → Bool → Ref
 cofactor_of S r v b = cond (nat_eq (top S.levels r) v) (cond b (high_of S r) (low_of S r)) r
 
--- r denotes lo where the bit of level v is false, and hi where it is true
+-- r denotes lo if the bit of level v is false, and hi if it is true
 abbrev pub IsBranch : Nodes → ℕ → Ref → Ref → Ref → Type 0
 IsBranch S v lo hi r = (x : List Bool) → den S r x ≡ cond (bit x v) (den S hi x) (den S lo x)
 
@@ -80,7 +80,7 @@ IsBranch S v lo hi r = (x : List Bool) → den S r x ≡ cond (bit x v) (den S h
 abbrev pub IsSameFunction : Nodes → Ref → Ref → Type 0
 IsSameFunction S a b = Agree S.levels (den S a) (den S b)
 
--- two references of a store are equal exactly where they denote one function (Bryant, 1986)
+-- two references of a store are equal exactly if they denote the same function (Bryant, 1986)
 abbrev pub IsCanonical : Nodes → Type 0
 IsCanonical S = (a b : Ref) → IsRef (node S) a → IsRef (node S) b → (a ≡ b) ↔ IsSameFunction S a b
 
@@ -88,15 +88,15 @@ IsCanonical S = (a b : Ref) → IsRef (node S) a → IsRef (node S) b → (a ≡
 abbrev pub IsDiagram : Nodes → Ref → (List Bool → Bool) → Type 0
 IsDiagram S r f = IsRef (node S) r × Agree S.levels (den S r) f
 
--- the store of so many levels that has no nodes
+-- the store with n levels and this limit that has no nodes
 abbrev pub empty_nodes : ℕ → ℕ → Nodes
 empty_nodes n limit = record { levels = n; limit = limit; shards = replicate (16 * n) [] }
 
--- r stands at level v and has these children
+-- r is a node of level v with these children
 abbrev pub IsNodeOf : Nodes → ℕ → Ref → Ref → Ref → Type 0
 IsNodeOf S v lo hi r = (top S.levels r ≡ v) × (children S r ≡ Some (lo, hi))
 
--- r needs no new node: it is both children, or stands at the level and has them
+-- r needs no new node: it is both children, or a node of the level that has them
 abbrev pub IsThere : Nodes → ℕ → Ref → Ref → Ref → Type 0
 IsThere S v lo hi r =
     ((lo ≡ hi) × (r ≡ lo)) ⊎ ((lo ≡ hi → ⊥) × IsNodeOf S v lo hi r)
@@ -105,7 +105,7 @@ IsThere S v lo hi r =
 abbrev pub IsAbsent : Nodes → ℕ → Ref → Ref → Type 0
 IsAbsent S v lo hi = (r : Ref) → IsNodeOf S v lo hi r → ⊥
 
--- what `find` answers
+-- the result of `find`
 abbrev pub IsFound : Nodes → ℕ → Ref → Ref → Option Ref → Type 0
 IsFound S v lo hi None = IsAbsent S v lo hi
 IsFound S v lo hi (Some r) = IsNodeOf S v lo hi r
@@ -114,7 +114,7 @@ IsFound S v lo hi (Some r) = IsNodeOf S v lo hi r
 abbrev pub IsNeeded : Nodes → ℕ → Ref → Ref → Type 0
 IsNeeded S v lo hi = (lo ≡ hi → ⊥) × IsAbsent S v lo hi
 
--- the name that a new node with these children gets, the second without a mark
+-- the name that a new node with these children gets; the second has no complement bit
 abbrev pub fresh : Nodes → ℕ → Ref → Ref → NodeId
 fresh S v lo hi =
     record { level = v; shard = shard_of_pair lo hi; index = length (shard_at S v (shard_of_pair lo hi)) }
@@ -125,8 +125,8 @@ with_node S v lo hi =
     let s = shard_of_pair lo hi in
     record S { shards = slice_set S.shards (16 * v + s) (shard_at S v s ++ (lo, hi) ∷ []) }
 
--- what `make` answers and leaves: what is there, exactly one new node, marked where it has the complements of the children, or a
--- refusal that changes nothing
+-- the result of `make`: a reference that needs no new node, or exactly one new node, with a complement bit if it has
+-- the complements of the children, or a refusal that changes nothing
 abbrev pub Makes : Nodes → ℕ → Ref → Ref → Result Ref StoreFault → Nodes → Type 0
 Makes S v lo hi (Ok r) T =
     (IsThere S v lo hi r × (T ≡ S))
@@ -135,7 +135,7 @@ Makes S v lo hi (Ok r) T =
 Makes S v lo hi (Err Full) T = IsNeeded S v lo hi × (S.limit ≤ count_of S) × (T ≡ S)
 Makes S v lo hi (Err OutOfMemory) T = IsNeeded S v lo hi × (count_of S < S.limit) × (T ≡ S)
 
--- what is true of a store's fields: the nodes are sound, and counted
+-- the invariant of a store's fields: the nodes are sound, and `count` is their number
 pub record IsStore (S : Nodes) (count : ℕ) : Type 0 where
   pub sound : IsSound S
   pub counted : count ≡ count_of S

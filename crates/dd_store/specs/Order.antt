@@ -1,4 +1,4 @@
--- The order of references: False, True, then nodes by level, shard and index, without a mark before marked.
+-- The order of references: False, True, then nodes by level, shard and place, first without a complement bit.
 use Rattle.std.specs.Prelude.{Bool, true, false, not, nat_lt, ◌==◌, ◌&&◌, ◌||◌}
 use Rattle.std.specs.declared.cmp.Ordering.{Ordering}
 use Rattle.dd_store.specs.declared.reference.Ref.{Ref}
@@ -12,11 +12,11 @@ abbrev pub node_lt : NodeId → NodeId → Bool
 node_lt a b = nat_lt a.level b.level || ((a.level == b.level) &&
     (nat_lt a.shard b.shard || ((a.shard == b.shard) && nat_lt a.index b.index)))
 
--- two names are one
+-- two names are equal
 abbrev pub node_eq : NodeId → NodeId → Bool
 node_eq a b = (a.level == b.level) && ((a.shard == b.shard) && (a.index == b.index))
 
--- a reference comes before another: False, True, then nodes, of one node that without a mark
+-- a reference comes before another: False, True, then nodes, and of one node the reference without a complement bit
 abbrev pub ref_lt : Ref → Ref → Bool
 ref_lt False False = false
 ref_lt False True = true

@@ -1,18 +1,18 @@
--- A reduced ordered store of decision diagrams, seen through its references alone.
+-- A reduced ordered store of decision diagrams, seen only through its references.
 use Rattle.std.specs.Prelude.{◌≡◌, ◌≢◌, ℕ, ◌<◌, ◌==◌, Bool, cond, List, ◌∷◌, ◌++◌}
 use Rattle.std.proofs.Common.{length}
 
--- what stands behind a reference: a terminal, or a node with its level, low and high
+-- what a reference refers to: a terminal with its value, or a node with its level, low and high
 pub data Part (R : Type 0) : Type 0 where
   leaf : Bool → Part R
   node : ℕ → R → R → Part R
 
--- the level of a node, and n of a terminal
+-- the level of what a reference refers to; that of a terminal is n
 abbrev pub top_of : {R : Type 0} → ℕ → Part R → ℕ
 top_of n (leaf b) = n
 top_of n (node v lo hi) = v
 
--- the reference for the bit at level v set to b
+-- the cofactor of a reference for the bit b at level v, by what it refers to
 abbrev pub step_of : {R : Type 0} → ℕ → R → Bool → Part R → R
 step_of v r b (leaf c) = r
 step_of v r b (node u lo hi) = cond (u == v) (cond b hi lo) r
@@ -32,7 +32,7 @@ pub record IsDenotation {R : Type 0} (n : ℕ) (part : R → Part R) (Has : R �
       (q : List Bool) (b : Bool) (x : List Bool) → length q ≡ v → length (q ++ b ∷ x) ≡ n →
       den r (q ++ b ∷ x) ≡ den (cond b hi lo) (q ++ b ∷ x)
 
--- the references met on the way down from r
+-- the references on all ways down from r
 pub data IsReachable {R : Type 0} (part : R → Part R) (r : R) : R → Type 0 where
   here : IsReachable part r r
   at_low : {m lo hi : R} {v : ℕ} → IsReachable part r m → part m ≡ node v lo hi → IsReachable part r lo

@@ -9,7 +9,7 @@ use Rattle.dd_store.specs.contracts.reference.ReferencePartialEq.TheImpl.{eq-val
 use Rattle.dd_store.specs.Equal.{ref_same}
 use Rattle.dd_store.specs.Words.{is_near, is_far, near_word, far_word, long_word, node_word, near_node, far_node, long_node, word_of, node_of, reference_of, IsWord, IsNodeWord, IsLongWord}
 
--- bit 0 is the mark
+-- bit 0 is the complement bit
 pub low_bit : (w : ℕ) → (if w % 2 == 1 then 1 else 0) ≡ w % 2
 low_bit w = grind (arith, nat_tests)
 
@@ -66,7 +66,7 @@ kind_of w (inl h) = kind_near h.0 h.1
 kind_of w (inr (inl h)) = kind_far h.0 h.1
 kind_of w (inr (inr h)) = kind_long h.0 h.1 h
 
--- a node's word with its mark gives back the word
+-- near and far words, and all others, are the word of their node plus the complement bit
 near_back : (w : ℕ) → 2 ^ 22 ≤ w → w < 2 ^ 30 → node_word (node_of w) + w % 2 ≡ w
 near_back w big small =
     let is = word_of_near (near_node w) (near (near_node w) (omega arith) (omega arith) (omega arith)) in
@@ -132,9 +132,9 @@ word_is w r h e = sym (word_of-reference_of w h) ∙ ap word_of e
 pub one_word : (m n : ℕ) → IsWord m → IsWord n → reference_of m ≡ reference_of n → m ≡ n
 one_word m n h k e = word_is m (reference_of n) h e ∙ word_of-reference_of n k
 
--- ---- what has words of its own compares as its words do
+-- ---- values that have a word each compare as their words do
 module _ {V : Type 0} (eq : V → V → Bool) (same : (x y : V) → eq x y ≡ true → x ≡ y) (word : V → ℕ) where
-  -- what has different words is different
+  -- different words belong to different values
   pub differ_if_words_differ : (x y : V) (t : Bool) → eq x y ≡ t → (word x ≡ word y → ⊥) → t ≡ false
   differ_if_words_differ x y false e n = refl
   differ_if_words_differ x y true e n = absurd (n (ap word (same x y e)))

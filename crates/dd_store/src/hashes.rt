@@ -1,4 +1,4 @@
-//! The number that spreads references over workers, and the shard in which a node lies.
+//! The hash of a reference, by which workers are chosen, and the shard that a node is in.
 ghost use Rattle.std.specs.Prelude.{◌≡◌, ◌<◌, ◌^◌, false};
 ghost use Rattle.dd_store.specs.Hashes.{block_of, ref_hash_of, shard_of_pair};
 ghost use Rattle.dd_store.specs.Complements.{is_complement};
@@ -6,20 +6,21 @@ ghost use Rattle.dd_store.specs.Complements.{is_complement};
 use crate::reference::{Ref, Reference, SHARDS, complement_pair};
 use crate::words::place_of;
 
-/// What the code of a reference adds for each level, for each place in its shard, and for a mark.
+/// What the hash of a reference adds for each level, for each place in its shard, and for a complement bit.
 const LEVEL_FACTOR: u64 = 17;
 
 const INDEX_FACTOR: u64 = 65537;
 
 const COMPLEMENT_TERM: u64 = 7;
 
-/// How many neighbours in a shard have one number of a block.
+/// How many neighbouring places of a shard have one block number.
 const BLOCK: u64 = 4096;
 
-/// How far apart the numbers of neighbouring blocks are.
+/// The difference of the block numbers of neighbouring blocks. Five is odd, so that blocks go through all 16 shards.
 const BLOCK_STEP: u64 = 5;
 
-/// A number that spreads references over workers. Two references may have the same number.
+/// Returns the hash of a reference, by which the owner of a request is found (`req_table`). References may share a
+/// hash.
 pub fn ref_hash(reference: Ref) -> u64
     ensures number { result ≡ ref_hash_of reference }
     ensures small { result < 2 ^ 49 }
@@ -41,7 +42,7 @@ pub fn ref_hash(reference: Ref) -> u64
     }
 }
 
-/// A number that neighbours in a shard share, so that their parents stand together too.
+/// Returns the block number of a reference. Neighbours in a shard share it, so that their parents are neighbours too.
 fn block(reference: Ref) -> u64
     ensures number { result ≡ block_of reference }
     ensures small { result < 2 ^ 33 }
@@ -49,7 +50,7 @@ fn block(reference: Ref) -> u64
     1 + (reference == Ref::TRUE) as u64 + BLOCK_STEP * (place_of(reference.word()) / BLOCK)
 }
 
-/// The shard, 0 to 15, in which the node with these children lies, the second without a mark.
+/// Returns the shard, 0 to 15, of the node with these children, of which `hi` has no complement bit.
 #[inline(always)]
 pub(crate) fn shard_of_regular(lo: Ref, hi: Ref) -> u8
     requires { is_complement hi ≡ false }
@@ -58,7 +59,8 @@ pub(crate) fn shard_of_regular(lo: Ref, hi: Ref) -> u8
     ((block(lo) + block(hi)) % SHARDS as u64) as u8
 }
 
-/// The shard, 0 to 15, in which the node with these children lies, or with their complements where the second has a mark.
+/// Returns the shard, 0 to 15, of the node with these children; if `hi` has a complement bit, of the node with their
+/// complements, which is the one that a store keeps.
 pub fn shard_of(lo: Ref, hi: Ref) -> u8
     ensures { result ≡ shard_of_pair lo hi }
 {

@@ -1,5 +1,5 @@
-//! The shards of one level, and lists of pairs of children that are added to them, by four threads; or by makers (`makers`), who note
-//! the references too.
+//! The 16 shards of one level, and lists of pairs of children that are added to them: by four
+//! threads (`add_lists`), or by `makers`, who also note the reference of each pair.
 ghost use Rattle.std.specs.Prelude.{List, ◌≡◌, ◌⊎◌, ◌<◌, ◌≤◌, ◌-◌, ◌^◌, ◌++◌, [], ℕ, length, map, slice_index_or, vec_capacity, Some, All};
 ghost use Rattle.std.specs.Prelude.{MatchResult};
 ghost use Rattle.std.specs.List.{sum_by, AllZip};
@@ -18,14 +18,15 @@ use std::alloc::Global;
 use std::thread::Threads;
 use std::{mem, thread};
 
-/// What watches the threads of a call come to their shards.
+/// A caller's view of the threads of a call as they come to their shards; it can count them, or check that two of them
+/// meet.
 pub trait Watch {
-    /// Called once for each shard of a level, by the thread that has it, before pairs are added to it.
+    /// Is called once for each shard of a level, by the thread that has the shard, before pairs are added to it.
     fn at_shard(&self, shard: u8, level: u16);
 }
 
-/// A shard, the children of its nodes by place, why the last list was not added whole, and the references that a thread has noted
-/// for its pairs, which are taken out before a call ends.
+/// A shard: the children of its nodes by place, why the last list was not added whole, and the references that a thread
+/// has noted for its pairs. `found` is empty between two calls of a store.
 #[derive(Drop)]
 pub(crate) struct ShardState {
     pub(crate) nodes: PairTable,
@@ -33,10 +34,10 @@ pub(crate) struct ShardState {
     pub(crate) found: Vec<Ref>,
 }
 
-// A quarter of it is the list of references.
+// A quarter of these bytes is the list of references.
 const _: () = prove!(size_of::<ShardState>() == 88);
 
-/// Finds a pair in a shard, or adds it where the shard alone holds fewer than `limit` pairs.
+/// Finds a pair in a shard, or adds it if this shard by itself has fewer than `limit` pairs.
 fn place(shard: &mut PairTable, pair: (Ref, Ref), limit: u64) -> Result<Admission, Refusal>
     requires { limit < 2 ^ 32 }
     ensures { IsPlaced (limit - length shard.old) pair shard.old result shard.new }
@@ -46,8 +47,9 @@ fn place(shard: &mut PairTable, pair: (Ref, Ref), limit: u64) -> Result<Admissio
 }
 
 impl ShardState {
-    /// Adds a node for each pair that has none, as long as the shard alone holds fewer than `limit` nodes. Where a pair's second has a
-    /// mark, the node is that of both complements.
+    /// Adds a node for each pair that has none, as long as this shard by itself has fewer than `limit` nodes. If a
+    /// pair's second child has a complement bit, the node is that of both complements. `fault` says afterwards why
+    /// pairs are missing, if any are.
     pub(crate) fn add_list(&mut self, list: &[(Ref, Ref)], limit: u64)
         requires { limit < 2 ^ 32 }
         ensures grows { Grows (regular_list list.now) self.old.nodes self.new.nodes }
@@ -64,8 +66,8 @@ impl ShardState {
         }
     }
 
-    /// Adds a node for each pair that has none, as `add_list` does, and notes the references of all behind those that are noted,
-    /// with a mark where the pair's second has one.
+    /// Adds nodes as `add_list` does, and appends the reference of each pair to `found`; it has a complement bit if the
+    /// pair's second child has one.
     fn make_list(
         &mut self,
         list: &[(Ref, Ref)],
@@ -99,7 +101,8 @@ impl ShardState {
         Ok(())
     }
 
-    /// Adds a node for each pair of the parts' lists for a shard that has none, and notes the references of all, part by part.
+    /// Adds a node for each pair that has none, of all parts' lists for this shard, and notes the references of all
+    /// pairs in `found`, part by part.
     pub(crate) fn make_lists(
         &mut self,
         parts: &[Vec<Vec<(Ref, Ref)>>],
@@ -124,7 +127,7 @@ impl ShardState {
     }
 }
 
-/// Adds list i to shard i, for the sixteen shards of a level. Four threads share the shards, four in a row for each.
+/// Adds list i to shard i, for the 16 shards of a level. There are four threads, each with four neighbouring shards.
 pub(crate) fn add_lists<R: Threads + Sync, H: Watch + Sync>(
     rt: &R,
     shards: &mut [ShardState],
@@ -149,7 +152,7 @@ pub(crate) fn add_lists<R: Threads + Sync, H: Watch + Sync>(
     thread::for_each_mut(rt, shards, 4, &add);
 }
 
-/// Takes the references out of the shards.
+/// Moves the lists of references out of the shards, one list for each.
 pub(crate) fn take_found(alloc: Global, shards: &mut [ShardState], refs: &mut Vec<Vec<Ref>>)
     requires empty { refs.old.items ≡ [] }
     requires room { length shards.old ≤ vec_capacity refs.old }
@@ -162,7 +165,7 @@ pub(crate) fn take_found(alloc: Global, shards: &mut [ShardState], refs: &mut Ve
     }
 }
 
-/// How many nodes the shards of a level hold.
+/// Returns the number of nodes in the shards of a level.
 pub(crate) fn level_count(shards: &[ShardState], limit: u64) -> u64
     requires shards { length shards.now ≤ 16 }
     requires limit { limit < 2 ^ 32 }
@@ -176,7 +179,7 @@ pub(crate) fn level_count(shards: &[ShardState], limit: u64) -> u64
     total
 }
 
-/// Why pairs of the last lists are missing; want of memory comes before the limit.
+/// Returns why pairs of the last lists are missing. Want of memory is reported rather than the limit if both befell.
 pub(crate) fn level_fault(shards: &[ShardState]) -> Option<StoreFault>
     ensures fault { IsFault shards.now result }
     ensures memory { HadMemory shards.now ⊎ (result ≡ Some StoreFault.OutOfMemory) }

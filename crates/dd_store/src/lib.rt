@@ -1,26 +1,24 @@
-//! A store of nodes of shared, reduced, ordered binary decision diagrams (Bryant 1986), with the unique table of each
-//! level divided into 16 shards (van Dijk 2016).
+//! A store of the nodes of shared, reduced, ordered binary decision diagrams (Bryant 1986) with
+//! complement edges (Brace, Rudell and Bryant 1990). The unique table of each level is divided into
+//! 16 shards, which threads share (van Dijk 2016).
 //!
-//! **Promises.** Every store is ordered and reduced (`Store::levels`: `sound`), and references are equal exactly where
-//! they denote one function (`canonical`). `make` and `variable` answer the node or its cause of refusal (`makes`,
-//! `meaning`, `refused`, `full`) and keep all nodes (`extends`). `Ref::negate` is the complement, makes no node and
-//! undoes itself (`value`, `meaning`). By threads, `make_all` answers a level's references (`answers`), adds these nodes
-//! and no others (`grows`) and says why not (`fault`), as one thread would; `add_all` adds nodes and answers none
-//! (`grows`, `answer`).
+//! **Promises.** Every store is ordered and reduced (`Store::levels`: `sound`), and two of its
+//! references are equal exactly if they denote the same function (`canonical`). `make` and
+//! `variable` return a reference or the cause of refusal (`makes`, `meaning`, `refused`, `full`),
+//! and keep all nodes (`extends`). `Ref::negate` is the complement; it makes no node (`value`,
+//! `meaning`). `make_all` makes the nodes of many pairs at one level by threads, with the outcome
+//! that one thread would have: it returns their references (`answers`), adds their nodes and no
+//! others (`grows`), and says why if it fails (`fault`). `add_all` adds nodes in the same way and
+//! returns no references (`grows`, `answer`).
 //!
-//! **Only tests show** that ample memory suffices, and that two threads are in the shards of one level at once
-//! (`wave_tests`).
+//! **Only tests show** that nothing is refused if there is ample memory, and that two threads are
+//! in the shards of one level at once (`wave_tests`).
 //!
-//! **Begin** with docs/CALLING.md and `specs/View`, what callers see; then `specs/Nodes`, which has the store as data,
-//! and `store`.
+//! **Begin** with docs/CALLING.md and `specs/View`, which is what callers see of a store; then read
+//! `specs/Nodes`, which has the store as data, and `store`.
 #![tactic(auto)]
 
-ghost use Rattle.std.specs.Prelude.{Some};
-ghost use Rattle.dd_store.specs.Fault.{fault_text};
-
 use slot_table::Refusal;
-use std::fmt;
-use thiserror::Error;
 
 mod hashes;
 mod level;
@@ -38,11 +36,11 @@ pub use reference::{NodeId, Ref, Reference, SHARDS};
 pub use store::Store;
 
 /// Why a store has not made a node.
-#[derive(Clone, Copy, Debug, PartialEq, Eq, Error)]
+#[derive(Clone, Copy, Debug, PartialEq, Eq)]
 pub enum StoreFault {
-    /// A new node is needed, and the store holds as many as its limit allows.
+    /// A new node is needed, and the store has as many as its limit allows.
     Full,
-    /// The growth of a table was refused.
+    /// Memory for a table was refused.
     OutOfMemory,
 }
 
@@ -57,16 +55,5 @@ impl From<Refusal> for StoreFault {
             Refusal::Full => StoreFault::Full,
             Refusal::OutOfMemory => StoreFault::OutOfMemory,
         }
-    }
-}
-
-impl fmt::Display for StoreFault {
-    ghost output = { λ f. Some (fault_text f) };
-
-    fn fmt<W: fmt::Write>(&self, f: &mut fmt::Formatter<W>) -> fmt::Result {
-        f.write_str(match self {
-            StoreFault::Full => "more nodes than the limit",
-            StoreFault::OutOfMemory => "out of memory",
-        })
     }
 }

@@ -1,4 +1,5 @@
-//! Threads that share the shards of a level, where each makes nodes in some neighbouring shards of its own.
+//! Threads that share the shards of a level: each makes the nodes of some neighbouring shards,
+//! which no other thread touches.
 ghost use Rattle.std.specs.Prelude.{◌≡◌, ◌+◌, ◌^◌, ◌<◌, ◌≤◌, ℕ, length, slice_index_or, All};
 ghost use Rattle.std.specs.Thread.{IsSync};
 ghost use Rattle.dd_store.specs.declared.level.ShardState.{ShardState as ShardValue};
@@ -8,18 +9,19 @@ use crate::level::{ShardState, Watch};
 use crate::reference::{Ref, SHARDS};
 use std::thread::Threads;
 
-/// Who makes the nodes of a level.
+/// The threads that make the nodes of a level.
 #[derive(Drop)]
 pub struct Makers<'a, R, H> {
-    /// Starts the threads.
+    /// The runtime that starts the threads.
     pub rt: &'a R,
-    /// What watches them come to the shards.
+    /// Is notified when a thread comes to a shard.
     pub watch: &'a H,
-    /// How many threads share a level at most, the caller's one of them.
+    /// The greatest number of threads for one level, the caller's included.
     pub count: u32,
 }
 
-/// What the shards of a level are to have: lists of pairs by part and shard, within a limit of nodes for each shard.
+/// What is to be added to the shards of a level: lists of pairs by part and shard. `limit` holds for each shard by
+/// itself.
 #[derive(Drop)]
 struct Lists<'a, H> {
     parts: &'a [Vec<Vec<(Ref, Ref)>>],
@@ -28,7 +30,7 @@ struct Lists<'a, H> {
     watch: &'a H,
 }
 
-/// Adds list i of each part to shard i, and notes the references of its pairs.
+/// Adds list `shard` of each part to this shard, notes the references of its pairs, and the fault if there is one.
 fn note_lists<H>(shard_state: &mut ShardState, lists: &Lists<'_, H>, shard: usize)
     requires limit { lists.now.limit < 2 ^ 32 }
     requires lists { All (λ part. length part.items ≡ 16) lists.now.parts.now }
@@ -40,7 +42,8 @@ fn note_lists<H>(shard_state: &mut ShardState, lists: &Lists<'_, H>, shard: usiz
         .err();
 }
 
-/// Adds the lists of neighbouring shards, of which `first` is the first, to them, and notes the references of the pairs.
+/// Adds the lists of neighbouring shards, the first of which has the number `first`, and notes the references of the
+/// pairs.
 fn make_shards<H: Watch>(shards: &mut [ShardState], lists: &Lists<'_, H>, first: usize)
     requires limit { lists.now.limit < 2 ^ 32 }
     requires lists { All (λ part. length part.items ≡ 16) lists.now.parts.now }
@@ -54,7 +57,8 @@ fn make_shards<H: Watch>(shards: &mut [ShardState], lists: &Lists<'_, H>, first:
     }
 }
 
-/// How many pairs all parts have for a shard, or as many as can be counted.
+/// Returns the number of pairs of all parts for a shard, or the greatest `usize` if they are more. It only divides
+/// work.
 fn pairs_for(parts: &[Vec<Vec<(Ref, Ref)>>], shard: usize) -> usize
     requires lists { All (λ part. length part.items ≡ 16) parts.now }
     requires shard { shard < 16 }
@@ -66,7 +70,7 @@ fn pairs_for(parts: &[Vec<Vec<(Ref, Ref)>>], shard: usize) -> usize
     total
 }
 
-/// How many pairs all parts have for so many neighbouring shards.
+/// Returns the number of pairs of all parts for `count` neighbouring shards from `first` on.
 fn pairs_from(parts: &[Vec<Vec<(Ref, Ref)>>], first: usize, count: usize) -> usize
     requires lists { All (λ part. length part.items ≡ 16) parts.now }
     requires shards { first + count ≤ 16 }
@@ -78,8 +82,8 @@ fn pairs_from(parts: &[Vec<Vec<(Ref, Ref)>>], first: usize, count: usize) -> usi
     total
 }
 
-/// How many of `count` neighbouring shards the first of so many threads has: as nearly as may be its share of the pairs, and at least one,
-/// and at least one is left for each other thread.
+/// Returns how many of `count` neighbouring shards the first of `threads` threads gets: as nearly as possible its share
+/// of the pairs, but at least one shard, with at least one left for each other thread.
 fn first_share(parts: &[Vec<Vec<(Ref, Ref)>>], first: usize, count: usize, threads: usize) -> usize
     requires lists { All (λ part. length part.items ≡ 16) parts.now }
     requires shards { first + count ≤ 16 }
@@ -99,7 +103,7 @@ fn first_share(parts: &[Vec<Vec<(Ref, Ref)>>], first: usize, count: usize, threa
     most
 }
 
-/// Adds the lists of neighbouring shards by so many threads.
+/// Adds the lists of neighbouring shards by `threads` threads.
 #[cycle(forks)]
 fn make_in_parallel<R: Threads + Sync, H: Watch + Sync>(
     rt: &R,
@@ -123,9 +127,9 @@ fn make_in_parallel<R: Threads + Sync, H: Watch + Sync>(
     share_and_rest(rt, lists, threads - 1, first, own, rest);
 }
 
-/// Adds the lists of neighbouring shards: those of the first share in a thread that the caller's starts, and meanwhile the rest by so many
-/// threads. So each thread is started by the caller's: one that has just begun to run, and starts another, keeps that waiting for its
-/// processor.
+/// Adds the lists of the first share in a thread that this one starts, and meanwhile those of the rest by `threads`
+/// threads. So one thread starts all: a thread that has just begun and starts another one would delay it until its own
+/// processor is free.
 #[cycle(forks)]
 fn share_and_rest<R: Threads + Sync, H: Watch + Sync>(
     rt: &R,
@@ -156,7 +160,7 @@ fn share_and_rest<R: Threads + Sync, H: Watch + Sync>(
     rayon::join_mut(rt, &mut front, &mut back);
 }
 
-/// Adds list i of each part to shard i, for the sixteen shards of a level, and notes the references of its pairs.
+/// Adds list i of each part to shard i, for the 16 shards of a level, and notes the references of all pairs.
 pub(crate) fn make_level<R: Threads + Sync, H: Watch + Sync>(
     makers: &Makers<'_, R, H>,
     shards: &mut [ShardState],

@@ -1,4 +1,5 @@
-//! The children of a shard's nodes, in eight bytes a node where the references fit in four each, else in sixteen.
+//! The unique table of a shard: the children of its nodes, in eight bytes a node as long as all
+//! references fit in four bytes each, and in sixteen from the first that does not.
 ghost use Rattle.std.specs.Prelude.{◌≡◌, ◌<◌, ◌+◌, ◌^◌, [], length, map, slice_get, Some, MatchOption, MatchResult};
 ghost use Rattle.dd_store.specs.Narrow.{AreShortWords, AllShortWords, AreWordsOf, pair_at, pairs_in, AreValid, IsNarrow, DoesNotFit};
 ghost use Rattle.slot_table.specs.Lists.{IsIn};
@@ -10,15 +11,16 @@ use slot_table::{Admission, Refusal, SlotTable};
 use std::alloc::Global;
 use std::marker::Model;
 
-// A node takes these bytes in its shard's vector, which keeps room to grow, and 5 to 11 in the slots.
+// The bytes that a node takes in the vector of its shard, narrow and wide. The vector keeps room to grow, and the slots
+// take 5 to 11 bytes more for each node.
 const _: () = prove!(size_of::<(u32, u32)>() == 8);
 
 const _: () = prove!(size_of::<(Ref, Ref)>() == 16);
 
-/// Words below have four bytes.
+/// Words below this number fit in four bytes.
 const FOUR_BYTES: u64 = 1 << 32;
 
-/// The words of two references in four bytes each, if both fit.
+/// Returns the words of both references in four bytes each, if they fit.
 #[inline(always)]
 fn words(pair: (Ref, Ref)) -> Option<(u32, u32)>
     ensures { AreWordsOf pair result }
@@ -31,7 +33,7 @@ fn words(pair: (Ref, Ref)) -> Option<(u32, u32)>
     None
 }
 
-/// Both references that have these words.
+/// Returns the references that have these words.
 #[inline(always)]
 fn references(words: (u32, u32)) -> (Ref, Ref)
     requires { AreShortWords words }
@@ -40,7 +42,7 @@ fn references(words: (u32, u32)) -> (Ref, Ref)
     (Ref::of_word(words.0 as u64), Ref::of_word(words.1 as u64))
 }
 
-/// The pairs of a table in sixteen bytes each.
+/// Returns a table with the same pairs at the same places, in sixteen bytes each.
 fn widened(alloc: Global, table: &SlotTable<(u32, u32)>) -> Result<SlotTable<(Ref, Ref)>, Refusal>
     requires words { AllShortWords table.now }
     requires few { length table.now + 1 < 2 ^ 32 }
@@ -53,7 +55,8 @@ fn widened(alloc: Global, table: &SlotTable<(u32, u32)>) -> Result<SlotTable<(Re
     Ok(wide)
 }
 
-/// Finds a pair, or adds it at the end, where there is room for one more. Its code stands apart from that of most pairs, which fit.
+/// Finds a pair, or adds it at the end if there is room for one more. It is not inlined, because in most runs all pairs
+/// fit in eight bytes.
 #[inline(never)]
 fn place_wide(
     table: &mut SlotTable<(Ref, Ref)>,
@@ -66,17 +69,18 @@ fn place_wide(
     table.find_or_add(pair, room)
 }
 
-/// Pairs of references, each once.
+/// Distinct pairs of references, by place.
 #[derive(Drop)]
 enum Pairs {
-    /// All fit: the words of their references in four bytes each.
+    /// All pairs fit: each reference is its word in four bytes.
     Narrow(SlotTable<(u32, u32)>),
-    /// Some do not.
+    /// At least one pair does not fit.
     Wide(SlotTable<(Ref, Ref)>),
 }
 
 impl Pairs {
-    /// Finds a pair, or adds it at the end, where there is room for one more; none if it does not fit.
+    /// Finds a pair, or adds it at the end if there is room for one more. Returns none, and changes nothing, if the
+    /// pair does not fit.
     #[inline(always)]
     fn place(&mut self, pair: (Ref, Ref), room: u64) -> Option<Result<Admission, Refusal>>
         requires valid { AreValid self.old }
@@ -94,7 +98,7 @@ impl Pairs {
         }
     }
 
-    /// Adds a pair that does not fit where there is room for one more: each has sixteen bytes from now on.
+    /// Adds a pair that does not fit, if there is room for one more. From then on each pair has sixteen bytes.
     #[inline(never)]
     fn widen_and_add(
         &mut self,
@@ -122,7 +126,7 @@ impl Pairs {
     }
 }
 
-/// The children of a shard's nodes, each pair once, by place. The first pair that does not fit widens all.
+/// The children of a shard's nodes by place, each pair once. The first pair that does not fit widens all.
 #[derive(Drop)]
 pub(crate) struct PairTable {
     alloc: Global,
@@ -143,7 +147,7 @@ impl Model for PairTable {
 }
 
 impl PairTable {
-    /// A table without pairs. It takes no memory yet.
+    /// Returns a table without pairs, which takes no memory yet.
     pub(crate) fn new(alloc: Global) -> PairTable
         ensures { result ≡ [] }
     {
@@ -153,7 +157,7 @@ impl PairTable {
         }
     }
 
-    /// How many pairs there are.
+    /// Returns the number of pairs.
     pub(crate) fn len(&self) -> usize
         ensures { result ≡ length self.now }
     {
@@ -163,7 +167,7 @@ impl PairTable {
         }
     }
 
-    /// How many slots there are.
+    /// Returns the number of slots.
     pub(crate) fn slots(&self) -> usize
         ensures { IsSlotCount (length self.now) result }
     {
@@ -173,7 +177,7 @@ impl PairTable {
         }
     }
 
-    /// The pair at a place.
+    /// Returns the pair at a place.
     #[inline(always)]
     pub(crate) fn at(&self, place: usize) -> (Ref, Ref)
         requires { place < length self.now }
@@ -185,7 +189,7 @@ impl PairTable {
         }
     }
 
-    /// The place of a pair.
+    /// Returns the place of a pair, or none if it is not in the table.
     pub(crate) fn find(&self, pair: (Ref, Ref)) -> Option<u32>
         ensures { MatchOption result (IsIn self.now pair → ⊥) (λ i. slice_get self.now i ≡ Some pair) }
     {
@@ -198,7 +202,7 @@ impl PairTable {
         }
     }
 
-    /// Finds a pair, or adds it at the end, where there is room for one more.
+    /// Finds a pair, or adds it at the end; `room` is how many more pairs there may be. A refusal changes nothing.
     #[inline(always)]
     pub(crate) fn find_or_add(&mut self, pair: (Ref, Ref), room: u64) -> Result<Admission, Refusal>
         requires { 0 < room → length self.old + room < 2 ^ 32 }

@@ -1,4 +1,4 @@
-//! References to nodes.
+//! References to nodes, with complement bits.
 ghost use Rattle.std.specs.Prelude.{◌≡◌, ◌^◌, ◌<◌, Bool, List, false, not};
 ghost use Rattle.dd_store.specs.Complements.{is_complement, complement_by, complement_both, negate_of};
 ghost use Rattle.dd_store.specs.Nodes.{Nodes, den};
@@ -12,19 +12,22 @@ use std::fmt;
 use std::hash::{Hash, Hasher};
 use std::marker::Model;
 
-/// How many shards each level has.
+/// The number of shards of each level.
 pub const SHARDS: usize = 16;
 
-/// The name of a node in its store: its level, its shard of that level, and its place in that shard, counted from 0.
+/// The name of a node in its store: its level, its shard of that level, and its place in that shard, counted from 0. A
+/// node keeps its name for as long as the store lives.
 #[derive(Clone, Copy, Debug, PartialEq, Eq, PartialOrd, Ord, Hash)]
 pub struct NodeId {
     pub level: u16,
     pub shard: u8,
+    /// The place in the shard, in the order of making.
     pub index: u32,
 }
 
-/// What a reference refers to: a terminal, or a node, whose function a mark complements. There is one terminal, True, and False is
-/// True with a mark. Their order is False, True, then nodes by level, shard and index, without a mark before marked.
+/// What a reference refers to: a terminal or a node, with a complement bit or without. There is one terminal, True;
+/// False is True with a complement bit. The order is False, True, then nodes by level, shard and place, and of one node
+/// first the reference without a complement bit.
 #[derive(Clone, Copy, Debug, PartialEq, Eq, PartialOrd, Ord)]
 pub enum Reference {
     /// The terminal of the function that is 0 everywhere.
@@ -34,12 +37,13 @@ pub enum Reference {
     Node { id: NodeId, complement: bool },
 }
 
-/// A terminal or a node of a store, perhaps with a mark, in eight bytes, of which four are enough for most. The order of references is
-/// that of what they refer to.
+/// A reference: a terminal or a node of a store, perhaps with a complement bit. It is eight bytes, of which four
+/// suffice for most. References are ordered as what they refer to.
 #[derive(Clone, Copy)]
 pub struct Ref {
-    /// 0 for False, 1 for True; for a node its level and 1, its shard, and its place from bit 1 on, as narrow as that fits, and whether
-    /// it has a mark in bit 0. So the complement differs in bit 0 alone.
+    /// 0 for False and 1 for True. For a node: from above its level plus 1, its shard and its place, in the narrowest
+    /// of three forms (`words`), and in bit 0 the complement bit. So a reference and its complement differ only in bit
+    /// 0.
     word: u64,
 }
 
@@ -68,7 +72,7 @@ impl Ref {
     /// The terminal of the function that is 1 everywhere.
     pub const TRUE: Ref = Ref { word: 1 };
 
-    /// The reference to a node, without a mark.
+    /// Returns the reference to a node, without a complement bit.
     #[inline(always)]
     pub fn node(id: NodeId) -> Ref
         ensures { result ≡ Reference.Node id false }
@@ -78,7 +82,8 @@ impl Ref {
         }
     }
 
-    /// The reference to the complement of its function.
+    /// Returns the reference that denotes the complement of this one's function. It makes no node and cannot be
+    /// refused.
     pub fn negate(self) -> Ref
         ensures value { result ≡ negate_of self }
         ensures meaning { (S : Nodes) (x : List Bool) → den S result x ≡ not (den S self x) }
@@ -86,14 +91,14 @@ impl Ref {
         self.complement_if(true)
     }
 
-    /// Whether it has a mark, as False has.
+    /// Whether the reference has a complement bit. False has one, since it is the complement of True.
     pub fn is_complement(self) -> bool
         ensures { result ≡ is_complement self }
     {
         (self.word + self.is_terminal() as u64) % 2 == 1
     }
 
-    /// Its complement where `complement` is set.
+    /// Returns the complement if `complement` is set, and otherwise the reference itself.
     pub fn complement_if(self, complement: bool) -> Ref
         ensures { result ≡ complement_by complement self }
     {
@@ -102,7 +107,7 @@ impl Ref {
         }
     }
 
-    /// What it refers to.
+    /// Returns what the reference refers to.
     pub fn view(self) -> Reference
         ensures { result ≡ self }
     {
@@ -116,14 +121,14 @@ impl Ref {
         }
     }
 
-    /// Whether it refers to a terminal.
+    /// Whether the reference is True or False.
     pub fn is_terminal(self) -> bool
         ensures { result ≡ is_terminal self }
     {
         self.word < 2
     }
 
-    /// Its eight bytes as a number, different for each.
+    /// Returns the reference as a number, its word. Different references have different words.
     pub fn word(self) -> u64
         ensures word { result ≡ word_of self }
         ensures within { IsWord result }
@@ -133,7 +138,7 @@ impl Ref {
         self.word
     }
 
-    /// The reference with these eight bytes.
+    /// Returns the reference that has this word.
     pub fn of_word(word: u64) -> Ref
         requires { IsWord word }
         ensures { result ≡ reference_of word }
@@ -202,7 +207,7 @@ impl Ord for Ref {
     }
 }
 
-/// The order of two references by what they refer to, whatever their words.
+/// Compares two references by what they refer to. Unlike a comparison of words it is right for each of the three forms.
 #[inline(never)]
 fn view_cmp(first: Ref, second: Ref) -> Ordering
     ensures { result ≡ ref_cmp first second }
@@ -239,7 +244,7 @@ impl Hash for Ref {
     }
 }
 
-/// Both references, complemented where `complement` is set.
+/// Returns both references, complemented if `complement` is set.
 pub(crate) fn complement_pair(pair: (Ref, Ref), complement: bool) -> (Ref, Ref)
     ensures { result ≡ complement_both complement pair }
 {

@@ -18,8 +18,8 @@ use slot_table::Admission;
 use std::alloc::{AllocError, Global};
 use std::marker::Model;
 
-/// The nodes of shared diagrams over one order of variables; level 0 is the top. References stay valid for as long as
-/// the store lives, since nodes are added and never moved or dropped.
+/// The nodes of shared diagrams over one order of the variables; level 0 is the top. References stay valid for as long
+/// as the store lives, since nodes are never moved or freed.
 #[derive(Drop)]
 pub struct Store {
     alloc: Global,
@@ -42,7 +42,8 @@ impl Model for Store {
 }
 
 impl Store {
-    /// A store without nodes for diagrams of `levels` variables, in which `make` leaves at most `limit` nodes.
+    /// Returns a store without nodes for diagrams of `levels` variables. `make` never leaves more than `limit` nodes in
+    /// it.
     pub fn new(alloc: Global, levels: u16, limit: u64) -> Result<Store, AllocError>
         requires few_levels { levels ≤ 4096 }
         requires small_limit { limit < 2 ^ 32 }
@@ -65,12 +66,13 @@ impl Store {
         })
     }
 
-    /// Where the store's memory is from.
+    /// The allocator of the store's tables.
     pub(crate) fn allocator(&self) -> Global {
         self.alloc
     }
 
-    /// The number of levels. Its contract also tells a caller what is true of every store.
+    /// Returns the number of levels, which is that of the variables. The clauses `sound` and `canonical` are true of
+    /// every store; a caller gets them by this call.
     pub fn levels(&self) -> u16
         ensures value { result ≡ self.now.levels }
         ensures sound { IsSound self.now }
@@ -79,7 +81,7 @@ impl Store {
         self.levels
     }
 
-    /// The number of nodes; terminals are not counted.
+    /// Returns the number of nodes; terminals are not counted.
     pub fn count(&self) -> u64
         ensures value { result ≡ count_of self.now }
         ensures sound { IsSound self.now }
@@ -87,14 +89,14 @@ impl Store {
         self.count
     }
 
-    /// The greatest number of nodes that `make` leaves.
+    /// Returns the greatest number of nodes that `make` leaves.
     pub fn limit(&self) -> u64
         ensures { result ≡ self.now.limit }
     {
         self.limit
     }
 
-    /// The node with these children, which differ, the second without a mark: the one that is there, or a new one.
+    /// Finds or makes the node with these children, which differ, and of which `hi` has no complement bit.
     #[inline(always)]
     fn find_or_add(&mut self, level: u16, lo: Ref, hi: Ref) -> Result<Ref, StoreFault>
         requires level { level < self.old.levels }
@@ -125,10 +127,11 @@ impl Store {
         }))
     }
 
-    /// The reference whose function is that of `lo` where the bit of the level is 0, and that of `hi` where it is 1. Equal
-    /// children answer the child (Bryant 1986), a pair that is there its node, and neither is refused. No node has a mark on its
-    /// second child: where `hi` has one, the node is that of both complements, and the answer has the mark (Brace, Rudell and Bryant
-    /// 1990).
+    /// Returns the reference whose function is that of `lo` if the bit of the level is 0, and that of `hi` if it is 1:
+    /// a child if both are equal, the node with these children if there is one, and otherwise a new node (Bryant 1986).
+    /// Only a new node can be refused: with `Full` if the store has `limit` nodes, with `OutOfMemory` if a table cannot
+    /// grow. No node has a complement bit on its high child; if `hi` has one, the node is that of both complements, and
+    /// the returned reference has the bit (Brace, Rudell and Bryant 1990).
     #[inline(always)]
     pub fn make(&mut self, level: u16, lo: Ref, hi: Ref) -> Result<Ref, StoreFault>
         requires level { level < self.old.levels }
@@ -145,7 +148,7 @@ impl Store {
         ensures refused { OnErr result (self.new ≡ self.old) }
         ensures full { IfErr result (λ e. IsFull self.old level lo hi e) }
     {
-        let _ = &self.levels;
+        let _ = &self.levels; // For the proof.
         if lo == hi {
             return Ok(lo);
         }
@@ -155,7 +158,7 @@ impl Store {
         Ok(made.complement_if(complement))
     }
 
-    /// The reference whose function is the bit of a level.
+    /// Returns the reference whose function is the bit of a level. Fails as `make` does.
     pub fn variable(&mut self, level: u16) -> Result<Ref, StoreFault>
         requires { level < self.old.levels }
         ensures makes { Makes self.old level Reference.False Reference.True result self.new }

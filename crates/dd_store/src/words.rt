@@ -1,20 +1,22 @@
-//! The words of references: a number of eight bytes for each node, of which four are enough for most.
+//! The words of references: each node has a number of eight bytes, of which four suffice for most.
+//! In all forms the level plus 1 is above the shard, the shard above the place, and the place above
+//! bit 0, which is the complement bit.
 ghost use Rattle.std.specs.Prelude.{◌≡◌, ◌<◌, ◌^◌, false};
 ghost use Rattle.dd_store.specs.declared.reference.Reference.{Reference};
 ghost use Rattle.dd_store.specs.Words.{is_near, is_far, node_word, node_of, reference_of, IsWord, IsNodeWord};
 
 use crate::reference::{NodeId, SHARDS};
 
-/// A node of a level below this one, whose place is below `NEAR_PLACES`, is near: its shard begins at the bit
-/// `NEAR_SHARD` of its word.
+/// A node is near if its level is below this number and its place below `NEAR_PLACES`. In its word the shard begins at
+/// bit 18, whose value is `NEAR_SHARD`.
 const NEAR_LEVELS: u16 = 255;
 
 const NEAR_PLACES: u32 = 1 << 17;
 
 const NEAR_SHARD: u64 = 1 << 18;
 
-/// A node of a level from there on and below this one, whose place is below `FAR_PLACES`, is far: its shard begins at the bit
-/// `FAR_SHARD` of its word, which has the bit `FAR`.
+/// A node is far if its level is below this number but not below `NEAR_LEVELS`, and its place below `FAR_PLACES`. In
+/// its word the shard begins at bit 14, and the bit `FAR` is set.
 const FAR_LEVELS: u16 = 4095;
 
 const FAR_PLACES: u32 = 1 << 13;
@@ -23,21 +25,21 @@ const FAR_SHARD: u64 = 1 << 14;
 
 const FAR: u64 = 1 << 30;
 
-/// The words of all other nodes are greater.
+/// The least number above the words of near and far nodes; the words of all others are greater.
 pub const LONG: u64 = 1 << 31;
 
-/// The lowest bits of a level and of a shard in the word of such a node.
+/// The values of the lowest bit of the level and of the shard in the word of a node that is neither near nor far.
 const LEVEL_BIT: u64 = 1 << 41;
 
 const SHARD_BIT: u64 = 1 << 33;
 
-/// The lowest bit of a place in each word. Bit 0 is the mark.
+/// The value of the lowest bit of the place in each word; bit 0 is the complement bit.
 const INDEX_BIT: u64 = 2;
 
-/// How many places a shard has.
+/// The number of places of a shard.
 const PLACES: u64 = 1 << 32;
 
-/// Whether a node has a high level and a low place.
+/// Whether a node is near.
 #[inline(always)]
 fn is_near(id: NodeId) -> bool
     ensures { result ≡ is_near id }
@@ -45,7 +47,7 @@ fn is_near(id: NodeId) -> bool
     id.level < NEAR_LEVELS && (id.shard as usize) < SHARDS && id.index < NEAR_PLACES
 }
 
-/// Whether a node has a deeper level and a lower place.
+/// Whether a node is far.
 #[inline(always)]
 fn is_far(id: NodeId) -> bool
     ensures { result ≡ is_far id }
@@ -56,7 +58,7 @@ fn is_far(id: NodeId) -> bool
         && id.index < FAR_PLACES
 }
 
-/// The word of a node without a mark.
+/// Returns the word of the reference to a node without a complement bit.
 #[inline(always)]
 pub fn node_word(id: NodeId) -> u64
     ensures word { result ≡ node_word id }
@@ -75,7 +77,7 @@ pub fn node_word(id: NodeId) -> u64
     }
 }
 
-/// The name of the node that a word refers to.
+/// Returns the name of the node that a word refers to.
 #[inline(always)]
 pub fn node_of(word: u64) -> NodeId
     requires { IsNodeWord word }
@@ -103,7 +105,7 @@ pub fn node_of(word: u64) -> NodeId
     }
 }
 
-/// The place of the node that a word refers to, 0 for a terminal.
+/// Returns the place of the node that a word refers to, and 0 for a terminal.
 #[inline(always)]
 pub fn place_of(word: u64) -> u64
     requires { IsWord word }

@@ -1,4 +1,4 @@
--- From what `settle` and all workers' parts say to the closure of the roots, over the store's own wave.
+-- What `settle` and the parts of all workers say gives the closure of the roots, in the store's own wave.
 use Rattle.std.proofs.Common.{ℕ, ◌<◌, List, []}
 use Rattle.std.specs.Prelude.{slice_index_or}
 use Rattle.dd_store.specs.Nodes.{Nodes, IsSound}

@@ -1,4 +1,4 @@
--- What is due from a worker is cut into bundles, front first.
+-- What is due from a worker is taken out in bundles, the first requests first.
 use Rattle.std.proofs.Common.{◌≡◌, ℕ, zero, suc, ◌-◌, ◌<◌, List, [], ◌∷◌, ◌++◌, Option, None, Some, take, drop, length, refl, sym, ap, ◌∙◌, subst, arith, append_assoc}
 use Rattle.std.proofs.lemmas.List.{length-append, length-drop, take_all, take-append-drop}
 use Rattle.std.proofs.Math.Seq.{take-append_seam, drop-append_seam}
@@ -8,12 +8,12 @@ use Rattle.req_table.specs.declared.Key.{Key}
 use Rattle.lane_queue.specs.declared.load.TheConstants.Bundle.{CAPACITY}
 use Rattle.expand_work.specs.Due.{in_partial, AreFull, IsBegun, IsCut}
 
--- bundles behind a full one
+-- the bundles after a full one
 pub full_rest : (fs bs : List (List (ℕ × Key))) → bs ≡ drop 1 fs → AreFull fs → AreFull bs
 full_rest [] bs is h = subst AreFull (sym is) h
 full_rest (f ∷ fs) bs is h = subst AreFull (sym is) (λ k d lt. h (suc k) d (omega (arith, lt)))
 
--- a full one is the first
+-- the first full bundle is taken out
 pub cut_full : (b partial old : List (ℕ × Key)) (fs bs : List (List (ℕ × Key))) → fs ≡ b ∷ bs → AreFull fs → flat_map (λ x. x) fs ++ partial ≡ old → IsCut old b (flat_map (λ x. x) bs ++ partial)
 cut_full b partial old fs bs is full all =
     let rest = flat_map (λ (x : List (ℕ × Key)). x) bs ++ partial in
@@ -25,7 +25,7 @@ cut_full b partial old fs bs is full all =
       rest = sym (drop-append_seam b rest) ∙ (λ i. drop (n i) (seam i));
     }
 
--- none is full
+-- no bundle is full
 pub none_left : (fs bs : List (List (ℕ × Key))) → fs ≡ bs → bs ≡ drop 1 fs → fs ≡ []
 none_left [] bs e is = refl
 none_left (f ∷ fs) bs e is = absurd (let n = ap (λ (l : List (List (ℕ × Key))). length l) (e ∙ is) in omega (arith, n))
@@ -35,7 +35,7 @@ drop_all zero xs lt = absurd (omega (arith, lt))
 drop_all (suc n) [] lt = refl
 drop_all (suc n) (x ∷ xs) lt = drop_all n xs (omega (arith, lt))
 
--- the one in hand is all
+-- the bundle that is not full is all
 pub cut_partial : (partial : Option (List (ℕ × Key))) (old left : List (ℕ × Key)) → IsBegun partial → in_partial partial ≡ old → left ≡ [] → MatchOption partial ((old ≡ []) × (left ≡ [])) (λ b. IsCut old b left)
 cut_partial None old left begun all none = (sym all, none)
 cut_partial (Some b) old left begun all none = subst (λ o. IsCut o b left) all (record {
@@ -44,7 +44,7 @@ cut_partial (Some b) old left begun all none = subst (λ o. IsCut o b left) all 
   rest = none ∙ sym (drop_all CAPACITY b begun.1);
 })
 
--- nothing is lost
+-- the bundle and what is left are what was due
 pub cut_all : (asks bundle left : List (ℕ × Key)) → IsCut asks bundle left → bundle ++ left ≡ asks
 cut_all asks bundle left h = (λ i. h.first i ++ h.rest i) ∙ take-append-drop CAPACITY asks
 

@@ -1,4 +1,4 @@
--- What becomes due goes to its owner.
+-- Each request becomes due from its owner.
 use Rattle.std.proofs.Common.{◌≡◌, ℕ, ◌+◌, ◌%◌, ◌<◌, Bool, true, false, cond, eqb, List, [], ◌∷◌, ◌++◌, length, get_or, filter, take, refl, sym, ap, ◌∙◌, arith, append-nil, append_assoc, eqb-true, eq-eqb}
 use Rattle.std.proofs.lemmas.List.{map-append, take_more, length-take}
 use Rattle.std.proofs.lemmas.List.Elements.{filter-append}
@@ -13,7 +13,7 @@ use Rattle.expand_work.specs.Due.{asked_of, due_by}
 use Rattle.expand_work.specs.Work.{at, owned_by, with_levels, keys_in}
 use Rattle.expand_work.proofs.Counting.{asked_by-append}
 
--- ---- told with the levels
+-- ---- requests with their levels
 pub one_due : (S : Nodes) (n k l : ℕ) (x : Key) → l ≡ level_of S x → filter (asked_of n k) ((l, x) ∷ []) ≡ with_levels S (filter (owned_by n k) (x ∷ []))
 one_due S n k l x e = elim (eqb (owner n x) k) as (λ b. cond b ((l, x) ∷ []) [] ≡ with_levels S (cond b (x ∷ []) [])) [ true ↦ ap (λ v. (v, x) ∷ []) e | false ↦ refl ]
 

@@ -1,4 +1,4 @@
--- From the lanes' new ports, and from the parts of all workers, to the settled wave.
+-- From the new ports of the lanes, and from the parts of all workers, to the settled wave.
 use Rattle.std.proofs.Common.{◌≡◌, ℕ, zero, suc, ◌+◌, ◌*◌, ◌<◌, true, false, cond, eqb, List, [], ◌∷◌, map, length, slice_index_or, slice_get, Some, ◌++◌, append_assoc, refl, sym, ap, ◌∙◌, subst, arith}
 use Rattle.std.specs.List.{sum_by, AllZip}
 use Rattle.std.proofs.lemmas.List.Sums.{sum_by-cons}
@@ -93,7 +93,7 @@ count_at (x ∷ xs) (suc k) d b = count_at xs k d (omega (arith, b))
 level_keys : (S : Nodes) (tables : List (List Key)) (u : ℕ) → map key_of (row_at (recorded S tables) u) ≡ at tables u
 level_keys S tables u = ap (map key_of) (recorded-at S tables u) ∙ keys_of_records S (at tables u)
 
--- ---- what is taken in its turn is of no closed level
+-- ---- a load that is taken in its sender's order is of no closed level
 open_from : (c : Scope) (before items : List Item) → ((s : ℕ) → s < c.workers → IsFair c (sent_by s (before ++ items))) → HasSenders c items → AreOpen c before items
 open_from c before [] fair senders = tt
 open_from c before (i ∷ items) fair senders =
@@ -124,20 +124,20 @@ module _ (S : Nodes) (l : LanesView) (roots : List Key) (parts : List Part) (wor
 abbrev pub part_records : Nodes → Part → List (List Record)
 part_records S p = records_in S p.space
 
--- the records of all workers, told of the parts
+-- the records of all workers, by their parts
 pub records_as : (S : Nodes) (parts : List Part) (spaces : List WorkerMemory) → spaces ≡ map (λ (p : Part). without_rows p.space) parts → map (records_in S) spaces ≡ map (part_records S) parts
 records_as S parts spaces is = ap (map (records_in S)) is ∙ map-map (records_in S) (λ (p : Part). without_rows p.space) parts
 
--- and the places that they noted
+-- the places that they have noted, by their parts
 pub noted_as : (parts : List Part) (spaces : List WorkerMemory) → spaces ≡ map (λ (p : Part). without_rows p.space) parts → map noted_in spaces ≡ map (λ (p : Part). p.space.noted) parts
 noted_as parts spaces is = ap (map noted_in) is ∙ map-map noted_in (λ (p : Part). without_rows p.space) parts
 
--- two functions that are the same on the elements of a list
+-- two functions with the same values on the elements of a list
 map_same : {A B : Type 0} (f g : A → B) (xs : List A) → ((i : ℕ) (d : A) → i < length xs → f (slice_index_or xs i d) ≡ g (slice_index_or xs i d)) → map f xs ≡ map g xs
 map_same f g [] h = refl
 map_same f g (x ∷ xs) h = λ j. h 0 x (omega arith) j ∷ map_same f g xs (λ i d b. h (suc i) d (omega (arith, b))) j
 
--- the rows of all workers are the children of their records
+-- the rows of all workers have the children of their records
 pub parts_by_owner : (S : Nodes) (l : LanesView) (roots : List Key) (parts : List Part) → AreWorked l S roots parts → (spaces : List WorkerMemory) → spaces ≡ map (λ (p : Part). without_rows p.space) parts → (rows : List (List (List (PackedChild × PackedChild)))) → rows ≡ map (λ (p : Part). rows_in p.space) parts →
     AreRowsByOwner (map (records_in S) spaces) rows
 parts_by_owner S l roots parts worked spaces is rows rows-is =
@@ -244,7 +244,7 @@ module _ (S : Nodes) (sound : IsSound S) (l : LanesView) (sizes : l.sizes ≡ si
     places = places_at;
   })
 
-  -- what a worker took was of no closed level
+  -- what a worker has taken was of no closed level
   opens : (k : ℕ) → k < length l.lanes → AreOpen w.scope [] (taken_by ports k)
   opens k kb = open_from w.scope [] (taken_by ports k) (λ s sb. subst (IsFair w.scope) (sym (settles.all_taken s k sb kb)) (settles.fair s k sb kb)) (settles.senders k kb)
 

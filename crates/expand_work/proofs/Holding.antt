@@ -1,4 +1,4 @@
--- A worker keeps the requests that are its own.
+-- A worker keeps the requests that it owns.
 use Rattle.std.proofs.Common.{◌≡◌, ℕ, ◌+◌, ◌-◌, ◌<◌, List, [], ◌∷◌, ◌++◌, Some, map, take, length, get_or, All, refl, sym, ap, ◌∙◌, subst, arith, append_assoc, append-nil}
 use Rattle.std.proofs.lemmas.List.{map_more, map-append, length-map}
 use Rattle.req_table.specs.declared.Key.{Key}
@@ -8,7 +8,7 @@ use Rattle.req_table.specs.Sizes.{scope_of}
 use Rattle.req_table.specs.Lanes.{sent_by, ends, MayFollow, IsFair, IsClosed}
 use Rattle.req_table.proofs.Lists.{Has, each, all_of, map_has, Has-map, Has-append_left, Has-append_right}
 use Rattle.req_table.proofs.Fair.{ends-append, sent_by-append, counted_of_closed}
-use Rattle.level_close.specs.Counts.{Counts}
+use Rattle.expand_work.specs.Counts.{Counts}
 use Rattle.lane_queue.specs.declared.load.Load.TheVariants.{Bundle}
 use Rattle.lane_queue.specs.Loads.{ask_of}
 use Rattle.lane_queue.specs.PortView.{LanesView, PortView, sent_to, has_kept, IsPortOf, lanes_scope, port_scope}
@@ -88,11 +88,11 @@ module _ (l : LanesView) (p : PortView) (asks : List (ℕ × Key)) (o : IsPortOf
         all = ap (λ (u : PortView). sent_by u.number u.taken) is ∙ sent_by-append q.number q.taken (ask_of q.number x ∷ []) ∙ (λ j. h.all j ++ of-mine q.number (ask_of q.number x) [] refl j) ∙ sym r-own ∙ ap (λ k. sent_to r k) (sym (ap (λ (u : PortView). u.number) is));
       }
 
-  -- the tables have their levels
+  -- the requests' levels are among those of the tables
   pub hold-levels : (ts : List (List Key)) → length ts ≡ l.sizes.levels → All (λ (a : ℕ × Key). a.0 < length ts) asks
   hold-levels ts many = all_of (λ (a : ℕ × Key). a.0 < length ts) asks (λ a has. let f = (each (λ a. MayFollow (lanes_scope l) (ends (sent_to p p.number)) (ask_of p.number a)) asks a may.follow has).1 in omega (arith, f, many))
 
-  -- once all were kept and admitted
+  -- all of them were kept and admitted
   module _ (q : PortView) (ts us : List (List Key)) (clock : Counts) (within : p.number < length l.lanes) (taken : sent_by p.number p.taken ≡ sent_to p p.number) (received : IsReceived (lanes_scope l) p.taken clock ts) (kept : HasKept p q (map (ask_of p.number) asks)) (off : Offered asks ts us) where
     follow-all : All (MayFollow (lanes_scope l) (ends (sent_by p.number p.taken))) (map (ask_of p.number) asks)
     follow-all = subst (λ xs. All (MayFollow (lanes_scope l) (ends xs)) (map (ask_of p.number) asks)) (sym taken)

@@ -22,7 +22,7 @@ use Rattle.expand_work.specs.PlacesBySender.{EntersAt, HasPlace, with_their_leve
 use Rattle.dd_store.proofs.Noting.{zip_push, zip_append}
 use Rattle.expand_work.proofs.Zips.{zip_weaker}
 
--- what stood in a table stands in it
+-- a key keeps its place in a table
 admits_stands : (ys xs zs : List Key) (p : ℕ) (x : Key) → Admits ys xs zs → slice_get ys p ≡ Some x → slice_get zs p ≡ Some x
 admits_stands ys [] zs p x a e = subst (λ l. slice_get l p ≡ Some x) a e
 admits_stands ys (y ∷ xs) zs p x (inl h) e = admits_stands ys xs zs p x h.1 e
@@ -92,7 +92,6 @@ asks_noted workers s requests taken ts us old new h n = record { long = n.long �
         (λ e. subst (λ k. AllZip (HasPlace (at us)) (with_their_levels (sent_by k (taken ++ xs))) (at new k)) (sym e) (own (subst (λ k. k < workers) e tb)))
         (λ m. subst (λ k. AllZip (HasPlace (at us)) k (at new t)) (sym (theirs t m)) (subst (λ k. AllZip (HasPlace (at us)) (with_their_levels (sent_by t taken)) k) (sym (n.others t m)) (before t tb)))
 
--- an End
 with_their_levels-end : (t s l : ℕ) → with_their_levels (sent_by t (End s l ∷ [])) ≡ []
 with_their_levels-end t s l = elim (eqb s t) as (λ b. with_their_levels (cond b (End s l ∷ []) []) ≡ []) [ true ↦ refl | false ↦ refl ]
 
@@ -103,14 +102,13 @@ end_noted workers s l taken ts noted h = record {
       (sym (ap with_their_levels (sent_by-append t taken (End s l ∷ [])) ∙ with_their_levels-append (sent_by t taken) (sent_by t (End s l ∷ [])) ∙ ap (λ k. with_their_levels (sent_by t taken) ++ k) (with_their_levels-end t s l) ∙ append-nil (with_their_levels (sent_by t taken)))) (h.each t tb);
 }
 
--- nothing
 pub none_noted : (workers : ℕ) (taken : List Item) (ts : List (List Key)) (noted : List (List ℕ)) → taken ≡ [] → noted ≡ replicate workers [] → IsNoted workers taken ts noted
 none_noted workers taken ts noted nothing is = record {
   long = ap (λ l. length l) is ∙ length-replicate workers [];
   each = λ t tb. subst (λ xs. AllZip (HasPlace (at ts)) (with_their_levels (sent_by t xs)) (at noted t)) (sym nothing) (subst (λ k. AllZip (HasPlace (at ts)) [] k) (sym (ap (λ l. get_or l t []) is ∙ get_or-replicate workers t [] [] tb)) tt);
 }
 
--- ---- told of the rows
+-- ---- the same by rows
 pub fair_places : (c : Scope) (e : ℕ) (xs : List Item) (tables rows : ℕ → List Key) (ps : List ℕ) → IsFairFrom c e xs → ((u : ℕ) → u < c.levels → rows u ≡ tables u) → AllZip (HasPlace tables) (with_their_levels xs) ps
     → AllZip (λ x p. slice_get (rows (c.level x)) p ≡ Some x) (asks xs) ps
 fair_places c e [] tables rows [] f same h = tt
@@ -122,6 +120,6 @@ fair_places c e (Ask s l x ∷ xs) tables rows (p ∷ ps) f same h = (
 )
 fair_places c e (End s l ∷ xs) tables rows ps f same h = fair_places c (e + 1) xs tables rows ps f.1 same h
 
--- a worker is one of those whose places are noted
+-- a worker is one of the senders whose places are noted
 pub own_within : (l : LanesView) (p : PortView) → IsPortOf l p → (n : ℕ) → n ≡ p.number → p.number < length p.lanes → (noted : List (List ℕ)) → length noted ≡ length l.lanes → n < length noted
 own_within l p o n n-is b noted long = let w = ap (λ q. length q) o.0 ∙ length-map l.lanes (λ q. Some q) in omega (arith, w, n-is, b, long)

@@ -1,4 +1,4 @@
--- Lists in which no item stands twice, one after the other.
+-- Lists of distinct items, one after the other.
 use Rattle.std.proofs.Common.{◌≡◌, ℕ, zero, suc, ◌+◌, ◌⊎◌, inl, inr, List, [], ◌∷◌, ◌++◌, length, slice_get, Some, arith}
 use Rattle.slot_table.specs.Lists.{IsIn, IsOnce}
 

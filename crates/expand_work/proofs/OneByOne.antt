@@ -1,4 +1,4 @@
--- Children that were taken one after the other.
+-- Children that a sink takes one after the other.
 use Rattle.std.proofs.Common.{◌≡◌, ◌∙◌, true, false, List, [], ◌∷◌, ◌++◌, refl, sym, subst, append-nil, append_assoc}
 use Rattle.dd_store.specs.Nodes.{Nodes}
 use Rattle.req_table.specs.declared.Child.{Child}
@@ -8,7 +8,7 @@ use Rattle.req_table.specs.Keys.{child_of}
 use Rattle.expand_work.specs.TakenChildren.{AreTaken}
 
 module _ {A : Type 0} (takes : A → Child → PackedChild → A → Type 0) (S : Nodes) where
-  -- one request more
+  -- the children of one more request
   pub taken_more : (a : A) (ks : List Key) (ds : List (PackedChild × PackedChild)) (m : A) → AreTaken takes S a ks ds m → (k : Key) (low high : PackedChild) (n o : A) → takes m (child_of S k false) low n → takes n (child_of S k true) high o
       → AreTaken takes S a (ks ++ k ∷ []) (ds ++ (low, high) ∷ []) o
   taken_more a [] [] m h k low high n o lows highs = (n, o, subst (λ z. takes z (child_of S k false) low n) h lows, highs, refl)
@@ -16,7 +16,7 @@ module _ {A : Type 0} (takes : A → Child → PackedChild → A → Type 0) (S 
   taken_more a (x ∷ ks) [] m h k low high n o lows highs = absurd h
   taken_more a (x ∷ ks) (d ∷ ds) m h k low high n o lows highs = (h.0, h.1, h.2, h.3, taken_more h.1 ks ds m h.4 k low high n o lows highs)
 
-  -- What holds before the first of these requests, and with one more whenever it held, holds behind the last.
+  -- Induction on the requests: what holds before the first, and with one more if it held before, holds after the last.
   module _ (all : List Key) (P : List Key → List (PackedChild × PackedChild) → A → Type 0)
       (step : (ks rest : List Key) (ds : List (PackedChild × PackedChild)) (m : A) → P ks ds m → (k : Key) → ks ++ k ∷ rest ≡ all → (low high : PackedChild) (n o : A) → takes m (child_of S k false) low n → takes n (child_of S k true) high o
       → P (ks ++ k ∷ []) (ds ++ (low, high) ∷ []) o) where

@@ -1,4 +1,4 @@
--- The records of keys, told by the keys alone.
+-- The records of keys, which follow from the keys.
 use Rattle.std.proofs.Common.{◌≡◌, ℕ, ◌+◌, ◌<◌, Bool, true, false, List, [], ◌∷◌, ◌++◌, length, get_or, map, filter, replicate, All, refl, sym, ap, subst, ◌∙◌, arith}
 use Rattle.std.specs.List.{sum_by}
 use Rattle.std.proofs.lemmas.List.Sums.{sum_by-cons}
@@ -38,25 +38,25 @@ split_records S n (x ∷ xs) = All-cons (IsSplit (wave_of S n)) (record_of S x) 
 pub recorded-at : (S : Nodes) (tables : List (List Key)) (u : ℕ) → at (recorded S tables) u ≡ records_of S (at tables u)
 recorded-at S tables u = listn.get_or-map (records_of S) tables u []
 
--- what holds of all holds of one that stands among them
+-- what holds of all elements holds of one among them
 among : (P : Key → Type 0) (ks rest : List Key) (x : Key) → All P (ks ++ x ∷ rest) → P x
 among P [] rest x h = All-head P x rest h
 among P (k ∷ ks) rest x h = among P ks rest x (All-tail P k (ks ++ x ∷ rest) h)
 
--- Of so many workers.
+-- The number of workers is n.
 module _ (S : Nodes) (sound : IsSound S) (n : ℕ) where
-  -- the children of these requests became due from their owners, and the pairs tell them
+  -- the children of these requests became due from their owners, and the pairs are what the row has for them
   pub record AreDue (ks : List Key) (ds : List (PackedChild × PackedChild)) (a : DueByOwner) : Type 0 where
     pub workers : a.workers ≡ n
     pub row : ds ≡ row_by_owner n (records_of S ks)
     pub long : length a.due ≡ n
     pub due : (k : ℕ) → k < n → at a.due k ≡ with_levels S (filter (owned_by n k) (asked_by (records_of S ks)))
 
-  -- one child more
+  -- one more child
   grown_by : (a b : DueByOwner) (c : Child) (d : PackedChild) → a.workers ≡ n → BecomesDue a c d b → (k : ℕ) → k < n → at b.due k ≡ at a.due k ++ filter (asked_of n k) (due_by c)
   grown_by a b c d w o = subst (λ z. (k : ℕ) → k < z → at b.due k ≡ at a.due k ++ filter (asked_of z k) (due_by c)) w o.grown
 
-  -- one request more
+  -- one more request
   due_more : (keys : List Key) → All (IsKey S) keys → (ks rest : List Key) (ds : List (PackedChild × PackedChild)) (a : DueByOwner) → AreDue ks ds a → (x : Key) → ks ++ x ∷ rest ≡ keys → (low high : PackedChild) (b c : DueByOwner)
       → BecomesDue a (child_of S x false) low b → BecomesDue b (child_of S x true) high c → AreDue (ks ++ x ∷ []) (ds ++ (low, high) ∷ []) c
   due_more keys held ks rest ds a h x e low high b c lows highs =
@@ -111,7 +111,7 @@ row_of_all rs rows k v own all kb vb is =
       ap (λ (r : List (List (PackedChild × PackedChild))). at r v) here ∙ listn.get_or-map (row_by_owner n) (get_or rs k []) v [],
     )
 
--- ---- how many children there are, and how many records
+-- ---- the number of children, and of records
 by_owner_levels : (n : ℕ) (levels : List (List Record)) → sum_by (λ (row : List (PackedChild × PackedChild)). length row) (map (row_by_owner n) levels) ≡ sum_by (λ (row : List Record). length row) levels
 by_owner_levels n [] = refl
 by_owner_levels n (r ∷ rs) =

@@ -1,4 +1,4 @@
--- A worker takes one more item, and knows of it what it knew of the others.
+-- A worker takes one more item; what it knows holds of this item too.
 use Rattle.std.proofs.Common.{◌≡◌, ℕ, ◌+◌, ◌<◌, true, false, cond, eqb, List, [], ◌∷◌, ◌++◌, get_or, set, refl, sym, ap, ◌∙◌, subst, arith, append-nil, inl, inr, eqb-true, eq-eqb, get_or-set_same, get_or-set_other}
 use Rattle.std.proofs.lemmas.List.{length-set}
 use Rattle.req_table.specs.declared.Key.{Key}
@@ -10,13 +10,13 @@ use Rattle.req_table.specs.Settled.{Admits, IsDistinctOf}
 use Rattle.req_table.proofs.Lists.{has_of, contains_of, each, all_of, Has-append_left, Has-append_cases}
 use Rattle.req_table.proofs.Admits.{Admits-append}
 use Rattle.req_table.proofs.Fair.{fair_front, fair_back, sent_by-append, sent_by-self, asks_at-append, ends-append}
-use Rattle.level_close.specs.Counts.{Counts}
+use Rattle.expand_work.specs.Counts.{Counts}
 use Rattle.expand_work.specs.Work.{at, IsReceived, StaysClosed}
 
 pub sent_by-other : (s : ℕ) (x : Item) → (sender_of x ≡ s → ⊥) → sent_by s (x ∷ []) ≡ []
 sent_by-other s x n = elim (eqb (sender_of x) s) as (λ b. eqb (sender_of x) s ≡ b → cond b (x ∷ []) [] ≡ []) [ true ↦ λ t. absurd (n (eqb-true (sender_of x) s t)) | false ↦ λ t. refl ] refl
 
--- the new item is the next of its sender's
+-- the new item is the next of its sender
 module _ (c : Scope) (taken : List Item) (x : Item) (sent back : List Item) (sb : sender_of x < c.workers) (f : IsFair c sent) (e : sent ≡ sent_by (sender_of x) (taken ++ x ∷ []) ++ back) where
   pub fair_next : IsFair c (sent_by (sender_of x) (taken ++ x ∷ []))
   fair_next = fair_front c 0 (sent_by (sender_of x) (taken ++ x ∷ [])) back (subst (IsFair c) e f)

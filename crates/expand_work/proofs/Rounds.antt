@@ -1,4 +1,4 @@
--- One level of a worker, from what its calls say.
+-- One level of a worker, from the contracts of its calls.
 use Rattle.std.proofs.Common.{◌≡◌, ◌≢◌, ℕ, suc, ◌+◌, ◌-◌, ◌<◌, ◌≤◌, true, false, cond, eqb, List, [], ◌∷◌, ◌++◌, map, filter, length, get_or, All, refl, sym, ap, ◌∙◌, subst, arith, eqb-true, eq-eqb, ne_eqb, append-nil, set, get_or-set_same, get_or-set_other}
 use Rattle.std.proofs.lemmas.List.{length-map, length-set}
 use Rattle.req_table.specs.declared.Key.{Key}
@@ -7,7 +7,7 @@ use Rattle.req_table.specs.declared.Item.TheVariants.{End}
 use Rattle.req_table.specs.Lanes.{sent_by, ends, MayFollow, IsFair, IsClosed}
 use Rattle.req_table.specs.Settled.{IsSplit, key_of, asked_by}
 use Rattle.req_table.proofs.Fair.{ends-append}
-use Rattle.level_close.specs.Counts.{Counts}
+use Rattle.expand_work.specs.Counts.{Counts}
 use Rattle.dd_store.specs.Nodes.{Nodes}
 use Rattle.req_table.specs.Keys.{IsKey, level_of}
 use Rattle.req_table.specs.Sizes.{sizes_of, scope_of, IsKeyOf}
@@ -36,12 +36,12 @@ use mathlib.Core.Logic.{dite}
 use native.Mathlib.Decide.{ℕ_discrete}
 use Rattle.std.specs.Prelude.{slice_index_or}
 
--- requests that stand with their levels are the items that ask for their keys
+-- requests with their levels are the items that ask for their keys
 levels-items : (S : Nodes) (n : ℕ) (keys : List Key) → map (ask_of n) (with_levels S keys) ≡ map (item_of S n) keys
 levels-items S n [] = refl
 levels-items S n (x ∷ xs) = ap (λ l. item_of S n x ∷ l) (levels-items S n xs)
 
--- what is due may be asked for
+-- what is due may be sent
 pub due_may : (l : LanesView) (s : Nodes) (roots : List Key) (v : ℕ) (w : Worker) → IsWorking l s roots v w → (k : ℕ) → k < length l.lanes → MaySend l w.port k (at w.due k)
 due_may l s roots v w h k kb =
     let some : 0 < length l.lanes = (let z = h.within in omega (arith, z)) in
@@ -59,13 +59,13 @@ due_may l s roots v w h k kb =
       leave = λ z. h.level.closed (ends (sent_to w.port k) - 1) (omega (arith, z, e));
     }
 
--- the keys of a level's table are keys of the store
+-- the keys in a level's table are keys of the store
 pub keys_held : (l : LanesView) (s : Nodes) (v : ℕ) (taken : List Item) (clock : Counts) (tables : List (List Key)) → l.sizes ≡ sizes_of s → v < s.levels → IsReceived (lanes_scope l) taken clock tables → All (IsKey s) (at tables v)
 keys_held l s v taken clock tables sizes vb h =
     let i = subst (λ z. IsReceived (scope_of (length l.lanes) z) taken clock tables) sizes h in
     all_of (IsKey s) (at tables v) (λ x m. key_of_sizes s x (key_held (scope_of (length l.lanes) (sizes_of s)) v taken (at tables v) i.fair i.senders (i.tables_match v vb) x m).0)
 
--- ---- what is due was put on the lanes of others, and then the worker's own was kept
+-- ---- what is due from others was sent, and then the worker's own was kept
 module _ (l : LanesView) (s : Nodes) (roots : List Key) (v : ℕ) (w : Worker) (h : IsWorking l s roots v w) (p : PortView) (left : List (List (ℕ × Key)))
     (s1 : SentToAll w.port p (length l.lanes) (put_items w.port.number (at w.due)) (put_loads w.port.number (at w.due))) (still : IsLeft w.port.number w.due left) where
   own-is : p.number ≡ w.port.number
@@ -84,7 +84,7 @@ module _ (l : LanesView) (s : Nodes) (roots : List Key) (v : ℕ) (w : Worker) (
   pub own_may : MaySend l p p.number (at left p.number)
   own_may = subst (λ (y : ℕ × List (ℕ × Key)). MaySend l p y.0 y.1) (λ j. (sym own-is j, sym own_due j)) (may_still l w.port p w.port.number (at w.due w.port.number) own-is s1.taken own_same (due_may l s roots v w h w.port.number h.within))
 
-  -- all of its own was taken: the level before is closed, and behind its End nothing was sent
+  -- all of its own was taken: the level before is closed, and after its End nothing was sent
   pub own_taken : IsPrefix (sent_by p.number p.taken) (sent_to p p.number) → sent_by p.number p.taken ≡ sent_to p p.number
   own_taken b =
       let c = lanes_wave s (length l.lanes) in let m = w.port.number in
@@ -115,7 +115,7 @@ module _ (l : LanesView) (s : Nodes) (roots : List Key) (v : ℕ) (w : Worker) (
         ap ends (sent_all k kb) ∙ ends-append (sent_to w.port k) (map (ask_of w.port.number) (at w.due k))
         ∙ (let a = h.level.ended k kb in let z = ends-asks w.port.number (at w.due k) in omega (arith, a, z))
 
-    -- ---- the level's Ends were sent, and it was closed
+    -- ---- the Ends of the level were sent, and the level was closed
     module _ (p2 p3 : PortView) (clock : Counts) (heldt tables : List (List Key)) (row : List (PackedChild × PackedChild)) (due : List (List (ℕ × Key))) (taken rows : List (List (PackedChild × PackedChild)))
         (vb : v < s.levels) (stay1 : StaysClosed (lanes_scope l) p.taken q.taken w.tables heldt)
         (s2 : SentToAll q p2 (length l.lanes) (λ k. End q.number v ∷ []) (λ k. 1))
@@ -145,7 +145,7 @@ module _ (l : LanesView) (s : Nodes) (roots : List Key) (v : ℕ) (w : Worker) (
       was_closed : (u : ℕ) → u < v → IsClosed (lanes_scope l) u w.port.taken
       was_closed u ub = subst (λ z. IsClosed (scope_of (length l.lanes) z) u w.port.taken) (sym h.sizes) (h.level.closed u ub)
 
-      -- the keys that were due, and those that are
+      -- the keys that were due before, and those that are now
       abbrev was : ℕ → List Key
       was k = keys_in (at w.due k)
 

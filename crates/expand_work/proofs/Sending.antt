@@ -1,4 +1,4 @@
--- A worker sends bundles, lane after lane.
+-- A worker sends bundles, lane by lane.
 use Rattle.std.proofs.Common.{◌≡◌, ◌≢◌, ℕ, ◌+◌, ◌-◌, ◌<◌, ◌≤◌, List, [], ◌++◌, map, replicate, length, set, All, refl, sym, ap, ◌∙◌, subst, arith, append_assoc, append-nil, get_or-set_same, get_or-set_other}
 use Rattle.std.proofs.lemmas.List.{map-append, length-map, length-set, length-replicate, get_or-replicate, ext_get_or}
 use mathlib.Core.Logic.{dite}
@@ -17,7 +17,7 @@ use Rattle.expand_work.specs.Parts.{bundles}
 use Rattle.expand_work.specs.Work.{at, MaySend, IsSamePort, SentTo}
 use Rattle.expand_work.proofs.Cutting.{cut_all, cut_less}
 
--- ---- ports that are the same
+-- ---- ports with the same number, lanes and sizes
 pub same_port : (p : PortView) → IsSamePort p p
 same_port p = (refl, refl, refl)
 
@@ -63,8 +63,8 @@ sent_load p q to x is sent others put others_put = record {
 pub carries : (n : ℕ) (asks : List (ℕ × Key)) → 0 < length asks → 0 < length (map (ask_of n) asks)
 carries n asks lt = let e = length-map asks (ask_of n) in omega (arith, lt, e)
 
--- ---- bundle after bundle
--- Some of these requests were sent, in so many loads, and these are left.
+-- ---- bundle by bundle
+-- Some of these requests were sent, in this number of loads, and these are left.
 pub record Sending (p q : PortView) (to : ℕ) (asks left : List (ℕ × Key)) : Type 0 where
   pub removed : List (ℕ × Key)
   pub loads : ℕ
@@ -108,8 +108,8 @@ module _ (l : LanesView) (p q : PortView) (to : ℕ) (asks left bundle rest : Li
     count = let n = cut_less left bundle rest cut in let c = d.count in let some = cut.some in omega (arith, n, c, some);
   }
 
--- ---- lane after lane
--- what may be sent on a lane may be still, where others were sent to
+-- ---- lane by lane
+-- what may be sent on a lane may still be sent after something was sent on others
 pub may_still : (l : LanesView) (p q : PortView) (to : ℕ) (asks : List (ℕ × Key)) → q.number ≡ p.number → q.taken ≡ p.taken → sent_to q to ≡ sent_to p to → MaySend l p to asks → MaySend l q to asks
 may_still l p q to asks number taken s h = record {
   follow = subst (λ n. All (λ a. MayFollow (lanes_scope l) (ends (sent_to q to)) (ask_of n a)) asks) (sym number)
@@ -119,14 +119,14 @@ may_still l p q to asks number taken s h = record {
 }
 
 -- ---- what is left
--- Of the workers below n, nothing is due any more but from the worker itself.
+-- Of the workers below n, only from the worker itself something is still due.
 pub record IsLeftBelow (s n : ℕ) (due left : List (List (ℕ × Key))) : Type 0 where
   pub long : length left ≡ length due
   pub own : at left s ≡ at due s
   pub removed : (k : ℕ) → k < n → k ≢ s → at left k ≡ []
   pub rest : (k : ℕ) → n ≤ k → at left k ≡ at due k
 
--- and then the worker's own are gone
+-- after the worker's own requests were kept nothing is due
 pub none_due : (s n : ℕ) (due left new : List (List (ℕ × Key))) → length due ≡ n → s < n → IsLeft s due left → new ≡ set left s [] → new ≡ replicate n []
 none_due s n due left new long sb h is =
     let wide : length left ≡ n = h.long ∙ long in

@@ -1,4 +1,4 @@
--- What the workers noted may be read by several threads.
+-- What the workers have noted may be read by several threads.
 use denote.Param.Send.{IsSync, sendable}
 use Rattle.req_table.proofs.table.Table.TheSendSync as table
 use Rattle.req_table.proofs.spare_tables.SpareTables.TheSendSync as spare_tables

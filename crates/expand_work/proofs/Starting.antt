@@ -11,7 +11,7 @@ use Rattle.req_table.specs.Lanes.{sender_of, sent_by, ends, asks_at, IsFair, Has
 use Rattle.req_table.specs.Settled.{IsDistinctOf, round_robin_from, is_owned}
 use Rattle.req_table.proofs.Lists.{each, all_of, filter_has}
 use Rattle.req_table.proofs.ByLevel.{dealt_has}
-use Rattle.level_close.specs.Counts.{Counts}
+use Rattle.expand_work.specs.Counts.{Counts}
 use Rattle.dd_store.specs.Nodes.{Nodes, IsSound}
 use Rattle.req_table.specs.Keys.{IsKey, wave_of}
 use Rattle.req_table.specs.Sizes.{sizes_of, scope_of, IsKeyOf}
@@ -34,7 +34,7 @@ use Rattle.expand_work.proofs.Noting.{none_noted, fair_places}
 use Rattle.expand_work.proofs.OwnerRows.{recorded-at}
 use Rattle.expand_work.proofs.Rounds.{keys_held}
 
--- rows that are the children of their levels' records, one by one
+-- rows that have the children of their levels' records, one by one
 are_by_owner : (S : Nodes) (n : ℕ) (tables : List (List Key)) (rows : List (List (PackedChild × PackedChild))) → length rows ≡ length tables → ((u : ℕ) → u < length tables → at rows u ≡ row_by_owner n (records_of S (at tables u))) → rows ≡ map (row_by_owner n) (recorded S tables)
 are_by_owner S n tables rows long each =
     ext_get_or [] rows (map (row_by_owner n) (recorded S tables)) (long ∙ sym (length-map (recorded S tables) (row_by_owner n) ∙ length-map tables (records_of S)))

@@ -1,4 +1,4 @@
--- What a taken item tells a worker.
+-- What a worker learns from an item that it takes.
 use Rattle.std.proofs.Common.{◌≡◌, ℕ, ◌+◌, ◌<◌, inl, inr, List, [], ◌∷◌, ◌++◌, length, map, set, get_or, Some, All, refl, sym, ap, ◌∙◌, subst, append_assoc, append-nil, get_or-set_other}
 use Rattle.std.proofs.lemmas.List.{length-map, length-set}
 use Rattle.req_table.specs.declared.Key.{Key}
@@ -10,7 +10,7 @@ use Rattle.req_table.specs.Settled.{Admits}
 use Rattle.req_table.proofs.Lists.{Has, each, all_of, Has-append_right, Has-map}
 use Rattle.req_table.proofs.Items.{sent_by_of, fair_ask}
 use Rattle.req_table.proofs.Fair.{sent_by-append, fair_front}
-use Rattle.level_close.specs.Counts.{Counts}
+use Rattle.expand_work.specs.Counts.{Counts}
 use Rattle.req_table.specs.Sizes.{scope_of}
 use Rattle.lane_queue.specs.declared.load.Load.{Load}
 use Rattle.lane_queue.specs.declared.load.Load.TheVariants.{Bundle, End as LoadEnd}
@@ -19,7 +19,7 @@ use Rattle.lane_queue.specs.PortView.{LanesView, PortView, IsPortOf, IsTaken, Is
 use Rattle.expand_work.specs.Work.{at, Offered, IsReceived, StaysClosed}
 use Rattle.expand_work.proofs.Receiving.{fair_item, closed_more, hear_end, hear_ask, end_stays}
 
--- in terms of the lanes
+-- what the lanes say of the load
 pub record LoadFacts (l : LanesView) (taken : List Item) (x : Load) : Type 0 where
   pub sent : List Item
   pub back : List Item
@@ -38,7 +38,7 @@ load_facts l p x o t =
       begins = t.4.1;
     }
 
--- the port took the load
+-- the port has taken the load
 abbrev pub Takes : PortView → PortView → Load → Type 0
 Takes p q x = (q ≡ has_taken p x) × IsTaken p x
 
@@ -55,7 +55,7 @@ offered-same : (u : ℕ) (asks : List (ℕ × Key)) (ts us : List (List Key)) �
 offered-same u [] ts us n e = ap (λ l. at l u) e
 offered-same u (a ∷ more) ts us n (k, c, o) = offered-same u more (set ts a.0 k) us (λ b h. n b (inr h)) o ∙ get_or-set_other ts a.0 u k [] (λ e. n a (inl refl) (sym e))
 
--- asks of levels that are not closed leave closed levels' tables as they are
+-- requests of levels that are not closed leave the tables of closed levels as they are
 pub asks_stay : (c : Scope) (taken more : List Item) (asks : List (ℕ × Key)) (ts us : List (List Key)) → ((a : ℕ × Key) → Has asks a → ¬ IsClosed c a.0 taken) → Offered asks ts us → StaysClosed c taken (taken ++ more) ts us
 asks_stay c taken more asks ts us n o = record {
   closed = λ u h. closed_more c u taken more h;
@@ -73,7 +73,7 @@ hear_asks c taken s (a ∷ more) sent back clock ts us sb f e (keys, ad, o) h =
     let g = hear_ask c taken s a.0 a.1 sent (sent_by s xs ++ back) clock ts keys sb f first ad h in
     subst (λ l. IsReceived c l clock us) (sym split) (hear_asks c (taken ++ x ∷ []) s more sent back clock (set ts a.0 keys) us sb f (e ∙ ap (λ l. sent_by s l ++ back) split) o g)
 
--- the level of a taken request is one of the store's
+-- the level of a request that was taken is one of the store's
 pub asks_level : (c : Scope) (taken : List Item) (s : ℕ) (asks : List (ℕ × Key)) (sent back : List Item) → IsFair c sent → sent ≡ sent_by s (taken ++ map (ask_of s) asks) ++ back → (a : ℕ × Key) → Has asks a → a.0 < c.levels
 asks_level c taken s asks sent back f e a h =
     let front = fair_front c 0 (sent_by s (taken ++ map (ask_of s) asks)) back (subst (IsFair c) e f) in

@@ -1,4 +1,4 @@
--- How many requests the workers recorded: as many as are reached, each once.
+-- The number of requests that the workers have recorded: those that are reached, each once.
 use Rattle.std.proofs.Common.{◌≡◌, ℕ, zero, suc, ◌+◌, ◌%◌, ◌^◌, ◌<◌, ◌≤◌, inl, inr, List, [], ◌∷◌, ◌++◌, map, length, slice_index_or, slice_get, Some, refl, sym, ap, ◌∙◌, subst, arith}
 use Rattle.std.specs.List.{sum_by}
 use Rattle.std.proofs.lemmas.Bool.{cases_lt}
@@ -32,7 +32,7 @@ abbrev keys_below : ℕ → (ℕ → List Record) → List Key
 keys_below zero records = []
 keys_below (suc n) records = keys_below n records ++ map key_of (records n)
 
--- ---- of records that are exactly the reached requests, each once
+-- ---- records that are exactly the reached requests, each once
 module _ (w : Wave) (roots : List Key) (R : ℕ → List Record) (c : IsClosure w roots R) where
   has_level : (n : ℕ) (x : Key) → Has (keys_below n R) x → (v : ℕ) × (v < n) × Has (map key_of (R v)) x
   has_level zero x h = absurd h
@@ -112,7 +112,7 @@ length_level (suc m) rows v =
     let b = length_level m rows v in
     omega (arith, a, b)
 
--- by level or by worker first
+-- summing first by level or first by worker is the same
 swapped : (n m : ℕ) (f : ℕ → ℕ → ℕ) → sum_below n (λ v. sum_below m (λ k. f k v)) ≡ sum_below m (λ k. sum_below n (λ v. f k v))
 swapped zero m f = let a = sum_const m 0 in omega (arith, a)
 swapped (suc n) m f = ap (λ z. z + sum_below m (λ k. f k n)) (swapped n m f) ∙ sym (sum_add m (λ k. sum_below n (λ v. f k v)) (λ k. f k n))
@@ -148,7 +148,7 @@ module _ (S : Nodes) (n : ℕ) (roots : List Key) (p : PartsView) (h : AreParts 
   in_below : (x : Key) → Has (keys_below S.levels R) x → IsIn (keys_below S.levels R) x
   in_below x h = let c = contains_of (keys_below S.levels R) x h in (c.0, slice_get-get_or (keys_below S.levels R) c.0 x c.1 ∙ ap (λ z. Some z) c.2)
 
-  -- if they recorded at most so many requests, at most so many are reached
+  -- if there are at most so many records, at most so many requests are reached
   pub few_reached : (most : ℕ) → count_in p.rows ≤ most → AreFew S n roots most
   few_reached most le requests once reached =
       let fits : length requests ≤ length (keys_below S.levels R) = pigeons (λ j k. j ≡ k) requests (keys_below S.levels R) once
@@ -156,7 +156,7 @@ module _ (S : Nodes) (n : ℕ) (roots : List Key) (p : PartsView) (h : AreParts 
       let c = counted in
       omega (arith, fits, c, le)
 
--- where nothing is asked for nothing is expanded
+-- from no roots nothing is reached
 none_reached : (w : Wave) (x : Key) → IsReached w [] x → ⊥
 none_reached w x (root c) = has_of [] x c
 none_reached w x (child b l m above asks) = none_reached w _ above
@@ -170,7 +170,7 @@ none_expanded S n before = record {
   count = omega arith;
 }
 
--- from no roots any number is enough
+-- from no roots at most any number is reached
 pub none_few : (S : Nodes) (n most : ℕ) → AreFew S n [] most
 none_few S n most [] once reached = omega arith
 none_few S n most (x ∷ xs) once reached = absurd (none_reached (wave_of S n) x (reached x (0, omega arith, refl)))

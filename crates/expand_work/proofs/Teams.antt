@@ -1,5 +1,5 @@
--- The threads of a wave, by the ports that they work for.
-use Rattle.std.proofs.Common.{◌≡◌, ◌≢◌, ℕ, ◌+◌, ◌<◌, ◌≤◌, Bool, true, false, if◌then◌else◌, IfOk, Err, List, length, slice_index_or, [], ◌∷◌, ◌++◌, refl, sym, ap, ◌∙◌, subst, arith, length-append, append-nil}
+-- The threads of a wave, by the ports that they work with.
+use Rattle.std.proofs.Common.{◌≡◌, ◌≢◌, ℕ, ◌+◌, ◌<◌, ◌≤◌, Bool, true, false, if◌then◌else◌, IfOk, IfErr, Ok, Err, List, length, slice_index_or, [], ◌∷◌, ◌++◌, refl, sym, ap, ◌∙◌, subst, arith, length-append, append-nil}
 use Rattle.std.specs.declared.thread.PromisedHandle.{PromisedHandle}
 use Rattle.std.specs.declared.result.Result.{Result}
 use Rattle.std.specs.List.{AllZip}
@@ -13,13 +13,13 @@ use Rattle.lane_queue.specs.PortView.{LanesView, PortView}
 use Rattle.expand_work.specs.declared.part.Part.{Part}
 use Rattle.expand_work.specs.declared.fault.WorkFault.{WorkFault}
 use Rattle.expand_work.specs.declared.fault.WaveFault.{WaveFault}
-use Rattle.expand_work.specs.declared.fault.WaveFault.TheVariants.{NoWorker}
+use Rattle.expand_work.specs.declared.fault.WaveFault.TheVariants.{OutOfMemory, NoWorker, Full, TooManyRequests, Stopped}
 use Rattle.expand_work.specs.declared.team.PartPromise.{PartPromise}
 use Rattle.expand_work.specs.WorkerResult.{IsWorked}
 use Rattle.expand_work.specs.Team.{AreNew, AreStarted, AreWorked, IsPromised, WorksFor}
 use Rattle.expand_work.proofs.Zips.{zip_at, zip_long}
 
--- the part of the thread that works for port i
+-- the part of the thread that works with port i
 part_of : (l : LanesView) (s : Nodes) (roots : List Key) (i : ℕ) (h : PromisedHandle (Result Part WorkFault) PartPromise) (q : PortView) (p : Part) → q.number ≡ i → WorksFor l s roots h q → IsPromised h p → IsWorked l s roots i p
 part_of l s roots i h q p at w k =
     subst (λ (n : ℕ). IsWorked l s roots n p) (w.number ∙ at)
@@ -36,7 +36,8 @@ no_more : {A : Type 0} (xs : List A) → length xs ≡ 0 → xs ≡ []
 no_more [] e = refl
 no_more (x ∷ xs) e = absurd (omega (arith, e))
 
--- threads that were started for the first of the ports: no more than there are ports, and where there are as many each port has its own
+-- threads that were started for the first of the ports: there are no more of them than ports, and if there are as many,
+-- each port has its thread
 module _ (l : LanesView) (s : Nodes) (roots : List Key) (children : List (PromisedHandle (Result Part WorkFault) PartPromise)) (ports : List PortView) (t : AreStarted l s roots children ports) where
   many : length children + length t.rest ≡ length ports
   many = let n = zip_long (WorksFor l s roots) children t.first t.works in let a = length-append t.first t.rest in let b = ap (λ xs. length xs) t.all in omega (arith, n, a, b)
@@ -60,7 +61,8 @@ module _ (l : LanesView) (ports rest : List PortView) (own : PortView) (new : Ar
   last : (d : PortView) → slice_index_or ports (length rest) d ≡ own
   last d = ap (λ (z : List PortView). slice_index_or z (length rest) d) is ∙ get_or-append_seam rest own [] d
 
-  -- where each of them has its thread, and each thread its part, these parts and the last one's are all workers' by number
+  -- if each of these ports has its thread and each thread its part, then these parts and the last worker's are those of
+  -- all workers, by number
   pub all_worked : (s : Nodes) (roots : List Key) (children : List (PromisedHandle (Result Part WorkFault) PartPromise)) (parts all : List Part) (part : Part)
       → AllZip (WorksFor l s roots) children rest → AllZip IsPromised children parts → IsWorked l s roots own.number part → all ≡ parts ++ part ∷ [] → AreWorked l s roots all
   all_worked s roots children parts all part works kept own-part all-is =
@@ -87,7 +89,38 @@ module _ (l : LanesView) (ports rest : List PortView) (own : PortView) (new : Ar
             subst (IsWorked l s roots i) (sym at) (part_of l s roots i (slice_index_or children i h) (slice_index_or rest i q) (slice_index_or parts i d) number (zip_at (WorksFor l s roots) children rest i h q works within) (zip_at IsPromised children parts i h d kept within)));
       }
 
--- where a thread was not started there are no parts, and else what the threads answered
-pub judged : {T : Type 0} (P : T → Type 0) (started : Bool) (joined result : Result T WaveFault) → result ≡ (if started then joined else Err NoWorker) → (started ≡ true → IfOk joined P) → IfOk result P
-judged P true joined result is h = subst (λ r. IfOk r P) (sym is) (h refl)
-judged P false joined result is h = subst (λ r. IfOk r P) (sym is) tt
+-- a cause that is neither a full store nor too many requests
+abbrev pub IsOther : WaveFault → Type 0
+IsOther f = (f ≢ Full) × (f ≢ TooManyRequests)
+
+-- the outcome of the threads: that the run has stopped comes first, and then that they have not done the whole wave
+module _ {T : Type 0} (stopped done : Bool) (joined result : Result T WaveFault) (is : result ≡ (if stopped then Err Stopped else (if done then joined else Err NoWorker))) where
+  -- there are parts only if the run has not stopped and the threads have done the whole wave, and then they are those
+  -- of the threads
+  pub judged : (P : T → Type 0) → (done ≡ true → IfOk joined P) → IfOk result P
+  judged P h = by stopped done is h
+    where
+      by : (s d : Bool) → result ≡ (if s then Err Stopped else (if d then joined else Err NoWorker)) → (d ≡ true → IfOk joined P) → IfOk result P
+      by true d e k = subst (λ r. IfOk r P) (sym e) tt
+      by false true e k = subst (λ r. IfOk r P) (sym e) (k refl)
+      by false false e k = subst (λ r. IfOk r P) (sym e) tt
+
+  -- the only other cause is want of memory
+  pub never_others : IfErr joined (λ f. f ≡ OutOfMemory) → IfErr result IsOther
+  never_others out = by stopped done joined is out
+    where
+      by : (s d : Bool) (j : Result T WaveFault) → result ≡ (if s then Err Stopped else (if d then j else Err NoWorker)) → IfErr j (λ f. f ≡ OutOfMemory) → IfErr result IsOther
+      by true d j e k = subst (λ r. IfErr r IsOther) (sym e) (λ h. absurd (cc), λ h. absurd (cc))
+      by false true (Ok v) e k = subst (λ r. IfErr r IsOther) (sym e) tt
+      by false true (Err f) e k = subst (λ r. IfErr r IsOther) (sym e) (subst IsOther (sym k) (λ h. absurd (cc), λ h. absurd (cc)))
+      by false false j e k = subst (λ r. IfErr r IsOther) (sym e) (λ h. absurd (cc), λ h. absurd (cc))
+
+  -- Stopped is reported only if the run has stopped
+  pub run_stopped : IfErr joined (λ f. f ≡ OutOfMemory) → result ≡ Err Stopped → stopped ≡ true
+  run_stopped out h = by stopped done joined is out
+    where
+      by : (s d : Bool) (j : Result T WaveFault) → result ≡ (if s then Err Stopped else (if d then j else Err NoWorker)) → IfErr j (λ f. f ≡ OutOfMemory) → s ≡ true
+      by true d j e k = refl
+      by false true (Ok v) e k = let both : Ok v ≡ Err Stopped = sym e ∙ h in absurd (cc)
+      by false true (Err f) e k = let both : Err f ≡ Err Stopped = sym e ∙ h in let other : f ≡ OutOfMemory = k in absurd (cc)
+      by false false j e k = let both : Err NoWorker ≡ Err Stopped = sym e ∙ h in absurd (cc)

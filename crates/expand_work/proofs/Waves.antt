@@ -1,4 +1,5 @@
--- The wave over a store as its lanes tell it has the laws of a wave, and says of a part what the wave over the store says.
+-- The wave over a store as its lanes know it has the laws of a wave, and says of a part what the wave over the store
+-- says.
 use Rattle.std.proofs.Common.{ℕ, ◌<◌, List}
 use Rattle.dd_store.specs.Nodes.{Nodes, IsSound}
 use Rattle.req_table.specs.declared.Key.{Key}

@@ -1,4 +1,4 @@
--- Two lists, place by place.
+-- Two lists, compared place by place.
 use Rattle.std.proofs.Common.{◌≡◌, ℕ, zero, suc, ◌<◌, List, [], ◌∷◌, ◌++◌, length, slice_index_or, refl, sym, ap, ◌∙◌, subst, arith, append_assoc}
 use Rattle.std.specs.List.{AllZip}
 use Rattle.dd_store.proofs.Noting.{zip_push}

@@ -1,4 +1,4 @@
--- What a worker keeps of its requests: the keys, and their children.
+-- The requests of a worker: their keys, and their children by owner.
 use Rattle.std.specs.Prelude.{◌≡◌, ℕ, List, length, map}
 use Rattle.dd_store.specs.Nodes.{Nodes}
 use Rattle.req_table.specs.declared.Key.{Key}
@@ -9,7 +9,8 @@ use Rattle.req_table.specs.declared.packed_child.PackedChild.{PackedChild}
 use Rattle.req_table.specs.declared.packed_child.PlacedChild.TheVariants as by_number
 use Rattle.req_table.specs.Keys.{owner, record_of}
 
--- a child: its answer, or the level of what it asks for, which of so many workers owns that, and its mark
+-- a child as a row has it on the way down: its answer, or the level of its request, the request's owner, and whether
+-- the child is the complement
 abbrev pub by_owner : ℕ → Child → PackedChild
 by_owner workers (Done r) = by_number.Done r
 by_owner workers (Ask l x m) = by_number.Ask l (owner workers x) m
@@ -18,7 +19,7 @@ by_owner workers (Ask l x m) = by_number.Ask l (owner workers x) m
 abbrev pub row_by_owner : ℕ → List Record → List (PackedChild × PackedChild)
 row_by_owner workers records = map (λ r. (by_owner workers r.low, by_owner workers r.high)) records
 
--- the records of a store's keys
+-- the records of keys, over a store
 abbrev pub records_of : Nodes → List Key → List Record
 records_of S keys = map (record_of S) keys
 
@@ -26,6 +27,6 @@ records_of S keys = map (record_of S) keys
 abbrev pub recorded : Nodes → List (List Key) → List (List Record)
 recorded S tables = map (records_of S) tables
 
--- by worker and level, these are the children of the records of all workers
+-- by worker and level, these rows have the children of the records of all workers
 abbrev pub AreRowsByOwner : List (List (List Record)) → List (List (List (PackedChild × PackedChild))) → Type 0
 AreRowsByOwner records rows = rows ≡ map (map (row_by_owner (length records))) records

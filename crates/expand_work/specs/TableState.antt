@@ -1,4 +1,4 @@
--- The requests of a level of a worker, whether its table is there or serves others.
+-- The requests of a level of a worker, whether its own table has them or only contracts do.
 use Rattle.std.specs.Prelude.{List, []}
 use Rattle.req_table.specs.declared.Key.{Key}
 use Rattle.expand_work.specs.declared.tables.TableState.{TableState}

@@ -1,4 +1,4 @@
--- The children of requests that were taken one after the other.
+-- Children of requests, taken by a sink one after the other.
 use Rattle.std.specs.Prelude.{◌≡◌, true, false, List, [], ◌∷◌}
 use Rattle.dd_store.specs.Nodes.{Nodes}
 use Rattle.req_table.specs.declared.Child.{Child}
@@ -6,7 +6,8 @@ use Rattle.req_table.specs.declared.Key.{Key}
 use Rattle.req_table.specs.declared.packed_child.PackedChild.{PackedChild}
 use Rattle.req_table.specs.Keys.{child_of}
 
--- From a to b the two children of each request were taken, the low one before the high one, as the pairs tell them.
+-- From a to b the sink has taken the two children of each request, the low one before the high one, and these pairs are
+-- what it returned for them.
 abbrev pub AreTaken : {A : Type 0} → (A → Child → PackedChild → A → Type 0) → Nodes → A → List Key → List (PackedChild × PackedChild) → A → Type 0
 AreTaken takes S a [] [] b = b ≡ a
 AreTaken takes S a [] (d ∷ ds) b = ⊥

@@ -1,4 +1,4 @@
--- What the ports of a wave are before the workers, and what the parts are after them.
+-- The ports of a wave before the workers begin, and the parts after they have ended.
 use Rattle.std.specs.Prelude.{◌≡◌, ℕ, ◌<◌, List, [], ◌∷◌, ◌++◌, length, slice_index_or, Ok}
 use Rattle.std.specs.declared.vec.Vec.{Vec}
 use Rattle.std.specs.declared.alloc.Global.{Global}
@@ -26,11 +26,11 @@ pub record AreWorked (l : LanesView) (s : Nodes) (roots : List Key) (parts : Lis
   pub long : length parts ≡ length l.lanes
   pub each : (i : ℕ) (d : Part) → i < length l.lanes → IsWorked l s roots i (slice_index_or parts i d)
 
--- The thread of a handle promised this part.
+-- The thread of a handle has promised this part.
 abbrev pub IsPromised : PromisedHandle (Result Part WorkFault) PartPromise → Part → Type 0
 IsPromised h p = IsWorked h.promise.lanes.now h.promise.store.now h.promise.roots.now h.promise.number p
 
--- The handle is of the thread that works for this port, on these lanes, store and roots.
+-- The handle is that of the thread that works with this port, on these lanes, store and roots.
 pub record WorksFor (l : LanesView) (s : Nodes) (roots : List Key) (h : PromisedHandle (Result Part WorkFault) PartPromise)
     (p : PortView) : Type 0 where
   pub lanes : h.promise.lanes.now ≡ l
@@ -38,7 +38,7 @@ pub record WorksFor (l : LanesView) (s : Nodes) (roots : List Key) (h : Promised
   pub keys : h.promise.roots.now ≡ roots
   pub number : h.promise.number ≡ p.number
 
--- The threads work for the first of these ports, one for each.
+-- The threads work with the first of these ports, one thread for each port.
 pub record AreStarted (l : LanesView) (s : Nodes) (roots : List Key) (children : List (PromisedHandle (Result Part WorkFault) PartPromise))
     (ports : List PortView) : Type 0 where
   pub first : List PortView
@@ -46,7 +46,7 @@ pub record AreStarted (l : LanesView) (s : Nodes) (roots : List Key) (children :
   pub all : first ++ rest ≡ ports
   pub works : AllZip (WorksFor l s roots) children first
 
--- The parts of the others and, behind them, the last one, where all have one.
+-- The parts of the others and, after them, the last worker's, if all workers have ended with one.
 pub record AreJoined (others : Result (Vec Part Global) WaveFault) (last : Result Part WorkFault) (parts : List Part) : Type 0 where
   pub before : Vec Part Global
   pub part : Part

@@ -1,4 +1,4 @@
--- What the workers of a wave end with, each for itself.
+-- What the workers of a wave have at their end.
 use Rattle.std.specs.Prelude.{◌≡◌, ℕ, ◌+◌, ◌*◌, ◌%◌, ◌^◌, ◌<◌, Contains, List, [], ◌∷◌, ◌++◌, length, map, slice_get, slice_index_or, Some}
 use Rattle.std.specs.List.{AllZip, sum_by}
 use Rattle.slot_table.specs.Lists.{IsOnce}
@@ -19,12 +19,12 @@ pub record PartsView : Type 0 where
   pub rows : List (List (List Record))
   pub noted : List (List (List ℕ))
 
--- The places that worker k noted of what s asked.
+-- The places that worker k has noted of what s asked.
 abbrev pub noted_of : List (List (List ℕ)) → ℕ → ℕ → List ℕ
 noted_of noted k s = slice_index_or (slice_index_or noted k []) s []
 
--- The parts of so many workers: together their records are exactly the requests that the roots ask for, each once; and of all that
--- worker s asked of k, in order, k noted at which place of its row it stands.
+-- The parts of all workers: together their records are exactly the requests that the roots ask for, each once, and
+-- worker k has noted, in the order of asking, at which place of its row each request is that worker s asked of it.
 pub record AreParts (S : Nodes) (workers : ℕ) (roots : List Key) (p : PartsView) : Type 0 where
   pub many_rows : length p.rows ≡ workers
   pub levels : (k : ℕ) → k < workers → length (slice_index_or p.rows k []) ≡ S.levels
@@ -35,20 +35,21 @@ pub record AreParts (S : Nodes) (workers : ℕ) (roots : List Key) (p : PartsVie
       → AllZip (λ x n. slice_get (map key_of (row_of p.rows k (level_of S x))) n ≡ Some x)
       (asked_in_all (wave_of S workers) roots (row_of p.rows s) s k) (noted_of p.noted k s)
 
--- each of these items, taken in turn behind what was taken before, is no Ask of a level that is closed by then
+-- each of these items, taken in turn after those before, is no Ask of a level that is closed by then
 abbrev pub AreOpen : Scope → List Item → List Item → Type 0
 AreOpen w before [] = Unit {0}
 AreOpen w before (i ∷ items) = IsOpen w before i × AreOpen w (before ++ i ∷ []) items
 
--- What the workers' ports sent and took, one port for each worker: it is a settled wave with the workers' rows, none was taken of a
--- closed level, and the ports put as many loads on all lanes together as there are bundles to send, and an End of each level on each lane.
+-- What the workers' ports have sent and taken, a port for each worker: it is a settled wave with the workers' records,
+-- nothing was taken of a closed level, and the loads on all lanes are the bundles that have to be sent, and an End of
+-- each level on each lane.
 pub record AreSettled (S : Nodes) (workers : ℕ) (roots : List Key) (p : PartsView) (ports : List PortView) : Type 0 where
   pub numbered : AreByNumber workers ports
   pub settled : IsSettled (wave_of S workers) roots (λ s k. sent_from ports k s) (taken_by ports) (row_of p.rows)
   pub open_levels : (k : ℕ) → k < workers → AreOpen (wave_of S workers).scope [] (taken_by ports k)
   pub put : put_by ports ≡ bundles_between workers S.levels (sent_from ports) + workers * (workers * S.levels)
 
--- how many records there are, of all workers and levels
+-- the number of records, of all workers and levels
 abbrev pub count_in : List (List (List Record)) → ℕ
 count_in rows = sum_by (λ levels. sum_by (λ row. length row) levels) rows
 

@@ -1,8 +1,8 @@
--- What the functions of a worker say.
+-- What the functions of a worker do.
 use Rattle.std.specs.Prelude.{◌≡◌, ◌≢◌, ℕ, ◌+◌, ◌-◌, ◌<◌, ◌≤◌, Bool, ◌==◌, cond, List, [], ◌∷◌, ◌++◌, length, map, slice_index}
 use Rattle.std.specs.Prelude.{slice_set, All}
 use Rattle.dd_store.specs.Nodes.{Nodes}
--- the list of a number, among lists
+-- the list at a number, in a list of lists
 pub use Rattle.req_table.specs.Places.{row as at}
 use Rattle.req_table.specs.declared.Key.{Key}
 use Rattle.req_table.specs.declared.Item.{Item}
@@ -13,11 +13,11 @@ use Rattle.req_table.specs.Keys.{level_of, child_of, owner}
 use Rattle.req_table.specs.Lanes.{sent_by, ends, asks_at, IsFair, HasSenders, MayFollow, IsClosed}
 use Rattle.req_table.specs.Settled.{Admits, IsDistinctOf}
 use Rattle.expand_work.specs.Parts.{bundles}
-use Rattle.level_close.specs.Counts.{Counts}
+use Rattle.expand_work.specs.Counts.{Counts}
 use Rattle.lane_queue.specs.Loads.{ask_of}
 use Rattle.lane_queue.specs.PortView.{LanesView, PortView, sent_to, put_to, lanes_scope}
 
--- The wave over a store as its lanes tell it: a key is known by the store's sizes.
+-- The wave over a store as its lanes know it: whether a key is of the store follows from the store's sizes.
 abbrev pub lanes_wave : Nodes → ℕ → Wave
 lanes_wave S workers = record { scope = scope_of workers (sizes_of S); child = child_of S; owner = owner workers }
 
@@ -25,15 +25,15 @@ lanes_wave S workers = record { scope = scope_of workers (sizes_of S); child = c
 abbrev pub item_of : Nodes → ℕ → Key → Item
 item_of S s x = Ask s (level_of S x) x
 
--- Of so many workers, k owns the key.
+-- worker k, of `workers`, owns the key
 abbrev pub owned_by : ℕ → ℕ → Key → Bool
 owned_by workers k x = owner workers x == k
 
--- It is the port that it was.
+-- The port has the same number, lanes and sizes.
 abbrev pub IsSamePort : PortView → PortView → Type 0
 IsSamePort p q = (q.number ≡ p.number) × (q.lanes ≡ p.lanes) × (q.sizes ≡ p.sizes)
 
--- The port has sent these items to this worker, in so many loads, and nothing to another.
+-- The port has sent these items to this worker, in this number of loads, and nothing to another.
 pub record SentTo (p q : PortView) (to : ℕ) (items : List Item) (loads : ℕ) : Type 0 where
   pub port : IsSamePort p q
   pub taken : q.taken ≡ p.taken
@@ -59,14 +59,15 @@ with_levels S keys = map (λ x. (level_of S x, x)) keys
 abbrev pub keys_in : List (ℕ × Key) → List Key
 keys_in asks = map (λ a. a.1) asks
 
--- What worker s puts on the lane of k where these requests are due there, and in how many loads: it keeps its own.
+-- What worker s puts on the lane of k if these requests are due from k, and in how many loads: it puts none on its own
+-- lane.
 abbrev pub put_items : ℕ → (ℕ → List (ℕ × Key)) → ℕ → List Item
 put_items s due k = cond (s == k) [] (map (ask_of s) (due k))
 
 abbrev pub put_loads : ℕ → (ℕ → List (ℕ × Key)) → ℕ → ℕ
 put_loads s due k = cond (s == k) 0 (bundles (length (due k)))
 
--- The port has kept these items: it counts as having sent them to itself and taken them.
+-- The port has kept these items: it has sent them to itself and taken them.
 pub record HasKept (p q : PortView) (items : List Item) : Type 0 where
   pub port : IsSamePort p q
   pub put : q.put ≡ p.put
@@ -74,18 +75,19 @@ pub record HasKept (p q : PortView) (items : List Item) : Type 0 where
   pub others : (k : ℕ) → k ≢ p.number → sent_to q k ≡ sent_to p k
   pub taken : q.taken ≡ p.taken ++ items
 
--- The requests were offered to their levels' tables, one after the other.
+-- The requests were offered to the tables of their levels, one after the other.
 abbrev pub Offered : List (ℕ × Key) → List (List Key) → List (List Key) → Type 0
 Offered [] ts us = us ≡ ts
 Offered (a ∷ more) ts us =
     (keys : List Key) × Admits (at ts a.0) (a.1 ∷ []) keys × Offered more (slice_set ts a.0 keys) us
 
--- The port may send these requests on that lane.
+-- The port may send these requests on the lane of `to`.
 pub record MaySend (l : LanesView) (p : PortView) (to : ℕ) (asks : List (ℕ × Key)) : Type 0 where
   pub follow : All (λ a. MayFollow (lanes_scope l) (ends (sent_to p to)) (ask_of p.number a)) asks
   pub leave : 0 < ends (sent_to p to) → IsClosed (lanes_scope l) (ends (sent_to p to) - 1) p.taken
 
--- What a worker knows of what it took: it is fair from each sender, counted by the clock, and admitted to the tables.
+-- What a worker knows of what it has taken: it is fair from each sender, its Ends are counted, and its requests are in
+-- the tables.
 pub record IsReceived (c : Scope) (taken : List Item) (clock : Counts) (tables : List (List Key)) : Type 0 where
   pub fair : (t : ℕ) → t < c.workers → IsFair c (sent_by t taken)
   pub senders : HasSenders c taken
@@ -95,7 +97,7 @@ pub record IsReceived (c : Scope) (taken : List Item) (clock : Counts) (tables :
   pub counted : (t : ℕ) → t < c.workers → slice_index clock.ended t ≡ ends (sent_by t taken)
   pub tables_match : (u : ℕ) → u < c.levels → IsDistinctOf (asks_at u taken) (at tables u)
 
--- Closed levels stay closed, and their tables stay.
+-- Closed levels stay closed, and their tables stay as they are.
 pub record StaysClosed (c : Scope) (taken taken' : List Item) (tables tables' : List (List Key)) : Type 0 where
   pub closed : (u : ℕ) → IsClosed c u taken → IsClosed c u taken'
   pub same : (u : ℕ) → IsClosed c u taken → at tables' u ≡ at tables u

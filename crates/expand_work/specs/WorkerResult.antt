@@ -1,4 +1,4 @@
--- What a worker begins with, and what it ends with.
+-- A worker's port at its beginning, and its part at its end.
 use Rattle.std.specs.Prelude.{◌≡◌, ℕ, ◌<◌, List, [], length, map, All}
 use Rattle.dd_store.specs.Nodes.{Nodes}
 use Rattle.req_table.specs.declared.Key.{Key}
@@ -15,8 +15,9 @@ use Rattle.expand_work.specs.OwnerRows.{row_by_owner, recorded}
 abbrev pub IsFresh : PortView → Type 0
 IsFresh p = ((k : ℕ) → sent_to p k ≡ []) × (p.taken ≡ []) × ((k : ℕ) → put_to p k ≡ 0)
 
--- The part of worker s in the wave over a store: its port is the worker's and of these lanes, it has by level the keys of its requests
--- and their children, and what it sent, took and split is the worker's part of the wave. On each lane it put as few loads as that takes.
+-- The part of worker s in the wave over a store: the port is the worker's and of these lanes, the memory has by level
+-- the keys of its requests and their children, and what the worker has sent, taken and split is its part of the wave.
+-- It has put no more loads on any lane than that needs.
 pub record IsWorked (l : LanesView) (S : Nodes) (roots : List Key) (s : ℕ) (p : Part) : Type 0 where
   pub ports : IsPortOf l p.port
   pub number : p.port.number ≡ s

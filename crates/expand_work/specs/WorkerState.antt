@@ -1,4 +1,4 @@
--- What a worker has between two levels, and on the way from one to the next.
+-- What a worker has between two levels, and between the steps of one level.
 use Rattle.std.specs.Prelude.{◌≡◌, ℕ, ◌<◌, List, [], ◌∷◌, length, map, replicate}
 use Rattle.dd_store.specs.Nodes.{Nodes, IsSound}
 use Rattle.req_table.specs.declared.Key.{Key}
@@ -30,8 +30,8 @@ pub record IsWorking (l : LanesView) (S : Nodes) (roots : List Key) (v : ℕ) (w
       (at w.tables) (at (recorded S w.tables))
   pub put : (k : ℕ) → k < length l.lanes → put_to w.port k ≡ loads_of v w.port.number k (sent_to w.port k)
 
--- From w to u all that was due at level v is said: it was sent to the others and kept by the worker itself, and every lane has the level's
--- End.
+-- From w to u all that was due at level v was sent to the others or kept by the worker itself, and every lane has got
+-- an End of the level.
 pub record HasSentLevel (l : LanesView) (v : ℕ) (w u : Worker) : Type 0 where
   pub sent : PortView
   pub left : List (List (ℕ × Key))
@@ -47,7 +47,7 @@ pub record HasSentLevel (l : LanesView) (v : ℕ) (w u : Worker) : Type 0 where
   pub rows : u.rows ≡ w.rows
   pub due : u.due ≡ replicate (length l.lanes) []
 
--- The worker u has taken until level v was closed, and has still to expand that level.
+-- The worker u has taken until level v was closed, and has not expanded it yet.
 pub record IsClosing (l : LanesView) (S : Nodes) (roots : List Key) (v : ℕ) (u : Worker) : Type 0 where
   pub before : Worker
   pub after_sending : Worker

@@ -1,11 +1,12 @@
-//! Bundles that were read, for those that are to be filled.
+//! Bundles whose requests were taken, to be filled again.
 ghost use Rattle.std.specs.Prelude.{◌≡◌, [], IfOk};
 
 use lane_queue::Bundle;
 use std::alloc::{AllocError, Global};
 use std::marker::Model;
 
-/// The memory of bundles whose requests were taken. Contracts see nothing in it: a bundle is emptied when it is handed out.
+/// The memory of bundles whose requests were taken. Contracts see nothing of them but that a bundle is empty when it is
+/// taken.
 #[derive(Drop)]
 pub struct BundlePool {
     bundles: Vec<Bundle>,
@@ -18,14 +19,14 @@ impl Model for BundlePool {
 }
 
 impl BundlePool {
-    /// No bundles yet.
+    /// Returns a pool without bundles.
     pub fn new(alloc: Global) -> BundlePool {
         BundlePool {
             bundles: Vec::new(alloc),
         }
     }
 
-    /// A bundle with no requests: one of these where there is one, else a new one.
+    /// Returns a bundle without requests, one of the pool's if there is any. Fails if memory for a new one is refused.
     pub fn take(&mut self) -> Result<Bundle, AllocError>
         ensures { IfOk result (λ b. b ≡ []) }
     {
@@ -39,7 +40,7 @@ impl BundlePool {
         }
     }
 
-    /// Keeps the bundle's memory; where the list cannot grow it is given back.
+    /// Keeps the bundle's memory, or gives it back if the list of bundles cannot grow.
     pub fn put(&mut self, bundle: Bundle) {
         let _ = self.bundles.push(bundle);
     }

@@ -1,4 +1,4 @@
-//! The requests that are due from each worker, in the bundles that they are sent in.
+//! The requests that a worker still has to ask of each worker, in the bundles that will carry them.
 ghost use Rattle.std.specs.Prelude.{◌≡◌, ◌<◌, [], ◌∷◌, ◌++◌, length, replicate, slice_set, IfOk, OnOk, MatchOption};
 ghost use Rattle.expand_work.specs.Due.{IsCut};
 ghost use Rattle.req_table.specs.Places.{row as at};
@@ -10,10 +10,10 @@ use std::alloc::{AllocError, Global};
 use std::collections::VecDeque;
 use std::marker::Model;
 
-// What a request takes in a bundle.
+// The bytes of a request in a bundle.
 const _: () = prove!(size_of::<(u16, Key)>() == 24);
 
-// Requests in order, each with its level: bundles that are full, and the one in hand, which is not.
+// Requests in order, each with its level: full bundles, and then one that is not full.
 #[derive(Drop)]
 struct Asks {
     full: VecDeque<Bundle>,
@@ -35,7 +35,7 @@ impl Model for Asks {
 }
 
 impl Asks {
-    // No requests. They take no memory yet.
+    // Returns a list without requests, which takes no memory yet.
     fn new(alloc: Global) -> Asks
         ensures { result ≡ [] }
     {
@@ -45,7 +45,7 @@ impl Asks {
         }
     }
 
-    // Puts a request at the end, into the bundle in hand.
+    // Adds a request at the end, to the bundle that is not full.
     fn push(&mut self, spare: &mut BundlePool, level: u16, key: Key) -> Result<(), AllocError>
         ensures { OnOk result (self.new ≡ self.old ++ (level, key) ∷ []) }
     {
@@ -65,7 +65,7 @@ impl Asks {
         Ok(())
     }
 
-    // Takes the first bundle.
+    // Takes the first bundle out, or returns none if no request is left.
     fn take(&mut self) -> Option<Bundle>
         ensures { MatchOption result ((self.old ≡ []) × (self.new ≡ [])) (λ b. IsCut self.old b self.new) }
     {
@@ -76,7 +76,7 @@ impl Asks {
     }
 }
 
-/// What is due from each worker, in order, each request with its level.
+/// For each worker the requests that are due from it, in order, each with its level.
 #[derive(Drop)]
 pub struct Due {
     lists: Vec<Asks>,
@@ -92,7 +92,7 @@ impl Model for Due {
 }
 
 impl Due {
-    /// Nothing is due from so many workers.
+    /// Returns empty lists for `workers` workers.
     pub fn new(alloc: Global, workers: u32) -> Result<Due, AllocError>
         ensures { IfOk result (λ d. d ≡ replicate workers []) }
     {
@@ -103,7 +103,7 @@ impl Due {
         Ok(Due { lists })
     }
 
-    /// The request becomes due from the worker, behind what is due from it already.
+    /// Adds a request at the end of those that are due from the worker `from`.
     pub fn push(
         &mut self,
         spare: &mut BundlePool,
@@ -117,7 +117,7 @@ impl Due {
         self.lists[from as usize].push(spare, level, key)
     }
 
-    /// Takes the first bundle of what is due from the worker.
+    /// Takes the first bundle of what is due from the worker out, or returns none if nothing is.
     pub fn take(&mut self, from: u32) -> Option<Bundle>
         requires { from < length self.old }
         ensures rest { self.new ≡ slice_set self.old from (at self.new from) }

@@ -1,5 +1,6 @@
-//! Expansion of a level: its requests are split, and their children go where the wave has its next requests: on the caller's thread to
-//! the tables of their levels, with a worker to what is due from the workers that own them.
+//! Expanding a level: its requests are split, and their children go to where the wave has its next
+//! requests. On the caller's thread these are the tables of their levels; with a worker they are
+//! what is due from the children's owners.
 ghost use Rattle.std.specs.Prelude.{◌≡◌, ℕ, ◌<◌, ◌+◌, ◌%◌, ◌^◌, [], ◌∷◌, ◌++◌, length, filter, replicate, All, IfOk, OnOk};
 ghost use Rattle.dd_store.specs.Nodes.{Nodes};
 ghost use Rattle.req_table.specs.declared.Child.{Child as ChildValue};
@@ -18,15 +19,15 @@ use req_table::requests::{level_of, owner};
 use req_table::{Child, Key, PackedChild, Row, Table, Waiting};
 use std::alloc::AllocError;
 
-/// Where the children of requests go that are expanded.
+/// Where the children of expanded requests go.
 pub trait ChildSink {
-    // It can take the children of this store's requests.
+    // It can take the children of requests of this store.
     ghost accepts: { Self → Nodes → Type 0 };
 
-    // What it is once it has taken a child, and how a row tells this child.
+    // What the sink is after it has taken a child, and what the row of the child's request has for this child.
     ghost takes: { Self → ChildValue → PlacedValue → Self → Type 0 };
 
-    /// Takes a child. The answer tells it in its request's row.
+    /// Takes a child, and returns what the row of its request has for it. Fails if memory is refused.
     fn ask(&mut self, store: &Store, asked: Child) -> Result<PackedChild, AllocError>
         requires accepts { accepts self.old store.now }
         requires in_store { IsChildIn store.now asked }
@@ -34,7 +35,7 @@ pub trait ChildSink {
         ensures takes { IfOk result (λ p. takes self.old asked p self.new) };
 }
 
-/// Requests that wait: a child is admitted to the table of its level, and told by its place.
+/// Requests that wait: a child is admitted to the table of its level, and the row has its place.
 impl ChildSink for Waiting {
     ghost accepts = { λ w s. length w ≡ s.levels };
 
@@ -42,7 +43,7 @@ impl ChildSink for Waiting {
 
     #[inline(always)]
     fn ask(&mut self, store: &Store, asked: Child) -> Result<PackedChild, AllocError> {
-        let _ = store.levels();
+        let _ = store.levels(); // For the proof.
         match asked {
             Child::Done(answer) => Ok(PackedChild::done(answer)),
             Child::Ask {
@@ -57,16 +58,19 @@ impl ChildSink for Waiting {
     }
 }
 
-/// What is due from each of so many workers, and the bundles that it is put into.
+/// What is due from each worker, as a sink of children.
 #[derive(Drop)]
 pub struct DueByOwner {
+    /// By worker the requests that are due from it.
     pub due: Due,
+    /// Bundles to be filled.
     pub spare: BundlePool,
+    /// The number of workers.
     pub workers: u32,
 }
 
 impl DueByOwner {
-    // The request becomes due from the key's owner, which is answered.
+    // Makes the request due from its owner, and returns the owner.
     #[inline(always)]
     fn push(&mut self, level: u16, key: Key) -> Result<u32, AllocError>
         requires long { length self.old.due ≡ self.old.workers }
@@ -83,7 +87,8 @@ impl DueByOwner {
     }
 }
 
-/// What is due from workers: a child becomes due from the worker that owns it, by whose number it is told.
+/// What is due from workers: a child becomes due from its owner, and the row has the owner in place of the child's
+/// place, which only the owner will know.
 impl ChildSink for DueByOwner {
     ghost accepts = { λ a _. (length a.due ≡ a.workers) × (0 < a.workers) };
 
@@ -105,7 +110,9 @@ impl ChildSink for DueByOwner {
     }
 }
 
-/// Expands requests: splits each and asks for its children, the low one before the high one, which its row then tells.
+/// Expands requests: splits each, asks for its children, the low one before the high one, and adds what the sink
+/// returns for them to the row. Counts the requests in `splits`. After a refusal the row and the sink have some of the
+/// children.
 pub fn expand_row<A: ChildSink>(
     store: &Store,
     keys: &Table,
@@ -130,7 +137,7 @@ pub fn expand_row<A: ChildSink>(
     Ok(())
 }
 
-/// Asks for the roots that a worker has to ask for: those at the places that are its number modulo the workers.
+/// Makes a worker's share of the roots due: those whose places are its number modulo the number of workers.
 pub fn deal_roots(
     store: &Store,
     roots: &[Key],

@@ -1,11 +1,11 @@
-//! Lists of places by worker.
+//! The places that a worker notes of what it was asked for, in a list for each worker that asks.
 ghost use Rattle.std.specs.Prelude.{◌≡◌, ◌<◌, [], ◌∷◌, ◌++◌, length, map, replicate, slice_set, IfOk, OnOk};
 ghost use Rattle.req_table.specs.Places.{row as at};
 
 use std::alloc::{AllocError, Global};
 use std::marker::Model;
 
-// Removes all elements of each list, and keeps the memory.
+// Empties each list, and keeps the memory of all.
 fn clear_all<T: Copy>(lists: &mut Vec<Vec<T>>)
     ensures { map (λ v. v.items) lists.new.items ≡ replicate (length lists.old.items) [] }
 {
@@ -14,7 +14,7 @@ fn clear_all<T: Copy>(lists: &mut Vec<Vec<T>>)
     }
 }
 
-/// One list of places for each worker.
+/// For each sender the places of its requests in their levels' tables, in the order of asking.
 #[derive(Drop)]
 pub struct PlacesBySender {
     lists: Vec<Vec<u32>>,
@@ -29,7 +29,7 @@ impl Model for PlacesBySender {
 }
 
 impl PlacesBySender {
-    /// So many empty lists.
+    /// Returns `count` empty lists.
     pub fn new(alloc: Global, count: u32) -> Result<PlacesBySender, AllocError>
         ensures { IfOk result (λ n. n ≡ replicate count []) }
     {
@@ -40,7 +40,7 @@ impl PlacesBySender {
         Ok(PlacesBySender { lists })
     }
 
-    /// So many empty lists, in the memory of these where there are as many.
+    /// Returns `count` empty lists, in the memory of these if there are as many.
     pub fn emptied(self, alloc: Global, count: u32) -> Result<PlacesBySender, AllocError>
         ensures { IfOk result (λ l. l ≡ replicate count []) }
     {
@@ -52,7 +52,7 @@ impl PlacesBySender {
         Ok(PlacesBySender { lists })
     }
 
-    /// Puts the place at the end of the worker's list.
+    /// Adds a place at the end of the list of the sender `from`.
     pub fn push(&mut self, from: u32, place: u32) -> Result<(), AllocError>
         requires { from < length self.old }
         ensures { OnOk result (self.new ≡ slice_set self.old from (at self.old from ++ place ∷ [])) }
@@ -61,7 +61,7 @@ impl PlacesBySender {
         Ok(())
     }
 
-    /// The worker's list.
+    /// Returns the list of the sender `from`.
     pub fn list(&self, from: u32) -> &[u32]
         requires { from < length self.now }
         ensures { result.now ≡ at self.now from }

@@ -1,5 +1,6 @@
-//! All requests that the roots of a wave ask for, as the workers in threads recorded them: nothing is put together.
-ghost use Rattle.std.specs.Prelude.{◌≡◌, ◌≢◌, ◌<◌, ◌≤◌, ◌-◌, ◌%◌, ◌^◌, true, length, map, slice_index_or, All, IfOk, IfErr, IfSome, OnOk, OnErr, []};
+//! All requests that the roots of a wave ask for, by worker, as the workers have recorded them.
+//! Nothing is copied together.
+ghost use Rattle.std.specs.Prelude.{◌≡◌, ◌≢◌, ◌<◌, ◌≤◌, ◌-◌, ◌%◌, ◌^◌, true, length, map, slice_index_or, All, IfOk, IfErr, IfSome, OnOk, OnErr, Err, []};
 ghost use Rattle.req_table.specs.Keys.{IsKey};
 ghost use Rattle.req_table.specs.Settled.{key_of};
 ghost use Rattle.expand_work.specs.declared.part.Part.{Part as PartValue};
@@ -20,7 +21,8 @@ use std::snapshot::Snapshot;
 use std::sync::Wait;
 use std::thread::Threads;
 
-/// What the workers of a wave were asked for, and where each put what each other asked of it. The children stand apart, in rows.
+/// Of each worker, which requests it was asked for, and at which places it has put what each worker asked of it. The
+/// children of the requests are elsewhere, in rows.
 #[derive(Drop)]
 pub struct WorkerNotes {
     spaces: Vec<WorkerMemory>,
@@ -38,7 +40,8 @@ impl Model for WorkerNotes {
 }
 
 impl WorkerNotes {
-    /// The places at which a worker put the requests that a sender asked of it, in the order in which they were sent.
+    /// Returns the places at which a worker has put the requests that a sender asked of it, in the order in which they
+    /// were sent.
     pub fn noted(&self, worker: u32, sender: u32) -> &[u32]
         requires worker { worker < length self.now.noted }
         requires sender { sender < length (slice_index_or self.now.noted worker []) }
@@ -47,7 +50,8 @@ impl WorkerNotes {
         self.spaces[worker as usize].noted.list(sender)
     }
 
-    /// The keys of a worker's requests of a level, by place, where the wave's spaces keep each table with its level.
+    /// Returns the keys of a worker's requests of a level, by place. They are there only if each table has stayed with
+    /// its level (`MemoryPool::keeping`).
     pub fn keys(&self, worker: u32, level: u16) -> Option<&Table>
         requires worker { worker < length self.now.rows }
         requires level { level < length (slice_index_or self.now.rows worker []) }
@@ -56,7 +60,7 @@ impl WorkerNotes {
         self.spaces[worker as usize].tables.keys(level)
     }
 
-    /// Leaves the memory of the workers for the next wave, with rows for them.
+    /// Returns the memory of the workers, with the rows that belong to it, for the next wave.
     pub fn give_back(self, rows: Vec<Rows>, spaces: &mut MemoryPool)
         ensures { spaces.new ≡ spaces.old }
     {
@@ -68,7 +72,7 @@ impl WorkerNotes {
     }
 }
 
-/// What each worker of a wave recorded: its rows, by worker, and what it was asked for.
+/// What the workers of a wave have recorded: by worker the rows of children, and the rest.
 #[derive(Drop)]
 pub struct Parts {
     rows: Vec<Rows>,
@@ -88,7 +92,8 @@ impl Model for Parts {
 }
 
 impl Parts {
-    /// The children of a worker's requests of a level, low and high, by place. The number of one that is asked for is its owner.
+    /// Returns the children, low and high, of a worker's requests of a level, by place. A child that is a request has
+    /// its owner in place of its place.
     pub fn children(&self, worker: u32, level: u16) -> &Row
         requires worker { worker < length self.now.rows }
         requires level { level < length (slice_index_or self.now.rows worker []) }
@@ -97,14 +102,14 @@ impl Parts {
         self.rows[worker as usize].row(level)
     }
 
-    /// What the workers were asked for, and what they noted.
+    /// Returns what the workers were asked for and have noted.
     pub fn notes(&self) -> &WorkerNotes
         ensures { result.now ≡ self.now }
     {
         &self.notes
     }
 
-    /// How many requests there are, modulo 2^64. It tells large waves from small ones, too.
+    /// Returns the number of all requests, modulo 2^64, which also says whether the wave was large.
     pub fn count(&self) -> u64
         ensures { result ≡ count_in self.now.rows % 2 ^ 64 }
     {
@@ -115,7 +120,7 @@ impl Parts {
         total
     }
 
-    /// Whether there are at most so many requests. The greatest number bounds nothing.
+    /// Whether there are at most `most` requests. The greatest number is no bound.
     pub(crate) fn are_few(&self, most: usize) -> bool
         ensures { result ≡ true → most < 2 ^ 64 - 1 → count_in self.now.rows ≤ most }
     {
@@ -126,7 +131,8 @@ impl Parts {
         most == usize::MAX || total <= most as u64
     }
 
-    /// The rows of all workers, whose children are told by their owners, and the rest.
+    /// Returns the rows of all workers, in which a child that is a request has its owner in place of its place, and the
+    /// rest.
     pub fn open(self) -> (Vec<Rows>, WorkerNotes)
         ensures rows { AreRowsByOwner self.rows result.0.items }
         ensures notes { result.1 ≡ self }
@@ -135,7 +141,7 @@ impl Parts {
     }
 }
 
-/// The ports of the parts, their rows, and what else the workers filled.
+/// Divides the parts into their ports, their rows, and the rest of their memory, each by worker.
 fn split_parts(
     alloc: Global,
     parts: Vec<Part>,
@@ -157,17 +163,20 @@ fn split_parts(
     Ok((ports, rows, spaces))
 }
 
-/// All requests that the roots ask for, directly or through children, each recorded once, by its owner. Each of the 1 to 16 workers is a
-/// thread of its own but the last, whose part the caller's thread does, and root i is sent by worker i modulo their number (Ochi, Yasuoka
-/// and Yajima 1993 for the levels, van Dijk 2016 for the workers). The request that a worker asked another for as its n-th is found again
-/// by this number. The workers work in the memory of an earlier wave as far as there is some; after a refusal it is given back. The
-/// spaces count what was expanded. The ports, by worker, go with no lanes any more, and only tell what was sent and taken.
+/// Does the way down of a wave by workers. Returns all requests that the roots ask for, directly or through children,
+/// each recorded once by its owner, and the ports, which no longer have lanes but show contracts what was sent and
+/// taken. The levels are those of Ochi, Yasuoka and Yajima (1993), the workers after van Dijk (2016).
 ///
-/// `most` is the most requests that the workers may expand together; the greatest number bounds nothing.
+/// The caller's thread does the part of the last of the 1 to 16 workers, and each other worker has a thread of its own.
+/// Root i is sent by worker i modulo their number. The n-th request that one worker has asked of another is the n-th
+/// place that the other has noted. The workers use the memory of an earlier wave in `spaces` as far as there is any,
+/// and give it back after a failure; `spaces` counts what was expanded.
 ///
-/// NoWorker: a thread could not be started, or the requests are more than the most; then the threads that run are stopped, and no more
-/// requests than the most are expanded. OutOfMemory: a growth was refused, and every thread was started. All threads have ended before any
-/// answer is given.
+/// `most` is the most requests that the workers may expand together, or the greatest number for no bound.
+///
+/// Fails with Stopped if the run has stopped, as the monitor says; with NoWorker if a thread could not be started or
+/// there are more requests than `most` (then all threads stop, and no more than `most` are expanded); and with
+/// OutOfMemory if memory was refused and every thread was started. All threads have ended before the call returns.
 pub fn expand_parts<R: Threads + Wait + Sync, G: Monitor>(
     crew: &Crew<'_, R, G>,
     store: &Store,
@@ -183,8 +192,9 @@ pub fn expand_parts<R: Threads + Wait + Sync, G: Monitor>(
     ensures few { most < 2 ^ 64 - 1 → OnOk result (AreFew store.now crew.now.workers.count roots.now most) }
     ensures fault { IfErr result (λ f. f ≢ WaveFault.Full) }
     ensures never_too_many_requests { IfErr result (λ f. f ≢ WaveFault.TooManyRequests) }
+    ensures stopped { result ≡ Err WaveFault.Stopped → (G.bound crew.now.monitor.now).stops ≡ true }
 {
-    let _ = store.levels();
+    let _ = store.levels(); // For the proof.
     let alloc = crew.alloc;
     let workers = crew.workers.count();
     let (lanes, ports) = Lanes::new(alloc, store, workers)?;

@@ -1,4 +1,4 @@
-//! What a worker takes, and what it keeps.
+//! What a worker takes from its lane, and what it keeps for itself.
 ghost use Rattle.std.specs.Prelude.{◌≡◌, ◌<◌, [], false, length, map, slice_set, All, IfOk, OnOk};
 ghost use Rattle.req_table.specs.Lanes.{IsClosed};
 ghost use Rattle.lane_queue.specs.PortView.{sent_to, IsPortOf, lanes_scope};
@@ -10,27 +10,29 @@ ghost use Rattle.expand_work.specs.PlacesBySender.{IsNoted, NotesPlaces};
 
 use crate::context::WaveContext;
 use crate::due::Due;
+use crate::end_counts::EndCounts;
 use crate::lists::PlacesBySender;
 use crate::tables::Tables;
 use crate::{BundlePool, WorkFault};
 use crossbeam_utils::Backoff;
 use lane_queue::{Lanes, Load, Port};
-use level_close::EndCounts;
 use req_table::Key;
 use std::alloc::AllocError;
 use std::sync::Wait;
 use std::sync::atomic::Ordering;
 
-/// What a worker knows by sender: how many levels it has ended, and where the requests were put that were taken of it. The bundles
-/// that brought them are spare.
+/// What a worker knows of each sender.
 #[derive(Drop)]
 pub struct Senders {
+    /// How many levels each sender has ended.
     pub clock: EndCounts,
+    /// By sender the places of the requests that were taken of it.
     pub noted: PlacesBySender,
+    /// Bundles that were taken, to be filled again.
     pub spare: BundlePool,
 }
 
-// Admits the requests of a sender's bundle to their levels' tables, and notes their places.
+// Admits the requests of a sender's bundle to the tables of their levels, and notes their places.
 fn admit_all(
     tables: &mut Tables,
     noted: &mut PlacesBySender,
@@ -50,7 +52,8 @@ fn admit_all(
     Ok(())
 }
 
-// Keeps these requests: the port counts as having sent and taken them. Nothing of its own is under way.
+// Keeps these requests: for contracts the port has sent and taken them. The port must have taken all that it has sent
+// to itself.
 fn keep_all(lanes: &Lanes, port: &mut Port, asks: &[(u16, Key)])
     requires port { IsPortOf lanes.now port.old }
     requires may { MaySend lanes.now port.old port.old.number asks.now }
@@ -58,7 +61,7 @@ fn keep_all(lanes: &Lanes, port: &mut Port, asks: &[(u16, Key)])
     ensures kept { HasKept port.old port.new (map (ask_of port.old.number) asks.now) }
     ensures taken { sent_by port.new.number port.new.taken ≡ sent_to port.new port.new.number }
 {
-    let _lanes = lanes;
+    let _lanes = lanes; // For the proof.
     for ask in asks {
         let (level, key) = *ask;
         port.keep(level, key);
@@ -96,8 +99,8 @@ pub fn keep_own(
     Ok(())
 }
 
-// Takes one load if there is one, and notes it: an End on the clock, the keys of a bundle in their levels' tables. Where there is none
-// nothing that the worker sent to itself is under way.
+// Takes one load if there is one: counts an End, or admits the requests of a bundle. Returns false if there was none;
+// then the worker has taken all that it has sent to itself.
 fn take_one<R: Wait>(
     rt: &R,
     lanes: &Lanes,
@@ -129,7 +132,8 @@ fn take_one<R: Wait>(
     Ok(true)
 }
 
-/// Takes until every sender has ended the level. Where the lane is empty it pauses, and gives up once the flag is set.
+/// Takes loads until every sender has ended the level. While the lane is empty it backs off, and fails with `Stopped`
+/// once the flag is set.
 pub fn take_until_closed<R: Wait>(
     rt: &R,
     context: WaveContext<'_>,

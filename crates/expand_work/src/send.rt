@@ -1,4 +1,4 @@
-//! What a worker sends.
+//! What a worker sends to others.
 ghost use Rattle.std.specs.Prelude.{◌≡◌, ℕ, ◌<◌, [], ◌∷◌, length, map, slice_set, All, OnOk};
 ghost use Rattle.req_table.specs.declared.Item.TheVariants.{End};
 ghost use Rattle.req_table.specs.Lanes.{ends, MayFollow};
@@ -59,7 +59,7 @@ fn send_asks<R: Wait>(
     Ok(())
 }
 
-/// Asks every other worker for what is due from it. What is due from this one is left.
+/// Sends to every other worker what is due from it. What is due from this worker itself remains due.
 pub fn send_due<R: Wait>(
     rt: &R,
     lanes: &Lanes,
@@ -82,7 +82,7 @@ pub fn send_due<R: Wait>(
     Ok(())
 }
 
-/// Ends the level on every lane.
+/// Puts an End of the level on every lane, the worker's own too.
 pub fn send_ends<R: Wait>(
     rt: &R,
     lanes: &Lanes,

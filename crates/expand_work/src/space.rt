@@ -1,4 +1,4 @@
-//! The memory that the workers of a wave fill, which lasts from wave to wave.
+//! The memory that the workers of a wave fill. It lasts from wave to wave.
 ghost use Rattle.expand_work.specs.MemoryPool.{IsEmptyMemory, rows_in, without_rows};
 ghost use Rattle.std.specs.Prelude.{◌≡◌, ◌+◌, ◌%◌, ◌^◌, [], replicate, IfOk};
 
@@ -10,17 +10,20 @@ use std::alloc::{AllocError, Global};
 use std::marker::Model;
 use std::mem;
 
-/// What a worker fills: the requests that it is asked for, by level, the children of each, and by sender the places of what it took; and
-/// the bundles that it has read.
+/// The memory that one worker fills.
 #[derive(Drop)]
 pub struct WorkerMemory {
+    /// The requests that the worker was asked for, by level.
     pub tables: Tables,
+    /// Their children, by level.
     pub rows: Rows,
+    /// By sender the places of the requests that the worker has taken.
     pub noted: PlacesBySender,
+    /// Bundles that were taken, to be filled again.
     pub spare: BundlePool,
 }
 
-/// So many levels without children. A worker keeps the memory of all its rows.
+/// Returns `levels` empty rows. A worker keeps the memory of all its rows, however large.
 fn no_rows(alloc: Global, levels: u16) -> Result<Rows, AllocError>
     ensures { IfOk result (λ rows. rows ≡ replicate levels []) }
 {
@@ -54,7 +57,7 @@ impl WorkerMemory {
         })
     }
 
-    /// Its rows, and the rest of it.
+    /// Divides it into its rows and the rest.
     pub(crate) fn split(self, alloc: Global) -> (Rows, WorkerMemory)
         ensures rows { result.0 ≡ rows_in self }
         ensures rest { result.1 ≡ without_rows self }
@@ -64,7 +67,8 @@ impl WorkerMemory {
         (rows, rest)
     }
 
-    /// A space for so many levels and workers with nothing in it, in the memory of another, with its bundles, where there is one.
+    /// Returns memory for `levels` levels and `workers` workers with nothing in it: that of an earlier wave, emptied,
+    /// if there is any.
     pub fn open(
         alloc: Global,
         used: Option<WorkerMemory>,
@@ -80,13 +84,13 @@ impl WorkerMemory {
     }
 }
 
-/// The memory of workers between two waves, and how many requests were expanded in it, which contracts see modulo 2^64. They see
-/// nothing of the memory: a worker empties its space when it begins.
+/// The memory of workers between two waves, and the number of requests that were expanded in it. Contracts see only
+/// this number, modulo 2^64, since memory is emptied when a worker begins.
 #[derive(Drop)]
 pub struct MemoryPool {
     used: Vec<WorkerMemory>,
     expanded: u64,
-    /// Whether the table of a level stays with it once the level was expanded.
+    /// Whether the table of a level stays with it after the level was expanded.
     keeps: bool,
 }
 
@@ -99,7 +103,8 @@ impl Model for MemoryPool {
 }
 
 impl MemoryPool {
-    /// No memory yet, and nothing was expanded. The table of a level that was expanded serves others.
+    /// Returns a pool without memory, in which nothing was expanded yet. The table of a level that was expanded goes on
+    /// to another level.
     pub fn new(alloc: Global) -> MemoryPool
         ensures { result ≡ 0 }
     {
@@ -110,7 +115,7 @@ impl MemoryPool {
         }
     }
 
-    /// The same, for whoever reads a wave's keys: each table stays with its level.
+    /// Returns such a pool for callers that read the keys of a wave afterwards: each table stays with its level.
     pub fn keeping(alloc: Global) -> MemoryPool
         ensures { result ≡ 0 }
     {
@@ -126,14 +131,14 @@ impl MemoryPool {
         self.keeps
     }
 
-    /// The memory of one worker, where there is some.
+    /// Takes the memory of one worker out, if there is any.
     pub fn take(&mut self) -> Option<WorkerMemory>
         ensures { self.new ≡ self.old }
     {
         self.used.pop()
     }
 
-    /// All of the memory.
+    /// Takes all memory out.
     pub(crate) fn take_all(&mut self, alloc: Global) -> MemoryPool
         ensures { self.new ≡ self.old }
     {
@@ -144,21 +149,21 @@ impl MemoryPool {
         }
     }
 
-    /// The memory is that of these spaces.
+    /// Replaces the memory by that of these workers.
     pub(crate) fn refill(&mut self, used: Vec<WorkerMemory>)
         ensures { self.new ≡ self.old }
     {
         self.used = used;
     }
 
-    /// How many requests were expanded in it, modulo 2^64.
+    /// Returns the number of requests that were expanded, modulo 2^64.
     pub fn expanded(&self) -> u64
         ensures { result ≡ self.now }
     {
         self.expanded
     }
 
-    /// So many requests more were expanded.
+    /// Adds a number of requests that were expanded.
     pub(crate) fn add(&mut self, requests: u64)
         ensures { self.new ≡ (self.old + requests) % 2 ^ 64 }
     {

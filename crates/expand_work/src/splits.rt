@@ -1,4 +1,4 @@
-//! Requests that are split, and how many were.
+//! Splitting requests, and counting how many were split.
 ghost use Rattle.std.specs.Prelude.{◌≡◌, ◌+◌, ◌%◌, ◌^◌};
 ghost use Rattle.req_table.specs.Keys.{IsKey, IsChildIn, record_of};
 
@@ -7,7 +7,8 @@ use req_table::requests::split;
 use req_table::{Key, Record};
 use std::marker::Model;
 
-/// Splits requests, and counts how many, modulo 2^64. Each request of a wave is split here, by a worker or by the caller's thread.
+/// Splits requests and counts them, modulo 2^64. Each request of a wave is split by one of these, of a worker or of the
+/// caller's thread.
 #[derive(Drop)]
 pub struct Splits {
     count: usize,
@@ -22,21 +23,21 @@ impl Model for Splits {
 }
 
 impl Splits {
-    /// None was split.
+    /// Returns a count of 0.
     pub fn new() -> Splits
         ensures { result ≡ 0 }
     {
         Splits { count: 0 }
     }
 
-    /// Sets the count to what it was before a wave that is done again, so that no request of it is counted twice.
+    /// Sets the count to what it was before a wave that will be done again, so that no request is counted twice.
     pub fn reset_to(&mut self, count: usize)
         ensures { self.new ≡ count }
     {
         self.count = count;
     }
 
-    /// The record of a request, which is one more.
+    /// Returns a request with its children, and counts it.
     #[inline(always)]
     pub fn split(&mut self, store: &Store, key: Key) -> Record
         requires key { IsKey store.now key }
@@ -48,7 +49,7 @@ impl Splits {
         split(store, key)
     }
 
-    /// How many were split.
+    /// Returns how many requests were split.
     pub fn count(&self) -> usize
         ensures { result ≡ self.now }
     {

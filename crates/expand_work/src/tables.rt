@@ -1,4 +1,4 @@
-//! What a worker is asked for, by level.
+//! The requests that a worker was asked for, by level.
 ghost use Rattle.std.specs.Prelude.{◌≡◌, ◌<◌, [], length, replicate, IfOk, IfSome};
 ghost use Rattle.expand_work.specs.PlacesBySender.{Enters, EntersAt};
 ghost use Rattle.req_table.specs.Places.{row as at};
@@ -14,13 +14,13 @@ use std::snapshot::Snapshot;
 enum TableState {
     // There are none yet, and no memory for them.
     Empty,
-    // In a table of the level.
+    // They are in the level's own table.
     InUse(Table),
-    // The level was expanded, and its table serves others. Only contracts still see its requests.
+    // The level was expanded, and its table is another level's or spare. Its requests exist in contracts only.
     Recycled(Snapshot<Table>),
 }
 
-// The requests of a level, each once.
+// The requests of one level, each once.
 #[derive(Drop)]
 struct LevelTable {
     state: TableState,
@@ -38,7 +38,7 @@ impl Model for LevelTable {
 }
 
 impl LevelTable {
-    // No requests.
+    // Returns a level without requests.
     fn new() -> LevelTable
         ensures { result ≡ [] }
     {
@@ -47,7 +47,7 @@ impl LevelTable {
         }
     }
 
-    // Admits the first request, to a table that no other level needs.
+    // Admits the first request, to a spare table.
     #[inline(never)]
     fn admit_first(&mut self, spare: &mut SpareTables, key: Key) -> Result<u32, AllocError>
         requires { self.old ≡ [] }
@@ -59,7 +59,8 @@ impl LevelTable {
         Ok(place)
     }
 
-    // The place of the request, which is admitted if it is not there. A level that was expanded admits none.
+    // Returns the place of a request, and admits it if it is new. Fails if memory is refused, or if the level was
+    // expanded.
     #[inline(always)]
     fn admit(&mut self, spare: &mut SpareTables, key: Key) -> Result<u32, AllocError>
         ensures { IfOk result (λ p. Enters self.old key p self.new) }
@@ -74,7 +75,8 @@ impl LevelTable {
         }
     }
 
-    // Takes the table out, unless that was done before. Only contracts still see its requests here.
+    // Takes the table out, or returns none if that was done before. After that the level's requests exist in contracts
+    // only.
     fn take(&mut self, alloc: Global) -> Option<Table>
         ensures keys { IfSome result (λ t. t ≡ self.old) }
         ensures same { self.new ≡ self.old }
@@ -92,7 +94,7 @@ impl LevelTable {
     }
 }
 
-// So many levels without requests.
+// Returns `count` levels without requests.
 fn empty_levels(alloc: Global, count: u16) -> Result<Vec<LevelTable>, AllocError>
     ensures { IfOk result (λ levels. levels.items ≡ replicate count []) }
 {
@@ -103,13 +105,14 @@ fn empty_levels(alloc: Global, count: u16) -> Result<Vec<LevelTable>, AllocError
     Ok(levels)
 }
 
-/// The requests of each level, each once. The table of a level that was expanded serves a level that is asked for something later, so
-/// there are as many tables as levels that wait at once, and their memory stays warm in caches. Contracts see the requests of all levels.
+/// The requests of each level, each once. The table of a level that was expanded goes on to the next level that gets a
+/// request, so there are about as many tables as levels that wait at the same time, and their memory is likely to be in
+/// caches. Contracts see the requests of all levels, expanded ones too.
 #[derive(Drop)]
 pub struct Tables {
     levels: Vec<LevelTable>,
     spare: SpareTables,
-    /// The most requests that an expanded level had.
+    /// The most requests that an expanded level has had.
     most: usize,
 }
 
@@ -123,7 +126,7 @@ impl Model for Tables {
 }
 
 impl Tables {
-    /// So many levels without requests. They take no memory yet.
+    /// Returns `count` levels without requests, which take no memory yet for them.
     pub fn new(alloc: Global, count: u16) -> Result<Tables, AllocError>
         ensures { IfOk result (λ t. t ≡ replicate count []) }
     {
@@ -134,8 +137,8 @@ impl Tables {
         })
     }
 
-    /// So many levels without requests, in the memory of the tables that serve no level, but for tables that are much larger than any of
-    /// these levels needed.
+    /// Returns `count` levels without requests, with the spare tables of this value, except those with more than eight
+    /// times the room that any level needed.
     pub fn emptied(self, alloc: Global, count: u16) -> Result<Tables, AllocError>
         ensures { IfOk result (λ l. l ≡ replicate count []) }
     {
@@ -148,7 +151,8 @@ impl Tables {
         })
     }
 
-    /// The place of the key among the level's, to which it is admitted if it is not there. A level that was expanded refuses it.
+    /// Returns the place of a request among those of its level, and admits it if it is new. Fails if memory is refused,
+    /// or if the level was expanded.
     #[inline(always)]
     pub fn admit(&mut self, level: u16, key: Key) -> Result<u32, AllocError>
         requires { level < length self.old }
@@ -157,7 +161,7 @@ impl Tables {
         self.levels[level as usize].admit(&mut self.spare, key)
     }
 
-    /// The keys of the level, in order of admission, where a table of the level has them.
+    /// Returns the requests of a level by place, or none if the level has no table of its own.
     pub fn keys(&self, level: u16) -> Option<&Table>
         requires { level < length self.now }
         ensures { IfSome result (λ t. t.now ≡ at self.now level) }
@@ -168,7 +172,7 @@ impl Tables {
         }
     }
 
-    /// How many keys the level has, or 0 if no table of the level has them.
+    /// Returns the number of requests of a level, or 0 if the level has no table of its own.
     pub fn count(&self, level: u16) -> usize
         requires { level < length self.now }
     {
@@ -178,7 +182,8 @@ impl Tables {
         }
     }
 
-    /// Takes the level's table out, with its keys in order of admission, for the level to be expanded; none where that was done before.
+    /// Takes the table of a level out, with its requests by place, so that the level can be expanded; or returns none
+    /// if that was done before.
     pub fn take(&mut self, level: u16) -> Option<Table>
         requires { level < length self.old }
         ensures keys { IfSome result (λ t. t ≡ at self.old level) }
@@ -188,7 +193,8 @@ impl Tables {
         self.levels[level as usize].take(alloc)
     }
 
-    /// Is given the table of a level that was expanded: it stays with its level, or else serves others.
+    /// Takes back the table of a level that was expanded. It stays with its level if `stays` is set, and is a spare
+    /// table otherwise.
     pub fn leave(&mut self, level: u16, keys: Table, stays: bool) -> Result<(), AllocError>
         requires level { level < length self.old }
         requires keys { keys ≡ at self.old level }

@@ -1,7 +1,7 @@
-//! The workers of a wave: the last on the caller's thread, each other in a thread of its own.
+//! The workers of a wave: the last one is the caller's thread, and each other one has a thread of
+//! its own.
 ghost use Rattle.std.specs.Prelude.{◌≡◌, ◌≢◌, ◌≤◌, true, [], length, All, IfOk, IfErr, Err, if◌then◌else◌, vec_capacity};
 ghost use Rattle.std.specs.List.{AllZip};
-ghost use Rattle.std.specs.Thread.{IsSync};
 ghost use Rattle.req_table.specs.Keys.{IsKey};
 ghost use Rattle.req_table.specs.Sizes.{sizes_of};
 ghost use Rattle.lane_queue.specs.PortView.{IsPortOf};
@@ -20,7 +20,7 @@ use std::sync::atomic::{AtomicBool, AtomicU64, Ordering};
 use std::thread;
 use std::thread::{Promise, PromisedHandle, Scope, Threads};
 
-/// What a worker's thread promises: the worker's part of the wave.
+/// What the thread of a worker promises: the worker's part of the wave.
 #[derive(Clone, Copy)]
 pub struct PartPromise<'a> {
     lanes: &'a Lanes,
@@ -36,13 +36,13 @@ impl<'a> Promise<Result<Part, WorkFault>> for PartPromise<'a> {
     ghost kept_by = { λ p r. IfOk r (λ part. IsWorked p.lanes.now p.store.now p.roots.now p.number part) };
 }
 
-// A worker's thread.
-type Child<'a> = PromisedHandle<Result<Part, WorkFault>, PartPromise<'a>>;
+// The thread of a worker.
+type WorkerThread<'a> = PromisedHandle<Result<Part, WorkFault>, PartPromise<'a>>;
 
-// Joins all these threads: their parts in order, if each answered one.
+// Joins all these threads. Returns their parts in order, if each has ended with one.
 fn join_all<'a, R: Threads>(
     rt: &R,
-    children: Vec<Child<'a>>,
+    children: Vec<WorkerThread<'a>>,
     parts: Vec<Part>,
 ) -> Result<Vec<Part>, WaveFault>
     requires empty { parts.items ≡ [] }
@@ -65,25 +65,33 @@ fn join_all<'a, R: Threads>(
     }
 }
 
-// Whether the workers may have done the whole wave: each was started, and they found no more requests than they may expand.
+// Whether the workers may have done the whole wave: each was started, and they have found no more requests than they
+// may expand.
 fn have_done(started: bool, context: WaveContext<'_>) -> bool
     ensures { result ≡ true → started ≡ true }
 {
     started && !context.is_past_bound()
 }
 
-// What the threads come to, once all of them were joined. That they have not done the whole wave is reported before any other fault.
-fn outcome_of(done: bool, joined: Result<Vec<Part>, WaveFault>) -> Result<Vec<Part>, WaveFault>
-    ensures { result ≡ (if done then joined else Err WaveFault.NoWorker) }
+// Returns the outcome after all threads were joined. If the run has stopped, that is reported rather than any other
+// fault; then that the workers have not done the whole wave.
+fn outcome_of(
+    stopped: bool,
+    done: bool,
+    joined: Result<Vec<Part>, WaveFault>,
+) -> Result<Vec<Part>, WaveFault>
+    ensures { result ≡ (if stopped then Err WaveFault.Stopped else (if done then joined else Err WaveFault.NoWorker)) }
 {
-    if done {
+    if stopped {
+        Err(WaveFault::Stopped)
+    } else if done {
         joined
     } else {
         Err(WaveFault::NoWorker)
     }
 }
 
-// The parts of the other workers, and behind them the last one's.
+// Returns the parts of the other workers, and after them the last worker's.
 fn with_last(
     others: Result<Vec<Part>, WaveFault>,
     last: Result<Part, WorkFault>,
@@ -110,7 +118,7 @@ fn start<'s, E, R: Wait + Sync, G: Monitor>(
     port: Port,
     space: Option<WorkerMemory>,
     monitor: &'s G,
-) -> Result<Child<'s>, WaveFault>
+) -> Result<WorkerThread<'s>, WaveFault>
     requires port { IsPortOf context.lanes.now port }
     requires fresh { IsFresh port }
     requires sizes { context.lanes.now.sizes ≡ sizes_of context.store.now }
@@ -159,7 +167,7 @@ fn start<'s, E, R: Wait + Sync, G: Monitor>(
     }
 }
 
-// Starts a thread for each port. Where one cannot be started no more are, and those that run are told to stop.
+// Starts a thread for each port. If one cannot be started, no further one is, and the flag stops those that run.
 fn start_all<'s, E, R: Wait + Sync, G: Monitor>(
     scope: &Scope<'s, E>,
     rt: &'s R,
@@ -167,7 +175,7 @@ fn start_all<'s, E, R: Wait + Sync, G: Monitor>(
     ports: Vec<Port>,
     used: MemoryPool,
     monitor: &'s G,
-) -> Result<Vec<Child<'s>>, AllocError>
+) -> Result<Vec<WorkerThread<'s>>, AllocError>
     requires ports { All (IsPortOf context.lanes.now) ports.items }
     requires fresh { All IsFresh ports.items }
     requires sizes { context.lanes.now.sizes ≡ sizes_of context.store.now }
@@ -188,8 +196,8 @@ fn start_all<'s, E, R: Wait + Sync, G: Monitor>(
     Ok(children)
 }
 
-/// What the workers of a wave are given: their lanes, the store, all roots, and the most requests that they may expand together, or the
-/// greatest number if there is no bound.
+/// What the workers of a wave are given. `most` is the most requests that they may expand together, or the greatest
+/// number if there is no bound.
 #[derive(Clone, Copy)]
 pub struct WaveInput<'a> {
     pub alloc: Global,
@@ -199,8 +207,8 @@ pub struct WaveInput<'a> {
     pub most: u64,
 }
 
-// The parts of all workers by number, once all threads were joined. The caller's thread does the last worker's part, and each other
-// worker has a thread of its own: so there are no more threads than workers, and none is started for one worker.
+// Returns the parts of all workers by number, after all threads were joined. The caller's thread does the last worker's
+// part, so there are no more threads than workers, and none is started for one worker.
 fn work_all<'s, E, R: Threads + Wait + Sync, G: Monitor>(
     scope: &Scope<'s, E>,
     rt: &'s R,
@@ -215,6 +223,7 @@ fn work_all<'s, E, R: Threads + Wait + Sync, G: Monitor>(
     ensures parts { IfOk result (λ v. AreWorked context.entry.lanes.now context.entry.store.now context.entry.roots.now v.items) }
     ensures fault { IfErr result (λ f. f ≢ WaveFault.Full) }
     ensures never_too_many_requests { IfErr result (λ f. f ≢ WaveFault.TooManyRequests) }
+    ensures stopped { result ≡ Err WaveFault.Stopped → (G.bound monitor.now).stops ≡ true }
 {
     let parts = Vec::with_capacity(context.alloc, ports.len())?;
     let mut ports = ports;
@@ -229,11 +238,12 @@ fn work_all<'s, E, R: Threads + Wait + Sync, G: Monitor>(
     let last = work(rt, context, own, space, monitor);
     let others = join_all(rt, children, parts);
     let joined = with_last(others, last);
+    let stopped = monitor.has_stopped();
     let done = have_done(started, context);
-    outcome_of(done, joined)
+    outcome_of(stopped, done, joined)
 }
 
-/// The parts of all workers by number, once all threads have ended.
+/// Returns the parts of all workers by number, after all threads have ended.
 pub fn run_workers<R: Threads + Wait + Sync, G: Monitor>(
     rt: &R,
     wave: WaveInput<'_>,
@@ -247,6 +257,7 @@ pub fn run_workers<R: Threads + Wait + Sync, G: Monitor>(
     ensures parts { IfOk result (λ v. AreWorked wave.entry.lanes.now wave.entry.store.now wave.entry.roots.now v.items) }
     ensures fault { IfErr result (λ f. f ≢ WaveFault.Full) }
     ensures never_too_many_requests { IfErr result (λ f. f ≢ WaveFault.TooManyRequests) }
+    ensures stopped { result ≡ Err WaveFault.Stopped → (G.bound monitor.now).stops ≡ true }
 {
     let WaveInput {
         alloc,
@@ -270,6 +281,7 @@ pub fn run_workers<R: Threads + Wait + Sync, G: Monitor>(
             ensures parts { IfOk result (λ v. AreWorked lanes.entry.now store.entry.now roots.entry.now v.items) }
             ensures fault { IfErr result (λ f. f ≢ WaveFault.Full) }
             ensures never_too_many_requests { IfErr result (λ f. f ≢ WaveFault.TooManyRequests) }
+            ensures stopped { result ≡ Err WaveFault.Stopped → (G.bound monitor.entry.now).stops ≡ true }
         {
             let context = WaveContext {
                 alloc,

@@ -11,31 +11,34 @@ ghost use Rattle.expand_work.specs.WorkerResult.{IsFresh, IsWorked};
 
 use crate::context::WaveContext;
 use crate::due::Due;
+use crate::end_counts::EndCounts;
 use crate::expand::{DueByOwner, deal_roots, expand_row};
 use crate::receive::{Senders, keep_own, take_until_closed};
 use crate::send::{send_due, send_ends};
 use crate::tables::Tables;
 use crate::{Monitor, Part, Splits, WorkFault, WorkerMemory};
-use dd_store::Store;
 use lane_queue::Port;
-use level_close::EndCounts;
 use req_table::{Row, Rows};
-use std::alloc::{AllocError, Global};
+use std::alloc::AllocError;
 use std::sync::Wait;
 use std::sync::atomic::Ordering;
 
-/// What a worker has between two levels: its port, what it knows by sender, the keys that it was asked for, by level, the children of
-/// each, and what it has to ask for next, by owner.
+/// What a worker has between two levels.
 #[derive(Drop)]
 pub struct Worker {
+    /// The worker's end of all lanes.
     pub port: Port,
+    /// What it knows of each sender.
     pub senders: Senders,
+    /// The requests that it was asked for, by level.
     pub tables: Tables,
+    /// Their children, by level.
     pub rows: Rows,
+    /// By owner what it has to ask for next.
     pub due: Due,
 }
 
-// Sends what is due, keeps what the worker owns itself, and ends the level on every lane.
+// Sends what is due to the others, keeps what the worker owns itself, and ends the level on every lane.
 fn send_level<R: Wait>(
     rt: &R,
     context: WaveContext<'_>,
@@ -54,12 +57,12 @@ fn send_level<R: Wait>(
         ..
     } = worker;
     send_due(rt, context.lanes, port, due)?;
-    let _ = port.number();
+    let _ = port.number(); // For the proof.
     keep_own(context.lanes, port, senders, tables, due)?;
     send_ends(rt, context.lanes, port, level)
 }
 
-// Expands the level's keys into the row, and leaves their table. How many were expanded.
+// Expands the level's requests into the row, and returns how many they were.
 fn expand_keys(
     context: WaveContext<'_>,
     tables: &mut Tables,
@@ -76,7 +79,7 @@ fn expand_keys(
     ensures count { IfOk result (λ n. n ≡ length (at tables.old level) % 2 ^ 64) }
 {
     let Some(keys) = tables.take(level) else {
-        // No level is expanded twice.
+        // This does not happen: no level is expanded twice. The contract of `take` does not say so.
         return Err(AllocError);
     };
     let mut splits = Splits::new();
@@ -85,7 +88,7 @@ fn expand_keys(
     Ok(splits.count())
 }
 
-// Expands the level's keys, once it is closed, and tells the monitor how many.
+// Expands the requests of the level, which is closed, and notifies the monitor of their number.
 fn expand_level<G: Monitor>(
     context: WaveContext<'_>,
     worker: Worker,
@@ -135,8 +138,9 @@ fn expand_level<G: Monitor>(
     })
 }
 
-// Sends what is due, keeps what it owns itself, and ends the level; takes until the level is closed, notifies the monitor, and
-// expands the level's keys. If the workers have more requests with these than they may expand, it expands nothing and stops them all.
+// Does one level: sends and keeps what is due, ends the level, takes until it is closed, notifies the monitor, and
+// expands the level's requests. If the workers would expand more requests than they may, it expands nothing and stops
+// them all.
 fn do_level<R: Wait, G: Monitor>(
     rt: &R,
     context: WaveContext<'_>,
@@ -166,7 +170,7 @@ fn do_level<R: Wait, G: Monitor>(
     Ok(expand_level(context, worker, level, monitor)?)
 }
 
-// A worker before its first level, which has to ask for its roots.
+// Returns a worker before its first level, from which its share of the roots is due.
 fn begin(
     context: WaveContext<'_>,
     port: Port,
@@ -216,7 +220,7 @@ fn begin(
     })
 }
 
-// Goes through the levels.
+// Goes through all levels.
 fn run_levels<R: Wait, G: Monitor>(
     rt: &R,
     context: WaveContext<'_>,
@@ -232,7 +236,7 @@ fn run_levels<R: Wait, G: Monitor>(
 {
     let mut worker = begin(context, port, used)?;
     for level in 0..context.store.levels() {
-        if context.stop.load(Ordering::SeqCst) {
+        if context.is_stopped(monitor) {
             return Err(WorkFault::Stopped);
         }
         worker = do_level(rt, context, worker, level, monitor)?;
@@ -257,14 +261,15 @@ fn run_levels<R: Wait, G: Monitor>(
     })
 }
 
-/// Does one worker's part of a wave over the lanes' store. At each level it sends all that is due (its roots at level
-/// 0, the children of the level before at each other) to the other workers, in bundles of 64 and then one with the rest,
-/// and keeps what it owns itself; it ends the level on every lane, takes until every sender has ended it, tells the monitor,
-/// and splits the distinct keys that it was asked for at that level.
+/// Does one worker's part of a wave over the lanes' store. At each level it sends all that is due to the other workers,
+/// in bundles of 64 and one with the rest, and keeps what it owns itself; at level 0 its share of the roots is due, at
+/// each other level the children of the level before. Then it ends the level on every lane, takes until every sender
+/// has ended it, notifies the monitor, and splits the distinct requests that it was asked for at this level.
 ///
-/// The flag is read when a level begins and whenever the lane is empty; once it is set the answer is Stopped. A worker sets it before it
-/// answers if it is refused memory, or if its level takes the workers past the most requests that they may expand. It works in the memory
-/// of an earlier wave as far as there is some. After a refusal the port and this memory are gone.
+/// It reads the flag when a level begins and whenever its lane is empty, and fails with Stopped once the flag is set.
+/// It sets the flag itself before it fails: if memory is refused, if its level would take the workers past the most
+/// requests that they may expand, or if the run has stopped when a level begins. It uses the memory `used` of an
+/// earlier wave as far as there is any. After a failure this memory and the port are gone.
 pub fn work<R: Wait, G: Monitor>(
     rt: &R,
     context: WaveContext<'_>,

@@ -1,4 +1,4 @@
--- The first assignment that verdicts tell, and the VCD there.
+-- The first assignment of verdicts, and the VCD there.
 use Rattle.std.proofs.Common.{◌≡◌, ◌∙◌, ℕ, ◌+◌, ◌<◌, ◌≤◌, Bool, true, false, List, ◌∷◌, length, get_or, drop, Option, Some, None, refl, sym, ap, subst}
 use Rattle.std.proofs.lemmas.List.{drop_more}
 use Rattle.report_text.specs.declared.verdict.Verdict.{Verdict}

@@ -1,11 +1,11 @@
--- Explanations one by one, and faults of a report.
-use Rattle.std.proofs.Common.{◌≡◌, ◌∙◌, ◌⊎◌, inl, inr, ℕ, zero, suc, ◌+◌, ◌<◌, ◌≤◌, Bool, true, false, List, [], ◌∷◌, ◌++◌, length, get_or, take, drop, append_assoc, append-nil, Option, Some, None, Result, Ok, Err, IfErr, refl, sym, ap, subst, arith}
+-- Explanations, one after the other, and faults of a report.
+use Rattle.std.proofs.Common.{◌≡◌, ◌∙◌, inl, inr, ℕ, zero, suc, ◌+◌, ◌<◌, ◌≤◌, Bool, true, false, List, [], ◌∷◌, ◌++◌, length, get_or, take, drop, append_assoc, append-nil, Option, Some, None, Result, Ok, Err, IfErr, refl, sym, ap, subst, arith}
 use Rattle.std.specs.Prelude.{cond, find, is_some, All, ◌==◌}
 use Rattle.std.proofs.lemmas.Bool.Decides.{nat_tests}
 use Rattle.std.proofs.lemmas.List.{drop_more, take_more}
 use Rattle.std.specs.Borrow.{Bor}
-use Rattle.net_bench.specs.Circuit.{Circuit, Net, circuit}
-use Rattle.net_order.specs.declared.order.Order.{Order}
+use Rattle.net_bench.specs.Circuit.{Circuit, Net}
+use Rattle.net_names.specs.declared.order.Order.{Order}
 use Rattle.net_order.specs.Order.{NamingModel, condition}
 use Rattle.report_text.specs.declared.cause.PairName.{PairName}
 use Rattle.report_text.specs.declared.verdict.Verdict.{Verdict}
@@ -14,7 +14,7 @@ use Rattle.compare_built.specs.declared.strategy.Attempt.{Attempt}
 use Rattle.compare_built.specs.declared.fault.CheckFault.{CheckFault}
 use Rattle.compare_built.specs.declared.settings.Settings.{Settings}
 use Rattle.compare_built.specs.Attempts.{IsAllowed}
-use Rattle.compare_built.specs.Check.{AreGiven, IsCheckFault, IsCondition}
+use Rattle.compare_built.specs.Check.{IsCheckFault, IsCondition}
 use Rattle.compare_built.specs.Devices.{DeviceTexts}
 use Rattle.explain_report.specs.Explaining.{AreExplained, HaveExplanations, IsAppended, IsExplained, IsReportFault}
 use Rattle.explain_report.proofs.Trying.{none_failed}
@@ -38,7 +38,7 @@ none_left (x ∷ xs) (suc i) h = none_left xs i (omega (arith, h))
 pub found_nowhere : {A : Type 0} (f : A → Bool) (xs : List A) (i : ℕ) → length xs ≤ i → find f (drop i xs) ≡ find f xs → find f xs ≡ None
 found_nowhere f xs i past e = sym e ∙ ap (find f) (none_left xs i past)
 
--- what is found has what all have
+-- what is true of all is true of what is found
 pub all_found : {A : Type 0} (P : A → Type 0) (f : A → Bool) (xs : List A) (x : A) → All P xs → find f xs ≡ Some x → P x
 all_found P f [] x all e = cc
 all_found P f (y ∷ ys) x all e =
@@ -47,7 +47,7 @@ all_found P f (y ∷ ys) x all e =
       | false ↦ λ is. all_found P f ys x (λ i d lt. all (suc i) d (omega (arith, lt))) is
     ] e
 
--- ---- explanations that are added one by one
+-- ---- explanations that are appended one after the other
 
 module _ (a b : Net) (p : NamingModel) (verdicts : List Verdict) where
   one_more : (ts : List PairName) (t : PairName) (bytes one : List ℕ) → AreExplained a b p verdicts ts bytes → IsExplained a b p verdicts t one → AreExplained a b p verdicts (ts ++ t ∷ []) (bytes ++ one)
@@ -60,7 +60,7 @@ module _ (a b : Net) (p : NamingModel) (verdicts : List Verdict) where
       let e : take (i + 1) ts ≡ take i ts ++ t ∷ [] = take_more ts i t lt ∙ ap (λ z. take i ts ++ z ∷ []) (sym here) in
       subst (λ us. AreExplained a b p verdicts us new) (sym e) (subst (AreExplained a b p verdicts (take i ts ++ t ∷ [])) (sym grown) (one_more (take i ts) t old one are is))
 
--- ---- behind a report
+-- ---- after a report
 
 -- something is asked for, or nothing is
 pub some_targets : (ts : List PairName) → false ≡ (length ts == 0) → 0 < length ts
@@ -69,17 +69,17 @@ some_targets ts e = grind (arith, nat_tests)
 pub no_targets : (ts : List PairName) → true ≡ (length ts == 0) → length ts ≡ 0
 no_targets ts e = grind (arith, nat_tests)
 
--- where something is asked for, explanations stand behind
+-- if something is asked for, explanations come after the report
 pub behind_some : (ts : List PairName) (input : DeviceTexts) (s : Settings) (tried : Option Attempt) (found : Found) (bytes : List ℕ) → 0 < length ts → HaveExplanations input s tried found bytes → IsAppended ts input s tried found bytes
 behind_some [] input s tried found bytes some have = absurd (omega (arith, some))
 behind_some (t ∷ ts) input s tried found bytes some have = have
 
--- where nothing is, nothing does
+-- if nothing is, nothing does
 pub behind_none : (ts : List PairName) (input : DeviceTexts) (s : Settings) (tried : Option Attempt) (found : Found) (bytes : List ℕ) → length ts ≡ 0 → bytes ≡ [] → IsAppended ts input s tried found bytes
 behind_none [] input s tried found bytes none is = is
 behind_none (t ∷ ts) input s tried found bytes none is = absurd (omega (arith, none))
 
--- there is a condition where its device is
+-- there is a condition exactly if there is a device for it
 pub condition_in_input : (input : Option (Option (List ℕ))) (c : Option Circuit) → IsCondition input c → is_some input ≡ is_some c
 condition_in_input None None h = refl
 condition_in_input None (Some c) h = absurd h

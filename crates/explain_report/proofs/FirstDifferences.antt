@@ -1,5 +1,5 @@
--- First inner signals of pairs, and causes, one by one.
-use Rattle.std.proofs.Common.{◌≡◌, ◌∙◌, ℕ, zero, suc, ◌+◌, ◌<◌, ◌≤◌, Bool, true, false, List, [], ◌∷◌, ◌++◌, length, get_or, take, drop, map, append_assoc, append-nil, Option, Some, None, Result, Ok, Err, refl, sym, ap, subst, arith}
+-- First inner signals of pairs, and causes, one after the other.
+use Rattle.std.proofs.Common.{◌≡◌, ◌∙◌, ℕ, ◌+◌, ◌<◌, ◌≤◌, Bool, true, false, List, [], ◌∷◌, ◌++◌, length, get_or, take, drop, map, append_assoc, append-nil, Option, Some, None, Result, Ok, Err, refl, sym, ap, subst, arith}
 use Rattle.std.specs.Prelude.{cond, filter, option_map, option_to_list, slice_get, find, All, IfOk, IfSome, if◌then◌else◌}
 use Rattle.std.specs.List.{list_any}
 use Rattle.std.proofs.lemmas.List.{drop_more, map-append, take_more}
@@ -45,7 +45,7 @@ of_verdict a b p pairs r t bits v role name at first second extras differs named
     (subst (λ (u : PairName). IfOk r (IsPairFirstDifference a b p u at (find (is_subject_of (circuit a) u) pairs))) named
     (subst (λ (x : List Bool). IfOk r (IsPairFirstDifference a b p t x (find (is_subject_of (circuit a) t) pairs))) same is))
 
--- what all have the first has
+-- what is true of all is true of the first
 pub first_has : {A : Type 0} (P : A → Type 0) (xs : List A) (o : Option A) → o ≡ slice_get xs 0 → All P xs → IfSome o P
 first_has P [] o e all = subst (λ z. IfSome z P) (sym e) tt
 first_has P (x ∷ xs) o e all = subst (λ z. IfSome z P) (sym e) (all 0 x (omega arith))
@@ -62,7 +62,7 @@ of_one P (Some x) h = All-cons P x [] h (All-nil P)
 pub all_more : {A : Type 0} (P : A → Type 0) (old new : List A) (o : Option A) → All P old → IfSome o P → new ≡ old ++ option_to_list o → All P new
 all_more P old new o all one grown = subst (All P) (sym grown) (All-append P old (option_to_list o) all (of_one P o one))
 
--- ---- pairs under a cause
+-- ---- pairs of a cause
 
 module _ (signal : ℕ) (l : FirstDifference) (old new : List PairName) where
   pub is_caused_by : (name : PairName) → has_first_signal signal l ≡ true → name ≡ l.pair → new ≡ old ++ name ∷ [] → new ≡ old ++ map (λ (one : FirstDifference). one.pair) (filter (has_first_signal signal) (l ∷ []))
@@ -87,7 +87,7 @@ module _ (f : InnerSignal → Caused) (before : List FirstDifference) (i : Inner
   pub comes_again : list_any (has_first_signal i.first) before ≡ true → new ≡ old → new ≡ old ++ map f (first_time before i)
   comes_again again same = same ∙ sym (append-nil old) ∙ ap (λ b. old ++ map f (if b then [] else i ∷ [])) (sym again)
 
--- one pair further
+-- one more pair
 pub next_cause : (f : InnerSignal → Caused) (xs : List FirstDifference) (i : ℕ) (x : FirstDifference) (all old new : List Caused) → i < length xs → x ≡ get_or xs i x → old ++ map f (first_signals (take i xs) (drop i xs)) ≡ all
     → new ≡ old ++ map f (first_time (take i xs) x.inner) → new ++ map f (first_signals (take (i + 1) xs) (drop (i + 1) xs)) ≡ all
 next_cause f xs i x all old new lt here before grown =
@@ -104,13 +104,13 @@ next_cause f xs i x all old new lt here before grown =
 pub none_to_come : (f : InnerSignal → Caused) (before xs : List FirstDifference) (i : ℕ) (all old : List Caused) → length xs ≤ i → old ++ map f (first_signals before (drop i xs)) ≡ all → old ≡ all
 none_to_come f before xs i all old past e = sym (ap (λ ls. old ++ map f (first_signals before ls)) (none_left xs i past) ∙ append-nil old) ∙ e
 
--- causes of all that are led
+-- the causes of all pairs that have first inner signals
 pub of_all : {E : Type 0} (a b : Net) (p : NamingModel) (pairs : List Subject) (verdicts : List Verdict) (differences list : List FirstDifference) (r : Result Causes E) → AreFirstDifferences a b p pairs verdicts differences → list ≡ differences
     → IfOk r (λ causes. causes.items ≡ causes_of a.names list) → IfOk r (λ causes. (l : List FirstDifference) × AreFirstDifferences a b p pairs verdicts l × (causes.items ≡ causes_of a.names l))
 of_all a b p pairs verdicts differences list (Ok causes) are same is = (differences, are, is ∙ ap (causes_of a.names) same)
 of_all a b p pairs verdicts differences list (Err e) are same is = tt
 
--- ---- whether they are told
+-- ---- whether causes are asked for
 
 module _ (input : DeviceTexts) (s : Settings) (tried : Option Attempt) (found : Found) where
   pub unasked : s.causes ≡ false → AreCauses s.causes input s tried found None

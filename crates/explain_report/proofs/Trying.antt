@@ -3,13 +3,14 @@ use Rattle.std.proofs.Common.{◌≡◌, ℕ, List, Option, Some, None, Result, 
 use Rattle.std.specs.Prelude.{IfSome, IsSomeAnd, is_some, option_map}
 use Rattle.std.specs.Option.{option_copied}
 use Rattle.std.specs.Borrow.{Bor}
-use Rattle.net_order.specs.declared.order.Match.{Match}
-use Rattle.net_order.specs.declared.order.Order.{Order}
-use Rattle.net_order.specs.declared.order.Order.TheVariants as orders
+use Rattle.expand_work.specs.Bounds.{WaveBound}
+use Rattle.net_names.specs.declared.order.Match.{Match}
+use Rattle.net_names.specs.declared.order.Order.{Order}
+use Rattle.net_names.specs.declared.order.Order.TheVariants as orders
 use Rattle.compare_built.specs.declared.strategy.AttemptOrder.{AttemptOrder}
 use Rattle.compare_built.specs.declared.strategy.AttemptOrder.TheVariants as tried_orders
 use Rattle.compare_built.specs.declared.strategy.Strategy.{Strategy}
-use Rattle.compare_built.specs.declared.strategy.Strategy.TheVariants.{One, Computed, Best, Auto, Cones, Merge}
+use Rattle.compare_built.specs.declared.strategy.Strategy.TheVariants.{One, Computed, Best, Auto, Cones, ConesByList, Merge}
 use Rattle.compare_built.specs.declared.fault.CheckFault.{CheckFault}
 use Rattle.compare_built.specs.declared.fault.CheckFault.TheVariants.{First, Second, Given, GivenOutputs, Order as OrderRefused, Only, Explain, Wave, GivenUp, Write, OutOfMemory}
 use Rattle.compare_built.specs.declared.strategy.Attempt.{Attempt}
@@ -40,6 +41,7 @@ some_order Best = (orders.Declared, refl)
 some_order Auto = (orders.Declared, refl)
 some_order Cones = (orders.Declared, refl)
 some_order Merge = (orders.Declared, refl)
+some_order (ConesByList names) = (orders.Declared, refl)
 
 -- a fault for which no device had to fail
 unread : (input : Option (List ℕ)) (failed : Type 0) (fault : BenchFault) → IsUnread input ⊥ fault → IsUnread input failed fault
@@ -69,7 +71,7 @@ module _ (input : DeviceTexts) (first second third : Type 0) (how : Match) (choi
   none_failed_in (Ok v) h = tt
   none_failed_in (Err fault) h = (h.0, h.1, none_failed input first second third choice how h.0 fault h.2)
 
--- why there is no condition, where both texts were accepted
+-- why there is no condition, if both texts were accepted
 pub condition_fault : (input : DeviceTexts) (a b : Circuit) (first second third : Type 0) (choice : Strategy) (how : Match) (order : Order) (fault : CheckFault) → Gives input.first a → Gives input.second b →
     IsConditionFault input.given third fault → IsCheckFault input first second third choice how order fault
 condition_fault input a b first second third choice how order (First fault) ga gb f = absurd f
@@ -99,23 +101,23 @@ one_output_of input None h = tt
 one_output_of None (Some c) h = absurd h
 one_output_of (Some text) (Some c) h = h.1
 
--- there is a text where there is a device
+-- there is a text exactly if there is a device
 pub has_input : {R : Type 0} (text_of : R → Option (List ℕ)) (r : Option R) → is_some (device_text text_of r) ≡ is_some r
 has_input text_of None = refl
 has_input text_of (Some device) = refl
 
 -- the bytes of a report, by whether there is a condition, and by its causes
-pub form_as : (json : Bool) (which : Option Assignment) (how : Match) (kind : OrderKind) (share : Option Share) (found : Found) (items : List ℕ) (h given : Bool) (list causes : Option (List Caused))
-    → items ≡ form_text json which how kind h share list found → h ≡ given → list ≡ causes → items ≡ form_text json which how kind given share causes found
-form_as json which how kind share found items h given list causes e input same = e ∙ ap₂ (λ (z : Bool) (cs : Option (List Caused)). form_text json which how kind z share cs found) input same
+pub form_as : (json : Bool) (which : Option Assignment) (how : Match) (kind : OrderKind) (share : Option Share) (stopped : Bool) (found : Found) (items : List ℕ) (h given : Bool) (list causes : Option (List Caused))
+    → items ≡ form_text json which how kind h share stopped list found → h ≡ given → list ≡ causes → items ≡ form_text json which how kind given share stopped causes found
+form_as json which how kind share stopped found items h given list causes e input same = e ∙ ap₂ (λ (z : Bool) (cs : Option (List Caused)). form_text json which how kind z share stopped cs found) input same
 
--- what has a pairing is accepted, for any choice
+-- what has a pairing is accepted, for any choice of an order
 pub accepted_in : (choice : Strategy) (input : DeviceTexts) (how : Match) (order : Order) (a b : Circuit) (c : Option Circuit) (p : NamingModel) → ArePaired input how order a b c p → AreAccepted input choice how order
 accepted_in choice input how order a b c p paired =
     (a, b, c, p, record { netlists = paired.netlists; naming = paired.pairing.naming }, few_for choice how a b c paired.pairing.few)
 
 module _ (choice : Strategy) (input : DeviceTexts) (how : Match) where
-  -- where there is a pairing in the order of an attempt, declared order is accepted
+  -- if there is a pairing in the order of an attempt, declared order is accepted
   pub accepted_declared : (o : AttemptOrder) (order : Order) (a b : Circuit) (c : Option Circuit) (p : NamingModel) → IsOrderIn input how o order → ArePaired input how order a b c p → AreAccepted input choice how orders.Declared
   accepted_declared (tried_orders.Computed k) order a b c p (x, y, z, given, made) paired =
       let q = made.by_rule.0 in
@@ -126,7 +128,7 @@ module _ (choice : Strategy) (input : DeviceTexts) (how : Match) where
       accepted_in choice input how orders.Declared x y z q (record { netlists = given; pairing = declared })
   accepted_declared tried_orders.Declared order a b c p (x, y, z, given, same) paired = accepted_in choice input how orders.Declared a b c p (subst (λ k. ArePaired input how k a b c p) same paired)
 
--- what has the order of a report is accepted, in an order in which faults have their causes
+-- the order of a report is accepted as one in which faults have their causes
 pub chosen_accepted : (input : DeviceTexts) (how : Match) (choice : Strategy) (limit : ℕ) (tried : Option Attempt) (order : Order) (a b : Circuit) (c : Option Circuit) (p : NamingModel) → ArePaired input how order a b c p →
     IsChosen input how choice limit tried order → (k : Order) × IsAllowed choice k × AreAccepted input choice how k
 chosen_accepted input how (One o) limit None order a b c p paired is = (order, is.0, accepted_in (One o) input how order a b c p paired)
@@ -140,9 +142,10 @@ chosen_accepted input how Auto limit None order a b c p paired is = absurd is
 chosen_accepted input how Auto limit (Some t) order a b c p paired is = (order, is.0, accepted_in Auto input how order a b c p paired)
 chosen_accepted input how Cones limit tried order a b c p paired is = absurd is
 chosen_accepted input how Merge limit tried order a b c p paired is = absurd is
+chosen_accepted input how (ConesByList names) limit tried order a b c p paired is = absurd is
 
 -- what is found is accepted, in an order that is allowed
-pub found_accepted : (input : DeviceTexts) (s : Settings) (bound : Option ℕ) (found : Found) (tried : Option Attempt) → IsFoundBy input s bound found tried →
+pub found_accepted : (input : DeviceTexts) (s : Settings) (bound : WaveBound) (found : Found) (tried : Option Attempt) → IsFoundBy input s bound found tried →
     (order : Order) × IsAllowed s.order order × AreAccepted input s.order s.matching order
 found_accepted input s bound found tried (in_order order j chosen) = chosen_accepted input s.matching s.order s.limit tried order j.a j.b j.c j.p j.paired chosen
 found_accepted input s bound found None (by_cones cause j last) = (orders.Declared, declared_allowed s.order cause, (j.a, j.b, j.c, j.p, j.named, any_for s.order s.matching j.a j.b j.c (may_go s.order cause)))
@@ -154,6 +157,7 @@ found_accepted input s bound found None (by_cones cause j last) = (orders.Declar
     declared_allowed Auto cause = refl
     declared_allowed Cones cause = refl
     declared_allowed Merge cause = refl
+    declared_allowed (ConesByList names) cause = refl
 
     may_go : (choice : Strategy) → MayTakeCones input s bound choice → MayGoByCones choice
     may_go (One o) cause = absurd cause
@@ -162,3 +166,4 @@ found_accepted input s bound found None (by_cones cause j last) = (orders.Declar
     may_go Auto cause = tt
     may_go Cones cause = tt
     may_go Merge cause = tt
+    may_go (ConesByList names) cause = tt

@@ -1,4 +1,4 @@
--- What pairs that differ have in common: the first inner signal that differs.
+-- Causes: the first inner signals that differ, which pairs have in common.
 use Rattle.std.specs.Prelude.{◌≡◌, ℕ, ◌==◌, Bool, true, false, List, [], ◌∷◌, ◌++◌, map, filter, find, if◌then◌else◌, Option, Some, None}
 use Rattle.std.specs.Prelude.{IsSomeAnd, option_map, option_to_list, slice_get, slice_index_or}
 use Rattle.std.specs.List.{list_any}
@@ -27,13 +27,13 @@ use Rattle.compare_built.specs.Report.{subjects}
 abbrev pub first_difference : PairName → InnerSignal → FirstDifference
 first_difference t inner = record { pair = t; inner = inner }
 
--- a pair with the first of its inner signals that differ at the assignment, where it is one of those that are compared and one does
+-- a pair with the first of its inner signals that differ at the assignment; None if it is not one of the compared pairs, or none does
 abbrev pub IsPairFirstDifference : Net → Net → NamingModel → PairName → List Bool → Option Subject → Option FirstDifference → Type 0
 IsPairFirstDifference a b p t at None differences = differences ≡ None
 IsPairFirstDifference a b p t at (Some s) differences = (e : ExplanationModel) × IsExplanation a b p (s.first, s.second) at e
     × (differences ≡ option_map (first_difference t) (slice_get e.inner 0))
 
--- the same of the pair that a verdict is on, where it differs
+-- the same for the pair of a verdict; None if it does not differ
 abbrev pub IsFirstDifference : Net → Net → NamingModel → List Subject → Verdict → Option FirstDifference → Type 0
 IsFirstDifference a b p pairs (Equal role name size) differences = differences ≡ None
 IsFirstDifference a b p pairs (Differs role name at first second extras) differences =
@@ -41,7 +41,7 @@ IsFirstDifference a b p pairs (Differs role name at first second extras) differe
 IsFirstDifference a b p pairs (Unmatched side role name) differences = differences ≡ None
 IsFirstDifference a b p pairs (Undecided role name) differences = differences ≡ None
 
--- these are all of them, in the order of the verdicts
+-- these are all such pairs, in the order of the verdicts
 abbrev pub AreFirstDifferences : Net → Net → NamingModel → List Subject → List Verdict → List FirstDifference → Type 0
 AreFirstDifferences a b p pairs [] differences = differences ≡ []
 AreFirstDifferences a b p pairs (v ∷ vs) differences = (one : Option FirstDifference) × (rest : List FirstDifference) × IsFirstDifference a b p pairs v one × AreFirstDifferences a b p pairs vs rest
@@ -49,11 +49,11 @@ AreFirstDifferences a b p pairs (v ∷ vs) differences = (one : Option FirstDiff
 
 -- ---- causes
 
--- the pair has this first inner signal
+-- this is the first inner signal of the pair
 abbrev pub has_first_signal : ℕ → FirstDifference → Bool
 has_first_signal signal l = l.inner.first == signal
 
--- the cause that an inner signal is: of the pairs that have it as their first
+-- the cause that an inner signal is, with the pairs that have it as their first
 abbrev pub cause_of : List (List ℕ) → List FirstDifference → InnerSignal → Caused
 cause_of names differences i =
     record {
@@ -63,11 +63,11 @@ cause_of names differences i =
       pairs = map (λ one. one.pair) (filter (has_first_signal i.first) differences);
     }
 
--- an inner signal, where none of the pairs before has it
+-- an inner signal, unless it is that of one of the pairs before
 abbrev pub first_time : (before : List FirstDifference) → InnerSignal → List InnerSignal
 first_time before i = if list_any (has_first_signal i.first) before then [] else i ∷ []
 
--- the first inner signals of pairs behind others, each once, where it comes first
+-- the first inner signals of pairs after others, each only once, where it first comes
 abbrev pub first_signals : (before : List FirstDifference) → List FirstDifference → List InnerSignal
 first_signals before [] = []
 first_signals before (l ∷ ls) = first_time before l.inner ++ first_signals (before ++ l ∷ []) ls
@@ -76,9 +76,9 @@ first_signals before (l ∷ ls) = first_time before l.inner ++ first_signals (be
 abbrev pub causes_of : List (List ℕ) → List FirstDifference → List Caused
 causes_of names differences = map (cause_of names differences) (first_signals [] differences)
 
--- ---- in a report
+-- ---- causes in a report
 
--- These are the causes of what was found: of the pairs of the netlists that the devices gave, at the assignments of the verdicts.
+-- These are the causes of the findings: for the pairs of the netlists that the devices gave, at the assignments of the verdicts.
 pub record HaveCauses (input : DeviceTexts) (s : Settings) (tried : Option Attempt) (found : Found) (list : List Caused) : Type 0 where
   pub a : Net
   pub b : Net
@@ -94,15 +94,15 @@ pub record HaveCauses (input : DeviceTexts) (s : Settings) (tried : Option Attem
   pub are_first_differences : AreFirstDifferences a b p (subjects (circuit a) (circuit b) p) found.verdicts differences
   pub causes : list ≡ causes_of a.names differences
 
--- the causes that a report tells, where they are asked for
+-- the causes that a report has, if they are asked for
 abbrev pub AreCauses : (asked : Bool) → DeviceTexts → Settings → Option Attempt → Found → Option (List Caused) → Type 0
 AreCauses false input s tried found causes = causes ≡ None
 AreCauses true input s tried found causes = IsSomeAnd causes (HaveCauses input s tried found)
 
--- causes as a comparison answers them
+-- causes in the form that a comparison returns
 abbrev pub Causes : Type 0
 Causes = Vec Caused Global
 
--- these, where there are some
+-- these as a list, if there are any
 abbrev pub causes_in : Option Causes → Option (List Caused)
 causes_in causes = option_map (λ (v : Causes). v.items) causes

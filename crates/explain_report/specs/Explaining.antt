@@ -1,32 +1,33 @@
--- What stands behind a report: an explanation of each pair that is asked for.
+-- What comes after a report: an explanation of each pair that is asked for.
 use Rattle.std.specs.Prelude.{◌≡◌, ◌⊎◌, ℕ, Bool, true, false, ◌&&◌, List, [], ◌∷◌, ◌++◌, map, find, Option, Some, None, Contains, IsTrue}
-use Rattle.std.specs.Prelude.{bytes_eq, codes}
+use Rattle.std.specs.Prelude.{bytes_eq, codes, ⊤}
 use Rattle.net_bench.specs.Circuit.{Circuit, IsNet, Net, circuit}
 use Rattle.net_explain.specs.Explaining.{ExplanationModel, IsExplanation}
 use Rattle.net_explain.specs.Text.{explanation_text}
-use Rattle.net_order.specs.declared.order.Match.{Match}
-use Rattle.net_order.specs.declared.order.Order.{Order}
-use Rattle.net_order.specs.declared.order.Order.TheVariants as orders
+use Rattle.net_names.specs.declared.order.Match.{Match}
+use Rattle.net_names.specs.declared.order.Order.{Order}
+use Rattle.net_names.specs.declared.order.Order.TheVariants as orders
 use Rattle.net_order.specs.Order.{NamingModel, name_of, registers_of}
 use Rattle.report_text.specs.declared.cause.PairName.{PairName}
 use Rattle.report_text.specs.declared.outcome.PairKind.{PairKind}
 use Rattle.report_text.specs.declared.outcome.PairKind.TheVariants.{Output, NextState}
 use Rattle.report_text.specs.declared.verdict.Verdict.{Verdict}
 use Rattle.report_text.specs.declared.verdict.Verdict.TheVariants.{Equal, Differs, Unmatched, Undecided}
-use Rattle.report_text.specs.Findings.{VerdictsModel}
+use Rattle.compare_built.specs.Findings.{VerdictsModel}
 use Rattle.report_text.specs.Lines.{Found, subject_text}
 use Rattle.compare_built.specs.declared.strategy.Attempt.{Attempt}
 use Rattle.compare_built.specs.declared.strategy.Strategy.{Strategy}
-use Rattle.compare_built.specs.declared.strategy.Strategy.TheVariants.{One, Computed, Best, Auto, Cones, Merge}
+use Rattle.compare_built.specs.declared.strategy.Strategy.TheVariants.{One, Computed, Best, Auto, Cones, ConesByList, Merge}
 use Rattle.compare_built.specs.declared.strategy.AttemptOrder.TheVariants as tried_orders
 use Rattle.compare_built.specs.declared.fault.CheckFault.{CheckFault}
-use Rattle.compare_built.specs.declared.fault.CheckFault.TheVariants.{Explain}
+use Rattle.compare_built.specs.declared.fault.CheckFault.TheVariants.{First, Second, Given, GivenOutputs, Explain, Order as OrderRefused, Only, Wave}
+use Rattle.compare_built.specs.declared.fault.CheckFault.TheVariants.{GivenUp, Write, OutOfMemory}
 use Rattle.compare_built.specs.declared.settings.Settings.{Settings}
 use Rattle.compare_built.specs.declared.subject.Subject.{Subject}
 use Rattle.compare_built.specs.declared.task.Task.{Task}
 use Rattle.compare_built.specs.Attempts.{IsAllowed}
 use Rattle.compare_built.specs.Candidates.{IsOrderOf}
-use Rattle.compare_built.specs.Check.{AreGiven, HaveNaming, IsCheckFault}
+use Rattle.compare_built.specs.Check.{AreGiven, Gives, HaveNaming, IsCheckFault}
 use Rattle.compare_built.specs.Devices.{DeviceTexts}
 use Rattle.compare_built.specs.PairSelection.{is_among}
 use Rattle.compare_built.specs.Report.{subjects}
@@ -36,14 +37,14 @@ use Rattle.order_search.specs.Trials.{IsNamingIn}
 
 -- ---- what is asked for
 
--- two roles are one
+-- the two roles are the same
 abbrev pub is_same_role : PairKind → PairKind → Bool
 is_same_role Output Output = true
 is_same_role Output NextState = false
 is_same_role NextState Output = false
 is_same_role NextState NextState = true
 
--- this role and this name are asked for
+-- this role and this name are those that are asked for
 abbrev pub is_target : PairName → PairKind → List ℕ → Bool
 is_target t role name = is_same_role t.role role && bytes_eq t.name name
 
@@ -66,22 +67,22 @@ HasUnknownTarget a targets = (t : PairName) × Contains targets t × (IsTargetIn
 
 -- ---- an explanation
 
--- what is said of a pair where there is no assignment to explain it at
+-- the line for a pair that has no assignment at which it could be explained
 abbrev pub status_text : PairName → List ℕ → List ℕ
 status_text t said = codes "EXPLAIN " ++ (subject_text t.role t.name ++ (codes ": " ++ (said ++ 10 ∷ [])))
 
--- the pair is that which is asked for
+-- the pair is the one that is asked for
 abbrev pub is_subject_of : Circuit → PairName → Subject → Bool
 is_subject_of a t s = is_target t s.role (name_of a s.named)
 
--- the verdict is on it
+-- the verdict is about the pair that is asked for
 abbrev pub is_verdict_on : PairName → Verdict → Bool
 is_verdict_on t (Equal role name size) = is_target t role name
 is_verdict_on t (Differs role name at first second extras) = is_target t role name
 is_verdict_on t (Unmatched side role name) = is_target t role name
 is_verdict_on t (Undecided role name) = is_target t role name
 
--- The text is what is said of a pair with this verdict: where it differs, what explains that at the assignment of the verdict.
+-- The text explains a pair with this verdict: if it differs, by its inner signals at the assignment of the verdict.
 abbrev pub ExplainsVerdict : Net → Net → NamingModel → PairName → Subject → Verdict → List ℕ → Type 0
 ExplainsVerdict a b p t s (Equal role name size) text = text ≡ status_text t (codes "equal")
 ExplainsVerdict a b p t s (Differs role name at first second extras) text =
@@ -89,12 +90,12 @@ ExplainsVerdict a b p t s (Differs role name at first second extras) text =
 ExplainsVerdict a b p t s (Unmatched side role name) text = text ≡ status_text t (codes "no partner")
 ExplainsVerdict a b p t s (Undecided role name) text = text ≡ status_text t (codes "undecided")
 
--- the same of a pair with its verdict, which it may not have where only some pairs are compared
+-- the same for a pair with its verdict; it has none if it was not among the compared ones
 abbrev pub ExplainsPair : Net → Net → NamingModel → PairName → Subject → Option Verdict → List ℕ → Type 0
 ExplainsPair a b p t s None text = text ≡ status_text t (codes "not compared")
 ExplainsPair a b p t s (Some v) text = ExplainsVerdict a b p t s v text
 
--- the same of what is asked for, which may be in no pair
+-- the same for what is asked for, which may be in no pair
 abbrev pub ExplainsTarget : Net → Net → NamingModel → PairName → Option Subject → Option Verdict → List ℕ → Type 0
 ExplainsTarget a b p t None v text = text ≡ status_text t (codes "no partner")
 ExplainsTarget a b p t (Some s) v text = ExplainsPair a b p t s v text
@@ -104,15 +105,15 @@ abbrev pub IsExplained : Net → Net → NamingModel → List Verdict → PairNa
 IsExplained a b p verdicts t text = ExplainsTarget a b p t (find (is_subject_of (circuit a) t) (subjects (circuit a) (circuit b) p))
     (find (is_verdict_on t) verdicts) text
 
--- the bytes are the explanations of all that is asked for, one behind the other
+-- the bytes are the explanations of all that is asked for, one after the other
 abbrev pub AreExplained : Net → Net → NamingModel → List Verdict → List PairName → List ℕ → Type 0
 AreExplained a b p verdicts [] bytes = bytes ≡ []
 AreExplained a b p verdicts (t ∷ ts) bytes = (one rest : List ℕ) × IsExplained a b p verdicts t one × AreExplained a b p verdicts ts rest
     × (bytes ≡ one ++ rest)
 
--- ---- behind a report
+-- ---- after a report
 
--- the order in which a report has the variables of two netlists
+-- the order that the variables of two netlists have in a report
 abbrev pub IsReportedOrder : Strategy → Option Attempt → Match → Circuit → Circuit → Option Circuit → Order → Type 0
 IsReportedOrder (One o) tried how a b c order = order ≡ o
 IsReportedOrder (Computed k) tried how a b c order = IsOrderOf how a b c (tried_orders.Computed k) order
@@ -121,18 +122,19 @@ IsReportedOrder Best None how a b c order = order ≡ orders.Declared
 IsReportedOrder Auto tried how a b c order = order ≡ orders.Declared
 IsReportedOrder Cones tried how a b c order = order ≡ orders.Declared
 IsReportedOrder Merge tried how a b c order = order ≡ orders.Declared
+IsReportedOrder (ConesByList names) tried how a b c order = order ≡ orders.Declared
 
--- the devices gave these netlists, and this is their naming in the order in which the report of this attempt has the variables
+-- the devices gave these netlists, and this is their naming in the order that the variables have in the report of this attempt
 abbrev pub HaveReportedNaming : DeviceTexts → Settings → Option Attempt → Circuit → Circuit → Option Circuit → NamingModel → Type 0
 HaveReportedNaming input s tried a b c p =
     (order : Order) × IsReportedOrder s.order tried s.matching a b c order × HaveNaming input s.matching order a b c p
 
--- the naming of these verdicts is that of the task's netlists, in the order in which the report of this attempt has the variables
+-- the naming of these verdicts is that of the task's netlists, in the order that the variables have in the report of this attempt
 abbrev pub HaveReportNaming : {H : Type 0} → Task H → Option Attempt → VerdictsModel → Type 0
 HaveReportNaming task tried v = (order : Order) × IsReportedOrder task.settings.now.order tried task.settings.now.matching
     (circuit task.first.now) (circuit task.second.now) (condition task.given) order × IsNamingIn task order v.naming
 
--- this holds of a task as `OfTask` says, and of each attempt whose report these verdicts have the naming of
+-- P is true for a task as `OfTask` says, and for each attempt whose report has the naming of these verdicts
 abbrev pub OfReport : {H : Type 0} → Task H → VerdictsModel → (DeviceTexts → Settings → Option Attempt → Type 0) → Type 0
 OfReport task v P = OfTask task (λ input s. (tried : Option Attempt) → HaveReportNaming task tried v → P input s tried)
 
@@ -151,14 +153,32 @@ pub record HaveExplanations (input : DeviceTexts) (s : Settings) (tried : Option
   pub known : AreTargetsIn (circuit a) s.explain.items
   pub explained : AreExplained a b p found.verdicts s.explain.items bytes
 
--- what stands behind the report: nothing where nothing is asked for
+-- what comes after the report: nothing if nothing is asked for
 abbrev pub IsAppended : List PairName → DeviceTexts → Settings → Option Attempt → Found → List ℕ → Type 0
 IsAppended [] input s tried found bytes = bytes ≡ []
 IsAppended (t ∷ ts) input s tried found bytes = HaveExplanations input s tried found bytes
 
 -- ---- why there is no report
 
--- what is asked for is refused: one name is no output and no register of the first netlist that the devices gave
+-- the first netlist that the devices gave has each output and each register that is to be explained
+abbrev pub AreTargetsKnown : DeviceTexts → List PairName → Type 0
+AreTargetsKnown input targets = (a : Circuit) × Gives input.first a × AreTargetsIn a targets
+
+-- A fault that is sought after the names of what is to be explained: it is none of reading, and not that such a name is unknown.
+abbrev pub IsAfterNames : CheckFault → Type 0
+IsAfterNames (First fault) = ⊥
+IsAfterNames (Second fault) = ⊥
+IsAfterNames (Given fault) = ⊥
+IsAfterNames GivenOutputs = ⊥
+IsAfterNames Explain = ⊥
+IsAfterNames (OrderRefused fault) = ⊤
+IsAfterNames Only = ⊤
+IsAfterNames (Wave fault) = ⊤
+IsAfterNames GivenUp = ⊤
+IsAfterNames Write = ⊤
+IsAfterNames OutOfMemory = ⊤
+
+-- what is asked for is refused, because one name is no output and no register of the first netlist that the devices gave
 pub record IsUnexplained (input : DeviceTexts) (targets : List PairName) (fault : CheckFault) : Type 0 where
   pub is : fault ≡ Explain
   pub a : Circuit
@@ -167,7 +187,7 @@ pub record IsUnexplained (input : DeviceTexts) (targets : List PairName) (fault 
   pub given : AreGiven input a b c
   pub unknown : HasUnknownTarget a targets
 
--- why there is no report: what is asked for is refused, or there is another cause, where this says that the devices have failed
+-- why there is no report: what is asked for is refused, or for another cause; the three types say that the devices have failed
 abbrev pub IsReportFault : DeviceTexts → (first_failed second_failed given_failed : Type 0) → Settings → CheckFault → Type 0
 IsReportFault input first_failed second_failed given_failed s fault =
     IsUnexplained input s.explain.items fault ⊎ ((order : Order) × IsAllowed s.order order

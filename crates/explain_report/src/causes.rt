@@ -1,4 +1,4 @@
-//! The causes of the pairs that differ: their first inner signals, each with the pairs that have it.
+//! The causes of differences: the first inner signals of the pairs that differ, each with all pairs of which it is the first.
 ghost use Rattle.std.specs.Prelude.{◌≡◌, ◌<◌, ◌≤◌, ◌++◌, ◌∷◌, [], List, Option, length, map, filter, take, option_map, All, IfOk, OnOk};
 ghost use Rattle.std.specs.List.{list_any};
 ghost use Rattle.net_bench.specs.Circuit.{circuit};
@@ -7,26 +7,27 @@ ghost use Rattle.compare_built.specs.declared.strategy.Attempt.{Attempt};
 ghost use Rattle.explain_report.specs.Causing.{AreCauses, AreFirstDifferences, cause_of, causes_in, causes_of, first_time, has_first_signal};
 ghost use Rattle.compare_built.specs.Comparing.{IsInside};
 ghost use Rattle.explain_report.specs.Explaining.{HaveReportNaming, OfReport};
-ghost use Rattle.report_text.specs.Findings.{found_of};
+ghost use Rattle.compare_built.specs.Findings.{found_of};
 
 use crate::first_differences::{FirstDifference, all_first_differences};
 use compare_built::compared_pairs::subjects_of;
+use compare_built::found::Verdicts;
 use compare_built::subject::Subject;
 use compare_built::task::Task;
 use net_bench::netlist::{Netlist, Signal};
 use net_explain::InnerSignal;
 use net_order::naming::Naming;
-use report_text::{Cause, Name, PairName, Verdict, Verdicts};
+use report_text::{Cause, Name, PairName, Verdict};
 use std::alloc::{AllocError, Global};
 
-/// Whether a pair has this first inner signal.
+/// Whether this is the first inner signal of a pair.
 fn has_first_signal(signal: Signal, difference: &FirstDifference) -> bool
     ensures { result ≡ has_first_signal signal difference.now }
 {
     difference.inner.first.number() == signal.number()
 }
 
-/// Whether one of these pairs has it.
+/// Whether it is that of one of these pairs.
 fn any_has_first_signal(signal: Signal, differences: &[FirstDifference]) -> bool
     ensures { result ≡ list_any (has_first_signal signal) differences.now }
 {
@@ -49,7 +50,7 @@ fn copied(alloc: Global, pair: &PairName) -> Result<PairName, AllocError>
     })
 }
 
-/// Adds the name of a pair, where it has this first inner signal.
+/// Appends the name of a pair, if this is its first inner signal.
 fn add_if_caused_by(
     alloc: Global,
     signal: Signal,
@@ -81,7 +82,7 @@ fn pairs_caused_by(
     Ok(pairs)
 }
 
-/// The cause that an inner signal of a netlist is, of those of the pairs that have it as their first.
+/// The cause that an inner signal is, with those of the pairs that have it as their first.
 fn cause_of(
     alloc: Global,
     net: &Netlist,
@@ -96,7 +97,7 @@ fn cause_of(
     Ok(Cause::of(signal, (inner.first_line, inner.second_line), pairs))
 }
 
-/// Adds the cause that an inner signal is, where none of the pairs before has it.
+/// Appends the cause that an inner signal is, unless it is already there for one of the pairs before.
 fn add_cause(
     alloc: Global,
     net: &Netlist,
@@ -124,7 +125,7 @@ fn before(differences: &[FirstDifference], place: usize) -> &[FirstDifference]
     differences.split_at(place).0
 }
 
-/// The causes of the pairs, in the order of the first pair of each.
+/// The causes of the pairs, in the order of the first pair of each. Time is quadratic in the number of pairs.
 fn causes_of(
     alloc: Global,
     net: &Netlist,
@@ -148,7 +149,7 @@ fn causes_of(
     Ok(causes)
 }
 
-/// The causes of the pairs of these verdicts that differ.
+/// The causes of those pairs of these verdicts that differ.
 fn all_causes<H>(
     task: &Task<'_, H>,
     naming: &Naming,
@@ -163,7 +164,7 @@ fn all_causes<H>(
     causes_of(task.alloc, task.first, differences.as_slice())
 }
 
-/// These causes as a list, where there are some.
+/// These causes as a slice, if there are any.
 pub fn listed(causes: &Option<Vec<Cause>>) -> Option<&[Cause]>
     ensures { option_map (λ list. list.now) result ≡ causes_in causes.now }
 {
@@ -173,7 +174,7 @@ pub fn listed(causes: &Option<Vec<Cause>>) -> Option<&[Cause]>
     }
 }
 
-/// The causes of the pairs of these verdicts, over their naming, where the settings ask for them.
+/// The causes of the pairs of these verdicts, over their naming; None if the settings do not ask for them.
 pub fn causes<H>(task: &Task<'_, H>, verdicts: &Verdicts) -> Result<Option<Vec<Cause>>, AllocError>
     requires { (tried : Option Attempt) × HaveReportNaming task.now tried verdicts.now }
     ensures causes { OfReport task.now verdicts.now (λ input s tried.
@@ -182,8 +183,8 @@ pub fn causes<H>(task: &Task<'_, H>, verdicts: &Verdicts) -> Result<Option<Vec<C
     if !task.settings.causes {
         return Ok(None);
     }
-    let _ = task.first.inputs();
-    let _ = task.second.inputs();
+    let _ = task.first.inputs(); // For the proof.
+    let _ = task.second.inputs(); // For the proof.
     let naming = verdicts.naming();
     let pairs = subjects_of(task.alloc, task.first, task.second, naming)?;
     let causes = all_causes(task, naming, pairs.as_slice(), verdicts.as_slice())?;

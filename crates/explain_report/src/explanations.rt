@@ -1,9 +1,9 @@
-//! What stands behind a report: an explanation of each pair that is asked for.
+//! What comes after a report: an explanation of each pair that is asked for.
 ghost use Rattle.std.specs.Prelude.{◌≡◌, ◌++◌, ◌↔◌, ◌<◌, true, false, length, find, All, Option, IfOk, IsTrue, OnOk};
 ghost use Rattle.net_bench.specs.Circuit.{circuit};
 ghost use Rattle.net_explain.specs.Explaining.{ExplanationModel, IsExplanation};
 ghost use Rattle.net_explain.specs.Text.{explanation_text};
-ghost use Rattle.report_text.specs.Findings.{found_of};
+ghost use Rattle.compare_built.specs.Findings.{found_of};
 ghost use Rattle.report_text.specs.Lines.{subject_text};
 ghost use Rattle.compare_built.specs.declared.strategy.Attempt.{Attempt};
 ghost use Rattle.compare_built.specs.Comparing.{IsInside};
@@ -13,16 +13,17 @@ ghost use Rattle.explain_report.specs.Explaining.{is_subject_of, is_target, is_v
 ghost use Rattle.compare_built.specs.Report.{subjects};
 
 use compare_built::compared_pairs::subjects_of;
+use compare_built::found::Verdicts;
 use compare_built::named_signals::{has_name, is_same, registers_of};
 use compare_built::subject::Subject;
 use compare_built::task::Task;
 use net_bench::netlist::Netlist;
 use net_explain::{explain, explanation_of};
 use net_order::naming::Naming;
-use report_text::{PairKind, PairName, Verdict, Verdicts};
+use report_text::{PairKind, PairName, Verdict};
 use std::alloc::{AllocError, Global};
 
-/// Whether two roles are one.
+/// Whether two roles are the same.
 fn is_same_role(role: PairKind, other: PairKind) -> bool
     ensures { result ≡ is_same_role role other }
 {
@@ -34,7 +35,7 @@ fn is_same_role(role: PairKind, other: PairKind) -> bool
     }
 }
 
-/// Whether this role and this name are asked for.
+/// Whether this role and this name are those that are asked for.
 fn is_target(target: &PairName, role: PairKind, name: &[u8]) -> bool
     ensures { result ≡ is_target target.now role name.now }
 {
@@ -52,7 +53,7 @@ pub fn has_pair(net: &Netlist, target: &PairName) -> bool
     }
 }
 
-/// Whether the netlist has each of these.
+/// Whether the netlist has each of these outputs and registers.
 pub fn has_pairs(net: &Netlist, targets: &[PairName]) -> bool
     ensures known { result ≡ true → AreTargetsIn (circuit net.now) targets.now }
     ensures unknown { result ≡ false → HasUnknownTarget (circuit net.now) targets.now }
@@ -65,7 +66,7 @@ pub fn has_pairs(net: &Netlist, targets: &[PairName]) -> bool
     true
 }
 
-/// Adds what a line of a report would call it.
+/// Appends the name of what is asked for, as a line of the report has it.
 fn add_subject(text: &mut Vec<u8>, target: &PairName) -> Result<(), AllocError>
     ensures { OnOk result (text.new.items ≡ text.old.items ++ subject_text target.now.role target.now.name) }
 {
@@ -77,7 +78,7 @@ fn add_subject(text: &mut Vec<u8>, target: &PairName) -> Result<(), AllocError>
     Ok(())
 }
 
-/// The line of a pair where there is no assignment to explain it at.
+/// The line for a pair that has no assignment at which it could be explained.
 fn status_line(alloc: Global, target: &PairName, said: &[u8]) -> Result<Vec<u8>, AllocError>
     ensures { IfOk result (λ text. text.items ≡ status_text target.now said.now) }
 {
@@ -90,7 +91,7 @@ fn status_line(alloc: Global, target: &PairName, said: &[u8]) -> Result<Vec<u8>,
     Ok(text)
 }
 
-/// What explains that a pair differs at an assignment.
+/// The explanation of a pair that differs at an assignment.
 fn difference<H>(
     task: &Task<'_, H>,
     naming: &Naming,
@@ -110,7 +111,7 @@ fn difference<H>(
     explanation_of(task.alloc, name.as_slice(), task.first, &explanation)
 }
 
-/// What is said of a pair with this verdict.
+/// The explanation of a pair with this verdict.
 fn explained<H>(
     task: &Task<'_, H>,
     naming: &Naming,
@@ -130,7 +131,7 @@ fn explained<H>(
     }
 }
 
-/// Whether a verdict is on what is asked for.
+/// Whether a verdict is about the pair that is asked for.
 fn is_verdict_on(target: &PairName, verdict: &Verdict) -> bool
     ensures { result ≡ is_verdict_on target.now verdict.now }
 {
@@ -142,7 +143,7 @@ fn is_verdict_on(target: &PairName, verdict: &Verdict) -> bool
     }
 }
 
-/// What is said of a pair, by its verdict among these.
+/// The explanation of a pair, by its verdict among these.
 fn explained_pair<H>(
     task: &Task<'_, H>,
     naming: &Naming,
@@ -163,7 +164,7 @@ fn explained_pair<H>(
     status_line(task.alloc, target, b"not compared")
 }
 
-/// The pair that is asked for, where there is one.
+/// The pair that is asked for; None if there is none.
 pub(crate) fn subject_of(net: &Netlist, target: &PairName, subjects: &[Subject]) -> Option<Subject>
     requires { All (λ subject. subject.named < length net.now.names) subjects.now }
     ensures { result ≡ find (is_subject_of (circuit net.now) target.now) subjects.now }
@@ -177,7 +178,7 @@ pub(crate) fn subject_of(net: &Netlist, target: &PairName, subjects: &[Subject])
     None
 }
 
-/// The explanation of what is asked for, by its pair among these and its verdict among these.
+/// The explanation of what is asked for, by its pair and its verdict among these.
 fn explanation<H>(
     task: &Task<'_, H>,
     naming: &Naming,
@@ -196,7 +197,7 @@ fn explanation<H>(
     }
 }
 
-/// The explanations of all that is asked for, one behind the other.
+/// The explanations of all that is asked for, one after the other.
 fn explanations<H>(
     task: &Task<'_, H>,
     naming: &Naming,
@@ -217,7 +218,7 @@ fn explanations<H>(
     Ok(text)
 }
 
-/// The explanations of the pairs that the settings ask for, by the verdicts of the comparison, over their naming.
+/// The explanations that the settings ask for, by the verdicts of the comparison, over their naming.
 pub fn explanations_after<H>(task: &Task<'_, H>, verdicts: &Verdicts) -> Result<Vec<u8>, AllocError>
     requires named { (tried : Option Attempt) × HaveReportNaming task.now tried verdicts.now }
     requires known { AreTargetsIn (circuit task.now.first.now) task.now.settings.now.explain.items }
@@ -228,8 +229,8 @@ pub fn explanations_after<H>(task: &Task<'_, H>, verdicts: &Verdicts) -> Result<
     if targets.is_empty() {
         return Ok(Vec::new(task.alloc));
     }
-    let _ = task.first.inputs();
-    let _ = task.second.inputs();
+    let _ = task.first.inputs(); // For the proof.
+    let _ = task.second.inputs(); // For the proof.
     let naming = verdicts.naming();
     let subjects = subjects_of(task.alloc, task.first, task.second, naming)?;
     explanations(task, naming, subjects.as_slice(), verdicts.as_slice())

@@ -1,4 +1,4 @@
-//! The pairs that differ, each with the first of its inner signals that do.
+//! The pairs that differ, each with the first of its inner signals that differ.
 ghost use Rattle.std.specs.Prelude.{◌≡◌, ◌<◌, ◌++◌, find, length, option_map, option_to_list, slice_get, All, Some, IfOk, IfSome, OnOk};
 ghost use Rattle.net_bench.specs.Circuit.{circuit};
 ghost use Rattle.net_explain.specs.Explaining.{ExplanationModel, IsExplanation};
@@ -14,21 +14,21 @@ use net_order::naming::Naming;
 use report_text::{Name, PairKind, PairName, Verdict};
 use std::alloc::{AllocError, Global};
 
-/// A pair that differs, with the first of its inner signals that do.
+/// A pair that differs, with the first of its inner signals that differ.
 #[derive(Drop)]
 pub struct FirstDifference {
     pub pair: PairName,
     pub inner: InnerSignal,
 }
 
-/// The first of some inner signals, where there is one.
+/// The first of these inner signals; None if there are none.
 fn first_of(inner: &[InnerSignal]) -> Option<InnerSignal>
     ensures { result ≡ slice_get inner.now 0 }
 {
     inner.first().copied()
 }
 
-/// The first of the inner signals of a pair that differ at an assignment, where one does.
+/// The first of a pair's inner signals that differ at an assignment; None if none does.
 fn first_inner<H>(
     task: &Task<'_, H>,
     naming: &Naming,
@@ -45,7 +45,7 @@ fn first_inner<H>(
     Ok(first_of(explanation.inner()))
 }
 
-/// A pair with its first inner signal, where it has one.
+/// A pair with its first inner signal; None if it has none.
 fn first_difference(pair: PairName, first: Option<InnerSignal>) -> Option<FirstDifference>
     ensures { result ≡ option_map (first_difference pair) first }
 {
@@ -55,7 +55,7 @@ fn first_difference(pair: PairName, first: Option<InnerSignal>) -> Option<FirstD
     }
 }
 
-/// A pair with the first of its inner signals that differ at an assignment, where one does.
+/// A pair with the first of its inner signals that differ at an assignment; None if none does.
 fn subject_first_difference<H>(
     task: &Task<'_, H>,
     naming: &Naming,
@@ -71,7 +71,7 @@ fn subject_first_difference<H>(
     Ok(first_difference(pair, first))
 }
 
-/// The same of the pair that is meant, where there is one.
+/// The same for the pair of this name among these; None if there is no such pair.
 fn pair_first_difference<H>(
     task: &Task<'_, H>,
     naming: &Naming,
@@ -90,7 +90,7 @@ fn pair_first_difference<H>(
     }
 }
 
-/// The pair of this role and this name.
+/// The pair with this role and this name.
 fn pair_of(alloc: Global, role: PairKind, name: &Name) -> Result<PairName, AllocError>
     ensures { IfOk result (λ pair. pair ≡ record { role = role; name = name.now }) }
 {
@@ -98,7 +98,7 @@ fn pair_of(alloc: Global, role: PairKind, name: &Name) -> Result<PairName, Alloc
     Ok(PairName { role, name })
 }
 
-/// The pair of a verdict with the first of its inner signals that differ, where it differs and one does.
+/// The pair of a verdict with the first of its inner signals that differ; None if the pair does not differ, or no inner signal does.
 fn first_difference_of<H>(
     task: &Task<'_, H>,
     naming: &Naming,
@@ -118,7 +118,7 @@ fn first_difference_of<H>(
     }
 }
 
-/// Adds a pair, if there is one.
+/// Appends a pair, if there is one.
 fn add_first_difference(
     all: &mut Vec<FirstDifference>,
     one: Option<FirstDifference>,
@@ -131,7 +131,7 @@ fn add_first_difference(
     Ok(())
 }
 
-/// All pairs of these verdicts that differ and have inner signals that do, each with the first of these.
+/// All pairs of these verdicts that differ and have inner signals that differ, each with the first of these.
 pub fn all_first_differences<H>(
     task: &Task<'_, H>,
     naming: &Naming,

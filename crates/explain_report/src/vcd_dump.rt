@@ -1,16 +1,18 @@
-//! The values of the first pair that differs, as a VCD.
+//! The values at the first difference, as a VCD.
 ghost use Rattle.std.specs.Prelude.{◌≡◌, IfOk, option_map};
 ghost use Rattle.explain_report.specs.Dumping.{IsVcdDump, IsVcdAt, bytes_in, first_difference_at, difference_of};
 ghost use Rattle.explain_report.specs.Explaining.{OfReport};
-ghost use Rattle.report_text.specs.Findings.{found_of};
+ghost use Rattle.compare_built.specs.Findings.{found_of};
 
+use compare_built::found::Verdicts;
 use compare_built::task::Task;
-use net_explain::{WhichNetlist, values, vcd_of};
+use net_explain::{values, vcd_of};
 use net_order::naming::Naming;
-use report_text::{Verdict, Verdicts};
+use net_order::netlist_role::NetlistRole;
+use report_text::Verdict;
 use std::alloc::AllocError;
 
-/// The assignment that a verdict tells, where it tells one.
+/// The assignment of a verdict; None unless its pair differs.
 fn difference_of(verdict: &Verdict) -> Option<&[bool]>
     ensures { option_map (λ bits. bits.now) result ≡ difference_of verdict.now }
 {
@@ -20,7 +22,7 @@ fn difference_of(verdict: &Verdict) -> Option<&[bool]>
     }
 }
 
-/// The assignment of the first pair that differs, where one does.
+/// The assignment of the first pair that differs; None if none does.
 fn first_difference_at(verdicts: &[Verdict]) -> Option<&[bool]>
     ensures { option_map (λ bits. bits.now) result ≡ first_difference_at verdicts.now }
 {
@@ -32,17 +34,18 @@ fn first_difference_at(verdicts: &[Verdict]) -> Option<&[bool]>
     None
 }
 
-/// The values of all signals of both netlists at an assignment.
+/// The values of all signals of both netlists at an assignment, as a VCD.
 fn vcd_at<H>(task: &Task<'_, H>, naming: &Naming, at: &[bool]) -> Result<Vec<u8>, AllocError>
     ensures { IfOk result (λ text. IsVcdAt task.now.first.now task.now.second.now naming.now at.now text.items) }
 {
-    let bits = values(task.alloc, task.first, naming, WhichNetlist::First, at)?;
-    let others = values(task.alloc, task.second, naming, WhichNetlist::Second, at)?;
+    let bits = values(task.alloc, task.first, naming, NetlistRole::First, at)?;
+    let others = values(task.alloc, task.second, naming, NetlistRole::Second, at)?;
     let (bits, others) = (bits.as_slice(), others.as_slice());
     vcd_of(task.alloc, task.first, bits, task.second, others)
 }
 
-/// The values at the assignment of the first of these verdicts that has one, over their naming, where the settings ask for them.
+/// The VCD at the assignment of the first of these verdicts that has one, over their naming; None if there is none, or
+/// the settings do not ask for it.
 pub fn dump<H>(task: &Task<'_, H>, verdicts: &Verdicts) -> Result<Option<Vec<u8>>, AllocError>
     ensures dump { OfReport task.now verdicts.now (λ input s tried.
         IfOk result (λ vcd. IsVcdDump s.vcd input s tried (found_of verdicts.now) (bytes_in vcd))) }

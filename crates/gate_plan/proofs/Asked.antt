@@ -1,4 +1,4 @@
--- Where a build leaves a store over its limit, no step of a gate had to be asked for.
+-- If a build leaves a store over its limit, no step of a gate needed a request.
 use Rattle.std.proofs.Common.{◌≡◌, ◌≢◌, ℕ, ◌+◌, ◌-◌, ◌<◌, ◌≤◌, inl, inr, Bool, cond, min, List, [], length, map, get_or, Option, Some, None, refl, sym, ◌∙◌, ap, subst, arith, eq-eqb}
 use Rattle.std.specs.Prelude.{Contains, slice_index, unwrap_or}
 use Rattle.std.proofs.lemmas.Bool.{ne_eqb}
@@ -14,9 +14,9 @@ use Rattle.net_bench.proofs.Built.{has_labelling}
 use Rattle.req_table.specs.declared.Op.{Op}
 use Rattle.req_table.specs.TerminalCase.{terminal_of}
 use Rattle.req_table.specs.ComputedTables.{ComputedView, IsRight}
-use Rattle.reduce_up.specs.CacheProbe.{unknown, IsKeptWave}
+use Rattle.wave_engine.specs.CacheProbe.{unknown, IsKeptWave}
 use Rattle.reduce_up.specs.Waves.{Entry, HasRequest, IsWithinLimit}
-use Rattle.reduce_up.proofs.Probing.{request_unknown, kept_none}
+use Rattle.wave_engine.proofs.Probing.{request_unknown, kept_none}
 use Rattle.wave_engine.specs.Bounds.{ArePast}
 use Rattle.gate_plan.specs.declared.steps.Step.{Step}
 use Rattle.gate_plan.specs.Plans.{operand_at, folds_of, step_of, step_at, plan_steps, plan_folds, IsPlan}
@@ -29,7 +29,7 @@ use Rattle.gate_plan.proofs.Ranks.{above_none, operand_lower, some_operand, oper
 use Rattle.gate_plan.proofs.Picking.{has_pick, in_picks, step_is, folds_within, has_step_of, among_operands}
 
 module _ (net : Net) (h : IsNet net) (level : ℕ → ℕ) where
-  -- references that denote one value by the labels are one
+  -- references that denote the same value of the labels are equal
   one_denoted : (S : Nodes) → IsSound S → (value : List Bool → Bool) (a b : Ref) → Has S a → Has S b → Denotes (circuit net) level S a value → Denotes (circuit net) level S b value → a ≡ b
   one_denoted S sound value a b ha hb i j =
       one_diagram S sound a b ha hb (λ x hx. let bits = has_labelling net h level x in i x bits.0 hx bits.1 ∙ sym (j x bits.0 hx bits.1))
@@ -65,7 +65,7 @@ module _ (net : Net) (h : IsNet net) (level : ℕ → ℕ) where
         by (yes z) = subst (λ b. First (reference_of refs (unwrap_or (cond b (Some (operand_at g 0)) None) g.out))) (sym (eq-eqb j 0 z)) (at_zero z)
         by (no nz) = subst (λ b. First (reference_of refs (unwrap_or (cond b (Some (operand_at g 0)) None) g.out))) (sym (ne_eqb j 0 nz)) (past_zero nz)
 
-  -- a step that has to be asked for is a request of its wave
+  -- a step that needs a request is a request of its wave
   pub asked_step : (S : Nodes) (refs : List Ref) (r j : ℕ) → IsSound S → AreFolded net level S refs r j → (g : GateLine) → Contains net.gates g → rank_of net g ≡ r → IsAsked (circuit net) level S g j →
       HasRequest (map (entry_of refs) (plan_steps net net.gates r j))
   asked_step S refs r j sound w g among rank a =
@@ -79,7 +79,7 @@ module _ (net : Net) (h : IsNet net) (level : ℕ → ℕ) where
         subst (λ z. terminal_of s.op (reference_of refs (first_operand s)) z ≡ None) second (subst (λ z. terminal_of s.op z a.second ≡ None) first a.long),
       )
 
-  -- what is asked for is a step of a gate
+  -- an entry is a step of a gate
   pub step_entry : (S : Nodes) (refs : List Ref) (r j : ℕ) → AreFolded net level S refs r j → (e : Entry) → Contains (map (entry_of refs) (plan_steps net net.gates r j)) e →
       (g : GateLine) × Contains net.gates g × (rank_of net g ≡ r) × IsEntryOf (circuit net) level S g j e
   step_entry S refs r j w e c =
@@ -99,7 +99,7 @@ module _ (net : Net) (h : IsNet net) (level : ℕ → ℕ) where
         }),
       )
 
-  -- and each step of a gate is asked for
+  -- each step of a gate is an entry
   pub entry_of_step : (S : Nodes) (refs : List Ref) (r j : ℕ) → AreFolded net level S refs r j → (g : GateLine) → Contains net.gates g → rank_of net g ≡ r → j < folds_of g →
       (e : Entry) × Contains (map (entry_of refs) (plan_steps net net.gates r j)) e × IsEntryOf (circuit net) level S g j e
   entry_of_step S refs r j w g among rank lt = (
@@ -156,7 +156,7 @@ wave_unasked sides plans S T sound built r j entries h e m held (inr (none, same
         let q = asked_step one.net (plans one (k, lt, at)).sound (input_level one) S (get_or built k []) r j sound (h.1 k one (get_or built k []) lt at there) g among rank is_asked in
         (q.0, subst (λ xs. Contains xs q.0) (sym e) (asked_has r j sides built k one (get_or built k []) h.0 lt at there q.0 q.1), q.2)
 
--- what is held after a wave is so still
+-- after a wave what is held is still right, and the store within its limit
 pub wave_held : (S T : Nodes) (m : ComputedView) (entries : List (Op × Ref × Ref)) (answers : List Ref) (new : ComputedView) → IsRightAndWithinLimit S m → IsWithinLimit S (unknown m entries) T → IsKeptWave m entries answers new → IsRight T new → IsRightAndWithinLimit T new
 wave_held S T m entries answers new held (inl le) kept right = record { right = right; within = inr le }
 wave_held S T m entries answers new held (inr (none, same)) kept right = record {
@@ -167,7 +167,7 @@ wave_held S T m entries answers new held (inr (none, same)) kept right = record 
   ];
 }
 
--- ---- one step after the other
+-- ---- step by step
 
 pub none_unasked : (S T : Nodes) (P : ℕ → Type 0) → IsStillWithin S T → IsWithinOrUnasked ((j : ℕ) × (j < 0) × P j) S T
 none_unasked S T P (inl le) = inl le
@@ -190,13 +190,13 @@ pub still_within : (S T : Nodes) (asked : Type 0) → IsWithinOrUnasked asked S 
 still_within S T asked (inl le) = inl le
 still_within S T asked (inr (none, same)) = inr same
 
--- behind a store that is within its limit or as it was
+-- after a store that is within its limit or as before
 pub later_unasked : (S T U : Nodes) (asked : Type 0) → IsStillWithin S T → IsWithinOrUnasked asked T U → IsWithinOrUnasked asked S U
 later_unasked S T U asked still (inl le) = inl le
 later_unasked S T U asked (inl le) (inr (none, same)) = inl (subst (λ V. count_of V ≤ V.limit) (sym same) le)
 later_unasked S T U asked (inr was) (inr (none, same)) = inr (none, same ∙ was)
 
--- the folds of a rank are all its steps
+-- the folds of a rank have all its steps
 pub rank_unasked : (sides : List PlannedNet) (S T : Nodes) (r n : ℕ) → ((one : PlannedNet) → Contains sides one → plan_folds one.net one.net.gates r ≤ n) →
     IsWithinOrUnasked ((j : ℕ) × (j < n) × AnyAsksAt sides T r j) S T → IsWithinOrUnasked (AnyAsksIn sides T r) S T
 rank_unasked sides S T r n few w = less_unasked S T (AnyAsksIn sides T r) ((j : ℕ) × (j < n) × AnyAsksAt sides T r j) by w
@@ -213,7 +213,7 @@ rank_unasked sides S T r n few w = less_unasked S T (AnyAsksIn sides T r) ((j : 
       (one, c, (g, among, rank, is_asked)),
     )
 
--- and the ranks are all gates
+-- the ranks have all gates
 pub all_unasked : (a b : Circuit) (given : Option Circuit) (p : NamingModel) (sides : List PlannedNet) → ArePlannedNets a b given p sides → (S T : Nodes) (n : ℕ) →
     ((one : PlannedNet) → Contains sides one → greatest (map (rank_of one.net) one.net.gates) ≤ n) →
     IsWithinOrUnasked (AnyAsksBelow sides T n) S T → IsWithinOrUnasked (AnyAsks a b given p T) S T
@@ -234,7 +234,7 @@ all_unasked a b given p sides placed S T n few w = less_unasked S T (AnyAsks a b
         let m = of_map levelled_of sides l (subst (λ z. Contains z l) (sym placed.netlists) c) in
         of_one m.0 m.1 (subst (λ (z : Levelled). Asks z.netlist z.level T) (sym m.2) asks)
 
--- a store that is within its limit or as it was is within its limit, if it was so before
+-- a store that is within its limit or as before is within its limit if it was within it before
 pub within_kept : (S T : Nodes) → IsStillWithin S T → count_of S ≤ S.limit → count_of T ≤ T.limit
 within_kept S T (inl le) old = le
 within_kept S T (inr same) old = subst (λ x. count_of x ≤ x.limit) (sym same) old

@@ -16,9 +16,9 @@ use Rattle.req_table.specs.Reached.{IsReached, root, child}
 use Rattle.req_table.specs.TerminalCase.{terminal_of}
 use Rattle.req_table.specs.Wave.{Wave}
 use Rattle.req_table.specs.contracts.KeyPartialEq.TheImpl.{eq-value}
-use Rattle.reduce_up.specs.CacheProbe.{known_entry, unless_known, unknown}
+use Rattle.wave_engine.specs.CacheProbe.{known_entry, unless_known, unknown}
 use Rattle.reduce_up.specs.Waves.{Entry, IsEntry, AnswersEach, request_of, requests_of}
-use Rattle.reduce_up.proofs.Probing.{unknown_is}
+use Rattle.wave_engine.proofs.Probing.{unknown_is}
 use Rattle.reduce_up.proofs.Rooted.{of_entry, to_request}
 use Rattle.wave_engine.specs.Bounds.{AreAtMost, ArePast}
 use Rattle.gate_plan.specs.Conjoining.{conjunctions, AreConjoined}
@@ -48,7 +48,7 @@ entries_known S refs given entries h g e =
     by : (x : Entry) → (r : Ref) × Contains refs r × ((And, r, given) ≡ x) → IsEntry S x
     by x m = rw (← m.2) (of_place S refs h m.0 m.1, g)
 
--- the requests of the entries of which nothing is known are requests of all
+-- the requests of the unknown entries are requests of all entries
 unknown_requests : (m : ComputedView) (es : List Entry) (k : Key) → Contains (requests_of (unknown m es)) k → Contains (requests_of es) k
 unknown_requests m es k c =
     let e = of_entry (unknown m es) k c in
@@ -58,7 +58,7 @@ reached_more : (w : Wave) (few all : List Key) → ((k : Key) → Contains few k
 reached_more w few all more k (root c) = root (more k c)
 reached_more w few all more k (child b l m r asks) = child b l m (reached_more w few all more _ r) asks
 
--- more requests than the bound are reached from all entries, where they are from those of which nothing is known
+-- if the unknown entries reach more requests than the bound, all entries do
 pub past_all : (o : Option ℕ) (S : Nodes) (m : ComputedView) (es : List Entry) → ArePast o S (unknown m es) → ArePast o S es
 past_all None S m es past = past
 past_all (Some n) S m es past = record {
@@ -68,7 +68,7 @@ past_all (Some n) S m es past = record {
   more = past.more;
 }
 
--- where nothing is held, the entries of which nothing is known have the requests of all
+-- if nothing is held, the unknown entries have all requests
 requests_unknown : (m : ComputedView) (es : List Entry) → m.pairs ≡ [] → requests_of (unknown m es) ≡ requests_of es
 requests_unknown m [] empty = refl
 requests_unknown m (e ∷ es) empty = by (requests_unknown m es empty) (terminal_of e.0 e.1 e.2) refl
@@ -84,6 +84,6 @@ requests_unknown m (e ∷ es) empty = by (requests_unknown m es empty) (terminal
         let some : known_entry m e ≡ Some r = ap (or_computed m n) h in
         ap (λ o. requests_of (unless_known o e ++ unknown m es)) some ∙ rest ∙ sym (ap (λ o. request_of o e ++ requests_of es) h)
 
--- so at most as many are reached from all
+-- if nothing is held, and at most n requests are reached from the unknown entries, at most n are from all
 pub at_most_all : (n : ℕ) (S : Nodes) (m : ComputedView) (es : List Entry) → m.pairs ≡ [] → AreAtMost n S (unknown m es) → AreAtMost n S es
 at_most_all n S m es empty few requests once reached = few requests once (λ k c. subst (λ ks. IsReached (wave_of S 1) ks k) (sym (requests_unknown m es empty)) (reached k c))

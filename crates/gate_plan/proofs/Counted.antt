@@ -1,4 +1,4 @@
--- The nodes that a build adds are counted, its answer Full has its cause, and what it leaves of a store without nodes is what its netlists need.
+-- The nodes that a build adds are counted, Full has its cause, and a store without nodes gets exactly what is needed.
 use Rattle.std.proofs.Common.{◌≡◌, ◌≢◌, ℕ, suc, ◌+◌, ◌*◌, ◌-◌, ◌<◌, ◌≤◌, ◌⊎◌, inl, inr, Bool, true, false, true≢false, List, [], ◌∷◌, ◌++◌, length, get_or, replicate, refl, sym, ◌∙◌, ap, subst, arith}
 use Rattle.std.specs.Prelude.{Contains, Result}
 use Rattle.std.proofs.Math.Seq.{get_or-append_seam}
@@ -44,7 +44,7 @@ adds_trans S T U D sound i j = record { keeps = keeps-trans S T U i.keeps j.keep
     later m (inl h) = earlier m h (i.described m h)
     later m (inr k) = inr k
 
--- what fewer values describe, more do
+-- nodes that fewer values describe are described by more
 pub adds_as : (S T : Nodes) (D E : ℕ → (List Bool → Bool) → Type 0) → ((v : ℕ) (f : List Bool → Bool) → D v f → E v f) → AddsDescribed S T D → AddsDescribed S T E
 adds_as S T D E h i = record { keeps = i.keeps; described = λ m has. by m (i.described m has) }
   where
@@ -52,7 +52,7 @@ adds_as S T D E h i = record { keeps = i.keeps; described = λ m has. by m (i.de
     by m (inl k) = inl k
     by m (inr k) = inr (k.0, k.1, k.2, k.3, either_more (D k.0) (E k.0) (h k.0) (den T m) k.4)
 
--- of a store with the levels of an earlier one
+-- a later store with the levels of an earlier one
 pub adds_next : (S T U : Nodes) (V : ℕ → (List Bool → Bool) → Type 0) → IsSound T → AddsDescribed S T (IsCounted S.levels (V S.levels)) → AddsDescribed T U (IsCounted T.levels (V T.levels)) →
     AddsDescribed S U (IsCounted S.levels (V S.levels))
 adds_next S T U V sound i j = adds_trans S T U (IsCounted S.levels (V S.levels)) sound i (subst (λ n. AddsDescribed T U (IsCounted n (V n))) i.keeps.levels j)
@@ -77,12 +77,13 @@ pub fault_more : (S : Nodes) (n : ℕ) (Few Values : (List Bool → Bool) → Ty
 fault_more S n Few Values more wave_faults.OutOfMemory f = tt
 fault_more S n Few Values more wave_faults.NoWorker f = tt
 fault_more S n Few Values more wave_faults.TooManyRequests f = tt
+fault_more S n Few Values more wave_faults.Stopped f = tt
 fault_more S n Few Values more wave_faults.Full (inl over) = inl over
 fault_more S n Few Values more wave_faults.Full (inr full) = inr (full.0, (full.1.0, full.1.1, counted_more n Few Values more full.1.0 full.1.1 full.1.2, full.1.3))
 
 -- ---- waves
 
--- Of a wave over the store S whose entries ask for some of the functions.
+-- A wave over the store S whose entries are for some of the functions.
 module _ (S T : Nodes) (entries : List Entry) (Values : (List Bool → Bool) → Type 0) (are : (e : Entry) → Contains entries e → Values (entry_value S e)) where
   wanted_counted : (v : ℕ) (f : List Bool → Bool) → IsWanted S entries v f → IsCounted S.levels Values v f
   wanted_counted v f w = record { value = entry_value S w.entry; is_value = are w.entry w.is_entry; fixed = w.fixed; depends = w.depends }
@@ -94,6 +95,7 @@ module _ (S T : Nodes) (entries : List Entry) (Values : (List Bool → Bool) →
   wave_fault kept wave_faults.OutOfMemory f = tt
   wave_fault kept wave_faults.NoWorker f = tt
   wave_fault kept wave_faults.TooManyRequests f = tt
+  wave_fault kept wave_faults.Stopped f = tt
   wave_fault kept wave_faults.Full (asked, inl over) = inl over
   wave_fault kept wave_faults.Full (asked, inr full) =
       inr (full.0, (full.1.0, full.1.1, wanted_counted full.1.0 full.1.1 full.1.2, λ r h agree. full.1.3 r h (subst (λ n. Agree n (den T r) full.1.1) (sym kept.levels) agree)))
@@ -127,7 +129,7 @@ bit_counted n v f lt h = record {
     back : List Bool
     back = replicate (n - suc v) false
 
--- what agrees with a counted function is counted
+-- a function that agrees with a counted one is counted
 pub counted_as : (n : ℕ) (Values : (List Bool → Bool) → Type 0) (v : ℕ) (f g : List Bool → Bool) → Agree n f g → IsCounted n Values v g → IsCounted n Values v f
 counted_as n Values v f g a c = record { value = c.value; is_value = c.is_value; fixed = fixed_as n v c.value g f a c.fixed; depends = reads c.depends }
   where
@@ -185,7 +187,7 @@ variable_fault S v store_faults.Full sound lt f = by (cases_lt S.limit (count_of
 
 -- ---- a store that had no nodes
 
--- a store of no nodes has none
+-- a store whose count is 0 has no node
 pub no_node : (S : Nodes) → count_of S ≡ 0 → (m : Ref) (v : ℕ) (lo hi : Ref) → Has S m → part S m ≡ node v lo hi → ⊥
 no_node S none m v lo hi h e =
     let at = of_part S m v lo hi h e in
@@ -205,7 +207,7 @@ lean_from S T n Values none i = record { counted = λ m v lo hi h e. by m v lo h
         let at : new.0 ≡ v = cc in
         subst (λ w. OfEither (IsCounted n Values w) (den T m)) at new.4
 
--- what lacks a counted function is not complete
+-- a store that lacks a counted function is not complete
 pub not_complete : (S : Nodes) (n : ℕ) (Values : (List Bool → Bool) → Type 0) → LacksCounted n Values S → IsComplete n Values (part S) (Has S) (den S) → ⊥
 not_complete S n Values (v, f, counted, lacks) whole =
     let w : HasNode n (part S) (Has S) (den S) v f = whole.present v f counted in

@@ -18,11 +18,11 @@ use Rattle.gate_plan.proofs.Needed.{needed_adds, needed_fault, need_left, diagra
 use Rattle.gate_plan.proofs.Ranks.{below_greatest}
 use Rattle.gate_plan.proofs.Running.{variables_kept}
 
--- what is lent of a build's beginning is that beginning
+-- what is borrowed of the state before the first rank is this state
 pub begun_lent : (c : PairedCircuits) (T : Nodes) (sides lent_sides : List PlannedNet) (built lent_built : List (List Ref)) → lent_sides ≡ sides → lent_built ≡ built → IsBuildStart c T sides built → IsBuildStart c T lent_sides lent_built
 begun_lent c T sides lent_sides built lent_built e f begun = subst (λ (z : List PlannedNet). IsBuildStart c T z lent_built) (sym e) (subst (λ (z : List (List Ref)). IsBuildStart c T sides z) (sym f) begun)
 
--- The store S before the build, T before the first rank, and U behind the last one that was done.
+-- The store S before the build, T before the first rank, and U after the last rank that was done.
 module _ (c : PairedCircuits) (S T U : Nodes) (levels : S.levels ≡ length c.pairing.names) (sound : IsSound T) (variables : AddsDescribed S T (IsCounted S.levels (IsVariable S.levels)))
     (sides : List PlannedNet) (built : List (List Ref)) (begun : IsBuildStart c T sides built) (adds : AddsDescribed T U (IsCounted T.levels (IsPlannedValue T.levels sides))) where
   added : AddsDescribed S U (IsCounted S.levels (IsPlannedValue S.levels sides))
@@ -38,7 +38,7 @@ module _ (c : PairedCircuits) (S T U : Nodes) (levels : S.levels ≡ length c.pa
   ranks_past o past =
       subst (λ n. IsPast o n (levelled c.first c.second c.given c.pairing)) (variables.keeps.levels ∙ levels) (subst (λ (z : List Levelled). IsPast o T.levels z) begun.placed.netlists past)
 
-  -- each rank of a gate is one of those that were done
+  -- the rank of each gate is one of those that were done
   done : (one : PlannedNet) → Contains sides one → greatest (map (rank_of one.net) one.net.gates) ≤ greatest (map ranks_of sides)
   done one there = let ranks = (begun.placed.plans one there).ranks in let last = below_greatest ranks_of sides one there in omega arith
 

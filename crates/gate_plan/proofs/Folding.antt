@@ -1,4 +1,5 @@
--- A left fold by steps gives each value so far, and the gate's value last: NAND, NOR and XNOR complement in the last step alone.
+-- A left fold by steps gives the value after each operand, and the gate's value at the end: NAND, NOR and XNOR
+-- complement only in the last step.
 use Rattle.std.proofs.Common.{◌≡◌, ◌≢◌, ℕ, zero, suc, ◌+◌, ◌<◌, Bool, true, false, cond, not, ◌&&◌, ◌||◌, List, [], ◌∷◌, ◌++◌, length, get_or, take, refl, sym, ◌∙◌, ap, arith, add-one, inl, inr}
 use Rattle.std.proofs.lemmas.Bool.{eq-eqb, ne_eqb}
 use Rattle.std.proofs.lemmas.Bool.Decides.{eqb_tells}
@@ -68,7 +69,7 @@ step_plain kind k i ne a b = ap (λ t. cond t (last_step kind a b) (plain_step k
 step_last : (kind : Kind) (k i : ℕ) → i + 1 ≡ k → (a b : Bool) → step_at kind k i a b ≡ last_step kind a b
 step_last kind k i e a b = ap (λ t. cond t (last_step kind a b) (plain_step kind a b)) (eq-eqb (i + 1) k e)
 
--- the step of operand i takes the value of the first i operands to that of the first i + 1
+-- the step of operand i makes the value of the first i operands that of the first i + 1
 pub fold_step : (kind : Kind) (bits : List Bool) (i : ℕ) → i < length bits → value_so_far kind bits (i + 1) ≡ step_at kind (length bits) i (value_so_far kind bits i) (get_or bits i false)
 fold_step kind bits i h = by_place (dec_eq (i + 1) (length bits))
   where
@@ -92,7 +93,7 @@ fold_step kind bits i h = by_place (dec_eq (i + 1) (length bits))
         so_far_below kind bits (i + 1) (omega arith) ∙ next ∙ ap (λ a. plain_step kind a b) (sym before)
         ∙ sym (step_plain kind (length bits) i ne (value_so_far kind bits i) b)
 
--- with two operands or more the fold starts from the first operand
+-- with two or more operands the fold begins with the first
 pub fold_start : (kind : Kind) (bits : List Bool) → 1 < length bits → value_so_far kind bits 1 ≡ get_or bits 0 false
 fold_start kind bits h =
     so_far_below kind bits 1 h ∙ ap (folded kind) (take_snoc 0 bits (omega arith)) ∙ folded_snoc kind [] (get_or bits 0 false) ∙ one_bit kind (get_or bits 0 false)
@@ -108,7 +109,7 @@ fold_start kind bits h =
     one_bit Xor b = refl
     one_bit Xnor b = refl
 
--- with one operand a gate is its operand, or the complement
+-- a gate with one operand has its value, or the complement
 pub one_operand : (kind : Kind) (b : Bool) → value_of kind (b ∷ []) ≡ complemented (is_complemented kind) b
 one_operand And true = refl
 one_operand And false = refl

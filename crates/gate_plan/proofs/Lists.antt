@@ -8,7 +8,7 @@ use Rattle.std.specs.Prelude.{Result, Ok, Err, if◌then◌else◌}
 use Rattle.std.specs.Result.{is_ok, is_err}
 use Rattle.gate_plan.specs.Plans.{AddsAt}
 
--- whether two numbers are equal can be told
+-- equality of numbers is decidable
 pub same_number : (a b : ℕ) → Dec (a ≡ b)
 same_number a b = elim (eqb_tells a b) [ inl t ↦ yes t.1 | inr t ↦ no t.1 ]
 
@@ -40,7 +40,7 @@ module _ {X Y : Type 0} (f : Y → List X) where
   at_set (l ∷ ls) zero y lt = refl
   at_set (l ∷ ls) (suc place) y lt = at_set ls place y (omega arith)
 
-  -- and at another
+  -- the list at another place than that of the write
   off_set : (ls : List Y) (place j : ℕ) (y : Y) → j ≢ place → get_or (map f (set ls place y)) j [] ≡ get_or (map f ls) j []
   off_set [] zero j y ne = refl
   off_set [] (suc place) j y ne = refl
@@ -60,7 +60,7 @@ module _ {X Y : Type 0} (f : Y → List X) where
   map_at (l ∷ ls) zero d lt = refl
   map_at (l ∷ ls) (suc j) d lt = map_at ls j d (omega arith)
 
-  -- one item more in one of the lists
+  -- one more item in one of the lists
   pub added_in : (ls : List Y) (place : ℕ) (y d : Y) (item : X) → place < length ls → f y ≡ f (get_or ls place d) ++ item ∷ [] → AddsAt (map f ls) place item (map f (set ls place y))
   added_in ls place y d item lt e = record { count = same ∙ sym fits; lists = λ j. by j (same_number j place) }
     where
@@ -83,7 +83,7 @@ module _ {X Y : Type 0} (f : Y → List X) where
           off_set ls place j y ne ∙ sym (append-nil (get_or (map f ls) j []))
           ∙ ap (λ b. get_or (map f ls) j [] ++ cond b (item ∷ []) []) (sym (ne_eqb j place ne))
 
-  -- an empty list more
+  -- one more empty list
   at_next : (ls : List Y) (y : Y) → f y ≡ [] → (j : ℕ) → get_or (map f (ls ++ y ∷ [])) j [] ≡ get_or (map f ls) j []
   at_next [] y e zero = e
   at_next [] y e (suc j) = refl
@@ -94,7 +94,7 @@ module _ {X Y : Type 0} (f : Y → List X) where
   length_next [] y = refl
   length_next (l ∷ ls) y = let e : length (map f (ls ++ y ∷ [])) ≡ length (map f ls) + 1 = length_next ls y in omega arith
 
-  -- one item in the list that comes next
+  -- one item in the list after the last
   pub added_next : (ls : List Y) (place : ℕ) (y : Y) (item : X) (new : List (List X)) → place ≡ length ls → f y ≡ [] → AddsAt (map f (ls ++ y ∷ [])) place item new → AddsAt (map f ls) place item new
   added_next ls place y item new at e a = record {
     count = a.count ∙ (let n = length_next ls y in let m : length (map f ls) ≡ length ls = count ls in omega arith);

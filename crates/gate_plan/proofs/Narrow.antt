@@ -6,7 +6,7 @@ use Rattle.dd_store.specs.Nodes.{Nodes, IsSound}
 use Rattle.net_bench.specs.declared.netlist.GateLine.{GateLine}
 use Rattle.net_bench.specs.Circuit.{Circuit, circuit, greatest, rank_of}
 use Rattle.net_order.specs.Order.{NamingModel}
-use Rattle.expand_work.specs.Bounds.{most_of}
+use Rattle.expand_work.specs.Bounds.{WaveBound, most_of}
 use Rattle.req_table.specs.declared.Key.{Key}
 use Rattle.req_table.specs.ComputedTables.{ComputedView}
 use Rattle.reduce_up.specs.Waves.{Entry}
@@ -21,7 +21,7 @@ use Rattle.gate_plan.proofs.Picking.{folds_within}
 use Rattle.gate_plan.proofs.Ranks.{above_none, below_greatest, rank_top}
 use Rattle.gate_plan.proofs.Together.{of_map, refs_there, asked_has}
 
--- what holds of what was held holds of nothing
+-- what holds if something is held holds if nothing is
 pub by_held : (S : Nodes) (old held : ComputedView) → IsRightAndWithinLimit S old → (held ≡ old) ⊎ (held.pairs ≡ []) → IsRightAndWithinLimit S held
 by_held S old held h (inl same) = subst (IsRightAndWithinLimit S) (sym same) h
 by_held S old held h (inr none) = record {
@@ -50,24 +50,24 @@ wave_narrow sides plans S sound built r j entries h e n few = record {
         let q = entry_of_step one.net sound_net (input_level one) S (get_or built k []) r j (h.1 k one (get_or built k []) lt at there) g among (rank one.net.ranks sound_net.ranks) step in
         (q.0, subst (λ xs. Contains xs q.0) (sym e) (asked_has r j sides built k one (get_or built k []) h.0 lt at there q.0 q.1), q.2)
 
--- ---- one wave after the other
+-- ---- wave by wave
 
 pub none_narrow : (P : ℕ → Type 0) (j : ℕ) → j < 0 → P j
 none_narrow P j lt = absurd (omega (arith, lt))
 
--- one wave more, of an engine with the same bound and a store of as many levels
-pub next_narrow : (P : ℕ → ℕ → ℕ → Type 0) (o p : Option ℕ) (d e : ℕ) → p ≡ o → e ≡ d → (n : ℕ) → (most_of o < 2 ^ 64 - 1 → (j : ℕ) → j < n → P (most_of o) d j) → (most_of p < 2 ^ 64 - 1 → P (most_of p) e n)
-    → most_of o < 2 ^ 64 - 1 → (j : ℕ) → j < n + 1 → P (most_of o) d j
+-- one more wave, of an engine with the same bound and a store with as many levels
+pub next_narrow : (P : ℕ → ℕ → ℕ → Type 0) (o p : WaveBound) (d e : ℕ) → p ≡ o → e ≡ d → (n : ℕ) → (most_of o.requests < 2 ^ 64 - 1 → (j : ℕ) → j < n → P (most_of o.requests) d j) → (most_of p.requests < 2 ^ 64 - 1 → P (most_of p.requests) e n)
+    → most_of o.requests < 2 ^ 64 - 1 → (j : ℕ) → j < n + 1 → P (most_of o.requests) d j
 next_narrow P o p d e same levels n before own bounded j lt = by (lt_or_le j n)
   where
-    last : P (most_of o) d n
-    last = subst (λ z. P (most_of o) z n) levels (subst (λ z. most_of z < 2 ^ 64 - 1 → P (most_of z) e n) same own bounded)
+    last : P (most_of o.requests) d n
+    last = subst (λ z. P (most_of o.requests) z n) levels (subst (λ (z : WaveBound). most_of z.requests < 2 ^ 64 - 1 → P (most_of z.requests) e n) same own bounded)
 
-    by : (j < n) ⊎ (n ≤ j) → P (most_of o) d j
+    by : (j < n) ⊎ (n ≤ j) → P (most_of o.requests) d j
     by (inl less) = before bounded j less
-    by (inr more) = let at : n ≡ j = omega (arith, lt, more) in subst (P (most_of o) d) at last
+    by (inr more) = let at : n ≡ j = omega (arith, lt, more) in subst (P (most_of o.requests) d) at last
 
--- the ranks are all gates
+-- the ranks have all gates
 pub all_narrow : (a b : Circuit) (given : Option Circuit) (p : NamingModel) (sides : List PlannedNet) → ArePlannedNets a b given p sides → (n depth m : ℕ) →
     ((one : PlannedNet) → Contains sides one → greatest (map (rank_of one.net) one.net.gates) ≤ m) →
     AreNarrowBelow n depth sides m → IsNarrow n depth (levelled a b given p)

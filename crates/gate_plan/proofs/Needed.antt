@@ -1,4 +1,4 @@
--- What a build adds is needed by its netlists, and what it leaves of a store without nodes is all that they need.
+-- What a build adds is needed by its netlists, and a store without nodes gets all that they need.
 use Rattle.std.proofs.Common.{◌≡◌, ℕ, ◌<◌, ◌≤◌, inl, inr, Bool, List, [], Option, length, map, get_or, sym, ◌∙◌, ap, subst, arith}
 use Rattle.std.specs.Prelude.{Contains}
 use Rattle.dd_store.specs.declared.reference.Ref.{Ref}
@@ -21,7 +21,7 @@ use Rattle.gate_plan.proofs.Running.{all_right, all_values}
 use Rattle.gate_plan.proofs.Together.{levelled_at, of_map, refs_there}
 
 module _ (a b : Circuit) (given : Option Circuit) (p : NamingModel) where
-  -- what is true of the values of the netlists is true of those that the pairing names
+  -- what holds of the values of the netlists holds of those that the pairing names
   needed_as : (P : ((List Bool → Bool) → Type 0) → Type 0) (sides : List PlannedNet) → map levelled_of sides ≡ levelled a b given p → (n : ℕ) → n ≡ length p.names → P (IsPlannedValue n sides) → P (IsNeededValue a b given p)
   needed_as P sides placed n e h =
       subst (λ k. P (λ f. IsValueOf k (levelled a b given p) f)) e (subst (λ (z : List Levelled). P (λ f. IsValueOf n z f)) placed h)
@@ -87,7 +87,7 @@ module _ (a b : Circuit) (given : Option Circuit) (p : NamingModel) (sides : Lis
       small (inl le) = le
       small (inr same) = let c : count_of new ≡ count_of old = ap count_of same in omega arith
 
-  -- each netlist has its diagrams at its place
+  -- each netlist has its diagrams, at its place
   pub diagrams_at : (S : Nodes) (built : List (List Ref)) (r : ℕ) → AllRight sides S built r → 0 < r → ((one : PlannedNet) → Contains sides one → greatest (map (rank_of one.net) one.net.gates) < r) →
       (k : ℕ) (l : Levelled) → k < length (levelled a b given p) → get_or (levelled a b given p) k l ≡ l → AreDiagrams l.netlist l.level S (get_or built k [])
   diagrams_at S built r right pos past k l lt at =
@@ -97,6 +97,6 @@ module _ (a b : Circuit) (given : Option Circuit) (p : NamingModel) (sides : Lis
       subst (λ (z : Levelled). AreDiagrams z.netlist z.level S (get_or built k [])) m.3
       (all_right m.0.net (placed.plans m.0 (k, m.1, m.2)).sound (input_level m.0) S (get_or built k []) r (past m.0 (k, m.1, m.2)) pos (right.1 k m.0 (get_or built k []) m.1 m.2 (refs_there built k (omega arith))))
 
--- what is added to a store without nodes is lean
+-- what was added to a store without nodes is lean
 pub lean_left : (a b : Circuit) (given : Option Circuit) (p : NamingModel) (S T : Nodes) → count_of S ≡ 0 → AddsDescribed S T (IsNeeded a b given p) → IsLeanFor a b given p T
 lean_left a b given p S T none adds = lean_from S T (length p.names) (IsNeededValue a b given p) none adds

@@ -40,7 +40,7 @@ module _ (net : Net) (h : IsNet net) (ranks : List ℕ) (ranked : AreRanks (circ
           (λ t c. below t (operand_below net h g t among c) (let less = operand_lower net h g t among c in omega (arith, less, at, low))) in
           sym (ap (slice_index ranks) out) ∙ own ∙ ap (λ z. greatest z + 1) operands ∙ sym (gate_rank net h g among) ∙ at
 
--- a gate has one rank, whichever the ranking
+-- a gate has one rank, in every ranking
 of_rank : (net : Net) → IsNet net → (g : GateLine) (r : ℕ) → g.out < length net.names → HasRank (circuit net) g r → IsOfRank (circuit net) g r
 of_rank net h g r lt (ranks, ranked, is) others ranking =
     one_rank net h others ranking (slice_index net.ranks g.out + 1) g.out lt (omega arith)
@@ -85,7 +85,7 @@ module _ (a b : Net) (given : Option Net) (ha : IsNet a) (hb : IsNet b) (hg : If
   some_entry S entries k (root_of c) = let e = of_entry entries k c in (e.0, e.1)
   some_entry S entries k (child_from {x = above} b l m r asks) = some_entry S entries above r
 
-  -- no bound is passed by a wave of a build whose waves are all within it
+  -- if all waves are within a bound, none is past it
   pub not_wide : (n depth : ℕ) → IsNarrow n depth netlists → IsWide n depth netlists → ⊥
   not_wide n depth narrow wide = by wide.more.requests refl
     where
@@ -116,7 +116,7 @@ module _ (a b : Net) (given : Option Net) (ha : IsNet a) (hb : IsNet b) (hg : If
           let c = some_entry wide.store wide.entries k r in
           against (at_step c.0 (wide.asked c.0 c.1))
 
--- as the law says it
+-- the law, in its own words
 pub past_or_within : (a b : Net) (given : Option Net) (p : NamingModel) (n depth : ℕ) → IsNet a → IsNet b → IfSome given IsNet → IsNarrow n depth (levelled (circuit a) (circuit b) (option_map circuit given) p) →
     IsPast (Some n) depth (levelled (circuit a) (circuit b) (option_map circuit given) p) → ⊥
 past_or_within a b given p n depth ha hb hg narrow past = not_wide a b given ha hb hg p n depth narrow past

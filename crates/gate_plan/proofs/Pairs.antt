@@ -4,12 +4,12 @@ use Rattle.std.specs.Prelude.{Contains}
 use Rattle.dd_store.specs.declared.reference.Ref.{Ref}
 use Rattle.dd_store.specs.Nodes.{Nodes}
 use Rattle.net_bench.specs.Circuit.{Circuit, Net, circuit, variables_of}
-use Rattle.net_order.specs.declared.order.Match.{Match}
-use Rattle.net_order.specs.declared.order.Order.{Order}
+use Rattle.net_names.specs.declared.order.Match.{Match}
+use Rattle.net_names.specs.declared.order.Order.{Order}
 use Rattle.net_order.specs.Order.{NamingModel, IsPairing, first_level, second_level, given_level}
 use Rattle.net_order.proofs.InputLevels.{first_below, second_below, given_below}
-use Rattle.gate_plan.specs.declared.inputs.CircuitRole.{CircuitRole}
-use Rattle.gate_plan.specs.declared.inputs.CircuitRole.TheVariants.{First, Second, Given}
+use Rattle.net_order.specs.declared.netlist_role.NetlistRole.{NetlistRole}
+use Rattle.net_order.specs.declared.netlist_role.NetlistRole.TheVariants.{First, Second, Given}
 use Rattle.gate_plan.specs.Plans.{IsPlan}
 use Rattle.gate_plan.specs.Building.{IsPaired, ArePlannedNets, PlannedNet, Levelled, levelled, levelled_given, levelled_of, input_level, AreDiagrams}
 use Rattle.gate_plan.proofs.Together.{image}
@@ -28,7 +28,7 @@ module _ (how : Match) (a b : Circuit) (order : Order) (p : NamingModel) (n : �
   each_fits given h l (suc zero, lt, at) = subst Fits at (λ s among. subst (λ z. second_level p s < z) (sym count) (second_below how a b given order p h.naming s among))
   each_fits given h l (suc (suc k), lt, at) = given_fits given h l (k, omega (arith, lt), at)
 
--- the levels of each netlist that is built
+-- the levels of each netlist that is built are those of variables
 pub placed_fits : (a b : Circuit) (given : Option Circuit) (p : NamingModel) (n : ℕ) (sides : List PlannedNet) → IsPaired a b given p → n ≡ length p.names → map levelled_of sides ≡ levelled a b given p →
     (one : PlannedNet) → Contains sides one → (s : ℕ) → Contains (variables_of (circuit one.net)) s → input_level one s < n
 placed_fits a b given p n sides (how, order, paired) count placed one c s among =
@@ -36,7 +36,7 @@ placed_fits a b given p n sides (how, order, paired) count placed one c s among 
 
 -- ---- the netlists with their plans
 
-placed_is : (net : Net) (which : CircuitRole) (p : NamingModel) (one : PlannedNet) → one ≡ record { net = net; which = which; pairing = p; plan = one.plan } → IsPlan net one.plan → IsPlan one.net one.plan
+placed_is : (net : Net) (which : NetlistRole) (p : NamingModel) (one : PlannedNet) → one ≡ record { net = net; which = which; pairing = p; plan = one.plan } → IsPlan net one.plan → IsPlan one.net one.plan
 placed_is net which p one is plan = subst (λ (n : Net). IsPlan n one.plan) (sym (ap (λ (z : PlannedNet). z.net) is)) plan
 
 module _ (a b : Net) (p : NamingModel) (one two : PlannedNet) (is_one : one ≡ record { net = a; which = First; pairing = p; plan = one.plan }) (is_two : two ≡ record { net = b; which = Second; pairing = p; plan = two.plan })
@@ -66,7 +66,7 @@ module _ (a b : Net) (p : NamingModel) (one two : PlannedNet) (is_one : one ≡ 
       plans o (suc (suc zero), lt, at) = subst (λ (z : PlannedNet). IsPlan z.net z.plan) at (placed_is c Given p three is_three plan_three)
       plans o (suc (suc (suc k)), lt, at) = absurd (omega (arith, lt))
 
--- the condition has its diagrams where there is one
+-- the condition has its diagrams, if there is one
 pub given_diagrams : (a b : Circuit) (given : Option Circuit) (p : NamingModel) (S : Nodes) (refs : List Ref) →
     ((l : Levelled) → 2 < length (levelled a b given p) → get_or (levelled a b given p) 2 l ≡ l → AreDiagrams l.netlist l.level S refs) → IfSome given (λ c. AreDiagrams c (given_level p) S refs)
 given_diagrams a b None p S refs h = tt

@@ -60,7 +60,7 @@ has_pick net r o (y ∷ gs) g x (zero, lt, e) a b =
 has_pick net r o (y ∷ gs) g x (suc k, lt, e) a b =
     Contains-append_right (cond (rank_of net y == r) (option_map_or (λ s. s ∷ []) (o y) []) []) (picks net r o gs) x (has_pick net r o gs g x (k, omega arith, e) a b)
 
--- ---- above the last rank
+-- ---- after the last rank
 
 head_low : (x : ℕ) (xs : List ℕ) → x ≤ greatest (x ∷ xs)
 head_low x xs = grind (arith, nat_tests)
@@ -83,7 +83,7 @@ no_folds net r (g ∷ gs) lt =
     ap (λ b. greatest (cond b (folds_of g) 0 ∷ map (λ g. cond (rank_of net g == r) (folds_of g) 0) gs)) (ne_eqb (rank_of net g) r (λ e. omega arith))
     ∙ ap (λ n. cond (nat_le 0 n) n 0) (no_folds net r gs (omega arith))
 
--- no step comes after the last fold
+-- there is no step after the last fold
 pub no_late_steps : (net : Net) (r j : ℕ) (gs : List GateLine) → plan_folds net gs r ≤ j → plan_steps net gs r j ≡ []
 no_late_steps net r j [] le = refl
 no_late_steps net r j (g ∷ gs) le =

@@ -1,4 +1,4 @@
--- The plan of more and more gates.
+-- The plan of a netlist, gate by gate.
 use Rattle.std.proofs.Common.{◌≡◌, ◌≢◌, ℕ, ◌+◌, ◌-◌, ◌<◌, ◌≤◌, ◌==◌, Bool, true, false, cond, List, [], ◌∷◌, ◌++◌, length, map, get_or, max, min, nat_lt, Option, Some, None, ◌⊎◌, inl, inr, set, replicate, refl, sym, ◌∙◌, ap, subst, arith, eq-eqb, append_assoc}
 use Rattle.std.specs.Prelude.{flat_map}
 use Rattle.std.specs.Option.{option_map_or}
@@ -18,7 +18,7 @@ use Rattle.gate_plan.proofs.Lists.{same_number, lt_or_le}
 abbrev listed : Option Step → List Step
 listed o = option_map_or (λ s. s ∷ []) o []
 
--- the first i steps of a gate stand at the ends of the lists
+-- the first i steps of a gate are at the ends of the lists
 pub record AddsSome (old : List (List Step)) (g : GateLine) (i : ℕ) (new : List (List Step)) : Type 0 where
   pub count : length new ≡ max (length old) (min i (folds_of g))
   pub lists : (j : ℕ) → fold_at new j ≡ fold_at old j ++ cond (nat_lt j i) (steps_of g j) []
@@ -103,7 +103,7 @@ adds_all old g i new a le some = record {
 
 -- ---- the gates of a netlist
 
--- no gates yet
+-- before any gate
 pub plans_none : (net : Net) (n : ℕ) → Plans net [] (replicate n no_steps)
 plans_none net n = record {
   copies = λ r first last. ap (λ z. z.copies) (empty_rank r);
@@ -125,7 +125,7 @@ plans_none net n = record {
 abbrev with_row : Net → List RankSteps → GateLine → RankSteps → List RankSteps
 with_row net p g row = set p (rank_of net g - 1) row
 
--- one gate more
+-- one more gate
 pub plans_next : (net : Net) (gs : List GateLine) (g : GateLine) (p : List RankSteps) (row : RankSteps) →
     Plans net gs p → 0 < rank_of net g → rank_of net g ≤ length p → AddsGate (rank_at p (rank_of net g)) g row → Plans net (gs ++ g ∷ []) (set p (rank_of net g - 1) row)
 plans_next net gs g p row w first last a = record {

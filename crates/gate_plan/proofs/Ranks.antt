@@ -61,6 +61,6 @@ below_greatest {X = X} f xs x among = subst (λ z. z ≤ greatest (map f xs)) (a
     at_map (y ∷ ys) zero lt = refl
     at_map (y ∷ ys) (suc i) lt = at_map ys i (omega arith)
 
--- as a gate's rank
+-- no gate's rank is above the greatest
 pub rank_top : (net : Net) (g : GateLine) → Contains net.gates g → rank_of net g ≤ greatest (map (rank_of net) net.gates)
 rank_top net g among = below_greatest (rank_of net) net.gates g among

@@ -80,7 +80,7 @@ single [] e = absurd (omega arith)
 single (b ∷ []) e = refl
 single (b ∷ c ∷ bs) e = absurd (omega arith)
 
--- of a gate with one operand, the value after it
+-- the value of a gate with one operand, after it
 after_one : (g : GateLine) (bits : List Bool) → length g.operands ≡ 1 → value_after g 1 bits ≡ complemented (is_complemented g.kind) (bit_of bits (operand_at g 0))
 after_one g bits e =
     let n : length (map (bit_of bits) g.operands) ≡ 1 = length-map g.operands (bit_of bits) ∙ e in
@@ -89,7 +89,7 @@ after_one g bits e =
     ∙ ap (λ b. value_of g.kind (b ∷ [])) (map_bit (bit_of bits) g.operands 0 (omega arith))
     ∙ one_operand g.kind (bit_of bits (operand_at g 0))
 
--- with two operands or more, one operand more
+-- the value of a gate with two or more operands, after one more
 after_next : (g : GateLine) (bits : List Bool) (i : ℕ) → i < length g.operands → value_after g (i + 1) bits ≡ bit_step g.kind (length g.operands) i (value_after g i bits) (bit_of bits (operand_at g i))
 after_next g bits i lt =
     let n : length (map (bit_of bits) g.operands) ≡ length g.operands = length-map g.operands (bit_of bits) in
@@ -105,7 +105,7 @@ after_first g bits lt =
 -- ---- one netlist
 
 module _ (net : Net) (h : IsNet net) (level : ℕ → ℕ) where
-  -- no copy of a rank is of a gate of the rank
+  -- no copy of a rank has a gate of the same rank as its operand
   apart : (r : ℕ) (c d : CopyStep) → Contains (plan_copies net net.gates r) c → Contains (plan_copies net net.gates r) d → c.of ≢ d.out
   apart r c d a b same =
       let p = in_picks net r copy_of net.gates c a in
@@ -181,7 +181,7 @@ module _ (net : Net) (h : IsNet net) (level : ℕ → ℕ) where
         λ x bits hx l. here g among rank begun x bits hx l ∙ ap (λ k. value_after g k bits) (let k : min (0 + 1) (length g.operands) ≡ i = omega arith in k),
       )
 
-  -- what the step of a gate asks for
+  -- the value of a gate's step
   step_value : (S : Nodes) (refs : List Ref) (r j : ℕ) → AreFolded net level S refs r j → (g : GateLine) → Contains net.gates g → rank_of net g ≡ r → j < folds_of g →
       (x bits : List Bool) → length x ≡ S.levels → IsLabelling (circuit net) level x bits →
       entry_value S (entry_of refs (step_at g j)) x ≡ value_after g (min (j + 1 + 1) (length g.operands)) bits
@@ -205,7 +205,7 @@ module _ (net : Net) (h : IsNet net) (level : ℕ → ℕ) where
           ap (λ b. den S (reference_of refs (unwrap_or (cond b (Some (operand_at g 0)) None) g.out)) x) (ne_eqb j 0 nz)
           ∙ w.here g among rank (inl (omega arith)) x bits hx l ∙ ap (λ k. value_after g k bits) (let k : min (j + 1) (length g.operands) ≡ j + 1 = omega arith in k)
 
-  -- a gate whose folds are done has a value
+  -- a gate whose folds are all done has a value
   begun_after : (g : GateLine) (j : ℕ) → 0 < length g.operands → folds_of g ≤ j → HasValueAfter g j
   begun_after g j some le = by (same_number (length g.operands) 1)
     where
@@ -213,7 +213,7 @@ module _ (net : Net) (h : IsNet net) (level : ℕ → ℕ) where
       by (yes e) = inr e
       by (no ne) = inl (omega arith)
 
-  -- and it is the value after all operands
+  -- if all folds of a gate are done, all its operands are taken
   all_taken : (g : GateLine) (j : ℕ) → folds_of g ≤ j → min (j + 1) (length g.operands) ≡ length g.operands
   all_taken g j le = omega arith
 
@@ -283,7 +283,7 @@ module _ (net : Net) (h : IsNet net) (level : ℕ → ℕ) where
           same_den g.out u.1 x ∙ w.here g among rank (begun_after g j (some_operand net h g among) le) x bits (hx ∙ kept.levels) l
           ∙ ap (λ k. value_after g k bits) (let k : min (j + 1) (length g.operands) ≡ min (j + 1 + 1) (length g.operands) = (let e = all_taken g j le in omega arith) in k)
 
-      -- what the store has, the next one has too
+      -- what the store has, a later one has too
       still : (value : List Bool → Bool) → IsDenoted (circuit net) level S value → IsDenoted (circuit net) level T value
       still value d = (d.0, kept.has d.0 d.1, λ x bits hx l. kept_den S T sound kept d.0 d.1 x ∙ d.2 x bits (hx ∙ kept.levels) l)
 
@@ -368,7 +368,7 @@ module _ (net : Net) (h : IsNet net) (level : ℕ → ℕ) where
           ap (λ z. den S z x) (w.inputs s among) ∙ v.bits (level s) (input s among) x
           ∙ sym (at_contained (λ s. bit_of bits s ≡ bit_of x (level s)) (variables_of (circuit net)) s l.variables among)
 
-  -- when all ranks are done each signal has the diagram of its function
+  -- after all ranks were done, each signal has the diagram of its function
   pub all_right : (S : Nodes) (refs : List Ref) (r : ℕ) → greatest (map (rank_of net) net.gates) < r → 0 < r → AreRight net level S refs r → AreDiagrams (circuit net) level S refs
   all_right S refs r past pos w = record {
     each = w.each;
@@ -382,12 +382,12 @@ module _ (net : Net) (h : IsNet net) (level : ℕ → ℕ) where
       low s (inl among) = let e = input_rank net h s among in omega arith
       low s (inr (g, among, out)) = let t = rank_top net g among in let e : rank_of net g ≡ slice_index net.ranks s = ap (slice_index net.ranks) out in omega arith
 
-  -- and the store has all values of all folds
+  -- after all ranks were done, the store has all values of all folds
   pub all_values : (S : Nodes) (refs : List Ref) (r : ℕ) → greatest (map (rank_of net) net.gates) < r → AreRight net level S refs r →
       (g : GateLine) → Contains net.gates g → (i : ℕ) → 0 < i → i ≤ length g.operands → IsDenoted (circuit net) level S (value_after g i)
   all_values S refs r past w g among i pos all = w.values g among (let t = rank_top net g among in omega arith) i pos all
 
-  -- what a step asks for is a value of its gate's fold
+  -- the entry of a step has a value of its gate's fold
   pub asked_value : (S : Nodes) (refs : List Ref) (r j : ℕ) → AreFolded net level S refs r j → (e : Op × Ref × Ref) → Contains (map (entry_of refs) (plan_steps net net.gates r j)) e →
       IsFoldValue (circuit net) level S.levels (entry_value S e)
   asked_value S refs r j w e among =
@@ -408,7 +408,7 @@ module _ (net : Net) (h : IsNet net) (level : ℕ → ℕ) where
         ),
       )
 
-  -- ---- the same, as the code calls them
+  -- ---- the same in the form that the code needs
 
   pub steps_fit : (S : Nodes) (refs given : List Ref) (r j : ℕ) (steps : List Step) → AreFolded net level S refs r j → given ≡ refs → steps ≡ plan_steps net net.gates r j → All (IsStepBelow (length given)) steps
   steps_fit S refs given r j steps w e f = subst (λ ss. All (IsStepBelow (length given)) ss) (sym f) (subst (λ n. All (IsStepBelow n) (plan_steps net net.gates r j)) (sym (ap length e ∙ w.right.each)) (steps_below net h r j))
@@ -446,13 +446,13 @@ known_entries S refs [] known e (k, lt, f) = absurd (omega arith)
 known_entries S refs (s ∷ steps) known e (zero, lt, f) = subst (IsEntry S) f (known (first_operand s), known s.second)
 known_entries S refs (s ∷ steps) known e (suc k, lt, f) = known_entries S refs steps known e (k, omega arith, f)
 
--- what the steps of all netlists ask for is about references of the store
+-- the entries of all netlists have references of the store
 pub all_entries : (sides : List PlannedNet) (S : Nodes) (built : List (List Ref)) (r j : ℕ) (entries : List (Op × Ref × Ref)) → AllFolded sides S built r j → entries ≡ asked sides built r j → All (IsEntry S) entries
 all_entries sides S built r j entries h e =
     all_of (IsEntry S) entries
     (λ x among. asked_holds (IsEntry S) r j sides built (h.0, λ k one refs lt a b. known_entries S refs (plan_steps one.net one.net.gates r j) (h.1 k one refs lt a b).right.known) x (subst (λ z. Contains z x) e among))
 
--- and asks for values of the folds of one of them
+-- the entries of all netlists are values of the folds of one of them
 pub all_asked : (sides : List PlannedNet) → ((one : PlannedNet) → Contains sides one → IsPlan one.net one.plan) → (S : Nodes) (built : List (List Ref)) (r j : ℕ) (entries : List (Op × Ref × Ref)) →
     AllFolded sides S built r j → entries ≡ asked sides built r j → (e : Op × Ref × Ref) → Contains entries e → IsPlannedValue S.levels sides (entry_value S e)
 all_asked sides plans S built r j entries h e x among =
@@ -462,7 +462,7 @@ all_asked sides plans S built r j entries h e x among =
 
 -- ---- variables and inputs
 
--- one variable more
+-- one more variable
 pub variable_next : (S T : Nodes) (vs new : List Ref) (level : ℕ) (r : Ref) → IsSound S → Keeps S T → length vs ≡ level → new ≡ vs ++ r ∷ [] → Has T r → ((x : List Bool) → den T r x ≡ bit x level) →
     ((v : ℕ) → v < level → Has S (reference_of vs v)) → ((v : ℕ) → v < level → (x : List Bool) → den S (reference_of vs v) x ≡ bit x v) →
     (v : ℕ) → v < level + 1 → Has T (reference_of new v) × ((x : List Bool) → den T (reference_of new v) x ≡ bit x v)

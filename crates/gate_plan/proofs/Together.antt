@@ -1,4 +1,4 @@
--- Netlists and their references, list beside list.
+-- Netlists and their references, place by place.
 use Rattle.std.proofs.Common.{◌≡◌, ◌∙◌, ap, sym, refl, subst, ℕ, zero, suc, ◌+◌, ◌<◌, ◌≤◌, ◌⊎◌, inl, inr, List, [], ◌∷◌, ◌++◌, map, length, get_or, take, drop, append_assoc, append-nil, arith, Some}
 use Rattle.std.specs.Prelude.{Contains, slice_get}
 use Rattle.std.proofs.lemmas.List.{take_all, drop_more, length-map, length-append, get_or_default}
@@ -45,28 +45,28 @@ drop_all (x ∷ xs) (suc i) h = drop_all xs i (omega (arith, h))
 pub refs_there : (built : List (List Ref)) (k : ℕ) → k < length built → get_or built k (get_or built k []) ≡ get_or built k []
 refs_there built k lt = get_or_default built k (get_or built k []) [] lt
 
--- a list that has something stands at a place that is there
+-- a list that is not empty is at a place of the list of lists
 pub there_place : (xs : List (List Ref)) (k s : ℕ) → s < length (get_or xs k []) → k < length xs
 there_place [] k s lt = absurd (omega (arith, lt))
 there_place (x ∷ xs) zero s lt = omega arith
 there_place (x ∷ xs) (suc k) s lt = let h = there_place xs k s lt in omega arith
 
--- two that stand at one place are one
+-- two elements at one place are equal
 pub same_at : {X : Type 0} (xs : List X) (i k : ℕ) (x y : X) → k ≡ i → i < length xs → get_or xs i x ≡ x → get_or xs k y ≡ y → y ≡ x
 same_at xs i k x y e lt at_x at_y = sym at_y ∙ ap (λ z. get_or xs z y) e ∙ get_or_default xs i y x lt ∙ at_x
 
--- what stands at a place of a list that is as another there, stands there in that too
+-- an element at a place of a list is there in another list that agrees with it at this place
 pub there_at : (now was : List (List Ref)) (i : ℕ) (d : List Ref) → i < length now → ((refs : List Ref) → get_or now i refs ≡ get_or was i refs) → get_or was i (get_or now i d) ≡ get_or now i d
 there_at now was i d lt same = sym (same (get_or now i d)) ∙ get_or_default now i (get_or now i d) d lt
 
--- what was lent whole comes back whole
+-- what was borrowed as a whole comes back as a whole
 pub lent : (items new : List (List Ref)) (n : ℕ) → n ≡ length items → length new ≡ length items → take n (new ++ drop (length new) items) ≡ new
 lent items new n e f =
     ap (λ z. take n (new ++ z)) (drop_all items (length new) (omega arith)) ∙ ap (take n) (append-nil new) ∙ take_all n new (omega arith)
 
--- ---- one place after the other
+-- ---- place by place
 
--- one more stands at the end
+-- one more is at the end
 pub pushed_each : (P : PlannedNet → List Ref → Type 0) (sides : List PlannedNet) (built new : List (List Ref)) (i : ℕ) (one : PlannedNet) (refs : List Ref) → i < length sides → length built ≡ i → new ≡ built ++ refs ∷ [] → get_or sides i one ≡ one → P one refs →
     ((k : ℕ) (o : PlannedNet) (rs : List Ref) → k < i → get_or sides k o ≡ o → get_or built k rs ≡ rs → P o rs) →
     (k : ℕ) (o : PlannedNet) (rs : List Ref) → k < i + 1 → get_or sides k o ≡ o → get_or new k rs ≡ rs → P o rs
@@ -79,7 +79,7 @@ pushed_each P sides built new i one refs low n grown here holds earlier k o rs l
         let is : rs ≡ refs = sym there ∙ ap (λ z. get_or z k rs) grown ∙ ap (λ z. get_or (built ++ refs ∷ []) z rs) (same ∙ sym n) ∙ at_end built refs rs in
         subst (λ z. P o z) (sym is) (subst (λ z. P z refs) (sym (same_at sides i k one o same low here at)) holds)
 
--- one more is set at its place
+-- one more is written at its place
 pub set_left : (built was : List (List Ref)) (i : ℕ) (v : List Ref) → ((k : ℕ) (refs : List Ref) → i ≤ k → get_or built k refs ≡ get_or was k refs) → (k : ℕ) (refs : List Ref) → i + 1 ≤ k → get_or (set built i v) k refs ≡ get_or was k refs
 set_left built was i v left k refs le = get_or-set_other built i k v refs (λ e. omega (arith, le, e)) ∙ left k refs (omega arith)
 
@@ -110,13 +110,13 @@ set_copied sides was built i r one refs v low lt' lt'' here is copied earlier k 
         ∙ ap (λ z. copied_all z (plan_copies one.net one.net.gates r)) (sym (same_at was i k refs rs same lt'' is there))
         ∙ ap (λ (z : PlannedNet). copied_all rs (plan_copies z.net z.net.gates r)) (sym (same_at sides i k one o same low here at))
 
--- what an index reads is there
+-- what an index reads is in the list
 pub at_place : (xs : List Ref) (i : ℕ) (v : Ref) → i < length xs → v ≡ get_or xs i v → slice_get xs i ≡ Some v
 at_place [] i v lt e = absurd (omega arith)
 at_place (x ∷ xs) zero v lt e = ap (λ z. Some z) (sym e)
 at_place (x ∷ xs) (suc i) v lt e = at_place xs i v (omega arith) e
 
--- ---- what is asked for
+-- ---- entries
 
 abbrev pub own : PlannedNet → List Ref → ℕ → ℕ → List Entry
 own one refs r j = map (entry_of refs) (plan_steps one.net one.net.gates r j)
@@ -124,7 +124,7 @@ own one refs r j = map (entry_of refs) (plan_steps one.net one.net.gates r j)
 tail_each : (P : PlannedNet → List Ref → Type 0) (one : PlannedNet) (sides : List PlannedNet) (refs : List Ref) (built : List (List Ref)) → ForEachNetlist P (one ∷ sides) (refs ∷ built) → ForEachNetlist P sides built
 tail_each P one sides refs built h = ((let n = h.0 in omega arith), λ k o rs lt a b. h.1 (suc k) o rs (omega arith) a b)
 
--- what is true of what each netlist asks for is true of all
+-- what holds of the entries of each netlist holds of all
 pub asked_holds : (P : Entry → Type 0) (r j : ℕ) (sides : List PlannedNet) (built : List (List Ref)) → ForEachNetlist (λ one refs. (e : Entry) → Contains (own one refs r j) e → P e) sides built → (e : Entry) → Contains (asked sides built r j) e → P e
 asked_holds P r j [] built h e (k, lt, at) = absurd (omega arith)
 asked_holds P r j (one ∷ sides) [] h e c = absurd (let n = h.0 in omega arith)
@@ -134,7 +134,7 @@ asked_holds P r j (one ∷ sides) (refs ∷ built) h e c =
       | inr rest ↦ asked_holds P r j sides built (tail_each (λ o rs. (x : Entry) → Contains (own o rs r j) x → P x) one sides refs built h) e rest
     ]
 
--- what one netlist asks for is among it
+-- the entries of one netlist are among all
 pub asked_has : (r j : ℕ) (sides : List PlannedNet) (built : List (List Ref)) (k : ℕ) (one : PlannedNet) (refs : List Ref) → length built ≡ length sides → k < length sides → get_or sides k one ≡ one → get_or built k refs ≡ refs →
     (e : Entry) → Contains (own one refs r j) e → Contains (asked sides built r j) e
 asked_has r j [] built k one refs n lt at there e c = absurd (omega (arith, lt))
@@ -149,7 +149,7 @@ module _ (sides : List PlannedNet) (built : List (List Ref)) (i : ℕ) (one : Pl
   more : List Entry
   more = asked (drop (i + 1) sides) (drop (i + 1) built) r j
 
-  -- what a netlist and those behind it ask for
+  -- the entries of a netlist and of those after it
   asked_next : asked (drop i sides) (drop i built) r j ≡ own one refs r j ++ asked (drop (i + 1) sides) (drop (i + 1) built) r j
   asked_next =
       ap (λ ss. asked ss (drop i built) r j) (drop_more sides i one lt ∙ ap (λ z. z ∷ drop (i + 1) sides) here)
@@ -167,7 +167,7 @@ module _ (sides : List PlannedNet) (built : List (List Ref)) (i : ℕ) (one : Pl
     count : length (own one refs r j) ≡ length steps
     count = length-map (plan_steps one.net one.net.gates r j) (entry_of refs) ∙ sym (ap length are)
 
-    -- there are answers for all of the netlist's steps
+    -- there are answers for all steps of the netlist
     pub answers_long : length steps ≤ length rest
     answers_long =
         let all = AllZip-long (λ e r. IsDiagram T r (entry_value S e)) (own one refs r j ++ asked (drop (i + 1) sides) (drop (i + 1) built) r j) rest split in
@@ -186,14 +186,14 @@ module _ (sides : List PlannedNet) (built : List (List Ref)) (i : ℕ) (one : Pl
         subst (λ z. AnswersEach S (asked (drop (i + 1) sides) (drop (i + 1) built) r j) T z) (ap (λ n. drop n rest) count ∙ sym f)
         (zip_parts (λ e r. IsDiagram T r (entry_value S e)) (own one refs r j) (asked (drop (i + 1) sides) (drop (i + 1) built) r j) rest split).1
 
--- all have been asked
+-- the entries of all netlists
 pub entries_all : (sides : List PlannedNet) (built : List (List Ref)) (i r j : ℕ) (entries whole : List Entry) → length sides ≤ i → entries ++ asked (drop i sides) (drop i built) r j ≡ whole → entries ≡ whole
 entries_all sides built i r j entries whole le done =
     sym (append-nil entries) ∙ ap (λ z. entries ++ z) (sym (ap (λ ss. asked ss (drop i built) r j) (drop_all sides i le))) ∙ done
 
--- ---- with their levels
+-- ---- netlists with their levels
 
--- a netlist with its levels stands at its place
+-- a netlist with its levels is at its place
 pub levelled_at : (sides : List PlannedNet) (all : List Levelled) → map levelled_of sides ≡ all → (k : ℕ) (l : Levelled) → k < length all → get_or all k l ≡ l →
     (one : PlannedNet) × (k < length sides) × (get_or sides k one ≡ one) × (levelled_of one ≡ l)
 levelled_at sides all e k l lt at =

@@ -1,4 +1,4 @@
--- What the references are after copies and after a wave's answers.
+-- The references after copies, and after a wave's answers.
 use Rattle.std.proofs.Common.{◌≡◌, ◌≢◌, ℕ, zero, suc, ◌<◌, ◌⊎◌, inl, inr, List, [], ◌∷◌, ◌++◌, length, map, take, drop, get_or, set, refl, sym, ◌∙◌, ap, subst, arith}
 use Rattle.std.specs.Prelude.{Contains, All}
 use Rattle.std.specs.List.{AllZip}

@@ -14,12 +14,11 @@ use Rattle.req_table.specs.declared.Op.{Op}
 use Rattle.net_bench.specs.declared.netlist.GateLine.{GateLine}
 use Rattle.net_bench.specs.Circuit.{Circuit, Net, circuit, variables_of, rank_of}
 use Rattle.net_bench.specs.Labels.{bit_of, IsLabelling, IsFunctionOf}
-use Rattle.net_order.specs.declared.order.Match.{Match}
-use Rattle.net_order.specs.declared.order.Order.{Order}
-use Rattle.net_order.specs.Order.{NamingModel, IsPairing, condition, first_level, second_level, given_level}
+use Rattle.net_names.specs.declared.order.Match.{Match}
+use Rattle.net_names.specs.declared.order.Order.{Order}
+use Rattle.net_order.specs.Order.{NamingModel, IsPairing, condition, first_level, second_level, given_level, level_in}
 use Rattle.gate_plan.specs.declared.circuits.Circuits.{Circuits}
-use Rattle.gate_plan.specs.declared.inputs.CircuitRole.{CircuitRole}
-use Rattle.gate_plan.specs.declared.inputs.CircuitRole.TheVariants.{First, Second, Given}
+use Rattle.net_order.specs.declared.netlist_role.NetlistRole.{NetlistRole}
 use Rattle.gate_plan.specs.declared.steps.Step.{Step}
 use Rattle.gate_plan.specs.declared.steps.CopyStep.{CopyStep}
 use Rattle.dd_store.specs.Complements.{complement_by}
@@ -35,42 +34,36 @@ pub record References : Type 0 where
 -- one of the netlists of a pairing, with the plan of its gates
 pub record PlannedNet : Type 0 where
   pub net : Net
-  pub which : CircuitRole
+  pub which : NetlistRole
   pub pairing : NamingModel
   pub plan : List RankSteps
 
--- how many ranks its gates have
+-- the greatest rank of its gates
 abbrev pub ranks_of : PlannedNet → ℕ
 ranks_of one = length one.plan
 
--- how many folds its gates of a rank have
+-- the number of folds of its gates of a rank
 abbrev pub folds_at : ℕ → PlannedNet → ℕ
 folds_at rank one = plan_folds one.net one.net.gates rank
 
--- the netlists that are built together: two, and a condition where there is one, over the variables of a pairing
+-- the netlists that are built together: two, and the condition if there is one, over the variables of a pairing
 pub record PairedCircuits : Type 0 where
   pub first : Circuit
   pub second : Circuit
   pub given : Option Circuit
   pub pairing : NamingModel
 
--- these are what `Circuits` has
+-- what `Circuits` has, for contracts
 abbrev pub circuits_of : Circuits → PairedCircuits
 circuits_of c = record { first = circuit c.first.now; second = circuit c.second.now; given = condition c.given; pairing = c.pairing.now }
 
--- p is the pairing of the two netlists, with this condition or none, for some way of matching and some order
+-- p is the pairing of the two netlists, with this condition or none, for some matching and some order
 abbrev pub IsPaired : Circuit → Circuit → Option Circuit → NamingModel → Type 0
 IsPaired a b given p = (how : Match) × (order : Order) × IsPairing how a b given order p
 
--- the level of an input of one of them
-abbrev pub level_in : CircuitRole → NamingModel → ℕ → ℕ
-level_in First p s = first_level p s
-level_in Second p s = second_level p s
-level_in Given p s = given_level p s
-
 -- the level of an input of a netlist of a pairing
 abbrev pub input_level : PlannedNet → ℕ → ℕ
-input_level one s = level_in one.which one.pairing s
+input_level one s = level_in one.pairing one.which s
 
 -- a netlist with the levels of its variables
 pub record Levelled : Type 0 where
@@ -82,7 +75,7 @@ abbrev pub levelled_given : Option Circuit → NamingModel → List Levelled
 levelled_given None p = []
 levelled_given (Some c) p = record { netlist = c; level = given_level p } ∷ []
 
--- the netlists that are built for a pairing: the first, the second, and the condition where there is one
+-- the netlists that are built for a pairing: the first, the second, and the condition if there is one
 abbrev pub levelled : Circuit → Circuit → Option Circuit → NamingModel → List Levelled
 levelled a b given p = record { netlist = a; level = first_level p } ∷ record { netlist = b; level = second_level p }
     ∷ levelled_given given p
@@ -91,19 +84,19 @@ levelled a b given p = record { netlist = a; level = first_level p } ∷ record 
 abbrev pub levelled_of : PlannedNet → Levelled
 levelled_of one = record { netlist = circuit one.net; level = input_level one }
 
--- a netlist of a pairing is put at the end of a list, with its plan
-pub record AddsPlannedNet (old : List PlannedNet) (net : Net) (which : CircuitRole) (p : NamingModel) (new : List PlannedNet) : Type 0 where
+-- a netlist of a pairing is at the end of a list, with its plan
+pub record AddsPlannedNet (old : List PlannedNet) (net : Net) (which : NetlistRole) (p : NamingModel) (new : List PlannedNet) : Type 0 where
   pub one : PlannedNet
   pub added : new ≡ old ++ one ∷ []
   pub is : one ≡ record { net = net; which = which; pairing = p; plan = one.plan }
   pub plan : IsPlan net one.plan
 
--- these are the netlists that are built for a pairing, each with its plan
+-- the netlists that are built for a pairing, each with its plan
 pub record ArePlannedNets (a b : Circuit) (given : Option Circuit) (p : NamingModel) (sides : List PlannedNet) : Type 0 where
   pub netlists : map levelled_of sides ≡ levelled a b given p
   pub plans : (one : PlannedNet) → Contains sides one → IsPlan one.net one.plan
 
--- this holds of each netlist of a list and its references
+-- P holds of each netlist of a list and its references
 abbrev pub ForEachNetlist : (PlannedNet → List Ref → Type 0) → List PlannedNet → List (List Ref) → Type 0
 ForEachNetlist P sides built =
     (length built ≡ length sides) ×
@@ -120,17 +113,17 @@ pub record AreDiagrams (c : Circuit) (level : ℕ → ℕ) (S : Nodes) (refs : L
   pub has : (s : ℕ) → s < length c.names → Has S (reference_of refs s)
   pub functions : (s : ℕ) → s < length c.names → IsFunctionOf c level S.levels s (den S (reference_of refs s))
 
--- ---- the steps on references
+-- ---- steps, done on references
 
 abbrev pub wave_fault_of : StoreFault → WaveFault
 wave_fault_of store_faults.Full = wave_faults.Full
 wave_fault_of store_faults.OutOfMemory = wave_faults.OutOfMemory
 
--- the first operand of a step, which is the signal itself where the fold goes on
+-- the first operand of a step, which is the signal itself if the fold goes on
 abbrev pub first_operand : Step → ℕ
 first_operand s = unwrap_or s.first s.out
 
--- what a step asks for
+-- the entry of a step
 abbrev pub entry_of : List Ref → Step → Op × Ref × Ref
 entry_of refs s = (s.op, reference_of refs (first_operand s), reference_of refs s.second)
 
@@ -140,18 +133,18 @@ IsStepBelow n s = (s.out < n) × (first_operand s < n) × (s.second < n)
 abbrev pub IsCopyBelow : ℕ → CopyStep → Type 0
 IsCopyBelow n c = (c.out < n) × (c.of < n)
 
--- the references after the copies, one after the other
+-- the references after the copies were done, one after the other
 abbrev pub copied_all : List Ref → List CopyStep → List Ref
 copied_all refs [] = refs
 copied_all refs (c ∷ cs) = copied_all (slice_set refs c.out (complement_by c.complement (reference_of refs c.of))) cs
 
--- the references after each step's gate has got the step's answer
+-- the references after each step's gate has got its answer
 abbrev pub answered_all : List Ref → List Step → List Ref → List Ref
 answered_all refs [] answers = refs
 answered_all refs (s ∷ ss) [] = refs
 answered_all refs (s ∷ ss) (a ∷ answers) = answered_all (slice_set refs s.out a) ss answers
 
--- ---- what is built so far
+-- ---- the state of a build
 
 -- the variables by level
 pub record AreVariables (S : Nodes) (variables : List Ref) : Type 0 where
@@ -159,17 +152,17 @@ pub record AreVariables (S : Nodes) (variables : List Ref) : Type 0 where
   pub has : (v : ℕ) → v < S.levels → Has S (reference_of variables v)
   pub bits : (v : ℕ) → v < S.levels → (x : List Bool) → den S (reference_of variables v) x ≡ bit x v
 
--- a reference for each signal, that of an input or register being its variable
+-- a reference for each signal; that of an input or register is its variable
 pub record AreInputs (net : Net) (level : ℕ → ℕ) (variables refs : List Ref) : Type 0 where
   pub each : length refs ≡ length net.names
   pub inputs : (s : ℕ) → Contains (variables_of (circuit net)) s → reference_of refs s ≡ reference_of variables (level s)
   pub others : (s : ℕ) → (Contains (variables_of (circuit net)) s → ⊥) → reference_of refs s ≡ False
 
--- whatever the labelling, r denotes at each assignment what `value` says of the labels
+-- for every labelling, r denotes at each assignment the function `value` of the labels
 abbrev pub Denotes : Circuit → (ℕ → ℕ) → Nodes → Ref → (List Bool → Bool) → Type 0
 Denotes c level S r value = (x bits : List Bool) → length x ≡ S.levels → IsLabelling c level x bits → den S r x ≡ value bits
 
--- some reference denotes at each assignment what `value` says of the labels
+-- some reference denotes at each assignment the function `value` of the labels
 abbrev pub IsDenoted : Circuit → (ℕ → ℕ) → Nodes → (List Bool → Bool) → Type 0
 IsDenoted c level S value = (r : Ref) × Has S r × Denotes c level S r value
 
@@ -177,7 +170,7 @@ IsDenoted c level S value = (r : Ref) × Has S r × Denotes c level S r value
 abbrev pub value_after : GateLine → ℕ → List Bool → Bool
 value_after g i bits = value_so_far g.kind (map (bit_of bits) g.operands) i
 
--- the signals of the ranks below this one denote their labels, and the store has all values of their gates' folds
+-- the signals of lower ranks denote their labels, and the store has the values of their gates after each fold
 pub record AreRight (net : Net) (level : ℕ → ℕ) (S : Nodes) (refs : List Ref) (rank : ℕ) : Type 0 where
   pub each : length refs ≡ length net.names
   pub known : (s : ℕ) → Has S (reference_of refs s)
@@ -190,7 +183,8 @@ pub record AreRight (net : Net) (level : ℕ → ℕ) (S : Nodes) (refs : List R
 abbrev pub HasValueAfter : GateLine → ℕ → Type 0
 HasValueAfter g fold = (0 < fold) ⊎ (length g.operands ≡ 1)
 
--- and each gate of this rank denotes its value after so many folds, and the store has all values up to that one
+-- The signals of lower ranks are right; each gate of this rank denotes its value after so many folds, and the store has
+-- all its values up to this one.
 pub record AreFolded (net : Net) (level : ℕ → ℕ) (S : Nodes) (refs : List Ref) (rank fold : ℕ) : Type 0 where
   pub right : AreRight net level S refs rank
   pub here : (g : GateLine) → Contains net.gates g → rank_of net g ≡ rank → HasValueAfter g fold →
@@ -206,20 +200,21 @@ AllRight sides S built rank = ForEachNetlist (λ one refs. AreRight one.net (inp
 abbrev pub AllFolded : List PlannedNet → Nodes → List (List Ref) → ℕ → ℕ → Type 0
 AllFolded sides S built rank fold = ForEachNetlist (λ one refs. AreFolded one.net (input_level one) S refs rank fold) sides built
 
--- what a build of these netlists begins with: each with its plan, and references for all signals, those of the first rank's operands right
+-- the state before the first rank: each netlist with its plan, and references for all signals, of which those of inputs
+-- and registers are right
 pub record IsBuildStart (c : PairedCircuits) (S : Nodes) (sides : List PlannedNet) (built : List (List Ref)) : Type 0 where
   pub placed : ArePlannedNets c.first c.second c.given c.pairing sides
   pub variables : (variables : List Ref) × AreVariables S variables
   pub right : AllRight sides S built 1
 
--- what the steps of a rank and a fold number ask for, netlist after netlist
+-- the entries of a rank and a fold number, netlist after netlist
 abbrev pub asked : List PlannedNet → List (List Ref) → ℕ → ℕ → List (Op × Ref × Ref)
 asked [] built rank fold = []
 asked (one ∷ sides) [] rank fold = []
 asked (one ∷ sides) (refs ∷ built) rank fold = map (entry_of refs) (plan_steps one.net one.net.gates rank fold)
     ++ asked sides built rank fold
 
--- after the copies of a rank
+-- the references after the copies of a rank
 abbrev pub AreCopied : List PlannedNet → List (List Ref) → List (List Ref) → ℕ → Type 0
 AreCopied sides old new rank =
     (length new ≡ length old) ×

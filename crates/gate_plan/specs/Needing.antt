@@ -1,5 +1,5 @@
--- Which nodes two netlists, and a condition where there is one, need of a store: what their building adds, what a store without nodes has
--- after it, and when it is Full.
+-- Which nodes two netlists, and the condition if there is one, need in a store: what their building adds, what a store
+-- without nodes has after it, and when it fails with Full.
 use Rattle.std.specs.Prelude.{◌≡◌, ℕ, ◌<◌, ◌≤◌, ◌⊎◌, Bool, List, Option, length, map, Contains}
 use Rattle.dd_store.specs.declared.reference.Ref.{Ref}
 use Rattle.dd_store.specs.Functions.{Agree}
@@ -14,11 +14,12 @@ use Rattle.gate_plan.specs.Building.{PlannedNet, Levelled, levelled, levelled_of
 use Rattle.gate_plan.specs.Folds.{IsVariable, IsFoldValue}
 use Rattle.gate_plan.specs.Need.{IsCounted, IsLean, IsComplete}
 
--- the functions whose diagrams netlists need, over n variables: the variables, and each netlist's fold values
+-- the functions whose diagrams netlists need, over n variables: the variables, and the value of each gate after each of
+-- its operands
 abbrev pub IsValueOf : ℕ → List Levelled → (List Bool → Bool) → Type 0
 IsValueOf n netlists f = IsVariable n f ⊎ ((one : Levelled) × Contains netlists one × IsFoldValue one.netlist one.level n f)
 
--- the functions whose diagrams the building for a pairing needs
+-- the functions whose diagrams are needed for a pairing
 abbrev pub IsNeededValue : Circuit → Circuit → Option Circuit → NamingModel → (List Bool → Bool) → Type 0
 IsNeededValue a b given p f = IsValueOf (length p.names) (levelled a b given p) f
 
@@ -44,22 +45,23 @@ pub record HasNeed (a b : Circuit) (given : Option Circuit) (p : NamingModel) (S
 abbrev pub LacksCounted : ℕ → ((List Bool → Bool) → Type 0) → Nodes → Type 0
 LacksCounted n Values S = (v : ℕ) × (f : List Bool → Bool) × IsCounted n Values v f × ((r : Ref) → Has S r → Agree n (den S r) f → ⊥)
 
--- the cause of the answer Full: the store has more nodes than its limit, or as many and lacks one that is counted
+-- the cause of Full: the store has more nodes than its limit, or as many and lacks one that is counted
 abbrev pub IsFullFor : ℕ → ((List Bool → Bool) → Type 0) → Nodes → Type 0
 IsFullFor n Values S = (S.limit < count_of S) ⊎ ((count_of S ≡ S.limit) × LacksCounted n Values S)
 
--- why nodes were refused
+-- the cause of a build's fault
 abbrev pub IsBuildFault : ℕ → ((List Bool → Bool) → Type 0) → Nodes → WaveFault → Type 0
 IsBuildFault n Values S wave_faults.OutOfMemory = Unit {0}
 IsBuildFault n Values S wave_faults.NoWorker = Unit {0}
 IsBuildFault n Values S wave_faults.TooManyRequests = Unit {0}
+IsBuildFault n Values S wave_faults.Stopped = Unit {0}
 IsBuildFault n Values S wave_faults.Full = IsFullFor n Values S
 
--- the store `new` is within its limit, or as it was
+-- the store `new` is within its limit, or as before
 abbrev pub IsStillWithin : Nodes → Nodes → Type 0
 IsStillWithin old new = (count_of new ≤ new.limit) ⊎ (new ≡ old)
 
--- the same functions, of netlists with their plans, by n levels
+-- the functions whose diagrams netlists with their plans need, by n levels
 abbrev pub IsPlannedValue : ℕ → List PlannedNet → (List Bool → Bool) → Type 0
 IsPlannedValue n sides f = IsValueOf n (map levelled_of sides) f
 

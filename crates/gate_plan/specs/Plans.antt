@@ -36,22 +36,22 @@ last_op Nor = ops.Nor
 last_op Xor = ops.Xor
 last_op Xnor = ops.Xnor
 
--- the operation that takes in operand i (from 0) of k
+-- the operation that has operand i (from 0) of k as its second operand
 abbrev pub op_at : Kind → ℕ → ℕ → Op
 op_at kind k i = cond (i + 1 == k) (last_op kind) (plain_op kind)
 
 abbrev pub operand_at : GateLine → ℕ → ℕ
 operand_at g i = slice_index g.operands i
 
--- a gate of one operand is a copy of it, or of its complement
+-- the copy that a gate of one operand is
 abbrev pub copy_of : GateLine → Option CopyStep
 copy_of g = cond (length g.operands == 1) (Some (record { out = g.out; of = operand_at g 0; complement = is_complemented g.kind })) None
 
--- how many steps a gate's fold has
+-- the number of steps of a gate's fold
 abbrev pub folds_of : GateLine → ℕ
 folds_of g = length g.operands - 1
 
--- a step is the operation that takes in operand j + 1
+-- the step that has operand j + 1 as its second operand
 abbrev pub step_at : GateLine → ℕ → Step
 step_at g j = record {
   out = g.out;
@@ -91,7 +91,7 @@ pub record RankSteps : Type 0 where
 abbrev pub no_steps : RankSteps
 no_steps = record { copies = []; folds = [] }
 
--- the list of a fold number, empty where there is none
+-- the list of a fold number, empty if there is none
 abbrev pub fold_at : List (List Step) → ℕ → List Step
 fold_at folds j = slice_index_or folds j []
 
@@ -114,17 +114,17 @@ pub record IsPlan (net : Net) (p : List RankSteps) : Type 0 where
   pub ranks : length p ≡ greatest (map (rank_of net) net.gates)
   pub gates : Plans net net.gates p
 
--- one more item stands at the end of the list at a place
+-- one more item is at the end of the list at a place
 pub record AddsAt {X : Type 0} (old : List (List X)) (place : ℕ) (item : X) (new : List (List X)) : Type 0 where
   pub count : length new ≡ max (length old) (place + 1)
   pub lists : (j : ℕ) → slice_index_or new j [] ≡ slice_index_or old j [] ++ cond (j == place) (item ∷ []) []
 
--- the steps of one more gate stand at the ends of the lists by fold number
+-- the steps of one more gate are at the ends of the lists by fold number
 pub record AddsSteps (old : List (List Step)) (g : GateLine) (new : List (List Step)) : Type 0 where
   pub folds : length new ≡ max (length old) (folds_of g)
   pub steps : (j : ℕ) → fold_at new j ≡ fold_at old j ++ steps_of g j
 
--- the copy or the steps of one more gate stand at the ends of the lists
+-- the copy or the steps of one more gate are at the ends of the lists
 pub record AddsGate (old : RankSteps) (g : GateLine) (new : RankSteps) : Type 0 where
   pub copies : new.copies ≡ old.copies ++ copies_of g
   pub steps : AddsSteps old.folds g new.folds

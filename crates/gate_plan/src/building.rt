@@ -1,5 +1,5 @@
-//! The building of netlists' diagrams in one store, rank by rank.
-ghost use Rattle.std.specs.Prelude.{◌≡◌, ◌≢◌, ◌+◌, ◌-◌, ◌^◌, ◌<◌, ◌≤◌, Err, [], Contains, length, map, min, IfOk, IfErr, IfSome, OnOk};
+//! Building the diagrams of netlists in one store, rank by rank.
+ghost use Rattle.std.specs.Prelude.{◌≡◌, ◌≢◌, ◌+◌, ◌-◌, ◌^◌, ◌<◌, ◌≤◌, true, Err, [], Contains, length, map, min, IfOk, IfErr, IfSome, OnOk};
 ghost use Rattle.std.specs.Prelude.{slice_get, slice_index_or, Some};
 ghost use Rattle.dd_store.specs.Nodes.{IsSound, count_of};
 ghost use Rattle.dd_store.specs.View.{Keeps};
@@ -32,7 +32,7 @@ use std::sync::Wait;
 use std::thread::Threads;
 use wave_engine::Engine;
 
-/// A reference for each signal of two netlists, and of a condition where there is one.
+/// A reference for each signal of two netlists, and of the condition if there is one.
 #[derive(Drop)]
 pub struct CircuitDiagrams {
     list: Vec<NetlistDiagrams>,
@@ -51,7 +51,7 @@ impl Model for CircuitDiagrams {
     } };
 }
 
-/// The diagram of a signal of the netlist at this place.
+/// Returns the diagram of a signal of the netlist at this place of the list.
 fn diagram_at(list: &[NetlistDiagrams], place: usize, signal: Signal) -> Ref
     requires { signal < length (slice_index_or list.now place []) }
     ensures { slice_get (slice_index_or list.now place []) signal ≡ Some result }
@@ -61,7 +61,7 @@ fn diagram_at(list: &[NetlistDiagrams], place: usize, signal: Signal) -> Ref
 }
 
 impl CircuitDiagrams {
-    /// The diagram of a signal of the first netlist.
+    /// Returns the diagram of a signal of the first netlist.
     pub fn first(&self, signal: Signal) -> Ref
         requires { signal < length self.now.first }
         ensures { slice_get self.now.first signal ≡ Some result }
@@ -69,7 +69,7 @@ impl CircuitDiagrams {
         diagram_at(self.list.as_slice(), 0, signal)
     }
 
-    /// The diagram of a signal of the second netlist.
+    /// Returns the diagram of a signal of the second netlist.
     pub fn second(&self, signal: Signal) -> Ref
         requires { signal < length self.now.second }
         ensures { slice_get self.now.second signal ≡ Some result }
@@ -77,7 +77,7 @@ impl CircuitDiagrams {
         diagram_at(self.list.as_slice(), 1, signal)
     }
 
-    /// The diagram of a signal of the condition.
+    /// Returns the diagram of a signal of the condition.
     pub fn given(&self, signal: Signal) -> Ref
         requires { signal < length self.now.given }
         ensures { slice_get self.now.given signal ≡ Some result }
@@ -86,7 +86,7 @@ impl CircuitDiagrams {
     }
 }
 
-/// The wave of one fold number of a rank: the steps of all netlists are asked for together.
+/// Does the wave of one fold number of a rank: one wave for the steps of all netlists.
 fn build_fold<R: Threads + Wait + Sync, G: Monitor>(
     engine: &mut Engine<'_, R, G>,
     store: &mut Store,
@@ -108,13 +108,14 @@ fn build_fold<R: Threads + Wait + Sync, G: Monitor>(
     ensures next { OnOk result (AllFolded sides.now store.new built.new rank (fold + 1)) }
     ensures within { OnOk result (IsWithinOrUnasked (AnyAsksAt sides.now store.new rank fold) store.old store.new) }
     ensures fault { IfErr result (IsBuildFault store.old.levels (IsPlannedValue store.old.levels sides.now) store.new) }
-    ensures past { result ≡ Err WaveFault.TooManyRequests → IsPast engine.old.bound store.old.levels (map levelled_of sides.now) }
-    ensures within_bound { most_of engine.old.bound < 2 ^ 64 - 1
-        → OnOk result (IsNarrowAt (most_of engine.old.bound) store.old.levels (map levelled_of sides.now) rank fold) }
-    ensures bounded_needs_no_worker { most_of engine.old.bound < 2 ^ 64 - 1 → result ≢ Err WaveFault.NoWorker }
+    ensures past { result ≡ Err WaveFault.TooManyRequests → IsPast engine.old.bound.requests store.old.levels (map levelled_of sides.now) }
+    ensures within_bound { most_of engine.old.bound.requests < 2 ^ 64 - 1
+        → OnOk result (IsNarrowAt (most_of engine.old.bound.requests) store.old.levels (map levelled_of sides.now) rank fold) }
+    ensures bounded_needs_no_worker { most_of engine.old.bound.requests < 2 ^ 64 - 1 → result ≢ Err WaveFault.NoWorker }
+    ensures stopped { result ≡ Err WaveFault.Stopped → engine.old.bound.stops ≡ true }
     ensures memory { count_of store.old ≤ store.old.limit → result ≡ Err WaveFault.OutOfMemory → count_of store.new ≤ store.new.limit }
 {
-    let _ = store.levels();
+    let _ = store.levels(); // For the proof.
     let entries = match entries_of(engine.alloc(), sides, built, rank, fold) {
         Ok(entries) => entries,
         Err(_) => return Err(WaveFault::OutOfMemory),
@@ -132,7 +133,7 @@ fn build_fold<R: Threads + Wait + Sync, G: Monitor>(
     Ok(())
 }
 
-/// The copies and all folds of one rank.
+/// Does the copies and all folds of one rank.
 fn build_rank<R: Threads + Wait + Sync, G: Monitor>(
     engine: &mut Engine<'_, R, G>,
     store: &mut Store,
@@ -153,13 +154,14 @@ fn build_rank<R: Threads + Wait + Sync, G: Monitor>(
     ensures next { OnOk result (AllRight sides.now store.new built.new (rank + 1)) }
     ensures within { OnOk result (IsWithinOrUnasked (AnyAsksIn sides.now store.new rank) store.old store.new) }
     ensures fault { IfErr result (IsBuildFault store.old.levels (IsPlannedValue store.old.levels sides.now) store.new) }
-    ensures past { result ≡ Err WaveFault.TooManyRequests → IsPast engine.old.bound store.old.levels (map levelled_of sides.now) }
-    ensures within_bound { most_of engine.old.bound < 2 ^ 64 - 1
-        → OnOk result (AreNarrowTo (most_of engine.old.bound) store.old.levels sides.now rank (greatest (map (folds_at rank) sides.now))) }
-    ensures bounded_needs_no_worker { most_of engine.old.bound < 2 ^ 64 - 1 → result ≢ Err WaveFault.NoWorker }
+    ensures past { result ≡ Err WaveFault.TooManyRequests → IsPast engine.old.bound.requests store.old.levels (map levelled_of sides.now) }
+    ensures within_bound { most_of engine.old.bound.requests < 2 ^ 64 - 1
+        → OnOk result (AreNarrowTo (most_of engine.old.bound.requests) store.old.levels sides.now rank (greatest (map (folds_at rank) sides.now))) }
+    ensures bounded_needs_no_worker { most_of engine.old.bound.requests < 2 ^ 64 - 1 → result ≢ Err WaveFault.NoWorker }
+    ensures stopped { result ≡ Err WaveFault.Stopped → engine.old.bound.stops ≡ true }
     ensures memory { count_of store.old ≤ store.old.limit → result ≡ Err WaveFault.OutOfMemory → count_of store.new ≤ store.new.limit }
 {
-    let _ = store.levels();
+    let _ = store.levels(); // For the proof.
     copy_rank(sides, built, rank);
     for fold in 0..most_folds(sides, rank) {
         build_fold(engine, store, sides, built, rank, fold)?;
@@ -167,14 +169,14 @@ fn build_rank<R: Threads + Wait + Sync, G: Monitor>(
     Ok(())
 }
 
-/// A number as a monitor is told it: the greatest of a u32 stands for what is greater.
+/// Returns a number as a monitor takes it, or the greatest u32 if it is greater.
 fn clamp_to_u32(number: usize) -> u32
     ensures { result ≡ min number (2 ^ 32 - 1) }
 {
     u32::try_from(number).unwrap_or(u32::MAX)
 }
 
-/// All ranks, one after the other.
+/// Does all ranks, one after the other.
 fn build_ranks<R: Threads + Wait + Sync, G: Monitor>(
     engine: &mut Engine<'_, R, G>,
     store: &mut Store,
@@ -192,13 +194,14 @@ fn build_ranks<R: Threads + Wait + Sync, G: Monitor>(
     ensures within { OnOk result (IsWithinOrUnasked (AnyAsksBelow sides.now store.new
         (greatest (map ranks_of sides.now))) store.old store.new) }
     ensures fault { IfErr result (IsBuildFault store.old.levels (IsPlannedValue store.old.levels sides.now) store.new) }
-    ensures past { result ≡ Err WaveFault.TooManyRequests → IsPast engine.old.bound store.old.levels (map levelled_of sides.now) }
-    ensures within_bound { most_of engine.old.bound < 2 ^ 64 - 1
-        → OnOk result (AreNarrowBelow (most_of engine.old.bound) store.old.levels sides.now (greatest (map ranks_of sides.now))) }
-    ensures bounded_needs_no_worker { most_of engine.old.bound < 2 ^ 64 - 1 → result ≢ Err WaveFault.NoWorker }
+    ensures past { result ≡ Err WaveFault.TooManyRequests → IsPast engine.old.bound.requests store.old.levels (map levelled_of sides.now) }
+    ensures within_bound { most_of engine.old.bound.requests < 2 ^ 64 - 1
+        → OnOk result (AreNarrowBelow (most_of engine.old.bound.requests) store.old.levels sides.now (greatest (map ranks_of sides.now))) }
+    ensures bounded_needs_no_worker { most_of engine.old.bound.requests < 2 ^ 64 - 1 → result ≢ Err WaveFault.NoWorker }
+    ensures stopped { result ≡ Err WaveFault.Stopped → engine.old.bound.stops ≡ true }
     ensures memory { count_of store.old ≤ store.old.limit → result ≡ Err WaveFault.OutOfMemory → count_of store.new ≤ store.new.limit }
 {
-    let _ = store.levels();
+    let _ = store.levels(); // For the proof.
     let ranks = last_rank(sides);
     for below in 0..ranks {
         monitor.at_rank(clamp_to_u32(below + 1), clamp_to_u32(ranks), store.count());
@@ -207,7 +210,7 @@ fn build_ranks<R: Threads + Wait + Sync, G: Monitor>(
     Ok(())
 }
 
-/// All ranks, by an engine of their own.
+/// Does all ranks, with a new engine.
 fn build_all<R: Threads + Wait + Sync, G: Monitor>(
     crew: &Crew<'_, R, G>,
     store: &mut Store,
@@ -222,14 +225,15 @@ fn build_all<R: Threads + Wait + Sync, G: Monitor>(
     ensures within { OnOk result (IsWithinOrUnasked (AnyAsksBelow sides.now store.new
         (greatest (map ranks_of sides.now))) store.old store.new) }
     ensures fault { IfErr result (IsBuildFault store.old.levels (IsPlannedValue store.old.levels sides.now) store.new) }
-    ensures past { result ≡ Err WaveFault.TooManyRequests → IsPast (G.bound crew.now.monitor.now) store.old.levels
+    ensures past { result ≡ Err WaveFault.TooManyRequests → IsPast (G.bound crew.now.monitor.now).requests store.old.levels
         (map levelled_of sides.now) }
-    ensures within_bound { most_of (G.bound crew.now.monitor.now) < 2 ^ 64 - 1 → OnOk result
-        (AreNarrowBelow (most_of (G.bound crew.now.monitor.now)) store.old.levels sides.now (greatest (map ranks_of sides.now))) }
-    ensures bounded_needs_no_worker { most_of (G.bound crew.now.monitor.now) < 2 ^ 64 - 1 → result ≢ Err WaveFault.NoWorker }
+    ensures within_bound { most_of (G.bound crew.now.monitor.now).requests < 2 ^ 64 - 1 → OnOk result
+        (AreNarrowBelow (most_of (G.bound crew.now.monitor.now).requests) store.old.levels sides.now (greatest (map ranks_of sides.now))) }
+    ensures bounded_needs_no_worker { most_of (G.bound crew.now.monitor.now).requests < 2 ^ 64 - 1 → result ≢ Err WaveFault.NoWorker }
+    ensures stopped { result ≡ Err WaveFault.Stopped → (G.bound crew.now.monitor.now).stops ≡ true }
     ensures memory { count_of store.old ≤ store.old.limit → result ≡ Err WaveFault.OutOfMemory → count_of store.new ≤ store.new.limit }
 {
-    let _ = store.levels();
+    let _ = store.levels(); // For the proof.
     let mut engine = Engine::new(crew)?;
     build_ranks(&mut engine, store, sides, built, crew.monitor)
 }
@@ -241,7 +245,7 @@ struct BuildStart<'a> {
     built: Vec<NetlistDiagrams>,
 }
 
-/// Makes the variables, and what the first rank is built on.
+/// Makes the variables, the plans, and the references that the first rank is built on.
 fn begin<'a>(
     alloc: Global,
     store: &mut Store,
@@ -256,6 +260,7 @@ fn begin<'a>(
     ensures fault { IfErr result (IsBuildFault store.old.levels (IsVariable store.old.levels) store.new) }
     ensures never_no_worker { IfErr result (λ e. e ≢ WaveFault.NoWorker) }
     ensures never_too_many_requests { IfErr result (λ e. e ≢ WaveFault.TooManyRequests) }
+    ensures never_stopped { IfErr result (λ e. e ≢ WaveFault.Stopped) }
 {
     let variables = make_variables(alloc, store)?;
     let sides = sides_of(alloc, circuits)?;
@@ -263,11 +268,16 @@ fn begin<'a>(
     Ok(BuildStart { sides, built })
 }
 
-/// Builds the diagrams of all signals of two netlists, and of a condition where there is one, over the variables of their pairing: all
-/// variables in level order, then per rank the copies and one wave for each fold number, of all netlists together. What an earlier wave of
-/// the build was asked for is answered at once while it is held. A bound counts the requests of all that a wave is asked for, held or not:
-/// so whether TooManyRequests is answered depends on the netlists, their pairing and the bound only. A wave's requests are expanded by as
-/// many threads as there are workers; NoWorker is answered only if the monitor sets no bound, and one could not be started.
+/// Builds the diagrams of all signals of two netlists, and of the condition if there is one, over the variables of
+/// their pairing. It makes all variables in the order of their levels; then, rank by rank, it copies the references of
+/// gates with one operand, and does one wave for each fold number, for all netlists together.
+///
+/// An operation that an earlier wave of the build was asked for is answered at once as long as its answer is held. A
+/// bound of the monitor counts all requests that a wave's operations reach, held or not; so whether it fails with
+/// TooManyRequests depends only on the netlists, their pairing and the bound. Fails with NoWorker only if the monitor
+/// sets no bound, and a thread could not be started; with Stopped if the run has stopped before all requests of a wave
+/// were expanded; with Full if the store is past its limit, or at it and lacks a node that is needed; and with
+/// OutOfMemory.
 pub fn build<R: Threads + Wait + Sync, G: Monitor>(
     crew: &Crew<'_, R, G>,
     store: &mut Store,
@@ -283,26 +293,28 @@ pub fn build<R: Threads + Wait + Sync, G: Monitor>(
         (λ b. AreDiagrams c.second (second_level c.pairing) store.new b.second) }
     ensures given { let c = circuits_of circuits.now in IfOk result
         (λ b. IfSome c.given (λ holds. AreDiagrams holds (given_level c.pairing) store.new b.given)) }
-    // Each node that is added is needed, also where the build is refused.
+    // Each node that is added is needed, also if the build fails.
     ensures adds { let c = circuits_of circuits.now in AddsDescribed store.old store.new (IsNeeded c.first c.second c.given c.pairing) }
-    // A store that is over its limit after a build is as it was, and no step of a gate had to be asked for.
+    // A store that is over its limit after a build is as before, and no step of a gate had to be asked for.
     ensures within { let c = circuits_of circuits.now in OnOk result
         (IsWithinOrUnasked (AnyAsks c.first c.second c.given c.pairing store.new) store.old store.new) }
     // A store without nodes gets the nodes that are needed and no others, within its limit.
     ensures need { let c = circuits_of circuits.now in count_of store.old ≡ 0
         → OnOk result (HasNeed c.first c.second c.given c.pairing store.new) }
-    // Full is answered only where the store has more nodes than its limit, or as many and lacks one that is needed.
+    // Full is the fault only if the store has more nodes than its limit, or as many and lacks one that is needed.
     ensures fault { let c = circuits_of circuits.now in IfErr result
         (IsBuildFault (length c.pairing.names) (IsNeededValue c.first c.second c.given c.pairing) store.new) }
-    // The build is refused for its requests only if one of its waves reaches more than the monitor allows.
+    // The fault is TooManyRequests only if one wave of the build reaches more than the monitor allows.
     ensures past { let c = circuits_of circuits.now in result ≡ Err WaveFault.TooManyRequests
-        → IsPast (G.bound crew.now.monitor.now) (length c.pairing.names) (levelled c.first c.second c.given c.pairing) }
+        → IsPast (G.bound crew.now.monitor.now).requests (length c.pairing.names) (levelled c.first c.second c.given c.pairing) }
     // A build that was done had no wave that reaches more than the monitor allows, whatever was held.
-    ensures within_bound { let c = circuits_of circuits.now in most_of (G.bound crew.now.monitor.now) < 2 ^ 64 - 1 → OnOk result
-        (IsNarrow (most_of (G.bound crew.now.monitor.now)) (length c.pairing.names) (levelled c.first c.second c.given c.pairing)) }
-    // Where the monitor sets a bound, no worker is wanted.
-    ensures bounded_needs_no_worker { most_of (G.bound crew.now.monitor.now) < 2 ^ 64 - 1 → result ≢ Err WaveFault.NoWorker }
-    // Where memory is wanted, a store that was within its limit is so still: Full comes first.
+    ensures within_bound { let c = circuits_of circuits.now in most_of (G.bound crew.now.monitor.now).requests < 2 ^ 64 - 1 → OnOk result
+        (IsNarrow (most_of (G.bound crew.now.monitor.now).requests) (length c.pairing.names) (levelled c.first c.second c.given c.pairing)) }
+    // With a bound, a thread that cannot be started is no cause of failure.
+    ensures bounded_needs_no_worker { most_of (G.bound crew.now.monitor.now).requests < 2 ^ 64 - 1 → result ≢ Err WaveFault.NoWorker }
+    // The build is stopped only if the monitor may stop a wave.
+    ensures stopped { result ≡ Err WaveFault.Stopped → (G.bound crew.now.monitor.now).stops ≡ true }
+    // OutOfMemory leaves a store within its limit that was within it before, since Full is reported first.
     ensures memory { count_of store.old ≤ store.old.limit → result ≡ Err WaveFault.OutOfMemory → count_of store.new ≤ store.new.limit }
 {
     let begun = begin(crew.alloc, store, circuits)?;

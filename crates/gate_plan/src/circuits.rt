@@ -2,12 +2,14 @@
 use net_bench::netlist::Netlist;
 use net_order::pairing::Pairing;
 
-/// Two netlists, a condition where there is one, and the variables that their pairing gives them.
+/// What is built together: two netlists, the condition if there is one, and the variables that their pairing gives
+/// them.
 #[derive(Drop)]
 pub struct Circuits<'a> {
     pub first: &'a Netlist,
     pub second: &'a Netlist,
-    /// The netlist of the condition.
+    /// The netlist of the condition, if there is one.
     pub given: Option<&'a Netlist>,
+    /// Gives each input and register its variable, and the variables their levels.
     pub pairing: &'a Pairing,
 }

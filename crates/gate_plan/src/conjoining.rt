@@ -1,5 +1,6 @@
-//! Functions where a condition holds.
-ghost use Rattle.std.specs.Prelude.{◌≡◌, ◌≢◌, ◌-◌, ◌^◌, ◌<◌, ◌≤◌, Err, IfOk, IfErr, OnOk, All};
+//! Functions conjoined with the condition, so that they are compared only at assignments at which
+//! it holds.
+ghost use Rattle.std.specs.Prelude.{◌≡◌, ◌≢◌, ◌-◌, ◌^◌, ◌<◌, ◌≤◌, true, Err, IfOk, IfErr, OnOk, All};
 ghost use Rattle.dd_store.specs.Nodes.{IsSound, count_of};
 ghost use Rattle.dd_store.specs.View.{Has};
 ghost use Rattle.expand_work.specs.Bounds.{most_of};
@@ -16,7 +17,7 @@ use std::sync::Wait;
 use std::thread::Threads;
 use wave_engine::wave;
 
-/// What the wave is asked for.
+/// Returns the entries of the wave: the And of each reference and the condition's.
 fn conjunctions(
     alloc: Global,
     references: &[Ref],
@@ -31,7 +32,8 @@ fn conjunctions(
     Ok(entries)
 }
 
-/// The diagram of each reference and the condition's, by one wave of its own.
+/// Returns the diagram of the And of each reference and the condition's, by one wave with an engine and a computed
+/// table of its own. Fails as `build` does.
 pub fn conjoin<R: Threads + Wait + Sync, G: Monitor>(
     crew: &Crew<'_, R, G>,
     store: &mut Store,
@@ -41,26 +43,28 @@ pub fn conjoin<R: Threads + Wait + Sync, G: Monitor>(
     requires references { All (Has store.old) references.now }
     requires given { Has store.old given }
     ensures sound { IsSound store.new }
-    // Each reference gets the diagram of what it and the condition's denote together.
+    // Each reference gets the diagram of the And of its function and the condition's.
     ensures conjoined { IfOk result (λ answers. AreConjoined store.old references.now given store.new answers.items) }
-    // Each node that is added is wanted for one of these functions, also where the wave is refused.
+    // Each node that is added is wanted for one of these functions, also if the wave fails.
     ensures adds { AddsDescribed store.old store.new (IsWanted store.old (conjunctions references.now given)) }
-    // A store that is over its limit after the wave is as it was, and nothing had to be asked for.
+    // A store that is over its limit after the wave is as before, and no entry needed a request.
     ensures within { OnOk result (IsWithinLimit store.old (conjunctions references.now given) store.new) }
-    // Full is answered only where the store has more nodes than its limit, or as many and lacks one that is wanted.
+    // Full is the fault only if the store has more nodes than its limit, or as many and lacks one that is wanted.
     ensures fault { IfErr result (IsWaveFault store.old (conjunctions references.now given) store.new) }
-    // The wave is refused for its requests only where it reaches more than the monitor allows.
-    ensures past { result ≡ Err WaveFault.TooManyRequests → ArePast (G.bound crew.now.monitor.now) store.old
+    // The fault is TooManyRequests only if the wave reaches more than the monitor allows.
+    ensures past { result ≡ Err WaveFault.TooManyRequests → ArePast (G.bound crew.now.monitor.now).requests store.old
         (conjunctions references.now given) }
     // A wave that was done reached no more than the monitor allows.
-    ensures within_bound { most_of (G.bound crew.now.monitor.now) < 2 ^ 64 - 1
-        → OnOk result (AreAtMost (most_of (G.bound crew.now.monitor.now)) store.old (conjunctions references.now given)) }
-    // If the monitor sets a bound, a thread that cannot be started refuses nothing: the caller's thread does the wave.
-    ensures bounded_needs_no_worker { most_of (G.bound crew.now.monitor.now) < 2 ^ 64 - 1 → result ≢ Err WaveFault.NoWorker }
-    // Where memory is wanted, a store that was within its limit is so still: Full comes first.
+    ensures within_bound { most_of (G.bound crew.now.monitor.now).requests < 2 ^ 64 - 1
+        → OnOk result (AreAtMost (most_of (G.bound crew.now.monitor.now).requests) store.old (conjunctions references.now given)) }
+    // With a bound, a thread that cannot be started is no cause of failure.
+    ensures bounded_needs_no_worker { most_of (G.bound crew.now.monitor.now).requests < 2 ^ 64 - 1 → result ≢ Err WaveFault.NoWorker }
+    // The wave is stopped only if the monitor may stop it.
+    ensures stopped { result ≡ Err WaveFault.Stopped → (G.bound crew.now.monitor.now).stops ≡ true }
+    // OutOfMemory leaves a store within its limit that was within it before, since Full is reported first.
     ensures memory { count_of store.old ≤ store.old.limit → result ≡ Err WaveFault.OutOfMemory → count_of store.new ≤ store.new.limit }
 {
-    let _ = store.levels();
+    let _ = store.levels(); // For the proof.
     let entries = conjunctions(crew.alloc, references, given)?;
     let mut computed = ComputedTable::new(crew.alloc, 1)?;
     wave(crew, store, &mut computed, entries.as_slice())

@@ -1,4 +1,4 @@
-//! The copies and the steps of one rank of a netlist, on the references of its signals.
+//! The copies and the steps of one rank of a netlist, done on the references of its signals.
 ghost use Rattle.std.specs.Prelude.{◌≡◌, ◌++◌, map, length, All, OnOk};
 ghost use Rattle.gate_plan.specs.Building.{entry_of, IsCopyBelow, IsStepBelow, copied_all, answered_all};
 
@@ -7,7 +7,7 @@ use dd_store::Ref;
 use req_table::Op;
 use std::alloc::AllocError;
 
-/// Copies operands' references, or their complements, to their gates.
+/// Gives each gate with one operand its operand's reference, or the complement.
 pub fn copy_all(references: &mut Vec<Ref>, copies: &[CopyStep])
     requires { All (IsCopyBelow (length references.old.items)) copies.now }
     ensures { references.new.items ≡ copied_all references.old.items copies.now }
@@ -18,7 +18,7 @@ pub fn copy_all(references: &mut Vec<Ref>, copies: &[CopyStep])
     }
 }
 
-/// Adds what steps ask for to a list of operations.
+/// Adds the operation of each step, on the references of its operands, to a list of entries.
 pub fn add_entries(
     entries: &mut Vec<(Op, Ref, Ref)>,
     references: &[Ref],
@@ -36,7 +36,7 @@ pub fn add_entries(
     Ok(())
 }
 
-/// Gives each step's gate the answer of its operation.
+/// Gives each step's gate the answer of the step's operation.
 pub fn take_answers(references: &mut Vec<Ref>, steps: &[Step], answers: &[Ref])
     requires below { All (IsStepBelow (length references.old.items)) steps.now }
     requires one_answer_per_step { length answers.now ≡ length steps.now }

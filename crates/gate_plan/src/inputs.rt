@@ -2,37 +2,19 @@
 ghost use Rattle.std.specs.Prelude.{◌≡◌, ◌≢◌, ℕ, ◌<◌, Contains, IfOk, IfErr, length};
 ghost use Rattle.dd_store.specs.Nodes.{IsSound};
 ghost use Rattle.net_bench.specs.Circuit.{circuit, variables_of};
+ghost use Rattle.net_order.specs.Order.{level_in};
 ghost use Rattle.reduce_up.specs.Reducing.{AddsDescribed};
 ghost use Rattle.gate_plan.specs.Folds.{IsVariable};
 ghost use Rattle.gate_plan.specs.Need.{IsCounted};
 ghost use Rattle.gate_plan.specs.Needing.{IsBuildFault, IsStillWithin};
-ghost use Rattle.gate_plan.specs.Building.{level_in, AreVariables, AreInputs, wave_fault_of};
+ghost use Rattle.gate_plan.specs.Building.{AreVariables, AreInputs, wave_fault_of};
 
 use dd_store::{Ref, Store, StoreFault};
 use expand_work::WaveFault;
-use net_bench::netlist::{Netlist, Signal};
+use net_bench::netlist::Netlist;
+use net_order::netlist_role::NetlistRole;
 use net_order::pairing::Pairing;
 use std::alloc::{AllocError, Global};
-
-/// Which of the netlists of a pairing is meant.
-#[derive(Clone, Copy, Debug, PartialEq, Eq)]
-pub enum CircuitRole {
-    First,
-    Second,
-    /// The condition.
-    Given,
-}
-
-/// The level of an input or register of one of the netlists.
-fn level_of(pairing: &Pairing, which: CircuitRole, input: Signal) -> u32
-    ensures { result ≡ level_in which pairing.now input }
-{
-    match which {
-        CircuitRole::First => pairing.naming().first_level(input),
-        CircuitRole::Second => pairing.naming().second_level(input),
-        CircuitRole::Given => pairing.naming().given_level(input),
-    }
-}
 
 fn wave_fault(fault: StoreFault) -> WaveFault
     ensures { result ≡ wave_fault_of fault }
@@ -43,7 +25,7 @@ fn wave_fault(fault: StoreFault) -> WaveFault
     }
 }
 
-/// Makes the diagrams of all variables, in the order of their levels.
+/// Makes the diagrams of all variables, in the order of their levels. Fails with Full or OutOfMemory.
 pub fn make_variables(alloc: Global, store: &mut Store) -> Result<Vec<Ref>, WaveFault>
     ensures sound { IsSound store.new }
     ensures adds { AddsDescribed store.old store.new (IsCounted store.old.levels (IsVariable store.old.levels)) }
@@ -52,6 +34,7 @@ pub fn make_variables(alloc: Global, store: &mut Store) -> Result<Vec<Ref>, Wave
     ensures fault { IfErr result (IsBuildFault store.old.levels (IsVariable store.old.levels) store.new) }
     ensures never_no_worker { IfErr result (λ e. e ≢ WaveFault.NoWorker) }
     ensures never_too_many_requests { IfErr result (λ e. e ≢ WaveFault.TooManyRequests) }
+    ensures never_stopped { IfErr result (λ e. e ≢ WaveFault.Stopped) }
 {
     let mut variables = Vec::new(alloc);
     for level in 0..store.levels() {
@@ -66,20 +49,21 @@ pub fn make_variables(alloc: Global, store: &mut Store) -> Result<Vec<Ref>, Wave
     Ok(variables)
 }
 
-/// A reference for each signal of a netlist: the variable of an input or register, and False for each gate.
+/// Returns a reference for each signal of a netlist: the variable of an input or register, and False for a gate, which
+/// is replaced when the gate's rank is built.
 pub fn input_references(
     alloc: Global,
     netlist: &Netlist,
     pairing: &Pairing,
-    which: CircuitRole,
+    which: NetlistRole,
     variables: &[Ref],
 ) -> Result<Vec<Ref>, AllocError>
-    requires { (s : ℕ) → Contains (variables_of (circuit netlist.now)) s → level_in which pairing.now s < length variables.now }
-    ensures { IfOk result (λ v. AreInputs netlist.now (level_in which pairing.now) variables.now v.items) }
+    requires { (s : ℕ) → Contains (variables_of (circuit netlist.now)) s → level_in pairing.now which s < length variables.now }
+    ensures { IfOk result (λ v. AreInputs netlist.now (level_in pairing.now which) variables.now v.items) }
 {
     let mut references = Vec::from_elem(alloc, Ref::FALSE, netlist.count())?;
     for input in netlist.variables() {
-        let level = level_of(pairing, which, *input);
+        let level = pairing.naming().level(which, *input);
         references[input.number() as usize] = variables[level as usize];
     }
     Ok(references)

@@ -7,16 +7,17 @@ ghost use Rattle.gate_plan.specs.Building.{AreCopied, ForEachNetlist, IsCopyBelo
 
 use crate::circuits::Circuits;
 use crate::folds::{add_entries, copy_all, take_answers};
-use crate::inputs::{CircuitRole, input_references};
+use crate::inputs::input_references;
 use crate::steps::{CopyStep, Plan, Step};
 use dd_store::Ref;
 use net_bench::netlist::Netlist;
+use net_order::netlist_role::NetlistRole;
 use net_order::pairing::Pairing;
 use req_table::Op;
 use std::alloc::{AllocError, Global};
 use std::marker::Model;
 
-/// A reference for each signal of a netlist.
+/// A reference for each signal of a netlist, by number. It is the signal's diagram once the signal's rank is built.
 #[derive(Drop)]
 pub struct NetlistDiagrams {
     references: Vec<Ref>,
@@ -32,14 +33,14 @@ impl Model for NetlistDiagrams {
 }
 
 impl NetlistDiagrams {
-    /// The references by signal.
+    /// Returns the references by signal.
     pub fn as_slice(&self) -> &[Ref]
         ensures { result.now ≡ self.now }
     {
         self.references.as_slice()
     }
 
-    /// Copies operands' references to their gates.
+    /// Gives each gate with one operand its operand's reference, or the complement.
     fn copy(&mut self, copies: &[CopyStep])
         requires { All (IsCopyBelow (length self.old)) copies.now }
         ensures { self.new ≡ copied_all self.old copies.now }
@@ -47,7 +48,7 @@ impl NetlistDiagrams {
         copy_all(&mut self.references, copies);
     }
 
-    /// Gives each step's gate the answer of its operation.
+    /// Gives each step's gate the answer of the step's operation.
     pub fn take(&mut self, steps: &[Step], answers: &[Ref])
         requires below { All (IsStepBelow (length self.old)) steps.now }
         requires one_answer_per_step { length answers.now ≡ length steps.now }
@@ -57,12 +58,12 @@ impl NetlistDiagrams {
     }
 }
 
-/// A netlist with the plan of its gates, one of those that are built over the variables of a pairing.
+/// One of the netlists that are built over the variables of a pairing, with the plan of its gates.
 #[derive(Drop)]
 pub struct PlannedNetlist<'a> {
     netlist: &'a Netlist,
     pairing: &'a Pairing,
-    which: CircuitRole,
+    which: NetlistRole,
     plan: Plan,
 }
 
@@ -75,12 +76,12 @@ impl<'a> Model for PlannedNetlist<'a> {
 }
 
 impl<'a> PlannedNetlist<'a> {
-    /// A netlist of a pairing, with the plan of its gates.
+    /// Returns a netlist of a pairing, with the plan of its gates. Fails if memory is refused.
     fn new(
         alloc: Global,
         netlist: &'a Netlist,
         pairing: &'a Pairing,
-        which: CircuitRole,
+        which: NetlistRole,
     ) -> Result<PlannedNetlist<'a>, AllocError>
         ensures plan { IfOk result (λ side. IsPlan netlist.entry.now side.plan) }
         ensures fields { IfOk result (λ side.
@@ -95,14 +96,14 @@ impl<'a> PlannedNetlist<'a> {
         })
     }
 
-    /// The last rank.
+    /// Returns the greatest rank of a gate.
     fn ranks(&self) -> usize
         ensures { result ≡ length self.now.plan }
     {
         self.plan.ranks()
     }
 
-    /// A reference for each signal: the variable of an input or register, and False for each gate.
+    /// Returns a reference for each signal: the variable of an input or register, and False for each gate.
     fn inputs(&self, alloc: Global, variables: &[Ref]) -> Result<Vec<Ref>, AllocError>
         requires { (s : ℕ) → Contains (variables_of (circuit self.now.net)) s → input_level self.now s < length variables.now }
         ensures { IfOk result (λ v. AreInputs self.now.net (input_level self.now) variables.now v.items) }
@@ -110,7 +111,7 @@ impl<'a> PlannedNetlist<'a> {
         input_references(alloc, self.netlist, self.pairing, self.which, variables)
     }
 
-    /// The copies of a rank, none above the last rank.
+    /// Returns the copies of a rank, none after the last rank.
     fn copies(&self, rank: usize) -> &[CopyStep]
         requires first { 1 ≤ rank }
         requires plan { IsPlan self.now.net self.now.plan }
@@ -123,7 +124,7 @@ impl<'a> PlannedNetlist<'a> {
         }
     }
 
-    /// The number of folds of a rank, 0 above the last rank.
+    /// Returns the number of folds of a rank, 0 after the last rank.
     fn folds(&self, rank: usize) -> usize
         requires first { 1 ≤ rank }
         requires plan { IsPlan self.now.net self.now.plan }
@@ -136,7 +137,7 @@ impl<'a> PlannedNetlist<'a> {
         }
     }
 
-    /// The steps of a rank and a fold number, none past the last fold.
+    /// Returns the steps of a rank and a fold number, none after the last fold.
     pub fn steps(&self, rank: usize, fold: usize) -> &[Step]
         requires first { 1 ≤ rank }
         requires plan { IsPlan self.now.net self.now.plan }
@@ -150,13 +151,13 @@ impl<'a> PlannedNetlist<'a> {
     }
 }
 
-/// Puts a netlist of a pairing at the end, with the plan of its gates.
+/// Adds a netlist of a pairing, with the plan of its gates, at the end of a list.
 fn add_side<'a>(
     alloc: Global,
     sides: &mut Vec<PlannedNetlist<'a>>,
     netlist: &'a Netlist,
     pairing: &'a Pairing,
-    which: CircuitRole,
+    which: NetlistRole,
 ) -> Result<(), AllocError>
     ensures { OnOk result (AddsPlannedNet sides.old.items netlist.entry.now which pairing.entry.now sides.new.items) }
 {
@@ -165,7 +166,8 @@ fn add_side<'a>(
     Ok(())
 }
 
-/// The netlists of a pairing, each with the plan of its gates: the first, the second, and the condition where there is one.
+/// Returns the netlists of a pairing, each with the plan of its gates: the first, the second, and the condition if
+/// there is one.
 pub fn sides_of<'a>(
     alloc: Global,
     circuits: &Circuits<'a>,
@@ -179,22 +181,22 @@ pub fn sides_of<'a>(
         &mut sides,
         circuits.first,
         pairing,
-        CircuitRole::First,
+        NetlistRole::First,
     )?;
     add_side(
         alloc,
         &mut sides,
         circuits.second,
         pairing,
-        CircuitRole::Second,
+        NetlistRole::Second,
     )?;
     if let Some(given) = circuits.given {
-        add_side(alloc, &mut sides, given, pairing, CircuitRole::Given)?;
+        add_side(alloc, &mut sides, given, pairing, NetlistRole::Given)?;
     }
     Ok(sides)
 }
 
-/// The last rank of all netlists.
+/// Returns the greatest rank of a gate of all netlists.
 pub fn last_rank(sides: &[PlannedNetlist<'_>]) -> usize
     ensures { result ≡ greatest (map ranks_of sides.now) }
 {
@@ -206,7 +208,7 @@ pub fn last_rank(sides: &[PlannedNetlist<'_>]) -> usize
     last
 }
 
-/// The greatest number of folds of a rank.
+/// Returns the greatest number of folds of a rank in any netlist.
 pub fn most_folds(sides: &[PlannedNetlist<'_>], rank: usize) -> usize
     requires first { 1 ≤ rank }
     requires plans { (one : PlannedNet) → Contains sides.now one → IsPlan one.net one.plan }
@@ -220,7 +222,7 @@ pub fn most_folds(sides: &[PlannedNetlist<'_>], rank: usize) -> usize
     most
 }
 
-/// The diagrams of the inputs and registers of all netlists.
+/// Returns the references of all netlists before the first rank.
 pub fn input_diagrams(
     alloc: Global,
     sides: &[PlannedNetlist<'_>],
@@ -239,7 +241,7 @@ pub fn input_diagrams(
     Ok(built)
 }
 
-/// The copies of a rank in all netlists.
+/// Does the copies of a rank in all netlists.
 pub fn copy_rank(sides: &[PlannedNetlist<'_>], built: &mut [NetlistDiagrams], rank: usize)
     requires first { 1 ≤ rank }
     requires plans { (one : PlannedNet) → Contains sides.now one → IsPlan one.net one.plan }
@@ -253,7 +255,7 @@ pub fn copy_rank(sides: &[PlannedNetlist<'_>], built: &mut [NetlistDiagrams], ra
     }
 }
 
-/// What the steps of a rank and a fold number ask for, netlist after netlist.
+/// Returns the operations of the steps of a rank and a fold number, netlist after netlist.
 pub fn entries_of(
     alloc: Global,
     sides: &[PlannedNetlist<'_>],

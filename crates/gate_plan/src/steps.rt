@@ -1,4 +1,5 @@
-//! The folds of a netlist's gates, by rank.
+//! Plans: the steps of the folds of a netlist's gates, by rank. A gate of several operands is a
+//! left fold: a chain of operations on two.
 ghost use Rattle.std.specs.Prelude.{◌≡◌, ◌<◌, ◌≤◌, length, map, replicate, IfOk, OnOk};
 ghost use Rattle.net_bench.specs.Labels.{is_complemented};
 ghost use Rattle.gate_plan.specs.Plans.{IsPlan, rank_at, steps_at, plain_op, last_op, folds_of, step_of, copy_of, AddsAt, AddsSteps};
@@ -9,17 +10,20 @@ use req_table::Op;
 use std::alloc::{AllocError, Global};
 use std::marker::Model;
 
-/// One step of a gate's fold: `out` becomes the operation on `first` and `second`.
+/// One step of a gate's fold: the value of `out` becomes that of the operation on `first` and `second`.
 #[derive(Clone, Copy, Debug, PartialEq, Eq)]
 pub struct Step {
+    /// The gate's signal.
     pub out: Signal,
     pub op: Op,
-    /// Where it is None the fold goes on from the value of `out` so far.
+    /// If it is None, the fold goes on from the value that `out` has so far.
     pub first: Option<Signal>,
+    /// The operand that this step adds to the fold.
     pub second: Signal,
 }
 
-/// A gate whose value is that of its operand, or the complement where `complement` is set.
+/// A gate of one operand: it has the value of the operand, or its complement if `complement` is set. It needs no
+/// operation.
 #[derive(Clone, Copy, Debug, PartialEq, Eq)]
 pub struct CopyStep {
     pub out: Signal,
@@ -27,7 +31,7 @@ pub struct CopyStep {
     pub complement: bool,
 }
 
-/// The operation that a gate folds with.
+/// Returns the operation of each step of a gate's fold but the last.
 fn plain_op(kind: Kind) -> Op
     ensures { result ≡ plain_op kind }
 {
@@ -38,7 +42,7 @@ fn plain_op(kind: Kind) -> Op
     }
 }
 
-/// The operation of a gate's last step.
+/// Returns the operation of a gate's last step, in which NAND, NOR and XNOR complement.
 fn last_op(kind: Kind) -> Op
     ensures { result ≡ last_op kind }
 {
@@ -58,7 +62,7 @@ fn is_complemented(kind: Kind) -> bool
     matches!(kind, Kind::Nand | Kind::Nor | Kind::Xnor | Kind::Not)
 }
 
-/// The copy that a gate is, if it is one.
+/// Returns the copy that a gate is, if it has one operand.
 fn copy_of(gate: &GateLine) -> Option<CopyStep>
     requires { 0 < length gate.now.operands }
     ensures { result ≡ copy_of gate.now }
@@ -75,7 +79,7 @@ fn copy_of(gate: &GateLine) -> Option<CopyStep>
     }
 }
 
-/// How many steps a gate's fold has.
+/// Returns the number of steps of a gate's fold.
 fn folds_of(gate: &GateLine) -> usize
     requires { 0 < length gate.now.operands }
     ensures { result ≡ folds_of gate.now }
@@ -84,7 +88,7 @@ fn folds_of(gate: &GateLine) -> usize
     operands.len() - 1
 }
 
-/// Step `fold` of a gate's fold, if it has one.
+/// Returns step `fold` of a gate's fold, if it has one.
 fn step_of(gate: &GateLine, fold: usize) -> Option<Step>
     requires { 0 < length gate.now.operands }
     ensures { result ≡ step_of gate.now fold }
@@ -106,7 +110,7 @@ fn step_of(gate: &GateLine, fold: usize) -> Option<Step>
     })
 }
 
-/// Adds an item to the list at a place, which has a list or is the next to get one.
+/// Adds an item to the list at a place. If there are only lists before the place, a new one is made.
 fn add_at<T: Drop>(
     alloc: Global,
     lists: &mut Vec<Vec<T>>,
@@ -129,7 +133,6 @@ fn add_steps(alloc: Global, folds: &mut Vec<Vec<Step>>, gate: &GateLine) -> Resu
     ensures { OnOk result (AddsSteps (map (λ row. row.items) folds.old.items) gate.now (map (λ row. row.items) folds.new.items)) }
 {
     let operands = gate.operands.as_slice();
-    // no gate has more steps than operands
     for fold in 0..operands.len() {
         if let Some(step) = step_of(gate, fold) {
             add_at(alloc, folds, fold, step)?;
@@ -138,7 +141,7 @@ fn add_steps(alloc: Global, folds: &mut Vec<Vec<Step>>, gate: &GateLine) -> Resu
     Ok(())
 }
 
-/// The folds of the gates of one rank.
+/// The copies and steps of the gates of one rank.
 #[derive(Drop)]
 struct RankPlan {
     copies: Vec<CopyStep>,
@@ -176,7 +179,7 @@ impl RankPlan {
     }
 }
 
-/// So many ranks without gates.
+/// Returns `count` ranks without gates.
 fn empty_ranks(alloc: Global, count: usize) -> Result<Vec<RankPlan>, AllocError>
     ensures { IfOk result (λ v. v.items ≡ replicate count no_steps) }
 {
@@ -187,7 +190,7 @@ fn empty_ranks(alloc: Global, count: usize) -> Result<Vec<RankPlan>, AllocError>
     Ok(ranks)
 }
 
-/// The folds of all gates of a netlist, by rank: what is copied, and for each fold number the steps.
+/// The copies and steps of all gates of a netlist: by rank the copies, and for each fold number the steps.
 #[derive(Drop)]
 pub struct Plan {
     ranks: Vec<RankPlan>,
@@ -203,7 +206,7 @@ impl Model for Plan {
 }
 
 impl Plan {
-    /// Takes time by the number of gates and operands.
+    /// Makes the plan of a netlist, in time that is linear in its gates and operands. Fails if memory is refused.
     pub fn new(alloc: Global, netlist: &Netlist) -> Result<Plan, AllocError>
         ensures { IfOk result (λ p. IsPlan netlist.now p) }
     {
@@ -215,14 +218,14 @@ impl Plan {
         Ok(Plan { ranks })
     }
 
-    /// The greatest rank of a gate.
+    /// Returns the greatest rank of a gate.
     pub fn ranks(&self) -> usize
         ensures { result ≡ length self.now }
     {
         self.ranks.len()
     }
 
-    /// How many fold numbers the gates of a rank have: 0 where there are only copies.
+    /// Returns how many fold numbers the gates of a rank have: 0 if there are only copies.
     pub fn folds(&self, rank: usize) -> usize
         requires first { 1 ≤ rank }
         requires last { rank ≤ length self.now }
@@ -231,7 +234,7 @@ impl Plan {
         self.ranks[rank - 1].folds.len()
     }
 
-    /// The steps of a rank and a fold number, in the order of the text.
+    /// Returns the steps of a rank and a fold number, in the order of the text.
     pub fn steps(&self, rank: usize, fold: usize) -> &[Step]
         requires first { 1 ≤ rank }
         requires last { rank ≤ length self.now }
@@ -241,7 +244,7 @@ impl Plan {
         self.ranks[rank - 1].folds[fold].as_slice()
     }
 
-    /// The copies of a rank, in the order of the text.
+    /// Returns the copies of a rank, in the order of the text.
     pub fn copies(&self, rank: usize) -> &[CopyStep]
         requires first { 1 ≤ rank }
         requires last { rank ≤ length self.now }

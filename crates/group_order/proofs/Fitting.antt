@@ -1,4 +1,4 @@
--- A list that has the numbers of all variables, each once, has the name of each variable once.
+-- A list that has the number of each variable once has the name of each variable once.
 use Rattle.std.proofs.Common.{◌≡◌, inl, inr, ℕ, zero, suc, ◌+◌, ◌<◌, ◌≤◌, List, [], ◌∷◌, ◌++◌, true, false, refl, sym, ap, ◌∙◌, subst, length, take, arith, All, append_assoc, add-one}
 use Rattle.std.specs.Prelude.{cond, not, ◌&&◌, ◌||◌, bytes_eq, nat_lt, Option, Some, None}
 use Rattle.std.specs.List.{AllByRecursion, IsDistinct, slice_index_or}
@@ -9,9 +9,9 @@ use Rattle.std.proofs.lemmas.List.Elements.{All-tail}
 use Rattle.std.proofs.lemmas.List.Sorted.{All-permutation, IsPermutation-map, length_permutation}
 use Rattle.std.proofs.lemmas.Map.Keys.{IsDistinct-IsPermutation, IsDistinct-head, IsDistinct-tail}
 use Rattle.net_bench.specs.Circuit.{Circuit, is_name_in}
-use Rattle.net_order.specs.declared.order.Match.{Match}
-use Rattle.net_order.specs.declared.order.Order.{Order}
-use Rattle.net_order.specs.declared.order.Order.TheVariants.{Declared, Listed}
+use Rattle.net_names.specs.declared.order.Match.{Match}
+use Rattle.net_names.specs.declared.order.Order.{Order}
+use Rattle.net_names.specs.declared.order.Order.TheVariants.{Declared, Listed}
 use Rattle.net_bench.proofs.Numbers.{name_itself, or_cases, or_left, or_right, same_name}
 use Rattle.net_order.specs.Force.{numbers_below}
 use Rattle.net_order.specs.Order.{NamedNetlistModel, NamingModel, HasEachVariableOnce, IsFit, IsPairing, all_names, bad_place, both, declared, given_side, numbered, variables_in}
@@ -83,7 +83,7 @@ each_once sides given order moved =
     fits names [] (numbered names order) 1 (IsDistinct-IsPermutation bytes_eq names_equal.symm names (numbered names order) permuted (all_different (all_names sides given)))
     (among_all (numbered names order) names (All-permutation (λ m. is_name_in names m ≡ true) names (numbered names order) permuted (there names))) (omega (arith, length_permutation names (numbered names order) permuted))
 
--- so the list fits
+-- so `pair` accepts the list
 pub fit_from : (how : Match) (a b : Circuit) (given : Option Circuit) (p : NamingModel) (numbers : List ℕ) (order : Order) → IsPairing how a b given Declared p →
     IsPermutation (numbers_below (length p.names)) numbers → order ≡ Listed (numbered p.names numbers) → IsFit (variables_in how a b given) order
 fit_from how a b given p numbers order pairing moved is =

@@ -1,4 +1,4 @@
--- Each order has the numbers of all variables, each once.
+-- Each order has the number of each variable once.
 use Rattle.std.proofs.Common.{◌≡◌, inl, inr, ℕ, zero, suc, ◌<◌, List, [], ◌∷◌, ◌++◌, Bool, refl, ◌∙◌, subst, length, get_or, arith, All, map}
 use Rattle.std.specs.Prelude.{replicate, slice_index}
 use Rattle.std.specs.List.Sorted.{IsPermutation}
@@ -8,7 +8,7 @@ use Rattle.std.proofs.Math.Seq.{get_or-append_seam}
 use Rattle.std.proofs.lemmas.List.Sorted.{All-permutation, IsPermutation-trans, length_permutation}
 use Rattle.net_order.specs.Force.{numbers_below}
 use Rattle.net_order.proofs.Rising.{rising_moved}
-use Rattle.group_order.specs.Sides.{SideModel, completed, first_places}
+use Rattle.group_order.specs.Sides.{IndexedNetlistModel, completed, first_places}
 use Rattle.group_order.specs.FanOut.{selector_key, with_selectors_first}
 use Rattle.group_order.specs.Groups.{group_labels, group_places, grouped}
 use Rattle.group_order.specs.NameKeys.{falling_numbers, rising_numbers}
@@ -40,14 +40,14 @@ numbers_inside n i d low =
     let at : get_or (numbers_below n) i d ≡ i = number_at n i d (omega arith) in
     omega arith
 
--- what moves the numbers below n has numbers below n, and as many
+-- a permutation of the numbers below n has numbers below n, and equally many
 pub moved_low : (n : ℕ) (order : List ℕ) → IsPermutation (numbers_below n) order → All (λ v. v < n) order
 moved_low n order moved = All-permutation (λ v. v < n) (numbers_below n) order moved (numbers_inside n)
 
 pub moved_long : (n : ℕ) (order : List ℕ) → IsPermutation (numbers_below n) order → length order ≡ n
 moved_long n order moved = length_permutation (numbers_below n) order moved ∙ numbers_long n
 
--- ---- the parts of orders
+-- ---- the parts from which orders are made
 
 completed_moved : (n : ℕ) (vs : List ℕ) → IsPermutation (numbers_below n) (completed n vs)
 unfolding completed
@@ -69,7 +69,7 @@ rising_names_moved : (names : List (List ℕ)) → IsPermutation (numbers_below 
 unfolding rising_numbers
 rising_names_moved names = rising_moved _ (numbers_below (length names))
 
-free_moved : (chosen : List Bool) (names : List (List ℕ)) (sides : List SideModel) → IsPermutation (numbers_below (length names)) (free_numbers chosen (rising_numbers names) sides)
+free_moved : (chosen : List Bool) (names : List (List ℕ)) (sides : List IndexedNetlistModel) → IsPermutation (numbers_below (length names)) (free_numbers chosen (rising_numbers names) sides)
 unfolding free_numbers
 free_moved chosen names sides =
     let long = moved_long (length names) (rising_numbers names) (rising_names_moved names) in
@@ -77,7 +77,7 @@ free_moved chosen names sides =
 
 -- ---- the orders
 
-pub msb_first_moved : (names : List (List ℕ)) (sides : List SideModel) → IsPermutation (numbers_below (length names)) (msb_first_numbers names sides)
+pub msb_first_moved : (names : List (List ℕ)) (sides : List IndexedNetlistModel) → IsPermutation (numbers_below (length names)) (msb_first_numbers names sides)
 unfolding msb_first_numbers
 msb_first_moved names sides =
     let labels = group_labels (length names) sides in
@@ -86,14 +86,14 @@ msb_first_moved names sides =
     (IsPermutation-trans (numbers_below (length names)) (falling_numbers names) order (falling_moved names) (grouped_moved labels (falling_numbers names)))
     (first_moved (selectors_of (length names) sides) order)
 
-pub force_groups_moved : (names : List (List ℕ)) (sides : List SideModel) → IsPermutation (numbers_below (length names)) (force_groups_numbers names sides)
+pub force_groups_moved : (names : List (List ℕ)) (sides : List IndexedNetlistModel) → IsPermutation (numbers_below (length names)) (force_groups_numbers names sides)
 unfolding force_groups_numbers
 force_groups_moved names sides =
     let labels = group_labels (length names) sides in
     let order = free_numbers (selectors_of (length names) sides) (rising_numbers names) sides in
     IsPermutation-trans (numbers_below (length names)) order (force_groups_numbers names sides) (free_moved (selectors_of (length names) sides) names sides) (grouped_moved labels order)
 
-pub weights_moved : (names : List (List ℕ)) (sides : List SideModel) → IsPermutation (numbers_below (length names)) (weights_numbers names sides)
+pub weights_moved : (names : List (List ℕ)) (sides : List IndexedNetlistModel) → IsPermutation (numbers_below (length names)) (weights_numbers names sides)
 unfolding weights_numbers
 weights_moved names sides =
     let labels = group_labels (length names) sides in

@@ -1,4 +1,4 @@
--- Assignments of weights below one root, one after the other.
+-- Assignments of weights below one root, which follow one another.
 use Rattle.std.proofs.Common.{◌≡◌, ℕ, suc, ◌+◌, ◌-◌, ◌<◌, ◌≤◌, List, [], ◌∷◌, ◌++◌, Bool, true, false, cond, refl, sym, ap, ◌∙◌, length, arith}
 use Rattle.std.specs.Prelude.{min, nat_le}
 use Rattle.std.specs.List.{remove}

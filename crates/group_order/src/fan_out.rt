@@ -1,22 +1,24 @@
-//! How often variables are used, and which of them select among others.
+//! The fan-out of variables, and which of them are selectors: those whose fan-out is far above that of most others.
 ghost use Rattle.std.specs.Prelude.{◌≡◌, slice_get, IfOk, OnOk};
 ghost use Rattle.group_order.specs.FanOut.{by_falling_size, fan_out, greater_of, is_selector, selector_key, selectors, stands_for, uses_on, wider};
 ghost use Rattle.group_order.specs.FanOut.{widest_gap, with_selectors_first, with_stand, with_stand_of, with_use, with_uses};
 
-use crate::sides::{Side, gate_at, put_variable, variable_at};
-use crate::tables::{add_one, number_at, sort_by_table};
+use crate::sides::{IndexedNetlist, gate_at, put_variable, variable_at};
+use crate::tables::add_one;
 use net_bench::netlist::GateLine;
+use net_order::tables::{number_at, sort_by_table};
 use std::alloc::{AllocError, Global};
 
-/// Two fan-outs that are neighbours when all are sorted.
+/// Two neighbours in the list of all fan-outs by falling size. A gap is the wider, the greater `above` is as a multiple
+/// of `below`.
 #[derive(Clone, Copy, Debug, PartialEq, Eq)]
 pub struct Gap {
     pub above: u64,
-    /// 1 at least.
+    /// At least 1, so that a fan-out of 0 counts as 1.
     pub below: u64,
 }
 
-/// Puts what a gate of one operand stands for at its signal.
+/// If the gate has one operand, its signal gets the variable of its operand.
 fn put_stand(stands: &mut Vec<Option<u32>>, gate: &GateLine)
     ensures { stands.new.items ≡ with_stand stands.old.items gate.now }
 {
@@ -27,7 +29,7 @@ fn put_stand(stands: &mut Vec<Option<u32>>, gate: &GateLine)
     }
 }
 
-/// The same of the gate at a place.
+/// The same for the gate at a place; nothing if there is none.
 fn put_stand_at(stands: &mut Vec<Option<u32>>, gates: &[GateLine], place: usize)
     ensures { stands.new.items ≡ with_stand_of stands.old.items (slice_get gates.now place) }
 {
@@ -37,9 +39,10 @@ fn put_stand_at(stands: &mut Vec<Option<u32>>, gates: &[GateLine], place: usize)
     }
 }
 
-/// By signal, the variable that it stands for.
+/// For each signal the variable that it has the value of, or the complement: a variable itself, or a gate of one
+/// operand above it.
 #[tactic(auto, unfolding(crate::specs::FanOut::stands_for))]
-fn stands_for(alloc: Global, side: &Side<'_>) -> Result<Vec<Option<u32>>, AllocError>
+fn stands_for(alloc: Global, side: &IndexedNetlist<'_>) -> Result<Vec<Option<u32>>, AllocError>
     ensures { IfOk result (λ v. v.items ≡ stands_for side.now) }
 {
     let gates = side.net().gates();
@@ -60,7 +63,7 @@ fn count_use(counts: &mut Vec<u64>, variable: Option<u32>)
     }
 }
 
-/// Counts the uses by a gate's operands. A gate of one operand is passed over: it stands for what its operand does.
+/// Counts the uses of variables by a gate's operands. A gate of one operand uses nothing: a gate that reads it uses its variable.
 fn count_uses(counts: &mut Vec<u64>, stands: &[Option<u32>], gate: &GateLine)
     ensures { counts.new.items ≡ with_uses stands.now counts.old.items gate.now }
 {
@@ -73,9 +76,9 @@ fn count_uses(counts: &mut Vec<u64>, stands: &[Option<u32>], gate: &GateLine)
     }
 }
 
-/// By variable, how many operands of a netlist stand for it.
+/// For each variable the number of its uses as an operand in a netlist, directly or through gates of one operand.
 #[tactic(auto, unfolding(crate::specs::FanOut::uses_on))]
-fn uses_on(alloc: Global, count: usize, side: &Side<'_>) -> Result<Vec<u64>, AllocError>
+fn uses_on(alloc: Global, count: usize, side: &IndexedNetlist<'_>) -> Result<Vec<u64>, AllocError>
     ensures { IfOk result (λ v. v.items ≡ uses_on count side.now) }
 {
     let stands = stands_for(alloc, side)?;
@@ -88,7 +91,7 @@ fn uses_on(alloc: Global, count: usize, side: &Side<'_>) -> Result<Vec<u64>, All
     Ok(counts)
 }
 
-/// By number, the greater of two tables' numbers.
+/// For each number below `count` the greater of its entries in the two tables.
 #[tactic(auto, unfolding(crate::specs::FanOut::greater_of))]
 fn greater_of(
     alloc: Global,
@@ -105,9 +108,13 @@ fn greater_of(
     Ok(greater)
 }
 
-/// The fan-out of each variable: its uses in the netlist that has most of them.
+/// The fan-out of each variable: the number of its uses in the netlist that uses it most.
 #[tactic(auto, unfolding(crate::specs::FanOut::fan_out))]
-pub fn fan_out(alloc: Global, count: usize, sides: &[Side<'_>]) -> Result<Vec<u64>, AllocError>
+pub fn fan_out(
+    alloc: Global,
+    count: usize,
+    sides: &[IndexedNetlist<'_>],
+) -> Result<Vec<u64>, AllocError>
     ensures { IfOk result (λ v. v.items ≡ fan_out count sides.now) }
 {
     let mut most = Vec::from_elem(alloc, 0u64, count)?;
@@ -119,8 +126,8 @@ pub fn fan_out(alloc: Global, count: usize, sides: &[Side<'_>]) -> Result<Vec<u6
     Ok(most)
 }
 
-/// The wider of a gap and one between these numbers, the gap if both are equal. If there is none yet, one number has to be twice
-/// the other at least.
+/// The wider of a gap and the one between these numbers; if both are equally wide, the gap. The first gap has to be at
+/// least twofold.
 fn wider(best: Option<Gap>, above: u64, below: u64) -> Option<Gap>
     ensures { result ≡ wider best above below }
 {
@@ -148,7 +155,7 @@ fn by_falling_size(alloc: Global, numbers: &[u64]) -> Result<Vec<u64>, AllocErro
     Ok(sorted)
 }
 
-/// The first of the widest gaps in the upper half of the numbers, if one is twice the other at least.
+/// The widest gap in the upper half of the numbers, the first of several; None if no number is at least twice the next.
 #[tactic(auto, unfolding(crate::specs::FanOut::widest_gap))]
 fn widest_gap(alloc: Global, numbers: &[u64]) -> Result<Option<Gap>, AllocError>
     ensures { IfOk result (λ gap. gap ≡ widest_gap numbers.now) }
@@ -163,7 +170,7 @@ fn widest_gap(alloc: Global, numbers: &[u64]) -> Result<Option<Gap>, AllocError>
     Ok(best)
 }
 
-/// Whether a fan-out is above the gap.
+/// Whether a fan-out is above the gap, which makes its variable a selector.
 fn is_selector(gap: Option<Gap>, count: u64) -> bool
     ensures { result ≡ is_selector gap count }
 {
@@ -173,7 +180,7 @@ fn is_selector(gap: Option<Gap>, count: u64) -> bool
     }
 }
 
-/// By variable, whether its fan-out makes it a selector.
+/// For each variable whether its fan-out makes it a selector.
 #[tactic(auto, unfolding(crate::specs::FanOut::selectors))]
 pub fn selectors(alloc: Global, counts: &[u64]) -> Result<Vec<bool>, AllocError>
     ensures { IfOk result (λ v. v.items ≡ selectors counts.now) }
@@ -185,14 +192,14 @@ pub fn selectors(alloc: Global, counts: &[u64]) -> Result<Vec<bool>, AllocError>
         .collect(alloc)
 }
 
-/// Selectors come before all others.
+/// A sort key that puts selectors before all others.
 fn selector_key(chosen: bool) -> u64
     ensures { result ≡ selector_key chosen }
 {
     if chosen { 0 } else { 1 }
 }
 
-/// Puts the selectors of an order in front.
+/// Moves the selectors to the front of an order. Otherwise the order is unchanged.
 #[tactic(auto, unfolding(crate::specs::FanOut::with_selectors_first))]
 pub fn put_selectors_first(
     alloc: Global,

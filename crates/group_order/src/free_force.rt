@@ -1,32 +1,34 @@
-//! FORCE in which selectors move nothing. After Aloul, Markov and Sakallah, "FORCE: a fast and easy-to-implement variable-ordering
-//! heuristic", GLSVLSI 2003.
+//! FORCE without selectors: they are on no edge, so that a variable that nearly all gates read does not move them all
+//! to one place. After Aloul, Markov and Sakallah, "FORCE: a fast and easy-to-implement variable-ordering heuristic",
+//! GLSVLSI 2003. Steps and rounds are those of order `force` (`net_order`'s `specs/Force`).
 ghost use Rattle.std.specs.Prelude.{◌≡◌, ◌++◌, ◌∷◌, ◌<◌, [], false, filter, fold, map, slice_index, slice_index_or, slice_set, IfOk, OnOk, None};
 ghost use Rattle.net_bench.specs.Circuit.{circuit, variables_of};
-ghost use Rattle.net_order.specs.Force.{force_order, graph_without_gates, greatest_at, initial_order, last_below, last_variables, variables_reversed, vertices};
+ghost use Rattle.net_order.specs.Force.{force_order, graph_without_gates, initial_order, variables_reversed, vertices};
 ghost use Rattle.group_order.specs.FreeForce.{chosen_along, chosen_of, free_edge, free_graph, free_numbers, free_order, is_free, places_in, vertex_of, vertices_on, with_side};
 ghost use Rattle.group_order.specs.Sides.{gate_ranks};
 
-use crate::edge::Edge;
-use crate::force_step::{run_round, shares_of};
-use crate::sides::{Side, rank_at, variable_at};
-use crate::tables::{
-    completed, count_from, number_at, numbers_below, place_at, put, sort_by_table,
-};
+use crate::sides::{IndexedNetlist, variable_at};
+use crate::tables::{completed, place_at};
 use net_bench::netlist::{GateLine, Netlist};
+use net_order::edge::Edge;
+use net_order::falling_rank::rank_at;
+use net_order::force_start::{initial_order, variables_reversed};
+use net_order::force_step::{run_round, shares_of};
+use net_order::tables::{count_from, number_at, numbers_below, put, sort_by_table};
 use std::alloc::{AllocError, Global};
 use std::marker::Model;
 
-/// A graph of more vertices has no memory.
+/// A graph of more vertices is refused, as if there were no memory for it: so the numbers of vertices are far from any overflow.
 const MAX_VERTICES: usize = 4_294_967_296;
 
-/// Whether a variable is chosen: no other number is.
+/// Whether the variable of this number is a selector. A number that is no variable's is none.
 fn is_chosen(chosen: &[bool], number: usize) -> bool
     ensures { result ≡ slice_index_or chosen.now number false }
 {
     chosen.get(number).copied().unwrap_or(false)
 }
 
-/// The vertex of a variable: its place in the order that FORCE begins with.
+/// The vertex of a variable: its place in the order with which FORCE begins.
 fn vertex_of(places: &[u64], variable: Option<u32>) -> u64
     ensures { result ≡ vertex_of places.now variable }
 {
@@ -36,7 +38,7 @@ fn vertex_of(places: &[u64], variable: Option<u32>) -> u64
     }
 }
 
-/// The signals of the gates, as they are written.
+/// The signals of the gates, in the order of the text.
 fn outs_of(alloc: Global, net: &Netlist) -> Result<Vec<usize>, AllocError>
     ensures { IfOk result (λ v. v.items ≡ map (λ g. g.out) net.now.gates) }
 {
@@ -47,8 +49,8 @@ fn outs_of(alloc: Global, net: &Netlist) -> Result<Vec<usize>, AllocError>
         .collect(alloc)
 }
 
-/// Puts the vertices of a netlist's variables at their signals.
-fn put_variables(table: &mut Vec<u64>, places: &[u64], side: &Side<'_>)
+/// Writes the vertex of each variable of a netlist at the place of its signal.
+fn put_variables(table: &mut Vec<u64>, places: &[u64], side: &IndexedNetlist<'_>)
     ensures { table.new.items ≡ fold (λ t s. slice_set t s (vertex_of places.now (slice_index_or side.now.variables s None))) table.old.items
         (variables_of (circuit side.now.net)) }
 {
@@ -59,12 +61,12 @@ fn put_variables(table: &mut Vec<u64>, places: &[u64], side: &Side<'_>)
     }
 }
 
-/// By signal of a netlist, its vertex: variables by their places, and the gates from `first` on.
+/// For each signal of a netlist its vertex: that of a variable is its place, and the gates are numbered from `first` on.
 #[tactic(auto, unfolding(net_order::specs::Force::vertices))]
 fn vertices_on(
     alloc: Global,
     places: &[u64],
-    side: &Side<'_>,
+    side: &IndexedNetlist<'_>,
     first: usize,
 ) -> Result<Vec<u64>, AllocError>
     requires { first < MAX_VERTICES }
@@ -78,7 +80,7 @@ fn vertices_on(
     Ok(table)
 }
 
-/// Puts a vertex at the end of an edge, unless it is a selector.
+/// Appends a vertex to an edge, unless it is a selector.
 fn push_free(edge: &mut Vec<usize>, chosen: &[bool], vertex: usize) -> Result<(), AllocError>
     ensures { OnOk result (edge.new.items ≡ edge.old.items ++ filter (is_free chosen.now) (vertex ∷ [])) }
 {
@@ -89,7 +91,7 @@ fn push_free(edge: &mut Vec<usize>, chosen: &[bool], vertex: usize) -> Result<()
     Ok(())
 }
 
-/// The vertices of a gate's operands, and last its own, without selectors.
+/// The edge of a gate without selectors: the vertices of its operands, and last its own.
 fn free_edge(
     alloc: Global,
     chosen: &[bool],
@@ -109,12 +111,12 @@ fn free_edge(
     Ok(Edge::of(edge))
 }
 
-/// Variables and gates as vertices, and gates with their operands as edges.
+/// Variables and gates as vertices, and gates as edges without selectors.
 #[derive(Drop)]
 struct FreeGraph {
-    /// For each gate the vertices of its operands that are no selectors, and its own.
+    /// The edge of each gate: the vertices of its operands that are no selectors, and last its own.
     edges: Vec<Edge>,
-    /// By vertex.
+    /// The rank of each vertex.
     ranks: Vec<u64>,
 }
 
@@ -126,7 +128,7 @@ impl Model for FreeGraph {
     ghost view = { λ g. record { edges = g.edges.items; ranks = g.ranks.items } };
 }
 
-/// Puts an edge for each gate of a netlist at the end.
+/// Appends an edge for each of these gates.
 fn add_edges(
     alloc: Global,
     edges: &mut Vec<Edge>,
@@ -143,7 +145,7 @@ fn add_edges(
     Ok(())
 }
 
-/// Puts the rank of each gate of a netlist at the end.
+/// Appends the rank of each gate of a netlist.
 fn add_ranks(ranks: &mut Vec<u64>, net: &Netlist) -> Result<(), AllocError>
     ensures { OnOk result (ranks.new.items ≡ ranks.old.items ++ gate_ranks net.now) }
 {
@@ -155,7 +157,7 @@ fn add_ranks(ranks: &mut Vec<u64>, net: &Netlist) -> Result<(), AllocError>
 }
 
 impl FreeGraph {
-    /// The graph of variables without gates.
+    /// The graph of so many variables, without gates.
     fn without_gates(alloc: Global, variables: usize) -> Result<FreeGraph, AllocError>
         ensures { IfOk result (λ g. g ≡ graph_without_gates variables) }
     {
@@ -166,13 +168,13 @@ impl FreeGraph {
         })
     }
 
-    /// Adds the gates of a netlist.
+    /// Adds the gates of one more netlist.
     fn add_side(
         &mut self,
         alloc: Global,
         chosen: &[bool],
         places: &[u64],
-        side: &Side<'_>,
+        side: &IndexedNetlist<'_>,
     ) -> Result<(), AllocError>
         ensures { OnOk result (self.new ≡ with_side chosen.now places.now self.old side.now) }
     {
@@ -186,13 +188,13 @@ impl FreeGraph {
         add_ranks(&mut self.ranks, side.net())
     }
 
-    /// The graph of all netlists, whose first vertices are the variables by their places.
+    /// The graph of all netlists. Its first vertices are the variables, by their places in the order with which FORCE begins.
     #[tactic(auto, unfolding(crate::specs::FreeForce::free_graph))]
     fn new(
         alloc: Global,
         chosen: &[bool],
         places: &[u64],
-        sides: &[Side<'_>],
+        sides: &[IndexedNetlist<'_>],
     ) -> Result<FreeGraph, AllocError>
         ensures { IfOk result (λ g. g ≡ free_graph chosen.now places.now sides.now) }
     {
@@ -205,63 +207,7 @@ impl FreeGraph {
     }
 }
 
-/// The greatest number at these places of a table.
-fn greatest_at(table: &[u64], places: &[usize]) -> u64
-    ensures { result ≡ greatest_at table.now places.now }
-{
-    places
-        .iter()
-        .fold(0, |most, place| most.max(number_at(table, *place)))
-}
-
-/// The last variable below a vertex: a variable is its own.
-fn last_below(variables: usize, edges: &[Edge], table: &[u64], vertex: usize) -> u64
-    ensures { result ≡ last_below variables edges.now table.now vertex }
-{
-    if vertex < variables {
-        return vertex as u64;
-    }
-    match edges.get(vertex - variables) {
-        Some(edge) => greatest_at(table, edge.vertices()),
-        None => 0,
-    }
-}
-
-/// By vertex, the last variable below it. The vertices come by rising rank.
-#[tactic(auto, unfolding(net_order::specs::Force::last_variables))]
-fn last_variables(
-    alloc: Global,
-    variables: usize,
-    edges: &[Edge],
-    by_rank: &[usize],
-) -> Result<Vec<u64>, AllocError>
-    ensures { IfOk result (λ v. v.items ≡ last_variables variables edges.now by_rank.now) }
-{
-    let mut table = Vec::from_elem(alloc, 0u64, by_rank.len())?;
-    for vertex in by_rank {
-        let last = last_below(variables, edges, table.as_slice(), *vertex);
-        put(&mut table, *vertex, last);
-    }
-    Ok(table)
-}
-
-/// Each gate right after the last variable below it, those after one variable by rising rank.
-#[tactic(auto, unfolding(net_order::specs::Force::initial_order))]
-fn initial_order(
-    alloc: Global,
-    variables: usize,
-    edges: &[Edge],
-    by_rank: Vec<usize>,
-) -> Result<Vec<usize>, AllocError>
-    ensures { IfOk result (λ v. v.items ≡ initial_order variables edges.now by_rank.items) }
-{
-    let table = last_variables(alloc, variables, edges, by_rank.as_slice())?;
-    let mut order = by_rank;
-    sort_by_table(&mut order, table.as_slice())?;
-    Ok(order)
-}
-
-/// Where two rounds end, which begin with each gate right after the last variable below it.
+/// The order of all vertices after two rounds.
 #[tactic(auto, unfolding(net_order::specs::Force::force_order))]
 fn force_order(alloc: Global, variables: usize, graph: &FreeGraph) -> Result<Vec<usize>, AllocError>
     ensures { IfOk result (λ v. v.items ≡ force_order variables graph.now) }
@@ -277,23 +223,7 @@ fn force_order(alloc: Global, variables: usize, graph: &FreeGraph) -> Result<Vec
     Ok(order)
 }
 
-/// Those vertices that are variables, from the last one back.
-fn variables_reversed(
-    alloc: Global,
-    variables: usize,
-    order: &[usize],
-) -> Result<Vec<usize>, AllocError>
-    ensures { IfOk result (λ v. v.items ≡ variables_reversed variables order.now) }
-{
-    order
-        .iter()
-        .rev()
-        .copied()
-        .filter(|vertex| *vertex < variables)
-        .collect(alloc)
-}
-
-/// By variable, its place in an order.
+/// For each variable its place in an order.
 #[tactic(auto, unfolding(crate::specs::FreeForce::places_in))]
 fn places_in(alloc: Global, order: &[usize]) -> Result<Vec<u64>, AllocError>
     ensures { IfOk result (λ v. v.items ≡ places_in order.now) }
@@ -303,7 +233,7 @@ fn places_in(alloc: Global, order: &[usize]) -> Result<Vec<u64>, AllocError>
     Ok(places)
 }
 
-/// By place in an order, whether the variable there is a selector.
+/// For each place of an order whether the variable there is a selector.
 fn chosen_along(alloc: Global, chosen: &[bool], order: &[usize]) -> Result<Vec<bool>, AllocError>
     ensures { IfOk result (λ v. v.items ≡ chosen_along chosen.now order.now) }
 {
@@ -313,7 +243,7 @@ fn chosen_along(alloc: Global, chosen: &[bool], order: &[usize]) -> Result<Vec<b
         .collect(alloc)
 }
 
-/// Those variables of an order that are selectors.
+/// The selectors, in the order of all variables.
 fn chosen_of(alloc: Global, chosen: &[bool], order: &[usize]) -> Result<Vec<usize>, AllocError>
     ensures { IfOk result (λ v. v.items ≡ chosen_of chosen.now order.now) }
 {
@@ -334,13 +264,13 @@ fn at_places(alloc: Global, order: &[usize], places: &[usize]) -> Result<Vec<usi
         .collect(alloc)
 }
 
-/// The variables as FORCE leaves them, the last one first, if it begins with an order and selectors move nothing.
+/// The variables in the order of FORCE without selectors, from the last to the first. FORCE begins with the order that is given.
 #[tactic(auto, unfolding(crate::specs::FreeForce::free_order))]
 fn free_order(
     alloc: Global,
     chosen: &[bool],
     order: &[usize],
-    sides: &[Side<'_>],
+    sides: &[IndexedNetlist<'_>],
 ) -> Result<Vec<usize>, AllocError>
     ensures { IfOk result (λ v. v.items ≡ free_order chosen.now order.now sides.now) }
 {
@@ -352,13 +282,13 @@ fn free_order(
     at_places(alloc, order, back.as_slice())
 }
 
-/// The selectors as they are in the order that FORCE begins with, and then the others as FORCE leaves them.
+/// The selectors in the order with which FORCE begins, then the other variables in the order of FORCE.
 #[tactic(auto, unfolding(crate::specs::FreeForce::free_numbers))]
 pub fn free_numbers(
     alloc: Global,
     chosen: &[bool],
     order: &[usize],
-    sides: &[Side<'_>],
+    sides: &[IndexedNetlist<'_>],
 ) -> Result<Vec<usize>, AllocError>
     ensures { IfOk result (λ v. v.items ≡ free_numbers chosen.now order.now sides.now) }
 {

@@ -1,13 +1,14 @@
-//! Groups of variables: those that exclusive ors of two join.
+//! Groups of variables: those that exclusive ors of two of them join, such as the two operands of an adder at one bit.
 ghost use Rattle.std.specs.Prelude.{◌≡◌, ◌∷◌, [], None, fold, IfOk, OnOk};
 ghost use Rattle.net_order.specs.Force.{with_added};
 ghost use Rattle.net_order.specs.Index.{rising};
 ghost use Rattle.group_order.specs.Groups.{group_labels, group_places, grouped, has_no_hub, is_hub, is_pair, joined, joining_pairs, once, pair_counts, renamed};
 ghost use Rattle.group_order.specs.Groups.{sorted_pairs};
 
-use crate::sides::Side;
+use crate::sides::IndexedNetlist;
 use crate::small_functions::{XorPair, xor_pairs};
-use crate::tables::{add_one, first_places, number_at, numbers_below, place_at, sort_by_table};
+use crate::tables::{add_one, first_places, place_at};
+use net_order::tables::{number_at, numbers_below, sort_by_table};
 use std::alloc::{AllocError, Global};
 
 /// Sorts pairs by their second variable.
@@ -26,7 +27,7 @@ fn sort_by_low(pairs: &mut Vec<XorPair>) -> Result<(), AllocError>
     Ok(())
 }
 
-/// Whether the pair is this one.
+/// Whether this pair is the same as the last one.
 fn is_pair(last: Option<XorPair>, pair: XorPair) -> bool
     ensures { result ≡ is_pair last pair }
 {
@@ -36,7 +37,7 @@ fn is_pair(last: Option<XorPair>, pair: XorPair) -> bool
     }
 }
 
-/// Sorted pairs, each once.
+/// Sorted pairs without repetitions.
 fn once(alloc: Global, pairs: &[XorPair]) -> Result<Vec<XorPair>, AllocError>
     ensures { IfOk result (λ v. v.items ≡ once None pairs.now) }
 {
@@ -51,7 +52,7 @@ fn once(alloc: Global, pairs: &[XorPair]) -> Result<Vec<XorPair>, AllocError>
     Ok(kept)
 }
 
-/// The pairs by their first variable, then by their second, each once.
+/// The pairs by their first variable, then by their second, without repetitions.
 #[tactic(auto, unfolding(crate::specs::Groups::sorted_pairs))]
 fn sorted_pairs(alloc: Global, pairs: Vec<XorPair>) -> Result<Vec<XorPair>, AllocError>
     ensures { IfOk result (λ v. v.items ≡ sorted_pairs pairs.items) }
@@ -62,7 +63,7 @@ fn sorted_pairs(alloc: Global, pairs: Vec<XorPair>) -> Result<Vec<XorPair>, Allo
     once(alloc, sorted.as_slice())
 }
 
-/// Counts a pair for both its variables.
+/// Counts a pair for each of its two variables.
 fn count_pair(counts: &mut Vec<u64>, pair: XorPair)
     ensures { counts.new.items ≡ with_added 1 counts.old.items (pair.low ∷ pair.high ∷ []) }
 {
@@ -70,7 +71,7 @@ fn count_pair(counts: &mut Vec<u64>, pair: XorPair)
     add_one(counts, pair.high as usize);
 }
 
-/// By variable, in how many pairs it is.
+/// For each variable the number of pairs that it is in.
 #[tactic(auto, unfolding(crate::specs::Groups::pair_counts))]
 fn pair_counts(alloc: Global, count: usize, pairs: &[XorPair]) -> Result<Vec<u64>, AllocError>
     ensures { IfOk result (λ v. v.items ≡ pair_counts count pairs.now) }
@@ -82,14 +83,14 @@ fn pair_counts(alloc: Global, count: usize, pairs: &[XorPair]) -> Result<Vec<u64
     Ok(counts)
 }
 
-/// Whether a variable in so many pairs is a hub: it is in more than two, and in a third of all or more.
+/// Whether a variable that is in so many pairs is a hub: it is in more than two, and in at least a third of all.
 fn is_hub(total: u64, count: u64) -> bool
     ensures { result ≡ is_hub total count }
 {
     count > 2 && u128::from(total) <= u128::from(count) * 3
 }
 
-/// Whether no variable of a pair is a hub.
+/// Whether neither variable of a pair is a hub.
 fn has_no_hub(total: u64, counts: &[u64], pair: XorPair) -> bool
     ensures { result ≡ has_no_hub total counts.now pair }
 {
@@ -97,7 +98,7 @@ fn has_no_hub(total: u64, counts: &[u64], pair: XorPair) -> bool
         && !is_hub(total, number_at(counts, pair.high as usize))
 }
 
-/// The pairs without a hub.
+/// The pairs without hubs: only these join groups, since a hub would join nearly all variables to one group.
 #[tactic(auto, unfolding(crate::specs::Groups::joining_pairs))]
 fn joining_pairs(alloc: Global, count: usize, pairs: &[XorPair]) -> Result<Vec<XorPair>, AllocError>
     ensures { IfOk result (λ v. v.items ≡ joining_pairs count pairs.now) }
@@ -111,14 +112,14 @@ fn joining_pairs(alloc: Global, count: usize, pairs: &[XorPair]) -> Result<Vec<X
         .collect(alloc)
 }
 
-/// A label, where `to` takes the place of `from`.
+/// A label, after `from` was renamed to `to`.
 fn renamed(from: usize, to: usize, label: usize) -> usize
     ensures { result ≡ renamed from to label }
 {
     if label == from { to } else { label }
 }
 
-/// Makes the labels of a pair's variables one.
+/// Gives both variables of a pair, and all others with their labels, one label.
 fn join(alloc: Global, labels: &mut Vec<usize>, pair: XorPair) -> Result<(), AllocError>
     ensures { OnOk result (labels.new.items ≡ joined labels.old.items pair) }
 {
@@ -136,7 +137,7 @@ fn join(alloc: Global, labels: &mut Vec<usize>, pair: XorPair) -> Result<(), All
     Ok(())
 }
 
-/// Makes the labels of all pairs' variables one.
+/// Does so for all pairs.
 fn join_all(alloc: Global, labels: &mut Vec<usize>, pairs: &[XorPair]) -> Result<(), AllocError>
     ensures { OnOk result (labels.new.items ≡ fold joined labels.old.items pairs.now) }
 {
@@ -146,13 +147,13 @@ fn join_all(alloc: Global, labels: &mut Vec<usize>, pairs: &[XorPair]) -> Result
     Ok(())
 }
 
-/// By variable, the label of its group. Each pair that joins two groups goes through all labels, so there may be as many steps as the
-/// square of the variables.
+/// For each variable the label of its group. Each pair that joins two groups goes through all labels, so the time is at
+/// most the square of the number of variables, which a pairing limits to 4,096.
 #[tactic(auto, unfolding(crate::specs::Groups::group_labels))]
 pub fn group_labels(
     alloc: Global,
     count: usize,
-    sides: &[Side<'_>],
+    sides: &[IndexedNetlist<'_>],
 ) -> Result<Vec<usize>, AllocError>
     ensures { IfOk result (λ v. v.items ≡ group_labels count sides.now) }
 {
@@ -164,7 +165,7 @@ pub fn group_labels(
     Ok(labels)
 }
 
-/// By variable, the first place of its group in an order.
+/// For each variable the first place of its group in an order.
 #[tactic(auto, unfolding(crate::specs::Groups::group_places))]
 fn group_places(alloc: Global, labels: &[usize], order: &[usize]) -> Result<Vec<u64>, AllocError>
     ensures { IfOk result (λ v. v.items ≡ group_places labels.now order.now) }
@@ -177,7 +178,7 @@ fn group_places(alloc: Global, labels: &[usize], order: &[usize]) -> Result<Vec<
         .collect(alloc)
 }
 
-/// Puts each group of an order together, where its first variable is.
+/// Moves the variables of each group together, to where the first of them is. Within a group the order is unchanged.
 #[tactic(auto, unfolding(crate::specs::Groups::grouped))]
 pub fn put_groups_together(
     alloc: Global,

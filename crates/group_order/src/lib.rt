@@ -1,18 +1,17 @@
-//! Orders of the variables of two netlists, in which variables that an XOR of two joins are together.
+//! Orders of the variables of two netlists in which variables that an exclusive or joins are neighbours.
 //!
-//! **Promises.** `msb_first` answers the variables by falling number at the end of their names, `force_groups` as FORCE
-//! moves them without selectors (`rule`), and `weights` by dynamic weight assignment: each variable once (`each_once`),
-//! so that `net_order::pairing::pair` accepts the list; or why there is none (`refused`). All three are functions of the
-//! texts.
+//! **Promises.** `msb_first` answers the variables by falling number at the end of their names, `force_groups` in the
+//! order of FORCE without selectors, and `weights` by dynamic weight assignment (`rule`). Each has every variable once
+//! (`each_once`), so that `net_order::pairing::pair` accepts the list; or the answer is why there is none (`refused`).
+//! All three are functions of the texts.
 //!
-//! **Only tests show** that ample memory suffices. How good an order is, and how long it takes, no clause says.
+//! **Only tests show** that ample memory suffices. How small an order makes diagrams, and how long it takes to compute,
+//! no clause says; docs/ORDERS.md has figures.
 //!
-//! **Begin** with `specs/Orders`, then `FanOut` (selectors) and `Groups`; then `orders`.
+//! **Begin** with `specs/Orders`, then `FanOut` (selectors) and `Groups`; then read `orders`.
 #![tactic(auto)]
 
-mod edge;
 mod fan_out;
-mod force_step;
 mod free_force;
 mod groups;
 mod listing;

@@ -3,13 +3,13 @@ ghost use Rattle.std.specs.Prelude.{◌≡◌, ◌++◌, ◌∷◌, ◌<◌, ◌
 ghost use Rattle.std.specs.List.Sorted.{IsPermutation};
 ghost use Rattle.net_order.specs.Force.{numbers_below};
 ghost use Rattle.net_order.specs.Order.{numbered};
-ghost use Rattle.net_order.specs.declared.order.Order.TheVariants.{Listed};
+ghost use Rattle.net_names.specs.declared.order.Order.TheVariants.{Listed};
 
-use net_order::names::Names;
-use net_order::order::Order;
+use net_names::names::Names;
+use net_names::order::Order;
 use std::alloc::{AllocError, Global};
 
-/// Puts a name at the end.
+/// Appends a name.
 fn push_name(list: &mut Vec<Vec<u8>>, name: Vec<u8>) -> Result<(), AllocError>
     ensures { OnOk result (map (λ n. n.items) list.new.items ≡ map (λ n. n.items) list.old.items ++ name.items ∷ []) }
 {
@@ -30,7 +30,7 @@ fn names_of(alloc: Global, names: &Names, numbers: &[usize]) -> Result<Vec<Vec<u
     Ok(list)
 }
 
-/// The list of the names of these numbers, which are those of all names, each once.
+/// The list of the names of these numbers, which are the numbers of all names, each once.
 pub fn listed(alloc: Global, names: &Names, numbers: &[usize]) -> Result<Order, AllocError>
     requires moved { IsPermutation (numbers_below (length names.now)) numbers.now }
     requires few { length names.now ≤ 4096 }

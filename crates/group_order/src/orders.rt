@@ -1,4 +1,4 @@
-//! Orders of two netlists' variables in which groups are together.
+//! The three orders of this crate.
 ghost use Rattle.std.specs.Prelude.{◌≡◌, IfErr, IfOk, length};
 ghost use Rattle.std.specs.List.Sorted.{IsPermutation};
 ghost use Rattle.net_bench.specs.Circuit.{circuit};
@@ -11,29 +11,33 @@ use crate::free_force::free_numbers;
 use crate::groups::{group_labels, put_groups_together};
 use crate::listing::listed;
 use crate::name_keys::{falling_numbers, rising_numbers};
-use crate::sides::{Side, sides_of};
+use crate::sides::{IndexedNetlist, sides_of};
 use crate::tables::completed;
 use crate::weight_order::weighed;
 use net_bench::netlist::Netlist;
-use net_order::names::Names;
-use net_order::order::{Match, Order, OrderFault};
+use net_names::names::Names;
+use net_names::order::{Match, Order, OrderFault};
 use net_order::pairing::pair;
 use std::alloc::{AllocError, Global};
 
-/// By variable, whether it is a selector.
-fn selectors_of(alloc: Global, count: usize, sides: &[Side<'_>]) -> Result<Vec<bool>, AllocError>
+/// For each variable whether it is a selector.
+fn selectors_of(
+    alloc: Global,
+    count: usize,
+    sides: &[IndexedNetlist<'_>],
+) -> Result<Vec<bool>, AllocError>
     ensures { IfOk result (λ v. v.items ≡ selectors_of count sides.now) }
 {
     let counts = fan_out(alloc, count, sides)?;
     selectors(alloc, counts.as_slice())
 }
 
-/// The numbers of the variables by falling number at the end of their names, groups together, selectors in front.
+/// The variables by falling number at the end of their names, then each group moved together, then selectors moved to the front.
 #[tactic(auto, unfolding(crate::specs::Orders::msb_first_numbers))]
 fn msb_first_numbers(
     alloc: Global,
     names: &Names,
-    sides: &[Side<'_>],
+    sides: &[IndexedNetlist<'_>],
 ) -> Result<Vec<usize>, AllocError>
     ensures rule { IfOk result (λ v. v.items ≡ msb_first_numbers names.now sides.now) }
     ensures moved { IfOk result (λ v. IsPermutation (numbers_below (length names.now)) v.items) }
@@ -46,12 +50,12 @@ fn msb_first_numbers(
     Ok(order)
 }
 
-/// The numbers of the variables as FORCE leaves them, groups together.
+/// The variables in the order of FORCE without selectors, then each group moved together.
 #[tactic(auto, unfolding(crate::specs::Orders::force_groups_numbers))]
 fn force_groups_numbers(
     alloc: Global,
     names: &Names,
-    sides: &[Side<'_>],
+    sides: &[IndexedNetlist<'_>],
 ) -> Result<Vec<usize>, AllocError>
     ensures rule { IfOk result (λ v. v.items ≡ force_groups_numbers names.now sides.now) }
     ensures moved { IfOk result (λ v. IsPermutation (numbers_below (length names.now)) v.items) }
@@ -64,8 +68,9 @@ fn force_groups_numbers(
     Ok(order)
 }
 
-/// By falling number at the end of names: the bits of all buses together, the most significant first. Variables that an XOR of two joins
-/// are in one group, which is together, and variables that are used far more often than others come first.
+/// Order `msb-first`, by falling number at the end of names: the most significant bits of all buses first. Variables
+/// that an exclusive or of two joins are in one group, which is moved together; selectors, whose fan-out is far above
+/// that of others, come first.
 pub fn msb_first(
     alloc: Global,
     first: &Netlist,
@@ -85,8 +90,9 @@ pub fn msb_first(
     Ok(order)
 }
 
-/// As FORCE moves variables and gates, begun by rising number at the end of names, if selectors move nothing: the selectors first, and
-/// the others from the last one back. Then each group of variables that an XOR of two joins is put together.
+/// Order `force-groups`, by FORCE (Aloul, Markov and Sakallah 2003) without selectors, which begins by rising number at
+/// the end of names: the selectors first, and then the others, from the last to the first. Then each group of variables
+/// that an exclusive or of two joins is moved together.
 pub fn force_groups(
     alloc: Global,
     first: &Netlist,
@@ -107,7 +113,11 @@ pub fn force_groups(
 }
 
 /// The variables below the roots of the first two netlists, by dynamic weight assignment.
-fn weighed_below(alloc: Global, count: usize, sides: &[Side<'_>]) -> Result<Vec<usize>, AllocError>
+fn weighed_below(
+    alloc: Global,
+    count: usize,
+    sides: &[IndexedNetlist<'_>],
+) -> Result<Vec<usize>, AllocError>
     ensures { IfOk result (λ v. v.items ≡ weighed_below count sides.now) }
 {
     if sides.len() < 2 {
@@ -116,12 +126,12 @@ fn weighed_below(alloc: Global, count: usize, sides: &[Side<'_>]) -> Result<Vec<
     weighed(alloc, count, &sides[0], &sides[1])
 }
 
-/// The numbers of the variables by dynamic weight assignment, groups together.
+/// The variables by dynamic weight assignment, those below no root last, then each group moved together.
 #[tactic(auto, unfolding(crate::specs::Orders::weights_numbers))]
 fn weights_numbers(
     alloc: Global,
     names: &Names,
-    sides: &[Side<'_>],
+    sides: &[IndexedNetlist<'_>],
 ) -> Result<Vec<usize>, AllocError>
     ensures rule { IfOk result (λ v. v.items ≡ weights_numbers names.now sides.now) }
     ensures moved { IfOk result (λ v. IsPermutation (numbers_below (length names.now)) v.items) }
@@ -133,10 +143,11 @@ fn weights_numbers(
     Ok(order)
 }
 
-/// By dynamic weight assignment (Minato, Ishiura and Yajima, DAC 1990): below each root of the netlist of fewer gates, and then of the
-/// other, the variable that has the greatest part of the root's weight is placed first, and then weights are assigned anew without it.
-/// From 1,000,000 visits of gates on, all variables that are left below a root are placed by one assignment; a gate of many operands counts
-/// once more for each 32 of them. Then each group of variables that an XOR of two joins is put together.
+/// Order `weights`, by dynamic weight assignment (Minato, Ishiura and Yajima 1990). Below each root of the netlist with
+/// fewer gates, and then of the other, the variable that gets the greatest part of the root's weight is placed first;
+/// then weights are assigned anew without it. So that this takes no more than about 1,000,000 visits of gates, from
+/// there on one assignment places all variables that remain below a root; a gate counts once more for each 32 of its
+/// operands. Then each group of variables that an exclusive or of two joins is moved together.
 pub fn weights(
     alloc: Global,
     first: &Netlist,

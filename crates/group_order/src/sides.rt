@@ -1,48 +1,42 @@
-//! The netlists of a pairing as the orders see them.
-ghost use Rattle.std.specs.Prelude.{◌≡◌, slice_get, slice_index, slice_index_or, slice_set, option_copied, IfOk, None};
-ghost use Rattle.group_order.specs.Sides.{all_sides, gate_ranks, gates_by_rank, level_on, side_of, variables_by_signal};
+//! The netlists of a pairing in the form that the orders need.
+ghost use Rattle.std.specs.Prelude.{◌≡◌, slice_get, slice_index_or, slice_set, option_copied, IfOk, None};
+ghost use Rattle.net_order.specs.Order.{level_in};
+ghost use Rattle.group_order.specs.Sides.{all_sides, gate_ranks, gates_by_rank, side_of, variables_by_signal};
 
-use crate::tables::{numbers_below, sort_by_table};
 use net_bench::netlist::{GateLine, Netlist, Signal};
+use net_order::falling_rank::rank_at;
 use net_order::naming::Naming;
+use net_order::netlist_role::NetlistRole;
+use net_order::tables::{numbers_below, sort_by_table};
 use std::alloc::{AllocError, Global};
 use std::marker::Model;
 
-/// A netlist of a pairing.
-#[derive(Clone, Copy, Debug, PartialEq, Eq)]
-pub enum SideKind {
-    First,
-    Second,
-    /// The condition.
-    Given,
-}
-
-/// A netlist of a pairing, with what its variables and gates are looked up by.
+/// A netlist of a pairing, with tables that find its variables and its gates by rank.
 #[derive(Drop)]
-pub struct Side<'a> {
+pub struct IndexedNetlist<'a> {
     net: &'a Netlist,
-    /// By signal, the variable that it is.
+    /// For each signal the variable that it is; None for a gate.
     variables: Vec<Option<u32>>,
     /// The places of the gates by rising rank.
     by_rank: Vec<usize>,
 }
 
-impl<'a> Model for Side<'a> {
-    ghost use Rattle.group_order.specs.Sides.{SideModel};
+impl<'a> Model for IndexedNetlist<'a> {
+    ghost use Rattle.group_order.specs.Sides.{IndexedNetlistModel};
 
-    ghost Value = { SideModel };
+    ghost Value = { IndexedNetlistModel };
 
     ghost view = { λ s. record { net = s.net.now; variables = s.variables.items; by_rank = s.by_rank.items } };
 }
 
-/// The variable at a signal of a table, none past its end.
+/// The variable of a signal in a table; None beyond its end.
 pub fn variable_at(table: &[Option<u32>], signal: Signal) -> Option<u32>
     ensures { result ≡ slice_index_or table.now signal None }
 {
     table.get(signal.number() as usize).copied().unwrap_or(None)
 }
 
-/// Puts a variable at a signal of a table.
+/// Writes the variable of a signal into a table. Beyond its end nothing is written.
 pub fn put_variable(table: &mut Vec<Option<u32>>, signal: Signal, variable: Option<u32>)
     ensures { table.new.items ≡ slice_set table.old.items signal variable }
 {
@@ -52,54 +46,32 @@ pub fn put_variable(table: &mut Vec<Option<u32>>, signal: Signal, variable: Opti
     }
 }
 
-/// The gate at a place of the text.
+/// The gate at a place of the text; None if there is none.
 pub fn gate_at(gates: &[GateLine], place: usize) -> Option<&GateLine>
     ensures { option_copied result ≡ slice_get gates.now place }
 {
     gates.get(place)
 }
 
-/// The rank of a signal, 0 for what is none.
-pub fn rank_at(net: &Netlist, signal: Signal) -> u32
-    ensures { result ≡ slice_index net.now.ranks signal }
-{
-    if (signal.number() as usize) < net.count() {
-        net.rank(signal)
-    } else {
-        0
-    }
-}
-
-/// The level of an input or register of a netlist.
-fn level_on(kind: SideKind, naming: &Naming, signal: Signal) -> u32
-    ensures { result ≡ level_on kind naming.now signal }
-{
-    match kind {
-        SideKind::First => naming.first_level(signal),
-        SideKind::Second => naming.second_level(signal),
-        SideKind::Given => naming.given_level(signal),
-    }
-}
-
-/// By signal, the variable that it is.
+/// For each signal the variable that it is, which is its level in declared order; None for a gate.
 #[tactic(auto, unfolding(crate::specs::Sides::variables_by_signal))]
 fn variables_by_signal(
     alloc: Global,
-    kind: SideKind,
+    kind: NetlistRole,
     naming: &Naming,
     net: &Netlist,
 ) -> Result<Vec<Option<u32>>, AllocError>
-    ensures { IfOk result (λ v. v.items ≡ variables_by_signal (level_on kind naming.now) net.now) }
+    ensures { IfOk result (λ v. v.items ≡ variables_by_signal (level_in naming.now kind) net.now) }
 {
     let mut table = Vec::from_elem(alloc, None, net.count())?;
     for variable in net.variables() {
-        let level = level_on(kind, naming, *variable);
+        let level = naming.level(kind, *variable);
         put_variable(&mut table, *variable, Some(level));
     }
     Ok(table)
 }
 
-/// The rank of each gate.
+/// The rank of each gate, in the order of the text.
 fn gate_ranks(alloc: Global, net: &Netlist) -> Result<Vec<u64>, AllocError>
     ensures { IfOk result (λ v. v.items ≡ gate_ranks net.now) }
 {
@@ -121,19 +93,19 @@ fn gates_by_rank(alloc: Global, net: &Netlist) -> Result<Vec<usize>, AllocError>
     Ok(places)
 }
 
-impl<'a> Side<'a> {
-    /// A netlist, whose variables have the levels of a naming.
+impl<'a> IndexedNetlist<'a> {
+    /// A netlist with its tables, if its variables have the levels of this naming.
     fn new(
         alloc: Global,
-        kind: SideKind,
+        kind: NetlistRole,
         naming: &Naming,
         net: &'a Netlist,
-    ) -> Result<Side<'a>, AllocError>
+    ) -> Result<IndexedNetlist<'a>, AllocError>
         ensures { IfOk result (λ side. side ≡ side_of kind naming.now net.entry.now) }
     {
         let variables = variables_by_signal(alloc, kind, naming, net)?;
         let by_rank = gates_by_rank(alloc, net)?;
-        Ok(Side {
+        Ok(IndexedNetlist {
             net,
             variables,
             by_rank,
@@ -147,7 +119,7 @@ impl<'a> Side<'a> {
         self.net
     }
 
-    /// By signal, the variable that it is.
+    /// For each signal the variable that it is; None for a gate.
     pub fn variables(&self) -> &[Option<u32>]
         ensures { result.now ≡ self.now.variables }
     {
@@ -169,15 +141,15 @@ pub fn sides_of<'a>(
     first: &'a Netlist,
     second: &'a Netlist,
     given: Option<&'a Netlist>,
-) -> Result<Vec<Side<'a>>, AllocError>
+) -> Result<Vec<IndexedNetlist<'a>>, AllocError>
     ensures { IfOk result (λ sides. sides.items ≡ all_sides naming.now first.entry.now second.entry.now given.entry) }
 {
     let mut sides = Vec::new(alloc);
-    sides.push(Side::new(alloc, SideKind::First, naming, first)?)?;
-    sides.push(Side::new(alloc, SideKind::Second, naming, second)?)?;
+    sides.push(IndexedNetlist::new(alloc, NetlistRole::First, naming, first)?)?;
+    sides.push(IndexedNetlist::new(alloc, NetlistRole::Second, naming, second)?)?;
     match given {
         None => {}
-        Some(given) => sides.push(Side::new(alloc, SideKind::Given, naming, given)?)?,
+        Some(given) => sides.push(IndexedNetlist::new(alloc, NetlistRole::Given, naming, given)?)?,
     }
     Ok(sides)
 }

@@ -1,15 +1,16 @@
-//! Signals that are functions of at most two variables, and pairs of variables that are joined by XOR.
+//! Signals that are functions of at most two variables, and the pairs of variables of which a signal is the exclusive or.
 ghost use Rattle.std.specs.Prelude.{◌≡◌, None, map, slice_get, slice_index_or, slice_set, IfOk, OnOk};
 ghost use Rattle.net_bench.specs.Labels.{all_ones, folded, is_complemented, odd, some_one};
 ghost use Rattle.group_order.specs.SmallFunctions.{bit_at, function_of, function_over, gate_value, is_xor, operand_value, operand_values, own_function, small_functions};
 ghost use Rattle.group_order.specs.SmallFunctions.{support_of, with_function_of, with_pair_of, with_pairs_on, with_support_of, with_variable};
 ghost use Rattle.group_order.specs.SmallFunctions.{xor_pair, xor_pairs};
 
-use crate::sides::{Side, gate_at};
+use crate::sides::{IndexedNetlist, gate_at};
 use net_bench::netlist::{GateLine, Kind, Signal};
 use std::alloc::{AllocError, Global};
 
-/// A function of two variables, or of one that is both, by its values: `at01` if the first is 0 and the second 1.
+/// A function of two variables, or of one (`low` and `high` are the same then), as its truth table. `at01` is its value
+/// if `low` is 0 and `high` is 1.
 #[derive(Clone, Copy, Debug, PartialEq, Eq)]
 pub struct SmallFunction {
     pub low: u32,
@@ -20,7 +21,7 @@ pub struct SmallFunction {
     pub at11: bool,
 }
 
-/// The variables of a gate's operands.
+/// The variables of a gate's operands, as far as they are at most two.
 #[derive(Clone, Copy, Debug, PartialEq, Eq)]
 pub enum Support {
     Nothing,
@@ -30,7 +31,7 @@ pub enum Support {
     More,
 }
 
-/// Two variables that are joined by XOR, the lower one first.
+/// Two variables of which a signal is the exclusive or, the one of the lower number first.
 #[derive(Clone, Copy, Debug, PartialEq, Eq)]
 pub struct XorPair {
     pub low: u32,
@@ -61,7 +62,7 @@ fn with_variable(support: Support, variable: u32) -> Support
     }
 }
 
-/// The support with that of an operand.
+/// The support with the variables of one more operand.
 fn with_support_of(support: Support, function: Option<SmallFunction>) -> Support
     ensures { result ≡ with_support_of support function }
 {
@@ -71,7 +72,7 @@ fn with_support_of(support: Support, function: Option<SmallFunction>) -> Support
     }
 }
 
-/// The function at a signal of a table, none past its end.
+/// The function of a signal in a table; None beyond its end.
 fn function_at(table: &[Option<SmallFunction>], signal: Signal) -> Option<SmallFunction>
     ensures { result ≡ slice_index_or table.now signal None }
 {
@@ -88,7 +89,7 @@ fn support_of(smalls: &[Option<SmallFunction>], gate: &GateLine) -> Support
     })
 }
 
-/// The value if the first variable is `low`, the second `high`.
+/// The value if the variable `low` has the value `low`, and `high` the value `high`.
 fn bit_at(function: SmallFunction, low: bool, high: bool) -> bool
     ensures { result ≡ bit_at function low high }
 {
@@ -100,7 +101,7 @@ fn bit_at(function: SmallFunction, low: bool, high: bool) -> bool
     }
 }
 
-/// The value of an operand if the variable `first` is `low` and any other `high`.
+/// The value of an operand if the variable `first` has the value `low`, and any other the value `high`.
 fn operand_value(first: u32, low: bool, high: bool, function: Option<SmallFunction>) -> bool
     ensures { result ≡ operand_value first low high function }
 {
@@ -114,27 +115,27 @@ fn operand_value(first: u32, low: bool, high: bool, function: Option<SmallFuncti
     }
 }
 
-/// An assignment to two variables: `low` is that of the variable `first`, and `high` that of any other.
+/// An assignment of two variables: `low` is the value of the variable `first`, and `high` that of any other.
 #[derive(Clone, Copy, Debug, PartialEq, Eq)]
-struct Assignment {
+struct TwoValues {
     first: u32,
     low: bool,
     high: bool,
 }
 
-impl Assignment {
-    /// The values of a variable and of any other.
-    fn of(first: u32, low: bool, high: bool) -> Assignment
+impl TwoValues {
+    /// The assignment with these values of a variable and of any other.
+    fn of(first: u32, low: bool, high: bool) -> TwoValues
         ensures first { result.first ≡ first }
         ensures low { result.low ≡ low }
         ensures high { result.high ≡ high }
     {
-        Assignment { first, low, high }
+        TwoValues { first, low, high }
     }
 }
 
-/// The value of an operand.
-fn value_at(smalls: &[Option<SmallFunction>], values: Assignment, operand: Signal) -> bool
+/// The value of an operand at this assignment.
+fn value_at(smalls: &[Option<SmallFunction>], values: TwoValues, operand: Signal) -> bool
     ensures { result ≡ operand_value values.first values.low values.high (slice_index_or smalls.now operand None) }
 {
     operand_value(
@@ -145,8 +146,8 @@ fn value_at(smalls: &[Option<SmallFunction>], values: Assignment, operand: Signa
     )
 }
 
-/// Whether all operands of a gate are 1.
-fn all_ones(smalls: &[Option<SmallFunction>], values: Assignment, operands: &[Signal]) -> bool
+/// Whether all operands of a gate are 1 at this assignment.
+fn all_ones(smalls: &[Option<SmallFunction>], values: TwoValues, operands: &[Signal]) -> bool
     ensures { result ≡ all_ones (operand_values smalls.now values.first values.low values.high operands.now) }
 {
     let mut all = true;
@@ -156,8 +157,8 @@ fn all_ones(smalls: &[Option<SmallFunction>], values: Assignment, operands: &[Si
     all
 }
 
-/// Whether an operand of a gate is 1.
-fn some_one(smalls: &[Option<SmallFunction>], values: Assignment, operands: &[Signal]) -> bool
+/// Whether an operand of a gate is 1 at this assignment.
+fn some_one(smalls: &[Option<SmallFunction>], values: TwoValues, operands: &[Signal]) -> bool
     ensures { result ≡ some_one (operand_values smalls.now values.first values.low values.high operands.now) }
 {
     let mut some = false;
@@ -167,8 +168,8 @@ fn some_one(smalls: &[Option<SmallFunction>], values: Assignment, operands: &[Si
     some
 }
 
-/// Whether an odd number of a gate's operands is 1.
-fn odd(smalls: &[Option<SmallFunction>], values: Assignment, operands: &[Signal]) -> bool
+/// Whether an odd number of a gate's operands are 1 at this assignment.
+fn odd(smalls: &[Option<SmallFunction>], values: TwoValues, operands: &[Signal]) -> bool
     ensures { result ≡ odd (operand_values smalls.now values.first values.low values.high operands.now) }
 {
     let mut odd = false;
@@ -178,8 +179,8 @@ fn odd(smalls: &[Option<SmallFunction>], values: Assignment, operands: &[Signal]
     odd
 }
 
-/// The value of what a gate folds with.
-fn folded(smalls: &[Option<SmallFunction>], values: Assignment, gate: &GateLine) -> bool
+/// The value of the operation that folds a gate's operands: And, Or or Xor.
+fn folded(smalls: &[Option<SmallFunction>], values: TwoValues, gate: &GateLine) -> bool
     ensures { result ≡ folded gate.now.kind (operand_values smalls.now values.first values.low values.high gate.now.operands) }
 {
     let operands = gate.operands.as_slice();
@@ -192,15 +193,15 @@ fn folded(smalls: &[Option<SmallFunction>], values: Assignment, gate: &GateLine)
     }
 }
 
-/// Whether a gate's value is the complement of what it folds.
+/// Whether a gate's value is the complement of the folded one.
 fn is_complemented(kind: Kind) -> bool
     ensures { result ≡ is_complemented kind }
 {
     matches!(kind, Kind::Nand | Kind::Nor | Kind::Xnor | Kind::Not)
 }
 
-/// The value of a gate.
-fn gate_value(smalls: &[Option<SmallFunction>], values: Assignment, gate: &GateLine) -> bool
+/// The value of a gate at this assignment.
+fn gate_value(smalls: &[Option<SmallFunction>], values: TwoValues, gate: &GateLine) -> bool
     ensures { result ≡ gate_value smalls.now gate.now values.first values.low values.high }
 {
     let value = folded(smalls, values, gate);
@@ -211,7 +212,7 @@ fn gate_value(smalls: &[Option<SmallFunction>], values: Assignment, gate: &GateL
     }
 }
 
-/// A gate as a function of two variables, or of one that is both.
+/// A gate as a function of these two variables, or of one that is both.
 fn function_of(
     smalls: &[Option<SmallFunction>],
     gate: &GateLine,
@@ -223,14 +224,14 @@ fn function_of(
     SmallFunction {
         low,
         high,
-        at00: gate_value(smalls, Assignment::of(low, false, false), gate),
-        at01: gate_value(smalls, Assignment::of(low, false, true), gate),
-        at10: gate_value(smalls, Assignment::of(low, true, false), gate),
-        at11: gate_value(smalls, Assignment::of(low, true, true), gate),
+        at00: gate_value(smalls, TwoValues::of(low, false, false), gate),
+        at01: gate_value(smalls, TwoValues::of(low, false, true), gate),
+        at10: gate_value(smalls, TwoValues::of(low, true, false), gate),
+        at11: gate_value(smalls, TwoValues::of(low, true, true), gate),
     }
 }
 
-/// A gate as a function of the variables of its support, if these are one or two.
+/// A gate as a function of the variables of its operands, if these are one or two.
 fn function_over(
     smalls: &[Option<SmallFunction>],
     gate: &GateLine,
@@ -246,7 +247,7 @@ fn function_over(
     }
 }
 
-/// Puts a function at a signal of a table.
+/// Writes the function of a signal into a table. Beyond its end nothing is written.
 fn put_function(
     table: &mut Vec<Option<SmallFunction>>,
     signal: Signal,
@@ -260,7 +261,7 @@ fn put_function(
     }
 }
 
-/// Puts the function of the gate at a place at its signal.
+/// Writes the function of the gate at a place into the table, at its signal.
 fn put_function_of(smalls: &mut Vec<Option<SmallFunction>>, gates: &[GateLine], place: usize)
     ensures { smalls.new.items ≡ with_function_of smalls.old.items (slice_get gates.now place) }
 {
@@ -291,7 +292,7 @@ fn own_function(variable: Option<u32>) -> Option<SmallFunction>
     }
 }
 
-/// Variables as functions of themselves.
+/// For each signal its function if it is a variable; None for a gate.
 fn own_functions(
     alloc: Global,
     variables: &[Option<u32>],
@@ -304,9 +305,13 @@ fn own_functions(
         .collect(alloc)
 }
 
-/// By signal, its function if it has at most two variables.
+/// For each signal its function, if it has at most two variables. Gates are visited by rising rank, so operands come
+/// before them.
 #[tactic(auto, unfolding(crate::specs::SmallFunctions::small_functions))]
-fn small_functions(alloc: Global, side: &Side<'_>) -> Result<Vec<Option<SmallFunction>>, AllocError>
+fn small_functions(
+    alloc: Global,
+    side: &IndexedNetlist<'_>,
+) -> Result<Vec<Option<SmallFunction>>, AllocError>
     ensures { IfOk result (λ v. v.items ≡ small_functions side.now) }
 {
     let gates = side.net().gates();
@@ -317,7 +322,7 @@ fn small_functions(alloc: Global, side: &Side<'_>) -> Result<Vec<Option<SmallFun
     Ok(smalls)
 }
 
-/// Whether a function is the exclusive or of two variables, or its complement.
+/// Whether a function is the exclusive or of two variables, or the complement of one.
 fn is_xor(function: SmallFunction) -> bool
     ensures { result ≡ is_xor function }
 {
@@ -327,7 +332,7 @@ fn is_xor(function: SmallFunction) -> bool
         && function.at00 != function.at01
 }
 
-/// The pair of a signal that is the exclusive or of two variables, or its complement.
+/// The pair of variables of which a function is the exclusive or, or its complement; None if it is none.
 fn xor_pair(function: Option<SmallFunction>) -> Option<XorPair>
     ensures { result ≡ xor_pair function }
 {
@@ -346,7 +351,7 @@ fn xor_pair(function: Option<SmallFunction>) -> Option<XorPair>
     }
 }
 
-/// Puts a pair at the end, if there is one.
+/// Appends a pair, if there is one.
 fn push_pair(pairs: &mut Vec<XorPair>, pair: Option<XorPair>) -> Result<(), AllocError>
     ensures { OnOk result (pairs.new.items ≡ with_pair_of pairs.old.items pair) }
 {
@@ -359,8 +364,12 @@ fn push_pair(pairs: &mut Vec<XorPair>, pair: Option<XorPair>) -> Result<(), Allo
     }
 }
 
-/// Puts the pairs of a netlist's gates at the end.
-fn push_pairs_on(alloc: Global, pairs: &mut Vec<XorPair>, side: &Side<'_>) -> Result<(), AllocError>
+/// Appends the pairs of all gates of a netlist.
+fn push_pairs_on(
+    alloc: Global,
+    pairs: &mut Vec<XorPair>,
+    side: &IndexedNetlist<'_>,
+) -> Result<(), AllocError>
     ensures { OnOk result (pairs.new.items ≡ with_pairs_on pairs.old.items side.now) }
 {
     let smalls = small_functions(alloc, side)?;
@@ -372,9 +381,9 @@ fn push_pairs_on(alloc: Global, pairs: &mut Vec<XorPair>, side: &Side<'_>) -> Re
     Ok(())
 }
 
-/// The pairs of variables that are joined by XOR in these netlists, as often as they are.
+/// The pairs of variables of which a signal of these netlists is the exclusive or, with repetitions.
 #[tactic(auto, unfolding(crate::specs::SmallFunctions::xor_pairs))]
-pub fn xor_pairs(alloc: Global, sides: &[Side<'_>]) -> Result<Vec<XorPair>, AllocError>
+pub fn xor_pairs(alloc: Global, sides: &[IndexedNetlist<'_>]) -> Result<Vec<XorPair>, AllocError>
     ensures { IfOk result (λ v. v.items ≡ xor_pairs sides.now) }
 {
     let mut pairs = Vec::new(alloc);

@@ -1,35 +1,19 @@
-//! Tables by number, and stable sorts by them.
-ghost use Rattle.std.specs.Prelude.{◌≡◌, ◌+◌, ◌^◌, ◌<◌, length, min, replicate, slice_index, slice_set, IfOk, OnOk};
-ghost use Rattle.net_order.specs.Force.{counted_from, numbers_below, u64_max};
-ghost use Rattle.net_order.specs.Index.{rising};
+//! Tables by number, whose entries beyond the end are 0, and stable sorts by them.
+ghost use Rattle.std.specs.Prelude.{◌≡◌, ◌+◌, ◌<◌, length, min, replicate, slice_index, slice_set, IfOk};
+ghost use Rattle.net_order.specs.Force.{numbers_below, u64_max};
 ghost use Rattle.group_order.specs.Sides.{completed, first_places};
 
+use net_order::tables::{number_at, numbers_below, put, sort_by_table};
 use std::alloc::{AllocError, Global};
 
-/// The number at this place of a table, 0 past its end.
-pub fn number_at(table: &[u64], place: usize) -> u64
-    ensures { result ≡ slice_index table.now place }
-{
-    table.get(place).copied().unwrap_or(0)
-}
-
-/// The place at this place of a table, 0 past its end.
+/// The entry at this place of a table of places; 0 beyond its end.
 pub fn place_at(table: &[usize], place: usize) -> usize
     ensures { result ≡ slice_index table.now place }
 {
     table.get(place).copied().unwrap_or(0)
 }
 
-/// Puts a number at this place of a table, and nowhere past its end.
-pub fn put(table: &mut Vec<u64>, place: usize, number: u64)
-    ensures { table.new.items ≡ slice_set table.old.items place number }
-{
-    if place < table.len() {
-        table[place] = number;
-    }
-}
-
-/// Adds 1 at this place of a table, and nowhere past its end.
+/// Adds 1 to the number at this place of a table. Beyond its end nothing is written.
 pub fn add_one(table: &mut Vec<u64>, place: usize)
     ensures { table.new.items ≡ slice_set table.old.items place (min (slice_index table.old.items place + 1) u64_max) }
 {
@@ -37,39 +21,7 @@ pub fn add_one(table: &mut Vec<u64>, place: usize)
     put(table, place, number);
 }
 
-/// Puts consecutive numbers at these places.
-pub fn count_from(table: &mut Vec<u64>, first: u64, places: &[usize])
-    requires { first + length places.now < 2 ^ 64 }
-    ensures { table.new.items ≡ counted_from first table.old.items places.now }
-{
-    let mut number = first;
-    for place in places {
-        put(table, *place, number);
-        number += 1;
-    }
-}
-
-/// The numbers below this one.
-#[tactic(auto, unfolding(net_order::specs::Force::numbers_below))]
-pub fn numbers_below(alloc: Global, count: usize) -> Result<Vec<usize>, AllocError>
-    ensures { IfOk result (λ v. v.items ≡ numbers_below count) }
-{
-    let mut numbers = Vec::new(alloc);
-    for number in 0..count {
-        numbers.push(number)?;
-    }
-    Ok(numbers)
-}
-
-/// Sorts numbers by rising key in a table, equal keys as they are.
-pub fn sort_by_table(order: &mut Vec<usize>, table: &[u64]) -> Result<(), AllocError>
-    ensures { OnOk result (order.new.items ≡ rising (slice_index table.now) order.old.items) }
-{
-    order.sort_by_key(|number| number_at(table, *number))?;
-    Ok(())
-}
-
-/// By label, the first place of an order at which a number with this label is.
+/// For each label the first place of an order at which a number with this label is.
 pub fn first_places(
     alloc: Global,
     labels: &[usize],
@@ -86,7 +38,7 @@ pub fn first_places(
     Ok(table)
 }
 
-/// The numbers below a count: those of a list by their first place in it, then the others.
+/// All numbers below a count: those of a list in its order, then the others by rising number.
 #[tactic(auto, unfolding(crate::specs::Sides::completed))]
 pub fn completed(alloc: Global, count: usize, list: &[usize]) -> Result<Vec<usize>, AllocError>
     ensures { IfOk result (λ v. v.items ≡ completed count list.now) }

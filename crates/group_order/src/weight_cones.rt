@@ -1,28 +1,29 @@
-//! What is below each root of a netlist and below no root before it.
-ghost use Rattle.std.specs.Prelude.{◌≡◌, ◌<◌, All, [], fold, length, map, replicate, reverse, slice_get, slice_index, slice_index_or, option_copied, IfOk, OnOk};
-ghost use Rattle.net_bench.specs.Circuit.{circuit};
+//! What is below each root of a netlist and below no root before it: only this gets a part of the root's weight.
+ghost use Rattle.std.specs.Prelude.{◌≡◌, ◌<◌, [], fold, length, map, replicate, reverse, slice_get, slice_index, slice_index_or, option_copied, IfOk, OnOk};
 ghost use Rattle.net_order.specs.Order.{roots};
 ghost use Rattle.group_order.specs.WeightCones.{cones_of, empty_cones, falling_roots, numbers_of, operands_of, pushed, root_table, signals_by_variable};
 ghost use Rattle.group_order.specs.WeightCones.{with_gate, with_gates, with_live, with_numbers, with_operands_root, with_root, with_roots, with_signal, with_variable, with_variables};
 
-use crate::sides::{Side, gate_at, rank_at, variable_at};
-use crate::tables::{number_at, put};
+use crate::sides::{IndexedNetlist, gate_at, variable_at};
 use crate::weight_step::is_dead;
 use net_bench::netlist::{GateLine, Netlist, Signal};
+use net_order::falling_rank::rank_at;
+use net_order::roots::roots_of;
+use net_order::tables::{number_at, put};
 use std::alloc::{AllocError, Global};
 use std::marker::Model;
 
-/// The gates and variables below each root and below none before it. The roots go by falling rank, so all that a gate is below has its
-/// root or an earlier one.
+/// For each root, the gates and variables below it that are below no root before it. Roots go by falling rank. What is
+/// below a gate has the gate's root or an earlier one; by then the variables of earlier roots are placed.
 #[derive(Drop)]
 pub struct WeightCones {
-    /// By signal, its root; a number past the roots for a signal that is below none, and for a variable that was placed before.
+    /// For each signal its root; a number beyond the roots for a signal below none, and for a variable that was placed before.
     roots: Vec<u64>,
-    /// By signal, its number among those of its root: gates first, by falling rank, then variables, as they are declared.
+    /// For each signal its number among those of its root: first gates, by falling rank, then variables, in declared order.
     numbers: Vec<u64>,
-    /// By root, the places of its gates, by falling rank.
+    /// For each root the places of its gates, by falling rank.
     gates: Vec<Vec<usize>>,
-    /// By root, its variables as they are declared.
+    /// For each root its variables, in declared order.
     variables: Vec<Vec<usize>>,
 }
 
@@ -40,20 +41,7 @@ impl Model for WeightCones {
     } };
 }
 
-/// The outputs, then the next states.
-fn roots_of(alloc: Global, net: &Netlist) -> Result<Vec<Signal>, AllocError>
-    ensures value { IfOk result (λ v. v.items ≡ roots (circuit net.now)) }
-    ensures known { IfOk result (λ v. All (λ s. s < length net.now.names) v.items) }
-{
-    let mut roots = Vec::from_slice(alloc, net.outputs())?;
-    let registers = net.registers();
-    for register in registers {
-        roots.extend_from_slice(register.operands.as_slice())?;
-    }
-    Ok(roots)
-}
-
-/// The outputs and next states by falling rank, equal ranks as they are.
+/// The roots by falling rank, those of equal rank in their order.
 #[tactic(auto, unfolding(crate::specs::WeightCones::falling_roots))]
 fn falling_roots(alloc: Global, net: &Netlist) -> Result<Vec<Signal>, AllocError>
     ensures { IfOk result (λ v. v.items ≡ falling_roots net.now) }
@@ -63,7 +51,7 @@ fn falling_roots(alloc: Global, net: &Netlist) -> Result<Vec<Signal>, AllocError
     Ok(roots)
 }
 
-/// Gives a signal to a root, unless it has an earlier one.
+/// Gives a signal this root, unless it has an earlier one.
 fn put_root(table: &mut Vec<u64>, root: u64, signal: Signal)
     ensures { table.new.items ≡ with_root root table.old.items signal }
 {
@@ -72,7 +60,7 @@ fn put_root(table: &mut Vec<u64>, root: u64, signal: Signal)
     put(table, place, earlier);
 }
 
-/// Gives a gate's operands to its root.
+/// Gives a gate's operands the root of the gate, unless they have earlier ones.
 fn put_operands_root(table: &mut Vec<u64>, gate: &GateLine)
     ensures { table.new.items ≡ fold (with_root (slice_index table.old.items gate.now.out)) table.old.items gate.now.operands }
 {
@@ -83,7 +71,7 @@ fn put_operands_root(table: &mut Vec<u64>, gate: &GateLine)
     }
 }
 
-/// The same of the gate at a place.
+/// The same for the gate at a place.
 fn put_operands_root_at(table: &mut Vec<u64>, gates: &[GateLine], place: usize)
     ensures { table.new.items ≡ with_operands_root table.old.items (slice_get gates.now place) }
 {
@@ -93,7 +81,7 @@ fn put_operands_root_at(table: &mut Vec<u64>, gates: &[GateLine], place: usize)
     }
 }
 
-/// Gives the roots to themselves.
+/// Gives each root itself.
 fn put_roots(table: &mut Vec<u64>, roots: &[Signal])
     ensures { table.new.items ≡ with_roots 0 table.old.items roots.now }
 {
@@ -109,9 +97,13 @@ fn reversed(alloc: Global, list: &[usize]) -> Result<Vec<usize>, AllocError>
     list.iter().rev().copied().collect(alloc)
 }
 
-/// By signal, the first root that it is below.
+/// For each signal the first root that it is below.
 #[tactic(auto, unfolding(crate::specs::WeightCones::root_table))]
-fn root_table(alloc: Global, side: &Side<'_>, roots: &[Signal]) -> Result<Vec<u64>, AllocError>
+fn root_table(
+    alloc: Global,
+    side: &IndexedNetlist<'_>,
+    roots: &[Signal],
+) -> Result<Vec<u64>, AllocError>
     ensures { IfOk result (λ v. v.items ≡ root_table side.now roots.now) }
 {
     let gates = side.net().gates();
@@ -125,7 +117,7 @@ fn root_table(alloc: Global, side: &Side<'_>, roots: &[Signal]) -> Result<Vec<u6
     Ok(table)
 }
 
-/// So many empty lists.
+/// `count` empty lists.
 fn empty_lists(alloc: Global, count: usize) -> Result<Vec<Vec<usize>>, AllocError>
     ensures { IfOk result (λ v. map (λ l. l.items) v.items ≡ replicate count []) }
 {
@@ -136,7 +128,7 @@ fn empty_lists(alloc: Global, count: usize) -> Result<Vec<Vec<usize>>, AllocErro
     Ok(lists)
 }
 
-/// The list at a place, an empty one past the end.
+/// The list at a place; an empty one beyond the end.
 pub fn list_at(lists: &[Vec<usize>], place: usize) -> &[usize]
     ensures { result.now ≡ slice_index_or (map (λ l. l.items) lists.now) place [] }
 {
@@ -146,7 +138,7 @@ pub fn list_at(lists: &[Vec<usize>], place: usize) -> &[usize]
     }
 }
 
-/// Puts a number at the end of the list at a place, and nowhere past the end.
+/// Appends a number to the list at a place. Beyond the end nothing is written.
 fn push_at(lists: &mut Vec<Vec<usize>>, place: usize, number: usize) -> Result<(), AllocError>
     ensures { OnOk result (map (λ l. l.items) lists.new.items ≡ pushed (map (λ l. l.items) lists.old.items) place number) }
 {
@@ -156,7 +148,7 @@ fn push_at(lists: &mut Vec<Vec<usize>>, place: usize, number: usize) -> Result<(
     Ok(())
 }
 
-/// Puts a variable's signal at the variable.
+/// Writes the signal of a variable into a table.
 fn put_signal(table: &mut Vec<Option<Signal>>, signal: Signal, variable: Option<u32>)
     ensures { table.new.items ≡ with_signal table.old.items signal variable }
 {
@@ -171,12 +163,12 @@ fn put_signal(table: &mut Vec<Option<Signal>>, signal: Signal, variable: Option<
     }
 }
 
-/// By variable, its signal in a netlist.
+/// For each variable its signal in a netlist; None if the netlist does not have it.
 #[tactic(auto, unfolding(crate::specs::WeightCones::signals_by_variable))]
 fn signals_by_variable(
     alloc: Global,
     count: usize,
-    side: &Side<'_>,
+    side: &IndexedNetlist<'_>,
 ) -> Result<Vec<Option<Signal>>, AllocError>
     ensures { IfOk result (λ v. v.items ≡ signals_by_variable count side.now) }
 {
@@ -189,8 +181,12 @@ fn signals_by_variable(
 }
 
 impl WeightCones {
-    /// Roots without gates and variables.
-    fn empty(alloc: Global, side: &Side<'_>, roots: &[Signal]) -> Result<WeightCones, AllocError>
+    /// The roots, without gates and variables.
+    fn empty(
+        alloc: Global,
+        side: &IndexedNetlist<'_>,
+        roots: &[Signal],
+    ) -> Result<WeightCones, AllocError>
         ensures { IfOk result (λ c. c ≡ empty_cones side.now roots.now) }
     {
         let table = root_table(alloc, side, roots)?;
@@ -205,7 +201,7 @@ impl WeightCones {
         })
     }
 
-    /// Puts a gate at the end of those of its root.
+    /// Appends a gate to those of its root.
     fn add_gate(&mut self, gates: &[GateLine], place: usize) -> Result<(), AllocError>
         ensures { OnOk result (self.new ≡ with_gate self.old place (slice_get gates.now place)) }
     {
@@ -221,8 +217,8 @@ impl WeightCones {
         }
     }
 
-    /// Puts the gates of a netlist, by falling rank, at the ends of those of their roots.
-    fn add_gates(&mut self, alloc: Global, side: &Side<'_>) -> Result<(), AllocError>
+    /// Appends the gates of a netlist, by falling rank, to those of their roots.
+    fn add_gates(&mut self, alloc: Global, side: &IndexedNetlist<'_>) -> Result<(), AllocError>
         ensures { OnOk result (self.new ≡ with_gates side.now self.old) }
     {
         let gates = side.net().gates();
@@ -234,7 +230,7 @@ impl WeightCones {
         Ok(())
     }
 
-    /// Puts a variable that is not placed at the end of those of its root.
+    /// Appends a variable that is not placed yet to those of its root.
     fn add_live(&mut self, variable: usize, signal: Signal) -> Result<(), AllocError>
         ensures { OnOk result (self.new ≡ with_live self.old variable signal) }
     {
@@ -246,7 +242,7 @@ impl WeightCones {
         push_at(&mut self.variables, root, variable)
     }
 
-    /// Puts a variable at the end of those of its root, if the netlist has it; one that is placed has no root.
+    /// Appends a variable to those of its root, if the netlist has it. One that was placed before gets no root.
     fn add_variable(
         &mut self,
         placed: &[bool],
@@ -267,11 +263,11 @@ impl WeightCones {
         }
     }
 
-    /// Puts the variables of a netlist, as they are declared, at the ends of those of their roots.
+    /// Appends the variables of a netlist, in declared order, to those of their roots.
     fn add_variables(
         &mut self,
         alloc: Global,
-        side: &Side<'_>,
+        side: &IndexedNetlist<'_>,
         placed: &[bool],
     ) -> Result<(), AllocError>
         ensures { OnOk result (self.new ≡ with_variables side.now placed.now self.old) }
@@ -284,9 +280,13 @@ impl WeightCones {
         Ok(())
     }
 
-    /// What is below each root of a netlist and below none before it, without the variables that are placed.
+    /// What is below each root of a netlist and below none before it, without the variables that were placed before.
     #[tactic(auto, unfolding(crate::specs::WeightCones::cones_of))]
-    pub fn new(alloc: Global, side: &Side<'_>, placed: &[bool]) -> Result<WeightCones, AllocError>
+    pub fn new(
+        alloc: Global,
+        side: &IndexedNetlist<'_>,
+        placed: &[bool],
+    ) -> Result<WeightCones, AllocError>
         ensures { IfOk result (λ c. c ≡ cones_of side.now placed.now) }
     {
         let roots = falling_roots(alloc, side.net())?;
@@ -303,7 +303,7 @@ impl WeightCones {
         self.gates.len()
     }
 
-    /// The variables of a root, as they are declared.
+    /// The variables of a root, in declared order.
     pub fn variables(&self, root: usize) -> &[usize]
         ensures { result.now ≡ slice_index_or self.now.variables root [] }
     {
@@ -330,7 +330,7 @@ impl WeightCones {
         Ok(numbers)
     }
 
-    /// Puts the numbers of a gate's operands at the end.
+    /// Appends the list of the numbers of a gate's operands, if there is a gate.
     fn push_numbers(
         &self,
         alloc: Global,
@@ -350,12 +350,12 @@ impl WeightCones {
         }
     }
 
-    /// By gate of a root, the numbers of those of its operands that have the same root. The others are dead.
+    /// For each gate of a root, the numbers of those operands that have the same root. The others get no weight.
     #[tactic(auto, unfolding(crate::specs::WeightCones::operands_of))]
     pub fn operands(
         &self,
         alloc: Global,
-        side: &Side<'_>,
+        side: &IndexedNetlist<'_>,
         root: usize,
     ) -> Result<Vec<Vec<usize>>, AllocError>
         ensures { IfOk result (λ v. map (λ l. l.items) v.items ≡ operands_of side.now self.now root) }

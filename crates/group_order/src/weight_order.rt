@@ -1,31 +1,32 @@
-//! Variables by dynamic weight assignment. After Minato, Ishiura and Yajima, "Shared binary decision diagram with attributed edges for
-//! efficient Boolean function manipulation", DAC 1990.
+//! The variables by dynamic weight assignment. After Minato, Ishiura and Yajima, "Shared binary decision diagram with
+//! attributed edges for efficient Boolean function manipulation", DAC 1990.
 ghost use Rattle.std.specs.Prelude.{◌≡◌, ◌<◌, ◌+◌, [], fold, length, map, min, slice_set, IfOk, OnOk};
 ghost use Rattle.net_order.specs.Force.{numbers_below, u64_max};
 ghost use Rattle.group_order.specs.Weights.{all_by_weight, assigned, begun, heaviest_of, turns, visits_after, with_parts, without_heaviest};
 ghost use Rattle.group_order.specs.WeightCones.{numbered_variables, with_cone, with_placed, with_root_variables, with_side_placed, weighed};
 
-use crate::sides::Side;
-use crate::tables::{number_at, numbers_below, place_at, put};
+use crate::sides::IndexedNetlist;
+use crate::tables::place_at;
 use crate::weight_cones::WeightCones;
 use crate::weight_step::{
     ROOT_WEIGHT, give_parts, heaviest, living, put_dead, put_dead_gates, visits_after,
 };
+use net_order::tables::{number_at, numbers_below, put};
 use std::alloc::{AllocError, Global};
 use std::marker::Model;
 
-/// From so many visits of gates on, weights are assigned once for each root.
+/// From so many visits of gates on, weights are assigned only once for each root. It bounds the time.
 const MAX_VISITS: u64 = 1_000_000;
 
-/// Gates and variables below one root, by their numbers.
+/// The gates and variables below one root, by their numbers among these. A placed variable is dead, and a gate without live operands.
 #[derive(Drop)]
 struct WeightState {
     dead: Vec<bool>,
-    /// Between two assignments all are 0.
+    /// The weights of one assignment. Between two assignments all are 0.
     weights: Vec<u64>,
     /// The gates that were not dead at the last assignment, by falling rank.
     gates: Vec<usize>,
-    /// The variables that are not placed, as they are declared.
+    /// The variables that are not placed, in declared order.
     live: Vec<usize>,
 }
 
@@ -37,7 +38,7 @@ impl Model for WeightState {
     ghost view = { λ w. record { dead = w.dead.items; weights = w.weights.items; gates = w.gates.items; live = w.live.items } };
 }
 
-/// The numbers of variables in the order in which they are placed, and the visits of gates.
+/// The variables of one root in the order in which they were placed, by their numbers, and how many visits of gates there were.
 #[derive(Drop)]
 struct TurnsTaken {
     order: Vec<usize>,
@@ -52,7 +53,7 @@ impl Model for TurnsTaken {
     ghost view = { λ t. record { order = t.order.items; visits = t.visits } };
 }
 
-/// The numbers of so many variables, which come after those of gates.
+/// The numbers of so many variables, which come after those of the gates.
 fn numbers_after(alloc: Global, gates: usize, variables: usize) -> Result<Vec<usize>, AllocError>
     ensures { IfOk result (λ v. v.items ≡ map (λ k. min (gates + k) u64_max) (numbers_below variables)) }
 {
@@ -63,7 +64,7 @@ fn numbers_after(alloc: Global, gates: usize, variables: usize) -> Result<Vec<us
     Ok(numbers)
 }
 
-/// Puts 0 at these places.
+/// Writes 0 at these places.
 fn clear(table: &mut Vec<u64>, places: &[usize])
     ensures { table.new.items ≡ fold (λ t k. slice_set t k 0) table.old.items places.now }
 {
@@ -72,7 +73,7 @@ fn clear(table: &mut Vec<u64>, places: &[usize])
     }
 }
 
-/// Gives the weights of gates to their operands, gate after gate.
+/// Gives the weight of each of these gates to its operands, gate after gate.
 fn give_all_parts(weights: &mut Vec<u64>, operands: &[Vec<usize>], dead: &[bool], gates: &[usize])
     ensures { weights.new.items ≡ fold (with_parts (map (λ l. l.items) operands.now) dead.now) weights.old.items gates.now }
 {
@@ -82,7 +83,7 @@ fn give_all_parts(weights: &mut Vec<u64>, operands: &[Vec<usize>], dead: &[bool]
 }
 
 impl WeightState {
-    /// Nothing is dead or placed.
+    /// The state in which nothing is dead or placed.
     #[tactic(auto, unfolding(crate::specs::Weights::begun))]
     fn new(alloc: Global, gates: usize, variables: usize) -> Result<WeightState, AllocError>
         ensures { IfOk result (λ w. w ≡ begun gates variables) }
@@ -100,7 +101,7 @@ impl WeightState {
         })
     }
 
-    /// Assigns weights: the root's goes down, shared by the operands that are not dead.
+    /// Assigns weights: the root's goes down through the gates, shared by the operands that are not dead.
     #[tactic(auto, unfolding(crate::specs::Weights::assigned))]
     fn assign(&mut self, alloc: Global, operands: &[Vec<usize>]) -> Result<(), AllocError>
         ensures { OnOk result (self.new ≡ assigned (map (λ l. l.items) operands.now) self.old) }
@@ -118,14 +119,14 @@ impl WeightState {
         Ok(())
     }
 
-    /// The visits with those of the last assignment.
+    /// The number of visits, with those of the last assignment.
     fn visits_after(&self, operands: &[Vec<usize>], visits: u64) -> u64
         ensures { result ≡ visits_after (map (λ l. l.items) operands.now) self.now visits }
     {
         visits_after(visits, operands, self.gates.as_slice())
     }
 
-    /// Takes the heaviest variable out of those that are not placed.
+    /// Places the variable of the greatest weight, and clears all weights.
     #[tactic(auto, unfolding(crate::specs::Weights::without_heaviest))]
     fn take_heaviest(&mut self) -> usize
         requires { 0 < length self.old.live }
@@ -140,7 +141,7 @@ impl WeightState {
         number
     }
 
-    /// The variables that are not placed by falling weight, equal weights as they are declared.
+    /// The variables that are not placed, by falling weight; those of equal weight in declared order.
     #[tactic(auto, unfolding(crate::specs::Weights::all_by_weight))]
     fn all_by_weight(&self, alloc: Global) -> Result<Vec<usize>, AllocError>
         ensures { IfOk result (λ v. v.items ≡ all_by_weight self.now) }
@@ -152,8 +153,8 @@ impl WeightState {
     }
 }
 
-/// The numbers of the variables below one root, each by an assignment of its own, but as many at once as are left when there were too
-/// many visits.
+/// Places the variables below one root, each by an assignment of its own. Once there were too many visits, one more
+/// assignment places all that remain.
 fn take_turns(
     alloc: Global,
     operands: &[Vec<usize>],
@@ -178,7 +179,7 @@ fn take_turns(
     Ok(TurnsTaken { order, visits })
 }
 
-/// The variables that are placed, in their order, and by variable, whether it is.
+/// The variables placed so far, in their order; for each variable whether it is placed; and how many visits of gates there were.
 #[derive(Drop)]
 struct Placement {
     order: Vec<usize>,
@@ -194,7 +195,7 @@ impl Model for Placement {
     ghost view = { λ p. record { order = p.order.items; placed = p.placed.items; visits = p.visits } };
 }
 
-/// The variables of these numbers, the first of which are those of gates.
+/// The variables of these numbers. The first `gates` numbers are those of gates.
 fn variables_of(
     alloc: Global,
     variables: &[usize],
@@ -209,7 +210,7 @@ fn variables_of(
         .collect(alloc)
 }
 
-/// Marks variables as placed.
+/// Notes these variables as placed.
 fn put_placed(placed: &mut Vec<bool>, variables: &[usize])
     ensures { placed.new.items ≡ fold with_placed placed.old.items variables.now }
 {
@@ -223,7 +224,7 @@ impl Placement {
     fn place_cone(
         &mut self,
         alloc: Global,
-        side: &Side<'_>,
+        side: &IndexedNetlist<'_>,
         cones: &WeightCones,
         root: usize,
     ) -> Result<(), AllocError>
@@ -239,11 +240,11 @@ impl Placement {
         Ok(())
     }
 
-    /// Places the variables below a root, if it has any.
+    /// Places the variables below a root, if there are any.
     fn place_root(
         &mut self,
         alloc: Global,
-        side: &Side<'_>,
+        side: &IndexedNetlist<'_>,
         cones: &WeightCones,
         root: usize,
     ) -> Result<(), AllocError>
@@ -257,7 +258,7 @@ impl Placement {
 
     /// Places the variables of a netlist that are not placed yet, root by root.
     #[tactic(auto, unfolding(crate::specs::WeightCones::with_side_placed))]
-    fn place_side(&mut self, alloc: Global, side: &Side<'_>) -> Result<(), AllocError>
+    fn place_side(&mut self, alloc: Global, side: &IndexedNetlist<'_>) -> Result<(), AllocError>
         ensures { OnOk result (self.new ≡ with_side_placed self.old side.now) }
     {
         let cones = WeightCones::new(alloc, side, self.placed.as_slice())?;
@@ -268,13 +269,13 @@ impl Placement {
     }
 }
 
-/// The variables below the roots of two netlists, that of fewer gates first, by dynamic weight assignment.
+/// The variables below the roots of two netlists by dynamic weight assignment, first of the netlist with fewer gates.
 #[tactic(auto, unfolding(crate::specs::WeightCones::weighed))]
 pub fn weighed(
     alloc: Global,
     count: usize,
-    first: &Side<'_>,
-    second: &Side<'_>,
+    first: &IndexedNetlist<'_>,
+    second: &IndexedNetlist<'_>,
 ) -> Result<Vec<usize>, AllocError>
     ensures { IfOk result (λ v. v.items ≡ weighed count first.now second.now) }
 {

@@ -1,15 +1,16 @@
-//! One assignment of weights. After Minato, Ishiura and Yajima, "Shared binary decision diagram with attributed edges for efficient Boolean
-//! function manipulation", DAC 1990.
+//! One assignment of weights. After Minato, Ishiura and Yajima, "Shared binary decision diagram with attributed edges
+//! for efficient Boolean function manipulation", DAC 1990.
 ghost use Rattle.std.specs.Prelude.{◌≡◌, ◌<◌, ◌⊎◌, [], fold, length, map, slice_index_or, slice_set, IfOk, true};
 ghost use Rattle.group_order.specs.Weights.{all_dead, heavier, heaviest, is_dead, living, part_of, with_dead_gate, with_dead_gates, with_part, with_parts, with_visit};
 
-use crate::tables::{number_at, place_at, put};
+use crate::tables::place_at;
+use net_order::tables::{number_at, put};
 use std::alloc::{AllocError, Global};
 
-/// The weight of a root.
+/// The weight of a root, 2^60: large enough that parts are seldom rounded to 0.
 pub const ROOT_WEIGHT: u64 = 1_152_921_504_606_846_976;
 
-/// The operands of a gate, none if there is no gate.
+/// The operands of a gate; none if there is no such gate.
 fn operands_at(operands: &[Vec<usize>], gate: usize) -> &[usize]
     ensures { result.now ≡ slice_index_or (map (λ l. l.items) operands.now) gate [] }
 {
@@ -26,7 +27,7 @@ pub fn is_dead(dead: &[bool], number: usize) -> bool
     dead.get(number).copied().unwrap_or(false)
 }
 
-/// Marks the gate or variable of this number as dead.
+/// Notes the gate or variable of this number as dead.
 pub fn put_dead(dead: &mut Vec<bool>, number: usize)
     ensures { dead.new.items ≡ slice_set dead.old.items number true }
 {
@@ -46,7 +47,7 @@ fn all_dead(dead: &[bool], numbers: &[usize]) -> bool
     all
 }
 
-/// Marks a gate as dead if all its operands are.
+/// Notes a gate as dead if all its operands are.
 fn put_dead_gate(dead: &mut Vec<bool>, operands: &[Vec<usize>], gate: usize)
     ensures { dead.new.items ≡ with_dead_gate (map (λ l. l.items) operands.now) dead.old.items gate }
 {
@@ -55,7 +56,7 @@ fn put_dead_gate(dead: &mut Vec<bool>, operands: &[Vec<usize>], gate: usize)
     }
 }
 
-/// Marks those of these gates as dead all of whose operands are. The gates are in falling rank.
+/// Notes those of these gates as dead all of whose operands are. The gates come by falling rank, and are visited from the last.
 pub fn put_dead_gates(dead: &mut Vec<bool>, operands: &[Vec<usize>], gates: &[usize])
     ensures { dead.new.items ≡ with_dead_gates (map (λ l. l.items) operands.now) dead.old.items gates.now }
 {
@@ -87,14 +88,14 @@ fn count_living(dead: &[bool], numbers: &[usize]) -> usize
         .count()
 }
 
-/// The part of a weight that each of so many gets.
+/// The part of a weight for each of `count`, rounded down.
 fn part_of(weight: u64, count: u64) -> u64
     ensures { result ≡ part_of weight count }
 {
     if count == 0 { 0 } else { weight / count }
 }
 
-/// Adds a part of a weight to an operand that is not dead.
+/// Adds a part to the weight of an operand, unless it is dead.
 fn add_part(weights: &mut Vec<u64>, dead: &[bool], part: u64, number: usize)
     ensures { weights.new.items ≡ with_part dead.now part weights.old.items number }
 {
@@ -105,7 +106,7 @@ fn add_part(weights: &mut Vec<u64>, dead: &[bool], part: u64, number: usize)
     put(weights, number, weight);
 }
 
-/// Adds a part of a weight to those operands that are not dead.
+/// Adds a part to the weight of each of these operands that is not dead.
 fn add_parts(weights: &mut Vec<u64>, dead: &[bool], part: u64, numbers: &[usize])
     ensures { weights.new.items ≡ fold (with_part dead.now part) weights.old.items numbers.now }
 {
@@ -114,7 +115,7 @@ fn add_parts(weights: &mut Vec<u64>, dead: &[bool], part: u64, numbers: &[usize]
     }
 }
 
-/// Gives a gate's weight to its operands that are not dead, each place the same part.
+/// Gives a gate's weight to those of its operands that are not dead, in equal parts. An operand that is there twice gets two.
 pub fn give_parts(weights: &mut Vec<u64>, operands: &[Vec<usize>], dead: &[bool], gate: usize)
     ensures { weights.new.items ≡ with_parts (map (λ l. l.items) operands.now) dead.now weights.old.items gate }
 {
@@ -125,7 +126,7 @@ pub fn give_parts(weights: &mut Vec<u64>, operands: &[Vec<usize>], dead: &[bool]
     add_parts(weights, dead, part, inputs);
 }
 
-/// The heavier of two places' numbers, the first if both are equal.
+/// That of two places whose number is heavier; `best` if both weigh the same.
 fn heavier(weights: &[u64], numbers: &[usize], best: usize, place: usize) -> usize
     ensures value { result ≡ heavier weights.now numbers.now best place }
     ensures one { (result ≡ best) ⊎ (result ≡ place) }
@@ -138,7 +139,7 @@ fn heavier(weights: &[u64], numbers: &[usize], best: usize, place: usize) -> usi
     }
 }
 
-/// The place of the number of the greatest weight, the first of equals.
+/// The place of the heaviest of these numbers, the first of several.
 #[tactic(auto, unfolding(crate::specs::Weights::heaviest))]
 pub fn heaviest(weights: &[u64], numbers: &[usize]) -> usize
     requires { 0 < length numbers.now }
@@ -152,7 +153,7 @@ pub fn heaviest(weights: &[u64], numbers: &[usize]) -> usize
     best
 }
 
-/// The visits with those of gates: each counts once, and once more for each 32 of its operands.
+/// The number of visits with those of these gates: each counts once, and once more for each 32 of its operands.
 pub fn visits_after(visits: u64, operands: &[Vec<usize>], gates: &[usize]) -> u64
     ensures { result ≡ fold (with_visit (map (λ l. l.items) operands.now)) visits gates.now }
 {

@@ -1,10 +1,10 @@
--- Pairs of signals that are found equal: their functions agree.
-use Rattle.std.proofs.Common.{◌≡◌, ◌<◌, ℕ, suc, Bool, true, false, List, [], ◌∷◌, length, map, replicate, refl, sym, ap, ◌∙◌, arith, inl, inr, subst, ◌++◌, ◌+◌}
+-- The functions of pairs that are found equal agree.
+use Rattle.std.proofs.Common.{◌≡◌, ◌<◌, ℕ, suc, Bool, false, List, [], ◌∷◌, length, map, replicate, refl, sym, ap, ◌∙◌, arith, inl, inr, subst, ◌++◌, ◌+◌}
 use Rattle.std.specs.Prelude.{All, IsTrue, slice_index, slice_index_or}
 use Rattle.std.proofs.lemmas.Bool.{cases_lt}
 use Rattle.std.proofs.lemmas.List.{get_or_append_left, get_or_push}
 use Rattle.std.specs.List.{AllZip}
-use Rattle.net_bench.specs.Circuit.{Circuit, IsNet, Net, circuit, variables_of}
+use Rattle.net_bench.specs.Circuit.{IsNet, Net, circuit, variables_of}
 use Rattle.net_bench.specs.Labels.{IsFunctionOf, IsLabelling, bit_of}
 use Rattle.net_bench.proofs.Built.{has_labelling}
 use Rattle.net_order.specs.Order.{NamingModel, name_of}
@@ -72,12 +72,12 @@ module _ (a b : Net) (sound_a : IsNet a) (sound_b : IsNet b) (p : NamingModel) (
 false_is_not_true : IsTrue false → ⊥
 false_is_not_true e = cc
 
--- nothing is said of pairs of which none is found equal
+-- if no pair is found equal, nothing is claimed
 pub none_found : (P : Subject → Type 0) (ss : List Subject) → AllZip (λ s found. IsTrue found → P s) ss (replicate (length ss) false)
 none_found P [] = tt
 none_found P (s ∷ ss) = ((λ no. absurd (false_is_not_true no)), none_found P ss)
 
--- what is found of pairs has an item for each
+-- there is a finding for each pair
 pub zip_length : {X Y : Type 0} (R : X → Y → Type 0) (xs : List X) (ys : List Y) → AllZip R xs ys → length ys ≡ length xs
 zip_length R [] [] zip = refl
 zip_length R [] (y ∷ ys) zip = absurd zip

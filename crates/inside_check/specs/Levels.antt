@@ -1,4 +1,4 @@
--- The levels of a netlist's signals.
+-- The levels of a netlist's signals in a naming.
 use Rattle.std.specs.Prelude.{◌≡◌, ◌<◌, ℕ, List, length, slice_index}
 use Rattle.net_bench.specs.Circuit.{Circuit}
 

@@ -1,4 +1,4 @@
-//! Rounds of merging.
+//! Rounds of merging, which find pairs that are equal inside.
 ghost use Rattle.std.specs.Prelude.{◌≡◌, false, All, IfOk, IfSome, IsTrue, length, replicate};
 ghost use Rattle.std.specs.List.{AllZip};
 ghost use Rattle.net_bench.specs.Circuit.{circuit};
@@ -17,15 +17,14 @@ use std::alloc::{AllocError, Global};
 use std::sync::Wait;
 use std::thread::Threads;
 
-/// What the rounds of merging so far have learned. Which words are learned changes what the next round tries, and never whether its
-/// answers are right.
+/// What the rounds of merging so far have learned. It changes what the next round tries, but never whether its answers are right.
 #[derive(Drop)]
 pub struct Merging {
     learned: Learned,
 }
 
 impl Merging {
-    /// Before the first round nothing is learned.
+    /// What is known before the first round: nothing.
     pub fn new(alloc: Global) -> Merging {
         Merging {
             learned: Learned::new(alloc),
@@ -33,30 +32,35 @@ impl Merging {
     }
 }
 
-/// How many of the pairs are found equal.
+/// How many of the pairs were found equal.
 fn count_of(equal: &[bool]) -> usize {
     equal.iter().filter(|found| **found).count()
 }
 
-/// Answers that none of so many pairs is found equal.
+/// For each of so many pairs that it was not found equal.
 fn none_found(alloc: Global, count: usize) -> Result<Vec<bool>, AllocError>
     ensures { IfOk result (λ v. v.items ≡ replicate count false) }
 {
     Vec::from_elem(alloc, false, count)
 }
 
-/// Puts both netlists of a task into one graph, within so many nodes a window. None is answered if the graph is full.
-fn merged<H: Threads + Wait + Sync>(
+/// Merges both netlists of a task in one graph; the diagrams of a window may have at most `nodes` nodes. None if the
+/// graph is full, or the run was stopped.
+fn merged<H: Threads + Wait + Sync, G: Monitor>(
     task: &Task<'_, H>,
     naming: &Naming,
     subjects: &[Subject],
     merging: &mut Merging,
     nodes: u32,
+    monitor: &G,
 ) -> Result<Option<MergedNetlists>, AllocError>
     requires in_range { All (IsInside (circuit task.now.first.now) (circuit task.now.second.now)) subjects.now }
     ensures { IfOk result (λ o. IfSome o (λ m. AllZip (λ s b. IsTrue b
         → IsEqualInside (circuit task.now.first.now) (circuit task.now.second.now) naming.now s) subjects.now m.equal)) }
 {
+    if monitor.has_stopped() {
+        return Ok(None);
+    }
     let alloc = task.alloc;
     let first = first_levels(alloc, task.first, naming)?;
     let second = second_levels(alloc, task.second, naming)?;
@@ -71,16 +75,18 @@ fn merged<H: Threads + Wait + Sync>(
             levels: second.as_slice(),
         },
         wanted: wanted.as_slice(),
+        workers: task.settings.workers,
     };
-    let _ = (task.first.count(), task.second.count());
-    match merge_netlists(task.rt, alloc, &merge_task, nodes, &mut merging.learned) {
+    let _ = (task.first.count(), task.second.count()); // For the proof.
+    let learned = &mut merging.learned;
+    match merge_netlists(task.rt, alloc, &merge_task, nodes, learned, monitor) {
         Ok(merged) => Ok(Some(merged)),
         Err(GraphFault::Full) => Ok(None),
         Err(GraphFault::OutOfMemory) => Err(AllocError),
     }
 }
 
-/// Notifies a monitor of how a round has ended.
+/// Notifies the monitor of how a round has ended.
 fn report<G: Monitor>(monitor: &G, merging: &Merging, merged: &MergedNetlists, nodes: u32) {
     monitor.at_merge(MergeRound {
         budget: nodes as u64,
@@ -93,8 +99,9 @@ fn report<G: Monitor>(monitor: &G, merging: &Merging, merged: &MergedNetlists, n
     });
 }
 
-/// One round of merging within so many nodes a window: whether each pair is equal inside. Which pairs are found equal is a function of the
-/// texts, the budget and the rounds before alone. If the graph is full, which takes 2^31 gates, none is found.
+/// One round of merging, in which the diagrams of a window may have at most `nodes` nodes: for each pair whether it was
+/// found equal inside. Which pairs are found follows from the texts, the budget and the earlier rounds, unless the run
+/// was stopped: then no window is judged any more. If the graph is full, which takes 2^31 gates, no pair is found.
 pub fn equal_inside<H: Threads + Wait + Sync, G: Monitor>(
     task: &Task<'_, H>,
     naming: &Naming,
@@ -109,7 +116,7 @@ pub fn equal_inside<H: Threads + Wait + Sync, G: Monitor>(
         → IsEqualInside (circuit task.now.first.now) (circuit task.now.second.now) naming.now s) subjects.now v.items) }
     ensures each { IfOk result (λ v. length v.items ≡ length subjects.now) }
 {
-    let round = merged(task, naming, subjects, merging, nodes)?;
+    let round = merged(task, naming, subjects, merging, nodes, monitor)?;
     match round {
         Some(found) => {
             report(monitor, merging, &found, nodes);

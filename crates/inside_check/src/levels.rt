@@ -1,5 +1,5 @@
 //! The levels of a netlist's signals in a naming.
-ghost use Rattle.std.specs.Prelude.{ℕ, IfOk};
+ghost use Rattle.std.specs.Prelude.{IfOk};
 ghost use Rattle.net_bench.specs.Circuit.{circuit};
 ghost use Rattle.inside_check.specs.Levels.{HasLevelsOf};
 
@@ -7,7 +7,7 @@ use net_bench::netlist::{Netlist, Signal};
 use net_order::naming::Naming;
 use std::alloc::{AllocError, Global};
 
-/// By signal of the first netlist, its level in a naming.
+/// For each signal of the first netlist its level in a naming.
 pub(crate) fn first_levels(
     alloc: Global,
     net: &Netlist,
@@ -22,7 +22,7 @@ pub(crate) fn first_levels(
     Ok(levels)
 }
 
-/// By signal of the second netlist, its level in a naming.
+/// For each signal of the second netlist its level in a naming.
 pub(crate) fn second_levels(
     alloc: Global,
     net: &Netlist,

@@ -1,4 +1,4 @@
-//! The signals of pairs.
+//! The two signals of each pair, without what else is known of it.
 ghost use Rattle.std.specs.Prelude.{◌≡◌, IfOk, map};
 
 use compare_built::subject::Subject;

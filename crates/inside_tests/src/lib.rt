@@ -1,4 +1,5 @@
-//! Tests of pairs that are equal inside: which pairs rounds find, and what a monitor is notified of. **Begin** with `rounds`.
+//! Tests of pairs that are equal inside: which pairs the rounds find, and of what a monitor is notified. **Begin** with
+//! `rounds`.
 #![tactic(auto)]
 
 #[cfg(test)]

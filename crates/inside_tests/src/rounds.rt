@@ -1,14 +1,14 @@
-// Rounds over netlists whose inner signals are equal, and over wrong ones.
+// Rounds of merging over netlists whose inner signals are equal, and over a wrong one.
 ghost use Rattle.std.specs.Prelude.{◌≡◌, All, IfOk, None};
 ghost use Rattle.net_bench.specs.Circuit.{circuit};
-ghost use Rattle.net_order.specs.declared.order.Match.TheVariants.{Name};
-ghost use Rattle.net_order.specs.declared.order.Order.TheVariants.{Declared};
+ghost use Rattle.net_names.specs.declared.order.Match.TheVariants.{Name};
+ghost use Rattle.net_names.specs.declared.order.Order.TheVariants.{Declared};
 ghost use Rattle.net_order.specs.Order.{IsNaming};
 ghost use Rattle.compare_built.specs.Comparing.{IsInside};
 
 use compare_built::compared_pairs::subjects_of;
 use compare_built::pair_filter::PairFilter;
-use compare_built::settings::{Difference, Settings};
+use compare_built::settings::Settings;
 use compare_built::strategy::Strategy;
 use compare_built::subject::Subject;
 use compare_built::task::Task;
@@ -17,8 +17,9 @@ use expand_work::{MergeRound, Monitor};
 use inside_check::{Merging, equal_inside};
 use net_bench::netlist::Netlist;
 use net_bench::reader::parse_bench;
+use net_names::order::Match;
 use net_order::naming::{Naming, naming_of};
-use net_order::order::Match;
+use report_text::Difference;
 use std::alloc::{AllocError, Global};
 use std::sync::Wait;
 use std::sync::atomic::{AtomicUsize, Ordering};
@@ -29,7 +30,7 @@ use std::thread::Threads;
 static XORS: &[u8] =
     b"INPUT(a)\nINPUT(b)\nINPUT(c)\nOUTPUT(s)\nOUTPUT(k)\nr = DFF(k)\nt = XOR(a, b)\ns = XOR(t, c)\nu = AND(a, b)\nv = AND(t, c)\nk = OR(u, v)\n";
 
-/// The same of nine NANDs.
+/// The same, made of nine NANDs.
 static NANDS: &[u8] =
     b"INPUT(a)\nINPUT(b)\nINPUT(c)\nOUTPUT(s)\nOUTPUT(k)\nr = DFF(k)\ne = NAND(a, b)\nf = NAND(a, e)\ng = NAND(b, e)\nt = NAND(f, g)\nh = NAND(t, c)\ni = NAND(t, h)\nj = NAND(c, h)\ns = NAND(i, j)\nk = NAND(e, h)\n";
 
@@ -37,7 +38,7 @@ static NANDS: &[u8] =
 static WRONG: &[u8] =
     b"INPUT(a)\nINPUT(b)\nINPUT(c)\nOUTPUT(s)\nOUTPUT(k)\nr = DFF(k)\ne = NAND(a, b)\nf = NAND(a, e)\ng = NAND(b, e)\nt = NAND(f, g)\nh = NAND(t, c)\ni = NAND(t, h)\ns = NAND(i, h)\nk = NAND(e, h)\n";
 
-/// Keeps what it is notified of the last round, and counts rounds.
+/// A monitor that keeps what it is notified of after the last round, and counts the rounds.
 #[derive(Drop)]
 struct RoundMonitor {
     rounds: AtomicUsize,
@@ -127,13 +128,13 @@ fn subjects_in<R>(task: &Task<'_, R>, naming: &Naming) -> Result<Vec<Subject>, A
     requires { IsNaming Name (circuit task.now.first.now) (circuit task.now.second.now) None Declared naming.now }
     ensures { IfOk result (λ v. All (IsInside (circuit task.now.first.now) (circuit task.now.second.now)) v.items) }
 {
-    let _ = task.first.inputs();
-    let _ = task.second.inputs();
+    let _ = task.first.inputs(); // For the proof.
+    let _ = task.second.inputs(); // For the proof.
     let subjects = subjects_of(task.alloc, task.first, task.second, naming)?;
     Ok(subjects)
 }
 
-/// What two rounds find of all pairs of two netlists, in the order of the report.
+/// What two rounds find for all pairs of two netlists, in the order of the report.
 fn found<R: Threads + Wait + Sync>(
     rt: &R,
     alloc: Global,

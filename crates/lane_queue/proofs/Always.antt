@@ -31,7 +31,7 @@ always loads views h = (
   ⊎_elim (λ (x : (flat loads ≡ []) × (views ≡ blank ∷ [])). inl (flat-none loads h.0 x.0, x.1)) (λ (r : Ruled (flat loads) views). inr (r.c, lawful loads views r)) h.1,
 )
 
--- where a port's pass is among the others, its terms are the lane's
+-- if a port's pass is among the others, its terms are the lane's
 pub always-by : (c : Terms) (s : ℕ) (sent taken : List Item) (loads : List Load) (views : List View) (i : ℕ)
     → Holds loads views → get_elem? views i ≡ some (port c s sent taken) → Lawful c loads views
 always-by c s sent taken loads views i h at =

@@ -1,4 +1,4 @@
--- What the methods of the queue ask at each step, for a view of the kind that the step is for.
+-- What each step on a queue requires, for a view of the kind that the step is for.
 use Rattle.std.proofs.Common.{◌≡◌, ◌≢◌, ℕ, ◌+◌, ◌<◌, [], ◌++◌, sym, ap, ◌∙◌, subst, ⊎_elim}
 use Rattle.crossbeam_queue.specs.Fifo.{Pushes, Pops, Forks, Merges, Learns}
 use Rattle.lane_queue.specs.declared.rule.Terms.{Terms}

@@ -1,4 +1,4 @@
--- The number of Ends that a line keeps is that of its list.
+-- The number of Ends that an endpoint counts is that in its list.
 use Rattle.std.proofs.Common.{◌≡◌, ℕ, ◌+◌, List, [], ◌∷◌, ◌++◌, map, sym, refl, subst, arith}
 use Rattle.req_table.specs.declared.Key.{Key}
 use Rattle.lane_queue.specs.declared.load.Load.{Load}
@@ -9,7 +9,7 @@ use Rattle.lane_queue.specs.Loads.{ask_of, items_in}
 use Rattle.lane_queue.specs.Rule.{port, own_sent, IsPort}
 use Rattle.req_table.proofs.Fair.{ends-append}
 
--- how many Ends a load carries
+-- the number of Ends of a load
 abbrev pub ends_in : Load → ℕ
 ends_in (Bundle from asks) = 0
 ends_in (End from level) = 1

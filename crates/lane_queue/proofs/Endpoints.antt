@@ -1,4 +1,4 @@
--- What a port is after one of its lines changed.
+-- A port after one of its endpoints has changed.
 use Rattle.std.proofs.Common.{◌≡◌, ◌≢◌, ℕ, ◌+◌, ◌<◌, ◌≤◌, cond, eqb, arith, ⊎_elim, List, [], ◌∷◌, ◌++◌, map, length, get_or, set, sym, refl, ap, ◌∙◌, subst, Option, Some, None, inl, inr}
 use Rattle.std.specs.Prelude.{MatchOption, IfSome, slice_index_or, All}
 use Rattle.std.proofs.lemmas.Bool.{cases_eq}
@@ -41,7 +41,7 @@ pub live_carries_nothing : (q : SegId Global) (h : PassState) → IsLiveOn q h �
 live_carries_nothing q (Live pass) e = (e.1, e.2)
 live_carries_nothing q (Joined was) e = absurd e
 
--- the line of the place was `old`, and becomes `new`
+-- the endpoint of the lane `to` was `old`, and becomes `new`
 module _ (number to : ℕ) (sizes : Sizes) (endpoints : List Endpoint) (old new : Endpoint) (at : to < length endpoints) (was : old ≡ get_or endpoints to old) (on : endpoint_queue new ≡ endpoint_queue old) where
   lanes-same : map endpoint_queue (set endpoints to new) ≡ map endpoint_queue endpoints
   lanes-same = map-set_same endpoint_queue endpoints to new old (on ∙ ap endpoint_queue was)
@@ -76,7 +76,7 @@ module _ (number to : ℕ) (sizes : Sizes) (endpoints : List Endpoint) (old new 
       ∙ ap endpoint_taken (get_or-set_same endpoints to new new at) ∙ took ∙ ap (λ l. l ++ items_in x) (sym g) in
       λ i. record { number = number; lanes = lanes-same i; sizes = sizes; passed = s i; put = p i; popped = t i; own = same i; taken = is i }
 
-  -- the lines are still those of a port
+  -- the endpoints are still those of a port
   pub set-ok : IsValidPort number sizes endpoints → (q : SegId Global) → IsLiveOn q new.pass_state → IsEndpoint new → (endpoint_view new).terms ≡ (endpoint_view old).terms → (endpoint_view new).low ≡ (endpoint_view old).low → (to ≢ number → endpoint_taken new ≡ endpoint_taken old)
       → IsValidPort number sizes (set endpoints to new)
   set-ok ok q live endpoint terms low taken =
@@ -101,11 +101,11 @@ module _ (number to : ℕ) (sizes : Sizes) (endpoints : List Endpoint) (old new 
             ]);
       }
 
--- a port has a line on its own lane
+-- a port has an endpoint on its own lane
 pub own_lane : (number : ℕ) (sizes : Sizes) (endpoints : List Endpoint) (own taken : List Item) (p : PortView) → view_of number sizes endpoints own taken ≡ p → IsValidPort number sizes endpoints → number < length p.lanes
 own_lane number sizes endpoints own taken p is ok = subst (λ (u : PortView). number < length u.lanes) is (subst (λ n. number < n) (sym (length-map endpoints endpoint_queue)) ok.within)
 
--- a port as contracts see it, and the line that it steps with
+-- a port as contracts see it, and the endpoint with which it steps
 module _ (number to : ℕ) (sizes : Sizes) (endpoints : List Endpoint) (own taken : List Item) (old new : Endpoint) (q : SegId Global) (p : PortView) (is : view_of number sizes endpoints own taken ≡ p) (ok : IsValidPort number sizes endpoints)
     (was : old ≡ get_or endpoints to old) (at : to < length p.lanes) (on : slice_index_or p.lanes to None ≡ Some q) (live : IsLiveOn q new.pass_state) where
   within : to < length endpoints
@@ -117,11 +117,11 @@ module _ (number to : ℕ) (sizes : Sizes) (endpoints : List Endpoint) (own take
   here : IsEndpointOfPort (length endpoints) number sizes to old
   here = subst (λ l. IsEndpointOfPort (length endpoints) number sizes to l) (sym was) (ok.each to old within)
 
-  -- it stays a port
+  -- with the new endpoint the port is still a port
   pub port-ok : IsEndpoint new → (endpoint_view new).terms ≡ (endpoint_view old).terms → (endpoint_view new).low ≡ (endpoint_view old).low → (to ≢ number → endpoint_taken new ≡ endpoint_taken old) → IsValidPort number sizes (set endpoints to new)
   port-ok endpoint terms low taken = set-ok number to sizes endpoints old new within was on-old ok q live endpoint terms low taken
 
-  -- it put a load on the lane
+  -- the port has put a load on the lane
   pub port-sent : (x : Load) (own' taken' : List Item) → endpoint_view new ≡ port (endpoint_view old).terms (endpoint_view old).low (own_sent (endpoint_view old) ++ items_in x) (endpoint_view old).taken → new.put ≡ old.put + 1
       → own' ≡ cond (eqb to number) (own ++ items_in x) own → taken' ≡ taken → view_of number sizes (set endpoints to new) own' taken' ≡ has_put p to x
   port-sent x own' taken' e put o t = sent-view number to sizes endpoints old new within was on-old own taken own' taken' x (ap own_sent e) (ap (λ (v : View). v.taken) e) put o t ∙ ap (λ u. has_put u to x) is
@@ -135,7 +135,7 @@ module _ (number to : ℕ) (sizes : Sizes) (endpoints : List Endpoint) (own take
   pub port-same : endpoint_view new ≡ endpoint_view old → new.put ≡ old.put → view_of number sizes (set endpoints to new) own taken ≡ p
   port-same e put = same-view number to sizes endpoints old new within was on-old own taken e put ∙ is
 
-  -- it took from its own lane
+  -- the port has taken a load from its own lane
   module _ (mine : to ≡ number) (kept : AgreesWithOwnLane p) where
     took-passed : endpoint_sent old ≡ passed_to p p.number
     took-passed = ap endpoint_sent was ∙ sym (get_or-map endpoint_sent endpoints to old [] within) ∙ ap (λ (n : ℕ). slice_index_or (map endpoint_sent endpoints) n []) mine ∙ ap (λ (u : PortView). passed_to u u.number) is
@@ -190,7 +190,7 @@ lanes-lengths lanes sizes l is = ap (λ (u : LanesView). length u.lanes) (sym is
 pub port-lengths : (l : LanesView) (p : PortView) → IsPortOf l p → length p.lanes ≡ length l.lanes
 port-lengths l p of = ap (λ xs. length xs) of.0 ∙ length-map l.lanes (λ q. Some q)
 
--- what was taken in its turn is of no closed level
+-- the requests of a load that was taken in its sender's order are of no closed level
 open-asks : (w : Scope) (s : ℕ) (asks : List (ℕ × Key)) (taken sent : List Item) → s < w.workers → IsFair w sent → IsPrefix (sent_by s (taken ++ map (ask_of s) asks)) sent → All (IsOpen w taken) (map (ask_of s) asks)
 open-asks w s asks taken sent lt fair b = all_of (IsOpen w taken) (map (ask_of s) asks) (λ y h.
     let t = map_has (ask_of s) asks y h in
@@ -213,12 +213,12 @@ taken-open l p None A B of h = tt
 taken-open l p (Some x) A B of h = let t = h.1 in
     subst (λ n. All (IsOpen (scope_of n p.sizes) p.taken) (items_in x)) (port-lengths l p of) (load-open (port_scope p) x p.taken t.0 t.2 t.3 t.4)
 
--- nor is one item
+-- an item that was taken in its sender's order is of no closed level
 pub item-open : (w : Scope) (i : Item) (taken sent : List Item) → sender_of i < w.workers → IsFair w sent → IsPrefix (sent_by (sender_of i) (taken ++ i ∷ [])) sent → IsOpen w taken i
 item-open w (Ask s l x) taken sent lt fair b = let asks = (l, x) ∷ [] in each (IsOpen w taken) (map (ask_of s) asks) (Ask s l x) (open-asks w s asks taken sent lt fair b) (inl refl)
 item-open w (item_end s l) taken sent lt fair b = tt
 
--- nor is what is kept
+-- a request that is kept is of no closed level
 pub keep-open : (p : PortView) → AgreesWithOwnLane p → p.number < length p.lanes → (level : ℕ) (key : Key) → MayFollow (port_scope p) (ends (sent_to p p.number)) (Ask p.number level key) → sent_by p.number p.taken ≡ sent_to p p.number → IsOpen (port_scope p) p.taken (Ask p.number level key)
 keep-open p h lt level key may taken =
     let x = Ask p.number level key in

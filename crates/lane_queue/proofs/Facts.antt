@@ -1,4 +1,4 @@
--- Facts on lists of items: what a sender's list is, and what keeps it fair.
+-- Lists of items: those of one sender, and what keeps a list fair.
 use Rattle.std.proofs.Common.{◌≡◌, ◌≢◌, ℕ, zero, suc, ◌+◌, ◌<◌, cond, List, [], ◌∷◌, ◌++◌, refl, sym, ap, ◌∙◌, subst, arith, eq-eqb, ne_eqb, append_assoc, map, length}
 use Rattle.std.specs.Prelude.{All}
 use Rattle.std.proofs.lemmas.List.{append-nil, length-append, get_or_append_left}
@@ -26,11 +26,11 @@ pub all-back : {X : Type 0} (P : X → Type 0) (xs ys : List X) → All P (xs ++
 all-back P [] ys h = h
 all-back P (x ∷ xs) ys h = all-back P xs ys (λ k d lt. h (suc k) d (omega arith))
 
--- an item that may follow all Ends of a fair list may stand behind it
+-- a fair list stays fair if an item is added that may follow all its Ends
 pub fair-push : (w : Scope) (xs : List Item) (y : Item) → IsFair w xs → MayFollow w (ends xs) y → IsFair w (xs ++ y ∷ [])
 fair-push w xs y h m = let z : 0 + ends xs ≡ ends xs = omega arith in fair_join w 0 xs (y ∷ []) h (subst (λ n. MayFollow w n y) (sym z) m, tt)
 
--- and so may what a load carries
+-- the requests of a load that may follow e Ends are fair after e Ends
 fair-asks : (w : Scope) (e from : ℕ) (asks : List (ℕ × Key)) → All (MayFollow w e) (map (ask_of from) asks) → IsFairFrom w e (map (ask_of from) asks)
 fair-asks w e from [] h = tt
 fair-asks w e from (a ∷ more) h = (h 0 (ask_of from a) (omega arith), fair-asks w e from more (λ k d lt. h (suc k) d (omega arith)))
@@ -49,7 +49,7 @@ of-mine s x xs e = ap (λ b. cond b (x ∷ sent_by s xs) (sent_by s xs)) (eq-eqb
 pub of-other : (s : ℕ) (x : Item) (xs : List Item) → sender_of x ≢ s → sent_by s (x ∷ xs) ≡ sent_by s xs
 of-other s x xs n = ap (λ b. cond b (x ∷ sent_by s xs) (sent_by s xs)) (ne_eqb (sender_of x) s n)
 
--- ---- what a load carries is its sender's
+-- ---- the items of a load are its sender's
 mine-asks : (s from : ℕ) (asks : List (ℕ × Key)) → from ≡ s → sent_by s (map (ask_of from) asks) ≡ map (ask_of from) asks
 mine-asks s from [] e = refl
 mine-asks s from (a ∷ more) e = of-mine s (ask_of from a) (map (ask_of from) more) e ∙ ap (λ l. ask_of from a ∷ l) (mine-asks s from more e)
@@ -83,17 +83,17 @@ flat-append (x ∷ xs) ys = ap (λ l. items_in x ++ l) (flat-append xs ys) ∙ s
 pub flat-push : (xs : List Load) (x : Load) → flat (xs ++ x ∷ []) ≡ flat xs ++ items_in x
 flat-push xs x = flat-append xs (x ∷ []) ∙ ap (λ l. flat xs ++ l) (append-nil (items_in x))
 
--- a load is never empty, so neither are loads
+-- loads that are not empty carry no items only if there are none
 pub flat-none : (xs : List Load) → All IsNonEmpty xs → flat xs ≡ [] → xs ≡ []
 flat-none [] h e = refl
 flat-none (x ∷ xs) h e = absurd (let c = h 0 x (omega arith) in let n = ap (λ l. length l) e in let m = length-append (items_in x) (flat xs) in omega (arith, c, n, m))
 
--- a beginning of a fair list is fair
+-- a prefix of a fair list is fair
 pub fair-begins : (w : Scope) (xs ys : List Item) → IsPrefix xs ys → IsFair w ys → IsFair w xs
 fair-begins w xs ys b h = fair_front w 0 xs b.0 (subst (IsFair w) b.1 h)
 
 -- ---- the law
--- it speaks of what was taken and then what waits
+-- it depends only on what was taken followed by what waits
 pub law-along : (w : Scope) (sent : ℕ → List Item) (taken waits taken' waits' : List Item) → taken ++ waits ≡ taken' ++ waits' → LaneLaw w sent taken waits → LaneLaw w sent taken' waits'
 law-along w sent taken waits taken' waits' e h = record {
   senders = subst (HasSenders w) e h.senders;

@@ -1,4 +1,4 @@
--- All ports are joined, one after the other.
+-- The passes of all ports are joined, port by port.
 use Rattle.std.proofs.Common.{◌≡◌, ℕ, suc, ◌+◌, ◌<◌, ◌≤◌, List, [], ◌∷◌, ◌++◌, map, length, take, get_or, set, sym, refl, ap, ◌∙◌, subst, arith, cond, eq-eqb, ne_eqb}
 use Rattle.std.specs.Prelude.{slice_index_or}
 use Rattle.std.proofs.lemmas.List.{length-map, length-append, length-take, map-append, append-nil, get_or_append_left, get_or_default, get_or-set_same, get_or-set_other, length-set, take_all}
@@ -18,7 +18,7 @@ use Rattle.lane_queue.specs.PortView.{PortView, passed_to, AgreesWithOwnLane}
 use Rattle.lane_queue.specs.Ports.{terms_of}
 use Rattle.lane_queue.specs.Joining.{popped_on, retired, ArePassesOf, IsBelow, ArePassesBelow, ArePassesJoinedWith, all_ports_view, ArePassesOfAll, ArePorts, AreRetired, AllAgreeWithOwnLane}
 
--- ---- what the joined pass knows of one port more
+-- ---- what the joined pass knows after one more port
 takens : (ports : List PortView) (p : PortView) (i : ℕ) → p.number ≡ length ports
     → slice_index_or (map (λ (q : PortView). q.popped) ports) i [] ++ popped_on p i ≡ slice_index_or (map (λ (q : PortView). q.popped) (ports ++ p ∷ [])) i []
 takens ports p i n = let f : PortView → List Item = λ q. q.popped in
@@ -38,7 +38,7 @@ all_ports_more : (workers : ℕ) (sizes : Sizes) (ports : List PortView) (p : Po
     → joined (terms_of workers i sizes) (length ports + 1) (map (λ q. passed_to q i) ports ++ passed_to p i ∷ []) (slice_index_or (map (λ (q : PortView). q.popped) ports) i [] ++ popped_on p i) [] ≡ all_ports_view workers sizes (ports ++ p ∷ []) i
 all_ports_more workers sizes ports p i n = λ j. joined (terms_of workers i sizes) (sym (length-append ports (p ∷ [])) j) (sym (map-append (λ q. passed_to q i) ports (p ∷ [])) j) (takens ports p i n j) []
 
--- ---- the ports below `next` gave their passes away
+-- ---- the ports before `next` have given their passes away
 pub record Gathered (workers : ℕ) (sizes : Sizes) (next : ℕ) (lanes : List Lane) (given ports : List PortView) (roots : List RootPass) : Type 0 where
   pub lengths : length ports ≡ length given
   pub gone : (i : ℕ) (d : PortView) → i < next → get_or ports i d ≡ retired (get_or given i d)

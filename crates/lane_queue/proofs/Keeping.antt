@@ -1,4 +1,4 @@
--- What a port sent to itself and took, beside what went through its lane.
+-- What a port has sent to itself and taken, compared with what went through its lane.
 use Rattle.std.proofs.Common.{◌≡◌, ◌≢◌, ℕ, ◌+◌, ◌<◌, cond, eqb, true, false, List, [], ◌∷◌, ◌++◌, length, map, get_or, sym, refl, ap, ◌∙◌, subst, arith, append_assoc, eq-eqb, ne_eqb, Option, Some, None, Result, Ok, Err}
 use Rattle.std.proofs.lemmas.List.{append-nil, append_cancel_left, length-map, get_or-map, get_or-set_same, get_or-set_other}
 use mathlib.Core.Logic.{dite}
@@ -56,7 +56,7 @@ module _ (p : PortView) (to : ℕ) (x : Load) where
   pub put-counts_others : (k : ℕ) → k ≢ to → put_to (has_put p to x) k ≡ put_to p k
   put-counts_others k m = get_or-set_other p.put to k (put_to p to + 1) 0 m
 
--- the same, where memory may run out
+-- ---- what a port has once it put a load on a lane, unless memory was refused
 module _ {E : Type 0} (r : Result (Unit {0}) E) (refused : E → Type 0) (p q : PortView) (to : ℕ) (x : Load) (h : MatchResult r (λ _. q ≡ has_put p to x) refused) where
   on-put : (P : PortView → Type 0) → P (has_put p to x) → OnOk r (P q)
   on-put P a = elim r as (λ r. MatchResult r (λ _. q ≡ has_put p to x) refused → OnOk r (P q)) [
@@ -77,7 +77,7 @@ module _ {E : Type 0} (r : Result (Unit {0}) E) (refused : E → Type 0) (p q : 
   ok-others_put = on-put (λ u. (k : ℕ) → k ≢ to → put_to u k ≡ put_to p k) (put-counts_others p to x)
 
 module _ (p : PortView) (h : AgreesWithOwnLane p) where
-  -- where all of its own was taken, nothing of its own is under way, and the other way round
+  -- all of its own was taken exactly if nothing of its own is under way
   pub none-under : sent_by p.number p.taken ≡ p.own → h.under_way ≡ []
   none-under e = let q : p.own ++ [] ≡ p.own ++ h.under_way = append-nil p.own ∙ h.all ∙ ap (λ l. l ++ h.under_way) e in sym (append_cancel_left p.own [] h.under_way q)
 
@@ -88,7 +88,7 @@ module _ (p : PortView) (h : AgreesWithOwnLane p) where
       let u : h.under_way ≡ [] = sym (append_cancel_left s [] h.under_way q) in
       sym (sent-own p ∙ h.all ∙ ap (λ l. sent_by p.number p.taken ++ l) u ∙ append-nil (sent_by p.number p.taken))
 
-  -- what it took of its own is a beginning of what it sent to itself
+  -- what it has taken of its own is a prefix of what it has sent to itself
   pub own-prefix : IsPrefix (sent_by p.number p.taken) (sent_to p p.number)
   own-prefix = (h.under_way, sent-own p ∙ h.all)
 
@@ -125,7 +125,7 @@ module _ (p : PortView) (h : AgreesWithOwnLane p) where
       (λ n. kept-put-other to x n)
 
   -- a load is taken
-  -- what of its own is under way behind what it takes
+  -- what of its own is under way begins with the load that it takes
   own-begins : (x : Load) → load_from x ≡ p.number → (b : IsPrefix (sent_by p.number (p.popped ++ items_in x)) (passed_to p p.number)) → p.own ≡ sent_by p.number (p.taken ++ items_in x) ++ b.0
   own-begins x from b = let n = p.number in let xs = items_in x in let ys = sent_by n xs in
       let e : sent_by n p.popped ++ h.under_way ≡ sent_by n p.popped ++ (ys ++ b.0) =
@@ -176,7 +176,7 @@ module _ (p : PortView) (h : AgreesWithOwnLane p) where
         through = h.through ∙ ap (λ l. sent_by n p.popped ++ l) (none-under e);
       }
 
-  -- the law of what went through its lane is that of what it sent and took
+  -- ---- the law of what went through its lane is that of what it has sent and taken
   -- the port is joined
   pub kept-retired : AgreesWithOwnLane (retired p)
   kept-retired = record {
@@ -209,7 +209,7 @@ module _ (p : PortView) (h : AgreesWithOwnLane p) where
           (λ m. sent_by-append s p.taken left ∙ ap (λ l. l ++ sent_by s left) (h.others s m) ∙ sym (sent_by-append s p.popped left) ∙ law.in_order s sl ∙ sym (same s sl m));
     }
 
--- with what is left, the law of what went through the lanes is that of what was sent and taken
+-- the law of what went through the lanes, with what is left, is that of what was sent and taken
 module _ (workers : ℕ) (sizes : Sizes) (ids : List (SegId Global)) (given ports : List PortView) (left : List (List Load)) (are : ArePorts workers sizes ids given) (kept : AllAgreeWithOwnLane workers given) (gone : AreRetired workers given ports) (law : LawOfLanes workers sizes ports left)
     (ids_long : length ids ≡ workers) (k : ℕ) (lt : k < workers) where
   port_k : PortView

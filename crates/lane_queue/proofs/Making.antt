@@ -1,4 +1,4 @@
--- How far a round of issuing has come.
+-- Loops that issue passes.
 use Rattle.std.proofs.Common.{◌≡◌, ℕ, zero, suc, ◌+◌, ◌^◌, ◌<◌, ◌≤◌, List, [], ◌∷◌, ◌++◌, map, length, get_or, set, sym, refl, ap, ◌∙◌, subst, inl, inr, arith, Some}
 use Rattle.std.specs.Prelude.{slice_index_or}
 use Rattle.std.proofs.lemmas.List.{get_or-set_same, get_or-set_other, get_or_append_left, get_or_default, get_or-map, length-set, length-append}
@@ -23,7 +23,7 @@ use Rattle.lane_queue.specs.Ports.{terms_of, endpoint_queue, endpoint_sent, endp
 use Rattle.lane_queue.specs.PortView.{AgreesWithOwnLane}
 use Rattle.lane_queue.specs.Make.{IsIssuer, AreIssuers, IsNewEndpoint, AreNewEndpoints, new_port}
 
--- in the round of the port `number`, the lanes below k have issued its pass
+-- for the port `number`, the lanes below k have issued the pass
 pub record Issued (workers : ℕ) (sizes : Sizes) (number k : ℕ) (lanes : List Lane) (roots : List RootPass) (endpoints : List Endpoint) : Type 0 where
   pub roots_long : length roots ≡ length lanes
   pub endpoints_long : length endpoints ≡ k
@@ -73,7 +73,7 @@ issued-all workers sizes number k lanes roots endpoints h le = let a = h.within 
   (omega arith, λ i d e lt. h.made i d e (omega arith)),
 )
 
--- the same, told of what issuing ensures
+-- one more lane has issued the pass, by the clauses of `issue_for`
 pub issued-step : (workers : ℕ) (sizes : Sizes) (number k : ℕ) (lanes : List Lane) (roots : List RootPass) (endpoints endpoints' : List Endpoint) (lane : Lane) (old root : RootPass) (endpoint : Endpoint)
     → Issued workers sizes number k lanes roots endpoints → k < length lanes → lane ≡ get_or lanes k lane → old ≡ get_or roots k old
     → IsSegPassOf lane.queue root.pass → root.pass.me.view.client ≡ issuer (terms_of workers k sizes) (old.pass.me.view.client.low + 1)
@@ -110,7 +110,7 @@ opened-more workers sizes k lanes lanes' roots roots' lane root h queue client a
 pub opened-all : (workers : ℕ) (sizes : Sizes) (k : ℕ) (lanes : List Lane) (roots : List RootPass) → Opened workers sizes k lanes roots → AreIssuers workers sizes 0 lanes roots
 opened-all workers sizes k lanes roots h = (h.roots_long ∙ sym h.lanes_long, λ i d e lt. h.each i d e (let z = h.lanes_long in omega arith))
 
--- ---- a port of new lines
+-- ---- a port of new endpoints
 pub map-both : {A B C : Type 0} (f : A → C) (g : B → C) (xs : List A) (ys : List B) → length xs ≡ length ys → ((i : ℕ) (d : A) (e : B) → i < length ys → f (get_or xs i d) ≡ g (get_or ys i e)) → map f xs ≡ map g ys
 map-both f g [] [] n h = refl
 map-both f g [] (y ∷ ys) n h = absurd (omega arith)

@@ -29,7 +29,7 @@ there (x ∷ xs) (suc i) v e = let h = there xs i v e in omega arith
 pub same_there : (views : List View) (i : ℕ) (u v : View) → get_elem? views i ≡ some u → get_elem? views i ≡ some v → u ≡ v
 same_there views i u v a b = some-injective u v (sym a ∙ b)
 
--- a view with a port is not the one of a lane that has not begun
+-- a view of a port is not that of a lane in which nothing has begun
 begun_of : (views : List View) (i : ℕ) (v : View) → views ≡ blank ∷ [] → get_elem? views i ≡ some v → v.begun ≡ true → ⊥
 begun_of views zero v e at b = true≢false (sym b ∙ ap (λ (u : View). u.begun) (some-injective v blank (sym at ∙ ap (λ l. get_elem? l 0) e)))
 begun_of views (suc i) v e at b = some-ne-none v (sym at ∙ ap (λ l. get_elem? l (suc i)) e)
@@ -37,7 +37,7 @@ begun_of views (suc i) v e at b = some-ne-none v (sym at ∙ ap (λ l. get_elem?
 pub ruled : (items : List Item) (views : List View) (i : ℕ) (v : View) → NotBegunOrRuled items views → get_elem? views i ≡ some v → v.begun ≡ true → Ruled items views
 ruled items views i v h at b = ⊎_elim (λ (x : (items ≡ []) × (views ≡ blank ∷ [])). absurd (begun_of views i v x.1 at b)) (λ (r : Ruled items views). r) h
 
--- ---- a step of one pass, which keeps the ports that it stands for
+-- ---- a step of one pass, which stays the pass of the same ports
 pub step : (items items' : List Item) (views : List View) (i : ℕ) (v w : View) (r : Ruled items views) → get_elem? views i ≡ some v
     → w.low ≡ v.low → w.high ≡ v.high → w.begun ≡ true
     → (sent' : ℕ → List Item) (taken' left' : List Item)
@@ -76,7 +76,7 @@ step items items' views i v w r at low high b sent' taken' left' law fair others
 }
 
 -- ---- one port
--- whoever stands for p in the view of the port s is s
+-- the only port of a view of the port s is s
 pub only : (c : Terms) (s p : ℕ) (sent : List Item) (taken : List Item) → CoversPort (port c s sent taken) p → p ≡ s
 only c s p sent taken h = let a = h.0 in let z = h.1 in omega arith
 
@@ -89,7 +89,7 @@ own_list c s p sent taken e = let z : p - s ≡ 0 = omega arith in ap (λ n. sli
 pub own : (c : Terms) (s : ℕ) (sent taken : List Item) (items : List Item) (views : List View) (i : ℕ) (r : Ruled items views) → get_elem? views i ≡ some (port c s sent taken) → Fits r.c r.pass_index r.sent r.taken r.left i (port c s sent taken) s
 own c s sent taken items views i r at = r.fits i (port c s sent taken) s at (lone c s sent taken)
 
--- ---- send: what a load carries behind the port's list and behind the lane
+-- ---- send: a load's items are added to the port's list and to what waits
 pub push_step : (i : ℕ) (c : Terms) (s : ℕ) (sent taken : List Item) (x : Load) (items : List Item) (views : List View) → load_from x ≡ s → MayFollowAll (scope c) (ends sent) x
     → (r : Ruled items views) → get_elem? views i ≡ some (port c s sent taken) → Ruled (items ++ items_in x) (set views i (port c s (sent ++ items_in x) taken))
 push_step i c s sent taken x items views mine may r at = let v = port c s sent taken in let xs = items_in x in let w = port c s (sent ++ xs) taken in
@@ -131,8 +131,8 @@ pushes n i c s sent taken x carries mine may loads views room h at =
       refl,
     )
 
--- ---- take: what the front of the lane carries behind what the owner took
--- what the queue holds behind the owner's list, where nothing was read out
+-- ---- take: the items of the first load are added to what the owner has taken
+-- the items of the queue are what waits after what the owner has taken, if nothing was read out
 front_is : (c : Terms) (s : ℕ) (sent taken : List Item) (items : List Item) (views : List View) (i : ℕ) (r : Ruled items views) → s ≡ c.owner → get_elem? views i ≡ some (port c s sent taken)
     → (taken ≡ r.taken) × ([] ≡ r.left)
 front_is c s sent taken items views i r mine at = let f = own c s sent taken items views i r at in f.takes (mine ∙ ap (λ (t : Terms). t.owner) f.terms)
@@ -182,7 +182,7 @@ pops i c s sent taken mine x loads views h at = let r = ruled (flat (x ∷ loads
       (refl, next_is i c s sent taken x (flat loads) views carries mine r at),
     )
 
--- what an owner learns of the lane's content
+-- what an owner learns of the loads in the lane
 pub owns : (i : ℕ) (c : Terms) (s : ℕ) (sent taken : List Item) → s ≡ c.owner → Learns Holds i (port c s sent taken) (OwnSentInOrder (port c s sent taken))
 owns i c s sent taken mine loads views h at = let items = flat loads in let r = ruled items views i (port c s sent taken) h.1 at refl in
     let f = own c s sent taken items views i r at in

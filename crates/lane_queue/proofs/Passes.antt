@@ -1,4 +1,4 @@
--- Passes are issued, joined and read out: each keeps the rule.
+-- Issuing, joining and reading out with a pass keeps the rule.
 use Rattle.std.proofs.Common.{◌≡◌, ◌≢◌, ℕ, zero, suc, ◌+◌, ◌-◌, ◌<◌, ◌⊎◌, true, true≢false, cond, eqb, List, [], ◌∷◌, ◌++◌, length, set, sym, refl, ap, ◌∙◌, subst, inl, inr, ⊎_elim, arith, append_assoc, eq-eqb, ne_eqb}
 use Rattle.std.specs.Prelude.{slice_index_or}
 use Rattle.std.proofs.lemmas.List.{append-nil, get_or_append_left}
@@ -206,8 +206,8 @@ merges i c j lists taken other sent more lengths theirs mine loads views h at ap
     let both = joined c (j + 1) (lists ++ sent ∷ []) (taken ++ more) [] in
     (h.0, inr (merge_step i c j lists taken other sent more (flat loads) views lengths theirs mine (ruled (flat loads) views i (joined c j lists taken []) h.1 at refl) at apart (sym (set_else views i other both apart) ∙ that)))
 
--- ---- the last read
--- what a view of all ports knows
+-- ---- the last read, which finds the lane empty
+-- what the view of all ports says
 all_ports : (i : ℕ) (c : Terms) (lists : List (List Item)) (taken left : List Item) (items : List Item) (views : List View) (r : Ruled items views) → get_elem? views i ≡ some (joined c c.workers lists taken left)
     → (p : ℕ) → p < c.workers → Fits r.c r.pass_index r.sent r.taken r.left i (joined c c.workers lists taken left) p
 all_ports i c lists taken left items views r at p lt = r.fits i (joined c c.workers lists taken left) p at (omega arith, lt)

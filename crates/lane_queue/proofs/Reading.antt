@@ -1,4 +1,4 @@
--- What is left is read out, lane by lane.
+-- Reading out what is left, lane by lane.
 use Rattle.std.proofs.Common.{◌≡◌, ℕ, ◌+◌, ◌<◌, List, [], ◌∷◌, ◌++◌, map, length, get_or, set, sym, refl, ap, ◌∙◌, subst, arith}
 use Rattle.std.specs.Prelude.{slice_index_or}
 use Rattle.std.proofs.lemmas.List.{length-append, map-append, get_or_append_left}
@@ -27,7 +27,7 @@ pub record Read (workers : ℕ) (sizes : Sizes) (k : ℕ) (ports : List PortView
   pub lengths : length left ≡ k
   pub law : (i : ℕ) → i < k → LaneLaw (scope_of workers sizes) (passed_from ports i) (popped_by ports i) (flat (slice_index_or left i [])) × FairLane (scope_of workers sizes) (passed_from ports i)
 
--- what reading a lane asks and tells, where its pass is as it was
+-- a lane's read, if the other lanes' passes are as before
 pub as-joined : (workers : ℕ) (sizes : Sizes) (k : ℕ) (lanes : List Lane) (ports : List PortView) (roots roots' : List RootPass) (lane : Lane) (root : RootPass) → ArePassesOfAll workers sizes ports lanes roots → Turned k roots roots' → k < workers → length lanes ≡ workers
     → lane ≡ get_or lanes k lane → root ≡ get_or roots' k root → IsSegPassOf lane.queue root.pass × (root_pass_view root ≡ all_ports_view workers sizes ports k)
 as-joined workers sizes k lanes ports roots roots' lane root h t lt lengths at is = let z = h.0 in let r = h.1 k lane root lt in let s = still k roots roots' root root t (omega arith) is in
@@ -49,7 +49,7 @@ read-more items workers sizes k ports roots roots' left left' x v root h e law i
           (λ q. let z = h.lengths in subst (λ l. LaneLaw (scope_of workers sizes) (passed_from ports i) (popped_by ports i) (flat l) × FairLane (scope_of workers sizes) (passed_from ports i)) (sym (get_or_append_left (map items left) (items x ∷ []) [] i (omega arith))) (h.law i (omega arith)));
     })
 
--- ---- a port that gave its passes away has its lists
+-- ---- a port that has given its passes away still has its lists
 pub have-retired : (workers : ℕ) (sizes : Sizes) (ports ports' : List PortView) (lanes : List Lane) (roots : List RootPass) → length ports ≡ workers → AreRetired workers ports ports' → ArePassesOfAll workers sizes ports lanes roots → ArePassesOfAll workers sizes ports' lanes roots
 have-retired workers sizes ports ports' lanes roots lengths h r = (
   r.0,

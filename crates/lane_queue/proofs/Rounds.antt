@@ -1,4 +1,4 @@
--- A round over all lanes, lane by lane.
+-- Loops over all lanes.
 use Rattle.std.proofs.Common.{◌≡◌, ℕ, zero, suc, ◌+◌, ◌<◌, ◌≤◌, List, [], ◌∷◌, ◌++◌, length, get_or, set, sym, ap, ◌∙◌, subst, arith}
 use Rattle.std.proofs.lemmas.List.{get_or-set_same, get_or-set_other, get_or_append_left, get_or_default, length-set, length-append}
 use Rattle.std.proofs.Math.Seq.{get_or-append_seam}
@@ -16,7 +16,7 @@ element [] i lt = absurd (omega arith)
 element (x ∷ xs) zero lt = x
 element (x ∷ xs) (suc i) lt = element xs i (omega arith)
 
--- of the list, only the places below k have changed
+-- in the list only the places below k have changed
 pub record Turned {X : Type 0} (k : ℕ) (xs ys : List X) : Type 0 where
   pub lengths : length ys ≡ length xs
   pub rest : (i : ℕ) (d : X) → k ≤ i → get_or ys i d ≡ get_or xs i d
@@ -43,7 +43,7 @@ below-push {X = X} P k xs x lengths h p i d less = dite (ℕ_discrete i k)
     subst (λ (y : ℕ × X). P y.0 y.1) (λ j. (sym q j, b j)) p)
     (λ q. subst (λ y. P i y) (sym (get_or_append_left xs (x ∷ []) d i (omega arith))) (h i d (omega arith)))
 
--- the element at k, which stands there still
+-- the element at k is still the old one
 pub still : {X : Type 0} (k : ℕ) (xs ys : List X) (x d : X) → Turned k xs ys → k < length xs → x ≡ get_or ys k x → get_or xs k d ≡ x
 still k xs ys x d t lt is = get_or_default xs k d x lt ∙ sym (t.rest k x (omega arith)) ∙ sym is
 
@@ -72,7 +72,7 @@ live-now k n lanes endpoints endpoints' lane endpoint h t lt ll lt' at was =
 pub begun-all : (k n : ℕ) (lanes : List Lane) (roots : List RootPass) (endpoints endpoints' : List Endpoint) → Beginning k lanes roots endpoints endpoints' → n ≤ k → HaveBegun n lanes roots endpoints endpoints'
 begun-all k n lanes roots endpoints endpoints' h le i d e f lt = let a = h.passes i e (omega arith) d f in (a.0, a.1, h.retired i f (omega arith))
 
--- ---- a further port
+-- ---- each further port
 pub record Joining (k : ℕ) (lanes : List Lane) (roots roots' : List RootPass) (endpoints endpoints' : List Endpoint) : Type 0 where
   pub roots_turned : Turned k roots roots'
   pub lines_turned : Turned k endpoints endpoints'

@@ -1,4 +1,4 @@
--- What a port is once it gave its passes away, and what its passes are.
+-- A port after it has given its passes away, and what these passes are.
 use Rattle.std.proofs.Common.{◌≡◌, ℕ, ◌<◌, cond, List, [], map, length, get_or, sym, ap, ◌∙◌, subst, arith, Option, Some, None, Result, Ok, Err, eq-eqb, ne_eqb}
 use Rattle.std.specs.Prelude.{slice_index_or, IfOk, OnOk, OnErr}
 use Rattle.std.proofs.lemmas.List.{get_or_default, get_or-map, length-map}
@@ -59,7 +59,7 @@ module _ (number : ℕ) (sizes : Sizes) (endpoints : List Endpoint) (own taken :
       (λ q. sym (get_or-map endpoint_taken endpoints i f [] (omega arith)) ∙ ap (λ m. slice_index_or (map endpoint_taken endpoints) m []) q ∙ ap (λ (u : PortView). u.popped) is ∙ sym (ap (λ b. cond b p.popped []) (eq-eqb i p.number (q ∙ n))))
       (λ q. (endpoint_at i f lt).other q ∙ sym (ap (λ b. cond b p.popped []) (ne_eqb i p.number (λ e. q (e ∙ sym n)))))
 
-  -- the view of the line, told of the port
+  -- the view of the endpoint, by the port's
   pub view_at : (i : ℕ) (f : Endpoint) → i < workers → endpoint_view (get_or endpoints i f) ≡ pass_view workers p i
   view_at i f lt = let h = endpoint_at i f lt in
       h.endpoint.0 ∙ (λ j. port ((h.terms ∙ ap (λ (u : PortView). terms_of workers i u.sizes) is) j) ((h.low ∙ ap (λ (u : PortView). u.number) is) j) (sent_at i f lt j) (taken_at i f lt j))
@@ -85,7 +85,7 @@ module _ (number : ℕ) (sizes : Sizes) (endpoints : List Endpoint) (own taken :
   pub roots-with : (roots roots' : List RootPass) (endpoints' : List Endpoint) → HaveJoined workers lanes roots roots' endpoints endpoints' → ArePassesJoinedWith workers p lanes roots roots'
   roots-with roots roots' endpoints' h i d e lt = let z = endpoints_long in let f = element endpoints i (omega arith) in let a = h i d e f lt in (a.0, a.1 ∙ ap (λ w. JoinedTo (root_pass_view (get_or roots i e)) w) (view_at i f lt))
 
-  -- the lines, once they gave their passes away
+  -- the endpoints after they have given their passes away
   module _ (endpoints' : List Endpoint) (lengths' : length endpoints' ≡ workers) (gone : (i : ℕ) (f : Endpoint) → i < workers → Retired (get_or endpoints i f) (get_or endpoints' i f)) where
     pub gone-ok : IsValidPort number sizes endpoints'
     gone-ok = let z = endpoints_long in let y = ok.within in record {
@@ -113,7 +113,7 @@ module _ (number : ℕ) (sizes : Sizes) (endpoints : List Endpoint) (own taken :
     pub gone-kept : AgreesWithOwnLane p → AgreesWithOwnLane (view_of number sizes endpoints' own taken)
     gone-kept k = subst AgreesWithOwnLane (sym gone-view) (kept-retired p k)
 
-  -- the first port, where memory may run out first
+  -- the first port, for which memory may be refused
   module _ {X E : Type 0} (items : X → List RootPass) (r : Result X E) (endpoints' : List Endpoint) where
     pub begun-ok : IfOk r (λ x. (length (items x) ≡ workers) × (length endpoints' ≡ workers)) → OnErr r (endpoints' ≡ endpoints) → IfOk r (λ x. HaveBegun workers lanes (items x) endpoints endpoints') → IsValidPort number sizes endpoints'
     begun-ok = elim r as (λ r. IfOk r (λ x. (length (items x) ≡ workers) × (length endpoints' ≡ workers)) → OnErr r (endpoints' ≡ endpoints) → IfOk r (λ x. HaveBegun workers lanes (items x) endpoints endpoints') → IsValidPort number sizes endpoints') [

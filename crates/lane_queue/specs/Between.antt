@@ -1,4 +1,4 @@
--- What the rule says of a lane between any two steps.
+-- What the rule says of a lane between any two atomic steps.
 use Rattle.std.specs.Prelude.{◌≡◌, ℕ, ◌<◌, ◌⊎◌, List, [], ◌∷◌, ◌++◌, All}
 use mathlib.Core.Option.{some}
 use lib.ListN.{get_elem?}
@@ -11,17 +11,17 @@ use Rattle.req_table.specs.Lanes.{LaneLaw}
 use Rattle.lane_queue.specs.Lists.{FairLane}
 use Rattle.lane_queue.specs.Rule.{scope, blank, CoversPort, sent_of}
 
--- Some pass stands for the port p, and this is what the port sent.
+-- A pass is that of the port p, and this is what the port has sent.
 abbrev pub HasSent : List View → ℕ → List Item → Type 0
 HasSent views p xs = (i : ℕ) × (v : View) × (get_elem? views i ≡ some v) × CoversPort v p × (xs ≡ sent_of v p)
 
--- The terms are those of each pass that stands for a port, which is a worker's.
+-- Each pass of a port has these terms, and the port is a worker's.
 abbrev pub AreTerms : List View → Terms → Type 0
 AreTerms views c =
     (i p : ℕ) (v : View) → get_elem? views i ≡ some v → CoversPort v p → (v.terms ≡ c) × (p < c.workers)
 
--- The passes have these terms, by which the lane's owner is a worker. Each worker's port has a pass, and whatever the
--- passes say that the ports sent obeys the law and is fair, with what the owner's pass says that it took.
+-- The passes have these terms, by which the lane's owner is a worker. Each worker's port has a pass. Whatever the
+-- passes know that the ports have sent obeys the law and is fair, with what the owner's pass knows that it has taken.
 abbrev pub Lawful : Terms → List Load → List View → Type 0
 Lawful c loads views =
     (c.owner < c.workers) × AreTerms views c
@@ -30,7 +30,7 @@ Lawful c loads views =
     → get_elem? views i ≡ some o → CoversPort o c.owner
     → LaneLaw (scope c) sent o.taken (o.left ++ flat loads) × FairLane (scope c) sent)
 
--- Each load carries something. Nothing has begun in the lane, or it is lawful, by some terms.
+-- No load is empty, and either nothing has begun in the lane or it is lawful by some terms.
 abbrev pub Between : List Load → List View → Type 0
 Between loads views =
     All IsNonEmpty loads × (((loads ≡ []) × (views ≡ blank ∷ [])) ⊎ ((c : Terms) × Lawful c loads views))

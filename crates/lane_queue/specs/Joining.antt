@@ -1,4 +1,4 @@
--- How the ports' passes are joined.
+-- The passes of all ports, joined one after the other.
 use Rattle.std.specs.Prelude.{◌≡◌, ◌≢◌, ℕ, ◌+◌, ◌<◌, eqb, cond, List, [], ◌∷◌, ◌++◌, map, length, Some, None, slice_index_or}
 use Rattle.crossbeam_queue.specs.SegTies.{SegId, IsSegPassOf}
 use Rattle.std.specs.declared.alloc.Global.{Global}
@@ -22,11 +22,11 @@ use Rattle.lane_queue.specs.PortView.{PortView, sent_to, passed_to, AgreesWithOw
 abbrev pub root_pass_view : RootPass → View
 root_pass_view r = r.pass.me.view.client
 
--- The line gave its pass away, and remembers what it knew.
+-- The endpoint has given its pass away, and remembers what the pass knew.
 abbrev pub Retired : Endpoint → Endpoint → Type 0
 Retired old new = (endpoint_queue new ≡ None) × (endpoint_view new ≡ endpoint_view old) × (new.ends ≡ old.ends) × (new.put ≡ old.put)
 
--- The line's pass can join that of the ports below it.
+-- The endpoint's pass can be joined to that of the ports with lower numbers.
 pub record MayJoin (lane : Lane) (root : RootPass) (endpoint : Endpoint) : Type 0 where
   pub queue : IsSegPassOf lane.queue root.pass
   pub live : IsLiveOn lane.queue endpoint.pass_state
@@ -37,30 +37,30 @@ pub record MayJoin (lane : Lane) (root : RootPass) (endpoint : Endpoint) : Type 
   pub next_took_nothing : (root_pass_view root).high ≢ (root_pass_view root).terms.owner → (endpoint_view endpoint).taken ≡ []
   pub root_took_nothing : (¬ (root_pass_view root).terms.owner < (root_pass_view root).high) → (root_pass_view root).taken ≡ []
 
--- What the pass of the ports below knows once it was joined by the next port's.
+-- What the pass of the ports with lower numbers knows after the next port's was joined to it.
 abbrev pub JoinedTo : View → View → View
 JoinedTo v w = joined v.terms (v.high + 1) (v.sent ++ own_sent w ∷ []) (v.taken ++ w.taken) []
 
--- The line's pass has joined, and the line is retired.
+-- The endpoint's pass was joined.
 abbrev pub HasJoined : Lane → RootPass → RootPass → Endpoint → Endpoint → Type 0
 HasJoined lane root root' endpoint endpoint' =
     IsSegPassOf lane.queue root'.pass × (root_pass_view root' ≡ JoinedTo (root_pass_view root) (endpoint_view endpoint))
     × Retired endpoint endpoint'
 
--- Each of the n lines can join.
+-- The passes of n endpoints can be joined.
 abbrev pub MayJoinAll : ℕ → List Lane → List RootPass → List Endpoint → Type 0
 MayJoinAll n lanes roots endpoints =
     (i : ℕ) (d : Lane) (e : RootPass) (f : Endpoint) → i < n
     → MayJoin (slice_index_or lanes i d) (slice_index_or roots i e) (slice_index_or endpoints i f)
 
--- Each of the n lines has joined.
+-- The passes of n endpoints were joined.
 abbrev pub HaveJoined : ℕ → List Lane → List RootPass → List RootPass → List Endpoint → List Endpoint → Type 0
 HaveJoined n lanes roots roots' endpoints endpoints' =
     (i : ℕ) (d : Lane) (e : RootPass) (f : Endpoint) → i < n
     → HasJoined (slice_index_or lanes i d) (slice_index_or roots i e) (slice_index_or roots' i e)
     (slice_index_or endpoints i f) (slice_index_or endpoints' i f)
 
--- The first port's passes begin the joined ones.
+-- The passes of the first port are those that the others will be joined to.
 abbrev pub HaveBegun : ℕ → List Lane → List RootPass → List Endpoint → List Endpoint → Type 0
 HaveBegun n lanes roots endpoints endpoints' =
     (i : ℕ) (d : Lane) (e : RootPass) (f : Endpoint) → i < n
@@ -68,22 +68,22 @@ HaveBegun n lanes roots endpoints endpoints' =
     × (root_pass_view (slice_index_or roots i e) ≡ endpoint_view (slice_index_or endpoints i f))
     × Retired (slice_index_or endpoints i f) (slice_index_or endpoints' i f)
 
--- Each of the n lines has its pass.
+-- None of the n endpoints has given its pass away.
 abbrev pub AllLive : ℕ → List Lane → List Endpoint → Type 0
 AllLive n lanes endpoints =
     (i : ℕ) (d : Lane) (f : Endpoint) → i < n
     → IsLiveOn (slice_index_or lanes i d).queue (slice_index_or endpoints i f).pass_state
 
--- ---- told of ports
+-- ---- the same by ports
 -- What the port took from this lane.
 abbrev pub popped_on : PortView → ℕ → List Item
 popped_on p i = cond (eqb i p.number) p.popped []
 
--- What the port's pass of the lane i knows, of this many workers.
+-- What the port's pass of the lane i knows, if there are this many workers.
 abbrev pub pass_view : ℕ → PortView → ℕ → View
 pass_view workers p i = port (terms_of workers i p.sizes) p.number (passed_to p i) (popped_on p i)
 
--- The port once it was joined: it goes with no lanes.
+-- The port after it was joined: it has no lanes any more.
 abbrev pub retired : PortView → PortView
 retired p = record p { lanes = map (λ q. None) p.lanes }
 
@@ -94,20 +94,20 @@ ArePassesOf workers p lanes roots =
     → IsSegPassOf (slice_index_or lanes i d).queue (slice_index_or roots i e).pass
     × (root_pass_view (slice_index_or roots i e) ≡ pass_view workers p i)
 
--- The joined pass of the lane i, of the ports below this one.
+-- The joined pass of the lane i knows the lists of the ports with lower numbers.
 abbrev pub IsBelow : ℕ → PortView → ℕ → View → Type 0
 IsBelow workers p i v =
     IsJoined v × (v.left ≡ []) × (v.terms ≡ terms_of workers i p.sizes) × (v.high ≡ p.number)
     × ((i < p.number → ⊥) → v.taken ≡ [])
 
--- The joined passes of the ports below this one, by lane.
+-- The joined passes of the ports with lower numbers, by lane.
 abbrev pub ArePassesBelow : ℕ → PortView → List Lane → List RootPass → Type 0
 ArePassesBelow workers p lanes roots =
     (i : ℕ) (d : Lane) (e : RootPass) → i < workers
     → IsSegPassOf (slice_index_or lanes i d).queue (slice_index_or roots i e).pass
     × IsBelow workers p i (root_pass_view (slice_index_or roots i e))
 
--- The joined passes once this port's were joined.
+-- The joined passes after those of this port were joined to them.
 abbrev pub ArePassesJoinedWith : ℕ → PortView → List Lane → List RootPass → List RootPass → Type 0
 ArePassesJoinedWith workers p lanes roots roots' =
     (i : ℕ) (d : Lane) (e : RootPass) → i < workers
@@ -118,13 +118,13 @@ ArePassesJoinedWith workers p lanes roots roots' =
     ((root_pass_view (slice_index_or roots i e)).taken ++ popped_on p i) [])
 
 -- ---- all ports
--- What the pass of the lane i knows once all these ports were joined.
+-- What the pass of the lane i knows after all these ports were joined.
 abbrev pub all_ports_view : ℕ → Sizes → List PortView → ℕ → View
 all_ports_view workers sizes ports i =
     joined (terms_of workers i sizes) (length ports) (map (λ p. passed_to p i) ports)
     (slice_index_or (map (λ (p : PortView). p.popped) ports) i []) []
 
--- The passes once all these ports were joined, by lane.
+-- The passes after all these ports were joined, by lane.
 abbrev pub ArePassesOfAll : ℕ → Sizes → List PortView → List Lane → List RootPass → Type 0
 ArePassesOfAll workers sizes ports lanes roots =
     (length roots ≡ workers)
@@ -140,13 +140,13 @@ ArePorts workers sizes lanes ports =
     → ((slice_index_or ports i d).lanes ≡ map (λ q. Some q) lanes) × ((slice_index_or ports i d).sizes ≡ sizes)
     × ((slice_index_or ports i d).number ≡ i))
 
--- Each port is as it was but for its lanes, which are gone.
+-- Each port is as before, but has no lanes any more.
 abbrev pub AreRetired : ℕ → List PortView → List PortView → Type 0
 AreRetired workers old new =
     (length new ≡ workers)
     × ((i : ℕ) (d : PortView) → i < workers → slice_index_or new i d ≡ retired (slice_index_or old i d))
 
--- What each port sent to itself and took is what went through its lane, and what it kept.
+-- Of each port, what it has sent to itself and taken is what went through its lane and what it has kept.
 abbrev pub AllAgreeWithOwnLane : ℕ → List PortView → Type 0
 AllAgreeWithOwnLane workers ports = (i : ℕ) (d : PortView) → i < workers → AgreesWithOwnLane (slice_index_or ports i d)
 
@@ -158,7 +158,7 @@ passed_from ports k s = slice_index_or (map (λ p. passed_to p k) ports) s []
 abbrev pub popped_by : List PortView → ℕ → List Item
 popped_by ports k = slice_index_or (map (λ (p : PortView). p.popped) ports) k []
 
--- With what is left, the law holds of what went through each lane, and these lists are fair.
+-- The law holds of what went through each lane and what is left there, and these lists are fair.
 abbrev pub LawOfLanes : ℕ → Sizes → List PortView → List (List Load) → Type 0
 LawOfLanes workers sizes ports left =
     (k : ℕ) → k < workers
@@ -173,7 +173,7 @@ sent_from ports k s = slice_index_or (map (λ p. sent_to p k) ports) s []
 abbrev pub taken_by : List PortView → ℕ → List Item
 taken_by ports k = slice_index_or (map (λ (p : PortView). p.taken) ports) k []
 
--- With what is left, the law holds of each lane, and its lists are fair.
+-- The law holds of each lane, with what is left in it, and its lists are fair.
 abbrev pub LawOfAll : ℕ → Sizes → List PortView → List (List Load) → Type 0
 LawOfAll workers sizes ports left =
     (k : ℕ) → k < workers

@@ -1,4 +1,4 @@
--- What a lane carries, read as items.
+-- Loads, read as the items that they carry.
 use Rattle.std.specs.Prelude.{ℕ, ◌<◌, List, [], ◌∷◌, ◌++◌, length, map, All}
 use Rattle.req_table.specs.declared.Key.{Key}
 use Rattle.req_table.specs.declared.Item.{Item}
@@ -17,20 +17,20 @@ load_from (End from level) = from
 abbrev pub ask_of : ℕ → ℕ × Key → Item
 ask_of from ask = Ask from ask.0 ask.1
 
--- a bundle is its requests, one after the other
+-- the items of a load: of a bundle one for each request
 abbrev pub items_in : Load → List Item
 items_in (Bundle from asks) = map (ask_of from) asks
 items_in (End from level) = item_end from level ∷ []
 
--- what loads carry, one after the other
+-- the items of loads, one load after the other
 abbrev pub flat : List Load → List Item
 flat [] = []
 flat (x ∷ xs) = items_in x ++ flat xs
 
--- the load carries something
+-- the load has an item
 abbrev pub IsNonEmpty : Load → Type 0
 IsNonEmpty x = 0 < length (items_in x)
 
--- each item of the load may stand behind e Ends
+-- each item of the load may follow e Ends
 abbrev pub MayFollowAll : Scope → ℕ → Load → Type 0
 MayFollowAll w e x = All (MayFollow w e) (items_in x)

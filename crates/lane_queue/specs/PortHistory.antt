@@ -1,4 +1,4 @@
--- What a port sent to itself and took, as its history tells it.
+-- What a port has sent to itself and taken, from its history.
 use Rattle.std.specs.Prelude.{ℕ, ◌+◌, List, [], ◌∷◌, ◌++◌, Option, Some, None}
 use Rattle.std.specs.declared.snapshot.Snapshot.{Snapshot}
 use Rattle.req_table.specs.declared.Item.{Item}
@@ -6,7 +6,7 @@ use Rattle.lane_queue.specs.declared.port_history.PortEvent.{PortEvent}
 use Rattle.lane_queue.specs.declared.port_history.PortEvent.TheVariants.{Nothing, Sent, Taken, Kept}
 use Rattle.lane_queue.specs.Loads.{items_in}
 
--- How many steps there were, what was sent, and what was taken.
+-- The number of steps, what was sent, and what was taken.
 pub record HistoryView : Type 0 where
   pub steps : ℕ
   pub sent : List Item
@@ -25,7 +25,7 @@ taken_in (Sent x) = []
 taken_in (Taken x) = items_in x.value
 taken_in (Kept x) = x.value ∷ []
 
--- The history before the last step, and then that step.
+-- The history before the last step, and then this step.
 abbrev pub history : Option (Snapshot HistoryView) → PortEvent → HistoryView
 history None x = record { steps = 0; sent = []; taken = [] }
 history (Some s) x = record {

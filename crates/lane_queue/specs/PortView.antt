@@ -1,4 +1,4 @@
--- What a contract sees of lanes and of a port.
+-- What contracts see of lanes and of a port.
 use Rattle.std.specs.Prelude.{◌≡◌, ◌≢◌, ℕ, ◌+◌, ◌-◌, ◌<◌, ◌==◌, cond, List, [], ◌∷◌, ◌++◌, map, length, Option, Some, slice_index_or}
 use Rattle.std.specs.Prelude.{slice_set}
 use Rattle.crossbeam_queue.specs.SegTies.{SegId}
@@ -13,14 +13,14 @@ use Rattle.lane_queue.specs.declared.load.Load.{Load}
 use Rattle.lane_queue.specs.Loads.{load_from, items_in, IsNonEmpty}
 use Rattle.lane_queue.specs.Lists.{IsPrefix}
 
--- The queues by worker, and what the lanes keep of their store.
+-- The queues by worker, and the sizes of the lanes' store.
 pub record LanesView : Type 0 where
   pub lanes : List (SegId Global)
   pub sizes : Sizes
 
--- The port's number, its lanes (None once it was joined), what they keep of their store, what it put on each lane and in
--- how many loads, what it took from its own lane, what it sent to itself, and what it took: in these last two the requests
--- that it kept, which went through no lane, stand too.
+-- The port's number, its lanes (None once it was joined), the sizes of their store, what it has put on each lane and in
+-- how many loads, what it has taken from its own lane, what it has sent to itself, and what it has taken. The last two
+-- include the requests that it has kept, which went through no lane.
 pub record PortView : Type 0 where
   pub number : ℕ
   pub lanes : List (Option (SegId Global))
@@ -31,49 +31,50 @@ pub record PortView : Type 0 where
   pub own : List Item
   pub taken : List Item
 
--- What the port put on the lane of this worker, and in how many loads.
+-- What the port has put on the lane of this worker, and in how many loads.
 abbrev pub passed_to : PortView → ℕ → List Item
 passed_to p to = slice_index_or p.passed to []
 
 abbrev pub put_to : PortView → ℕ → ℕ
 put_to p to = slice_index_or p.put to 0
 
--- What the port sent to this worker: to another through its lane, to itself also what it kept.
+-- What the port has sent to this worker: to another one through its lane, to itself also what it has kept.
 abbrev pub sent_to : PortView → ℕ → List Item
 sent_to p to = cond (to == p.number) p.own (passed_to p to)
 
--- The port was made with these lanes, and was not joined.
+-- The port was made with these lanes, and was not joined yet.
 abbrev pub IsPortOf : LanesView → PortView → Type 0
 IsPortOf l p = (p.lanes ≡ map (λ q. Some q) l.lanes) × (p.sizes ≡ l.sizes)
 
--- What the lists of these lanes are held against.
+-- The scope by which lists on these lanes are fair.
 abbrev pub lanes_scope : LanesView → Scope
 lanes_scope l = scope_of (length l.lanes) l.sizes
 
--- What the lists of a port's lanes are held against.
+-- The scope by which lists on a port's lanes are fair.
 abbrev pub port_scope : PortView → Scope
 port_scope p = scope_of (length p.lanes) p.sizes
 
--- The load is the next of a list that is fair. Where the port is its own sender, this is what it sent to itself.
+-- The load is the next of a fair list of its sender. If the port is the sender, it is the list that it has sent to
+-- itself.
 abbrev pub IsTaken : PortView → Load → Type 0
 IsTaken p x =
     (sent : List Item) × IsNonEmpty x × (load_from x < length p.lanes) × IsFair (port_scope p) sent
     × IsPrefix (sent_by (load_from x) (p.taken ++ items_in x)) sent
     × (load_from x ≡ p.number → sent ≡ sent_to p p.number)
 
--- The item may leave a worker who took these: behind e Ends, an Ask needs the level before e closed, so no child
--- leaves before the level of its request is closed.
+-- A worker that has taken these items may send the item after e Ends: for an Ask the level before e has to be closed.
+-- So no child is sent before the level of its request is closed.
 abbrev pub MayBeSent : Scope → List Item → ℕ → Item → Type 0
 MayBeSent w taken e (Ask from level key) = 0 < e → IsClosed w (e - 1) taken
 MayBeSent w taken e (End from level) = Unit {0}
 
--- The item is no Ask of a level that is closed.
+-- The item is no Ask of a closed level.
 abbrev pub IsOpen : Scope → List Item → Item → Type 0
 IsOpen w taken (Ask from level key) = ¬ IsClosed w level taken
 IsOpen w taken (End from level) = Unit {0}
 
--- ---- what each call makes of a port
--- It put the load on the lane of this worker.
+-- ---- how each call changes a port
+-- The port has put a load on the lane of this worker.
 abbrev pub has_put : PortView → ℕ → Load → PortView
 has_put p to x = record p {
   passed = slice_set p.passed to (passed_to p to ++ items_in x);
@@ -81,17 +82,18 @@ has_put p to x = record p {
   own = cond (to == p.number) (p.own ++ items_in x) p.own;
 }
 
--- It took the load from its own lane.
+-- The port has taken a load from its own lane.
 abbrev pub has_taken : PortView → Load → PortView
 has_taken p x = record p { popped = p.popped ++ items_in x; taken = p.taken ++ items_in x }
 
--- It kept the request.
+-- The port has kept a request.
 abbrev pub has_kept : PortView → Item → PortView
 has_kept p x = record p { own = p.own ++ x ∷ []; taken = p.taken ++ x ∷ [] }
 
 -- ---- what is kept, and what goes through the lane
--- What a port sent to itself and took differs from what went through its own lane by the requests that it kept: these are
--- no Ends, no other port's, and none of them was kept while something was under way.
+-- What a port has sent to itself and taken is what went through its own lane and the requests that it has kept. These
+-- are no Ends and no other port's, and each was kept when nothing of the port's own was under way, that is, when the
+-- port had taken all that it had put on its own lane.
 pub record AgreesWithOwnLane (p : PortView) : Type 0 where
   pub fair : IsFair (port_scope p) p.own
   pub ended : ends p.own ≡ ends (passed_to p p.number)

@@ -1,4 +1,4 @@
-//! A port's end of one lane, with what it put there.
+//! A port's end of one lane: its pass, and how much the port has put there.
 ghost use Rattle.std.specs.Prelude.{◌≡◌, ◌<◌, ◌≤◌, ◌+◌, ◌^◌, [], ◌++◌, MatchResult, MatchOption, MatchBool};
 ghost use Rattle.req_table.specs.Lanes.{ends};
 ghost use Rattle.lane_queue.specs.Loads.{load_from, items_in, IsNonEmpty, MayFollowAll};
@@ -14,17 +14,18 @@ use crate::steps;
 use std::snapshot::Snapshot;
 use std::sync::Wait;
 
-// The most loads that a port puts on one lane.
+// The most loads that a port may put on one lane, far below the greatest `u64`, so that the count of its loads never
+// overflows.
 const MAX_LOADS: u64 = 1 << 62;
 
-/// The pass of one lane, or what it knew when it was joined.
+/// A port's pass of one lane, until it is joined with the others; then what it knew, for contracts.
 #[derive(Drop)]
 pub enum PassState {
     Live(LanePass),
     Joined(Snapshot<LanePass>),
 }
 
-/// One port's end of one lane: its pass, and how many Ends and how many loads it put there.
+/// A port's end of one lane: its pass, and how many Ends and how many loads the port has put there.
 #[derive(Drop)]
 pub struct Endpoint {
     pub pass_state: PassState,
@@ -40,7 +41,8 @@ impl Endpoint {
         self.put >= MAX_LOADS
     }
 
-    /// Puts a load at the back of the lane.
+    /// Puts a load on the lane. The load is returned if memory is refused, if the port has put `MAX_LOADS` loads there,
+    /// or if the queue's numbers have run out.
     pub fn send<R: Wait>(&mut self, rt: &R, lane: &Lane, load: Load) -> Result<(), Load>
         requires live { IsLiveOn lane.now.queue self.old.pass_state }
         requires endpoint { IsEndpoint self.old }
@@ -71,7 +73,8 @@ impl Endpoint {
         Ok(())
     }
 
-    /// Takes the front of the lane.
+    /// Takes the first load of the lane, or none if the lane was empty at some moment of the call. Only the lane's
+    /// owner may call it.
     pub fn take<R: Wait>(&mut self, rt: &R, lane: &Lane) -> Option<Load>
         requires live { IsLiveOn lane.now.queue self.old.pass_state }
         requires endpoint { IsEndpoint self.old }
@@ -90,13 +93,13 @@ impl Endpoint {
         steps::take(rt, lane, pass)
     }
 
-    /// The pass, while it is not joined.
+    /// Returns the pass, which must not have been joined yet.
     pub fn pass(&self, lane: &Lane) -> &LanePass
         requires { IsLiveOn lane.now.queue self.now.pass_state }
         ensures queue { IsSegPassOf lane.now.queue result.now }
         ensures knows { result.now.me.view.client ≡ endpoint_view self.now }
     {
-        let _lane = lane;
+        let _lane = lane; // For the proof.
         match &self.pass_state {
             PassState::Live(pass) => pass,
             PassState::Joined(_) => unreachable!(),
@@ -104,7 +107,7 @@ impl Endpoint {
     }
 }
 
-/// How many loads the lines put, together.
+/// Returns the number of loads that were put by all of these endpoints together.
 pub fn count_loads(endpoints: &Vec<Endpoint>) -> u128
     ensures { result ≡ sum_by (λ (l : Endpoint). l.put) endpoints.now.items }
 {

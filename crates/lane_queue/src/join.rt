@@ -1,4 +1,5 @@
-//! How the ports' passes are joined, lane by lane.
+//! Joining the passes of all ports, lane by lane, so that one pass of each lane knows the lists of
+//! all ports.
 ghost use Rattle.std.specs.Prelude.{◌≡◌, length, IfOk, OnErr};
 ghost use Rattle.crossbeam_queue.specs.SegTies.{IsSegPassOf};
 ghost use Rattle.lane_queue.specs.Endpoint.{endpoint_view, IsLiveOn};
@@ -12,13 +13,13 @@ use std::alloc::{AllocError, Global};
 use std::mem;
 use std::snapshot::Snapshot;
 
-// Gives the line's pass away. The line remembers what the pass knew.
+// Moves the pass out of the endpoint, which remembers for contracts what the pass knew.
 fn retire(lane: &Lane, endpoint: &mut Endpoint) -> LanePass
     requires { IsLiveOn lane.now.queue endpoint.old.pass_state }
     ensures pass { IsSegPassOf lane.now.queue result × (result.me.view.client ≡ endpoint_view endpoint.old) }
     ensures endpoint { Retired endpoint.old endpoint.new }
 {
-    let _lane = lane;
+    let _lane = lane; // For the proof.
     let was = match &endpoint.pass_state {
         PassState::Live(pass) => Snapshot::of(pass),
         PassState::Joined(_) => unreachable!(),
@@ -29,7 +30,7 @@ fn retire(lane: &Lane, endpoint: &mut Endpoint) -> LanePass
     }
 }
 
-/// The passes of the first port.
+/// Takes the passes of the first port, to which those of the others will be joined.
 pub fn begin(
     alloc: Global,
     lanes: &Vec<Lane>,
@@ -51,7 +52,7 @@ pub fn begin(
     Ok(roots)
 }
 
-/// Joins a port's passes to those of the ports below it.
+/// Joins a port's passes, lane by lane, to those of the ports with lower numbers.
 pub fn join_endpoints(
     lanes: &Vec<Lane>,
     roots: &mut Vec<RootPass>,

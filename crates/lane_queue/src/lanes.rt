@@ -1,4 +1,4 @@
-//! The lanes of all workers.
+//! The lanes of all workers of a wave.
 ghost use Rattle.std.specs.Prelude.{◌≡◌, ◌≢◌, ℕ, ◌+◌, ◌<◌, ◌≤◌, ◌++◌, length, map, slice_index_or, All, IfOk, OnOk, MatchResult};
 ghost use Rattle.std.specs.Prelude.{MatchOption, IfSome};
 ghost use Rattle.req_table.specs.Lanes.{sent_by, ends};
@@ -21,7 +21,7 @@ use std::marker::Model;
 use std::snapshot::Snapshot;
 use std::sync::Wait;
 
-/// One lane for each of 1 to 16 workers: all ports put loads on it, and its worker's port alone takes them.
+/// A lane for each of 1 to 16 workers: every port puts loads on it, and only its owner's port takes them.
 #[derive(Drop)]
 pub struct Lanes {
     lanes: Vec<Lane>,
@@ -41,17 +41,17 @@ impl Model for Lanes {
     ghost invariant = { λ l. (0 < length l.lanes.items) × (length l.lanes.items ≤ 16) };
 }
 
-/// How the lanes ended.
+/// The lanes and ports once all workers have ended.
 #[derive(Drop)]
 pub struct SettledLanes {
-    /// What was left in each lane, by worker, front first.
+    /// What was left in each lane, by worker, the first load first.
     pub left: Vec<Vec<Load>>,
-    /// The ports by number.
+    /// The ports by number. They are no longer connected to the lanes; contracts still see their lists.
     pub ports: Vec<Port>,
 }
 
 impl Lanes {
-    /// How many lanes there are: one for each worker.
+    /// Returns the number of lanes, which is that of the workers.
     pub fn count(&self) -> u32
         ensures count { result ≡ length self.now.lanes }
         ensures some { 0 < length self.now.lanes }
@@ -60,8 +60,8 @@ impl Lanes {
         self.lanes.len() as u32
     }
 
-    /// A lane and a port for each worker, by number. The lanes' store is this one as it stands: the lanes keep its number
-    /// of levels and of nodes in contracts alone, and no reference to it.
+    /// Returns a lane and a port for each worker, by number. The lanes do not borrow the store: for contracts they keep
+    /// its number of levels and of nodes, against which all requests are checked. Fails if memory is refused.
     pub fn new(alloc: Global, store: &Store, workers: u32) -> Result<(Lanes, Vec<Port>), AllocError>
         requires { (0 < workers) × (workers ≤ 16) }
         ensures lanes { IfOk result (λ r. (length r.0.lanes ≡ workers) × (r.0.sizes ≡ sizes_of store.now)) }
@@ -81,9 +81,9 @@ impl Lanes {
         Ok((Lanes { lanes, store }, ports))
     }
 
-    /// Puts the load at the back of the lane of the worker `to`. It comes back, and the port is as it was, only for want
-    /// of memory, where the port has put 2^62 loads on that lane, or at the end of the lane's numbers, which is after
-    /// nearly 2^62 loads of all ports.
+    /// Puts a load on the lane of the worker `to`. The load is returned, and the port is as before, only if memory is
+    /// refused, if the port has put 2^62 loads on this lane, or if the queue's numbers have run out, which happens
+    /// after nearly 2^62 loads of all ports.
     pub fn send<R: Wait>(&self, rt: &R, port: &mut Port, to: u32, load: Load) -> Result<(), Load>
         requires port { IsPortOf self.now port.old }
         requires to { to < length self.now.lanes }
@@ -102,7 +102,7 @@ impl Lanes {
         port.send_on(rt, &self.lanes[to as usize], to as usize, load)
     }
 
-    /// The pass with which a port steps on the lane of the worker `owner`, whose queue has the lanes' rule.
+    /// Returns the pass with which a port steps on the lane of the worker `owner`; its queue has the lanes' rule.
     pub(crate) fn pass_of<'a>(&self, port: &'a Port, owner: u32) -> &'a LanePass
         requires port { IsPortOf self.now port.now }
         requires owner { owner < length self.now.lanes }
@@ -114,7 +114,7 @@ impl Lanes {
         port.pass_on(&self.lanes, self.lanes.len() as u32, owner)
     }
 
-    /// Takes the front of the port's own lane, or answers that the lane held nothing at some moment of the call. It takes
+    /// Takes the first load of the port's own lane, or none if the lane was empty at some moment of the call. It takes
     /// no memory.
     pub fn take<R: Wait>(&self, rt: &R, port: &mut Port) -> Option<Load>
         requires { IsPortOf self.now port.old }
@@ -128,8 +128,8 @@ impl Lanes {
         port.take_on(rt, &self.lanes[own])
     }
 
-    /// What was left in each lane, and the ports, which go with no lanes any more: they only tell their lists. After want
-    /// of memory lanes and ports are gone.
+    /// Ends the lanes, once all threads have ended: returns what was left in each lane, and the ports, and in `law`
+    /// that all lists fit together. If memory is refused, lanes and ports are gone.
     pub fn settle<R: Wait>(self, rt: &R, ports: Vec<Port>) -> Result<SettledLanes, AllocError>
         requires { ArePorts (length self.lanes) self.sizes self.lanes ports.items }
         ensures ports { IfOk result (λ r. AreRetired (length self.lanes) ports.items r.ports.items) }

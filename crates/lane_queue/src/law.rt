@@ -1,4 +1,4 @@
-//! What holds of a lane between any two steps.
+//! What holds of a lane between any two atomic steps.
 ghost use Rattle.std.specs.Prelude.{◌≡◌, ◌<◌, List, length, slice_index_or};
 ghost use Rattle.std.specs.declared.alloc.Global.{Global};
 ghost use mathlib.Core.Option.{some};
@@ -14,14 +14,14 @@ ghost use Rattle.lane_queue.specs.Between.{Lawful, Between};
 use crate::rule::{HasRule, LanePass, Queue};
 use crate::{Lanes, Port};
 
-/// Whatever the threads did, between any two steps the rule of a lane's queue holds of what waits there and of what the
-/// passes know. By that rule each port has its pass, the passes' lists obey the law with what waits in the lane, and they
-/// are fair (`always`). So it is with the lane's own terms (the number of workers, the owner, the lanes' store), wherever a
-/// port's pass, under its number, knows what contracts see of the port (`lawful`). The rule speaks of what went through the
-/// lane: of a port's own lane that is what the port sent to itself and took, but for the requests that it kept (`kept`).
+/// Gives a caller the law of a lane. Between any two atomic steps of any schedule the rule of the lane's queue holds of
+/// the loads that wait and of what the passes know. From the rule follows (`always`) that each port has its pass, that
+/// the passes' lists obey the law of the lane with what waits, and that they are fair. If the passes have among them,
+/// under its number, the one that is returned here, they have the lane's own terms (`lawful`): the number of workers,
+/// the owner, and the sizes of the store. The rule is about what went through the lane; of a port's own lane that is
+/// what the port sent to itself and took, without the requests that it kept (`kept`).
 ///
-/// It answers that pass, which is of the lane's queue, so that its number and what it knows are those of the real one.
-/// Nothing runs.
+/// The function only returns this pass, to name the lane's queue and what the pass knows. It makes no step.
 pub fn between_steps<'a>(lanes: &Lanes, port: &'a Port, owner: u32) -> &'a LanePass
     requires port { IsPortOf lanes.now port.now }
     requires owner { owner < length lanes.now.lanes }

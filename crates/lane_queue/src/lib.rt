@@ -1,18 +1,20 @@
-//! Lanes: for each worker a queue that all workers push to and that it alone pops, under one rule.
+//! Lanes: for each worker a queue on which all workers put loads and from which only this worker
+//! takes them, under one rule. A load is a bundle of requests or an End; contracts read it as its
+//! items, one for each request. A port is one worker's end of all lanes. A request to itself goes
+//! through no lane: its port keeps it.
 //!
-//! A lane carries loads: a bundle of requests, which is read as these requests, one after the other, or an End. A port
-//! is one worker's end of all lanes. A worker's request to itself needs no lane: its port keeps it.
+//! **Promises.** Between any two atomic steps of any schedule, what a lane's owner has taken and
+//! then what waits is, of each sender, what this sender has put there, in its order
+//! (`law::between_steps`: `always`, `lawful`). `Lanes::send` puts a load (`port`, `sent`, `others`,
+//! `put`). `take` takes the next load of its sender (`some`), and it is of no closed level
+//! (`open`); the same holds of what `Port::keep` keeps (`kept`, `open`). `settle` gives the law of
+//! all lanes once the ports are joined (`law`).
 //!
-//! **Promises.** Whatever the schedule is, between any two steps what a lane's owner took and then what waits is, of
-//! each sender, what that sender put there, in its order (`law::between_steps`: `always`, `lawful`). `Lanes::send` puts
-//! a load (`port`, `sent`, `others`, `put`); `take` takes its sender's next (`some`), of no closed level (`open`), as
-//! `Port::keep` does (`kept`, `open`). `settle` tells the law of all lanes, once the ports are joined (`law`).
+//! **Only tests show** that `take` returns a load as long as the lane has one, if no other thread
+//! steps (`wave_tests`). How long a call waits for other threads is neither proved nor tested.
 //!
-//! **Only tests show** that `take` answers an item until the lane is empty, where nobody else steps (`wave_tests`).
-//! Nothing is claimed of how long a call waits for other threads.
-//!
-//! **Begin** with `specs/PortView`, what contracts see, and `specs/Rule` with `Between`, the rule and what it says;
-//! then `lanes`.
+//! **Begin** with `specs/PortView`, which is what contracts see, and with `specs/Rule` and
+//! `specs/Between`, which are the rule and what it says; then read `lanes`.
 #![tactic(auto)]
 
 mod endpoint;

@@ -1,11 +1,12 @@
-//! What a lane carries: requests in bundles, and the Ends of levels.
+//! Loads: what a lane carries, requests in bundles and the Ends of levels.
 ghost use Rattle.std.specs.Prelude.{◌≡◌, ◌<◌, ◌≤◌, [], ◌∷◌, ◌++◌, length, IfOk};
 
 use req_table::Key;
 use std::alloc::{AllocError, Global};
 use std::marker::Model;
 
-/// Up to `CAPACITY` requests, each with its level, in the order in which they were added.
+/// At most `CAPACITY` requests, each with its level, in the order in which they were added. They are sent and taken at
+/// once.
 #[derive(Drop)]
 pub struct Bundle {
     asks: Vec<(u16, Key)>,
@@ -27,10 +28,10 @@ impl Model for Bundle {
 }
 
 impl Bundle {
-    /// How many requests a bundle has room for.
+    /// The number of requests that a bundle has room for.
     pub const CAPACITY: usize = 64;
 
-    /// No requests, and room for `CAPACITY`.
+    /// Returns a bundle without requests, with room for `CAPACITY`. Fails if memory is refused.
     pub fn new(alloc: Global) -> Result<Bundle, AllocError>
         ensures { IfOk result (λ b. b ≡ []) }
     {
@@ -38,7 +39,7 @@ impl Bundle {
         Ok(Bundle { asks })
     }
 
-    /// Puts a request at the end. The level is the key's, as `Lanes::send` asks of each request.
+    /// Adds a request at the end. `level` has to be the request's own, which is checked when the bundle is sent.
     pub fn add(&mut self, level: u16, key: Key)
         requires { length self.old < Self.CAPACITY }
         ensures { self.new ≡ self.old ++ (level, key) ∷ [] }
@@ -46,14 +47,14 @@ impl Bundle {
         self.asks.push_reserved((level, key));
     }
 
-    /// Removes all requests, and keeps the room.
+    /// Removes all requests, and keeps the memory.
     pub fn clear(&mut self)
         ensures { self.new ≡ [] }
     {
         self.asks.clear();
     }
 
-    /// How many requests there are.
+    /// Returns the number of requests.
     pub fn len(&self) -> usize
         ensures count { result ≡ length self.now }
         ensures few { length self.now ≤ Self.CAPACITY }
@@ -61,7 +62,7 @@ impl Bundle {
         self.asks.len()
     }
 
-    /// The requests.
+    /// Returns the requests, each with its level.
     pub fn asks(&self) -> &[(u16, Key)]
         ensures value { result.now ≡ self.now }
         ensures few { length self.now ≤ Self.CAPACITY }
@@ -70,7 +71,7 @@ impl Bundle {
     }
 }
 
-/// What is put on a lane and taken from it at once.
+/// What is put on a lane, and taken from it, in one step.
 #[derive(Drop)]
 pub enum Load {
     /// Requests of one sender, at least one.

@@ -1,4 +1,4 @@
-//! How lanes and ports are made.
+//! New lanes and ports.
 ghost use Rattle.std.specs.Prelude.{◌≡◌, ◌<◌, ◌+◌, [], length, IfOk, OnOk};
 ghost use Rattle.crossbeam_queue.specs.SegTies.{IsSegPassOf};
 ghost use Rattle.lane_queue.specs.Rule.{issuer, port, MayIssue};
@@ -13,13 +13,14 @@ use dd_store::Store;
 use std::alloc::{AllocError, Global};
 use std::marker::Brand;
 
-/// The pass that issues a lane's passes.
+/// The one pass of a lane that was opened: it issues the ports' passes at the beginning, and the ports' are joined at
+/// the end.
 #[derive(Drop)]
 pub struct RootPass {
     pub pass: LanePass,
 }
 
-/// A lane for each worker, and for each the pass that issues its passes.
+/// Returns a lane for each worker, and for each lane the pass that issues the passes of its ports.
 pub fn open_all(
     alloc: Global,
     store: &Store,
@@ -38,7 +39,8 @@ pub fn open_all(
     Ok((lanes, roots))
 }
 
-// Issues a pass on the lane of the worker `owner`, whose terms are these.
+// Issues the next port's pass of the lane of the worker `owner`. The clause `terms` ties the lane's terms to the type
+// J, which the rule's step reads.
 fn issue_for<J: HasTerms>(
     lane: &Lane,
     root: &mut LanePass,
@@ -58,7 +60,7 @@ fn issue_for<J: HasTerms>(
     steps::issue::<J>(lane, root)
 }
 
-/// The lines of the next port, one on each lane.
+/// Returns the endpoints of the next port, one on each lane.
 pub fn issue_endpoints(
     alloc: Global,
     lanes: &Vec<Lane>,

@@ -1,4 +1,4 @@
-//! One worker's end of all lanes.
+//! A port: one worker's end of all lanes.
 ghost use Rattle.std.specs.Prelude.{◌≡◌, ◌<◌, length, Some, None, OnOk, IfOk, MatchResult, MatchOption, slice_index_or, map};
 ghost use Rattle.req_table.specs.Lanes.{sent_by, ends, MayFollow};
 ghost use Rattle.req_table.specs.declared.Item.TheVariants.{Ask};
@@ -25,8 +25,8 @@ use std::marker::Model;
 use std::snapshot::Snapshot;
 use std::sync::Wait;
 
-/// One worker's end of all lanes: all that it sends, takes and keeps goes through it. Contracts see what it sent to each
-/// worker and what it took; the port has numbers alone.
+/// One worker's end of all lanes, through which it sends, takes and keeps all requests. Contracts see what it has sent
+/// to each worker and what it has taken; when the program runs, the port has only counts of them.
 #[derive(Drop)]
 pub struct Port {
     number: u32,
@@ -50,7 +50,7 @@ impl Model for Port {
 }
 
 impl Port {
-    /// The port of these lines.
+    /// Returns the port that has these new endpoints.
     pub(crate) fn of_endpoints(
         number: u32,
         endpoints: Vec<Endpoint>,
@@ -63,9 +63,9 @@ impl Port {
         requires number { number < workers }
         ensures { result ≡ new_port number (sizes_of store.now) (map (λ (x : Lane). x.queue) lanes.now.items) }
     {
-        let _lanes = lanes;
-        let _workers = workers;
-        let _levels = store.levels();
+        let _lanes = lanes; // For the proof.
+        let _workers = workers; // For the proof.
+        let _levels = store.levels(); // For the proof.
         let store = Snapshot::of(store);
         let own = PortHistory::new();
         Port {
@@ -76,8 +76,8 @@ impl Port {
         }
     }
 
-    /// The worker that it belongs to: below the number of lanes. What the port took of its own is a beginning of what it
-    /// sent to itself.
+    /// Returns the number of the worker that the port belongs to. By `own`, what the port has taken of its own is a
+    /// prefix of what it has sent to itself.
     pub fn number(&self) -> u32
         ensures number { result ≡ self.now.number }
         ensures within { self.now.number < length self.now.lanes }
@@ -87,7 +87,7 @@ impl Port {
         self.number
     }
 
-    /// How many Ends it put on the lane of the worker `to`, which is the level of the next.
+    /// Returns how many Ends the port has put on the lane of the worker `to`, which is the level of the next End.
     pub fn ends(&self, to: u32) -> u16
         requires { to < length self.now.lanes }
         ensures { result ≡ ends (sent_to self.now to) }
@@ -95,15 +95,16 @@ impl Port {
         self.endpoints[to as usize].ends
     }
 
-    /// How many loads it put on all lanes together.
+    /// Returns how many loads the port has put on all lanes together.
     pub fn put(&self) -> u128
         ensures { result ≡ sum_by (λ n. n) self.now.put }
     {
         count_loads(&self.endpoints)
     }
 
-    /// Keeps a request to itself: it counts as sent and taken at once, and no step is made on a lane. Nothing that the port
-    /// sent to itself may be under way. As of what `Lanes::take` answers, its level is not closed.
+    /// Keeps a request to itself: it counts as sent and taken at once, and goes through no lane. The port must have
+    /// taken all that it has sent to itself (`taken`). As with `Lanes::take`, the request's level is not closed
+    /// (`open`).
     pub fn keep(&mut self, level: u16, key: Key)
         requires may_follow { let p = self.old in
             MayFollow (port_scope p) (ends (sent_to p p.number)) (Ask p.number level key) }
@@ -118,7 +119,7 @@ impl Port {
         self.own.kept(Snapshot::of(&ask));
     }
 
-    /// Puts a load on this lane, which is that of the worker `to`.
+    /// Puts a load on `lane`, which has to be that of the worker `to`.
     pub(crate) fn send_on<R: Wait>(
         &mut self,
         rt: &R,
@@ -143,7 +144,7 @@ impl Port {
         Ok(())
     }
 
-    /// Takes the front of this lane, which is the port's own.
+    /// Takes the first load of `lane`, which has to be the port's own.
     pub(crate) fn take_on<R: Wait>(&mut self, rt: &R, lane: &Lane) -> Option<Load>
         requires { slice_index_or self.old.lanes self.old.number None ≡ Some lane.now.queue }
         ensures { MatchOption result
@@ -159,7 +160,7 @@ impl Port {
         Some(load)
     }
 
-    /// The pass with which the port steps on the lane of the worker `owner`.
+    /// Returns the pass with which the port steps on the lane of the worker `owner`.
     pub(crate) fn pass_on(&self, lanes: &Vec<Lane>, workers: u32, owner: u32) -> &LanePass
         requires lengths { length lanes.now.items ≡ workers }
         requires lanes { self.now.lanes ≡ map (λ q. Some q) (map (λ (x : Lane). x.queue) lanes.now.items) }
@@ -172,7 +173,7 @@ impl Port {
         self.endpoints[at].pass(&lanes[at])
     }
 
-    /// Gives the passes of the first port away, to begin the joined ones.
+    /// Takes the passes out of the first port, to begin the joined ones.
     pub(crate) fn begin_join(
         &mut self,
         alloc: Global,
@@ -188,7 +189,7 @@ impl Port {
         join::begin(alloc, lanes, &mut self.endpoints, workers)
     }
 
-    /// Joins the port's passes to those of the ports below it.
+    /// Joins the port's passes to those of the ports with lower numbers.
     pub(crate) fn join_to(&mut self, lanes: &Vec<Lane>, roots: &mut Vec<RootPass>, workers: u32)
         requires lengths { (length lanes.now.items ≡ workers) × (length roots.old.items ≡ workers) }
         requires lanes { self.old.lanes ≡ map (λ q. Some q) (map (λ (x : Lane). x.queue) lanes.now.items) }

@@ -1,4 +1,5 @@
-//! What a port sent to itself and took, for contracts alone: it grows without memory.
+//! What a port has sent to itself and taken, for contracts only. It consists of snapshots, so it
+//! takes no memory when the program runs.
 ghost use Rattle.std.specs.Prelude.{◌≡◌, ◌∷◌, [], ◌++◌};
 ghost use Rattle.lane_queue.specs.Loads.{items_in};
 ghost use Rattle.lane_queue.specs.PortHistory.{sent_in, taken_in};
@@ -9,7 +10,7 @@ use std::marker::Model;
 use std::mem;
 use std::snapshot::Snapshot;
 
-/// What happened last.
+/// The last step of a port, as far as its own lane is concerned.
 #[derive(Drop)]
 pub enum PortEvent {
     Nothing,
@@ -18,7 +19,8 @@ pub enum PortEvent {
     Kept(Snapshot<Item>),
 }
 
-/// Sends to itself, takes and kept requests, in their order: what happened before the last step, and that step.
+/// The steps of a port in their order, sends to itself, takes and kept requests: the history before the last step, and
+/// this step.
 #[derive(Drop)]
 pub struct History {
     before: Option<Snapshot<History>>,
@@ -39,7 +41,7 @@ impl Model for History {
     ghost size_decreases = { λ a h. Prim.grind (arith) };
 }
 
-/// What a port sent to itself and took. It has no bytes.
+/// What a port has sent to itself and taken. It takes no bytes.
 #[derive(Drop)]
 pub struct PortHistory {
     now: Snapshot<History>,
@@ -54,7 +56,7 @@ impl Model for PortHistory {
 }
 
 impl PortHistory {
-    /// Nothing was sent or taken.
+    /// Returns the history in which nothing was sent or taken.
     pub fn new() -> PortHistory
         ensures { (result.sent ≡ []) × (result.taken ≡ []) }
     {
@@ -67,21 +69,21 @@ impl PortHistory {
         }
     }
 
-    /// The load was put on the port's own lane.
+    /// Notes that a load was put on the port's own lane.
     pub fn sent(&mut self, load: Snapshot<Load>)
         ensures { (self.new.sent ≡ self.old.sent ++ items_in load.value) × (self.new.taken ≡ self.old.taken) }
     {
         self.push(PortEvent::Sent(load));
     }
 
-    /// The load was taken.
+    /// Notes that a load was taken.
     pub fn took(&mut self, load: Snapshot<Load>)
         ensures { (self.new.sent ≡ self.old.sent) × (self.new.taken ≡ self.old.taken ++ items_in load.value) }
     {
         self.push(PortEvent::Taken(load));
     }
 
-    /// The request was kept.
+    /// Notes that a request was kept, that is, sent and taken.
     pub fn kept(&mut self, ask: Snapshot<Item>)
         ensures { (self.new.sent ≡ self.old.sent ++ ask.value ∷ [])
             × (self.new.taken ≡ self.old.taken ++ ask.value ∷ []) }
@@ -89,7 +91,7 @@ impl PortHistory {
         self.push(PortEvent::Kept(ask));
     }
 
-    // One step more.
+    // Adds a step to the history.
     fn push(&mut self, last: PortEvent)
         ensures { (self.new.sent ≡ self.old.sent ++ sent_in last) × (self.new.taken ≡ self.old.taken ++ taken_in last) }
     {

@@ -1,4 +1,5 @@
-//! The lanes' rule, and what each kind of step does to a pass.
+//! The rule of the lanes' queues, and what each kind of step does to a pass. Values of these types
+//! exist only in contracts, except for queues and passes.
 use crate::load::Load;
 use crossbeam_queue::protocol::{Join, Lesson, Outcome, Protocol, Split};
 use crossbeam_queue::{RuledSegQueue, SegPass};
@@ -6,28 +7,34 @@ use req_table::{Item, Sizes};
 use std::collections::LinkedList;
 use std::marker::{Brand, PhantomData};
 
-/// What never changes of a lane: how many workers there are, which of them takes from this lane, and the store's sizes.
-/// No value of it is made.
+/// What never changes of a lane, and each pass of it knows: the number of workers, the lane's owner, and the sizes of
+/// the store.
 pub struct Terms {
     pub workers: u32,
     pub owner: u32,
     pub sizes: Sizes,
 }
 
-/// What a pass knows: it stands for the ports from `low` on and below `high`, and has what each of them sent, what the
-/// owner took if it is among them, and what was read out at the end. No value of it is made.
+/// What a pass knows. It is the pass of one port, or, after passes were joined, of several ports with consecutive
+/// numbers.
 pub struct View {
+    /// Whether the lane has its terms. It gets them with the first port's pass.
     pub begun: bool,
     pub terms: Terms,
+    /// The number of the first port whose pass this is.
     pub low: u32,
+    /// The number after that of the last port.
     pub high: u32,
+    /// What each of these ports has sent on the lane, port by port.
     pub sent: LinkedList<LinkedList<Item>>,
+    /// What the lane's owner has taken, if it is one of these ports.
     pub taken: LinkedList<Item>,
+    /// What was read out of the lane after all ports were joined.
     pub left: LinkedList<Item>,
 }
 
-/// The rule of a lane: what was taken and then what waits, each load read as its items, is, of each port, what that port
-/// sent, which is fair.
+/// The rule of a lane: what was taken and then what waits, each load read as its items, is, of each port, what this
+/// port has sent, and that list is fair.
 pub struct LaneRule;
 
 impl Protocol<Load, View> for LaneRule {
@@ -38,7 +45,8 @@ impl Protocol<Load, View> for LaneRule {
     ghost first = { blank };
 }
 
-/// The terms of the lane whose passes are issued. Each call picks them.
+/// The terms of the lane whose passes are issued. They are a type parameter, because a kind of step is a type; each
+/// call chooses them.
 pub trait HasTerms {
     ghost use Rattle.lane_queue.specs.declared.rule.Terms.{Terms};
 
@@ -51,7 +59,7 @@ impl HasTerms for Brand {
     ghost terms = { no_terms };
 }
 
-/// A pass is issued for the next port.
+/// The step that issues the pass of the next port.
 pub struct Issue<J> {
     of: PhantomData<J>,
 }
@@ -65,7 +73,7 @@ impl<J: HasTerms> Split<View> for Issue<J> {
     ghost right = { λ v. port J.terms v.low [] [] };
 }
 
-/// A port's pass goes into that of the ports below it.
+/// The step that joins a port's pass to that of the ports with lower numbers.
 pub struct Merge;
 
 impl Join<View> for Merge {
@@ -77,7 +85,7 @@ impl Join<View> for Merge {
     ghost spent = { spent };
 }
 
-/// A port puts a load on the lane.
+/// The step by which a port puts a load on the lane.
 pub struct Put;
 
 impl Outcome<Load, View> for Put {
@@ -86,7 +94,7 @@ impl Outcome<Load, View> for Put {
     ghost then = { Sends };
 }
 
-/// The owner takes the front.
+/// The step by which the owner takes the first load.
 pub struct Take;
 
 impl Outcome<Load, View> for Take {
@@ -101,7 +109,7 @@ impl Lesson<Load, View> for Take {
     ghost fact = { OwnSentInOrder };
 }
 
-/// What is left is read out, once all ports are joined.
+/// The step that reads out what is left, after all ports were joined.
 pub struct Read;
 
 impl Outcome<Load, View> for Read {
@@ -116,13 +124,13 @@ impl Lesson<Load, View> for Read {
     ghost fact = { AllPortsLawful };
 }
 
-/// One lane's queue.
+/// The queue of one lane.
 pub type Queue = RuledSegQueue<Load, View, LaneRule>;
 
-/// What a port needs to step on one lane.
+/// What a port needs for its steps on one lane. It takes no bytes.
 pub type LanePass = SegPass<Load, View>;
 
-/// A queue that has a rule: what holds of its content and of what its passes know, between any two steps.
+/// A queue that has a rule: what holds of its loads and of what its passes know, between any two atomic steps.
 pub trait HasRule {
     ghost use Rattle.std.specs.Prelude.{List};
     ghost use Rattle.lane_queue.specs.declared.load.Load.{Load};
@@ -135,7 +143,7 @@ impl<P: Protocol<Load, View>> HasRule for RuledSegQueue<Load, View, P> {
     ghost rule = { P.holds };
 }
 
-/// One worker's lane.
+/// The lane of one worker.
 pub struct Lane {
     pub queue: Queue,
 }

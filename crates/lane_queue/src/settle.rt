@@ -1,4 +1,4 @@
-//! How the lanes end: all ports are joined, and what is left is read out.
+//! The end of the lanes: the passes of all ports are joined, and what is left is read out.
 ghost use Rattle.std.specs.Prelude.{◌≡◌, ◌<◌, [], map, length, slice_index_or, IfOk, OnOk};
 ghost use Rattle.crossbeam_queue.specs.SegTies.{IsSegPassOf};
 ghost use Rattle.req_table.specs.Lanes.{LaneLaw};
@@ -34,7 +34,7 @@ pub fn join_all(
     ensures ports { OnOk result (AreRetired workers ports.old.items ports.new.items) }
     ensures kept { OnOk result (AllAgreeWithOwnLane workers ports.old.items) }
 {
-    let _store = store;
+    let _store = store; // For the proof.
     let mut roots = ports[0].begin_join(alloc, lanes, workers)?;
     for next in 1..workers {
         ports[next as usize].join_to(lanes, &mut roots, workers);
@@ -42,7 +42,7 @@ pub fn join_all(
     Ok(roots)
 }
 
-// What is left in the lane.
+// Returns what is left in the lane, and by the last read, which finds it empty, the law of the lane.
 fn read_all<R: Wait>(
     rt: &R,
     alloc: Global,
@@ -66,7 +66,7 @@ fn read_all<R: Wait>(
     unreachable!()
 }
 
-/// What is left in each lane, once all ports are joined.
+/// Returns what is left in each lane, once all ports are joined.
 pub fn read_lanes<R: Wait>(
     rt: &R,
     lanes: &Vec<Lane>,
@@ -81,8 +81,8 @@ pub fn read_lanes<R: Wait>(
     ensures law { IfOk result (λ r.
         LawOfLanes workers (sizes_of store.now.value) ports.now.items (map (λ v. v.items) r.items)) }
 {
-    let _store = store;
-    let _ports = ports;
+    let _store = store; // For the proof.
+    let _ports = ports; // For the proof.
     let alloc = *roots.allocator();
     let mut left = Vec::new(alloc);
     for lane in 0..workers {

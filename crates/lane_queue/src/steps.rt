@@ -1,4 +1,4 @@
-//! The seven kinds of step, each on one lane. No other code steps on a queue.
+//! The kinds of step on the queue of one lane. No other code steps on a queue.
 ghost use Rattle.std.specs.Prelude.{◌≡◌, ◌≢◌, ◌<◌, ◌+◌, [], ◌∷◌, ◌++◌, IfOk, MatchResult, MatchOption};
 ghost use Rattle.crossbeam_queue.specs.SegTies.{IsSegPassOf};
 ghost use Rattle.req_table.specs.Lanes.{ends};
@@ -11,7 +11,7 @@ use crate::rule::{HasTerms, Issue, Lane, LanePass, Merge, Put, Queue, Read, Take
 use std::alloc::{AllocError, Global};
 use std::sync::Wait;
 
-/// A lane with no terms yet, and the pass that issues its ports' passes.
+/// Returns an empty lane without terms yet, and the pass that will issue its ports' passes.
 pub fn open(alloc: Global) -> Result<(Lane, LanePass), AllocError>
     ensures { IfOk result (λ q. IsSegPassOf q.0.queue q.1 × (q.1.me.view.client ≡ blank)) }
 {
@@ -30,7 +30,7 @@ pub fn issue<J: HasTerms>(lane: &Lane, root: &mut LanePass) -> LanePass
     lane.queue.another::<Issue<J>>(root)
 }
 
-/// Puts a load at the back of the lane. It comes back for want of memory or where the queue's numbers have run out.
+/// Puts a load on the lane. The load is returned if memory is refused or the queue's numbers have run out.
 pub fn send<R: Wait>(rt: &R, lane: &Lane, pass: &mut LanePass, load: Load) -> Result<(), Load>
     requires queue { IsSegPassOf lane.now.queue pass.old }
     requires port { IsPort pass.old.me.view.client }
@@ -46,7 +46,7 @@ pub fn send<R: Wait>(rt: &R, lane: &Lane, pass: &mut LanePass, load: Load) -> Re
     lane.queue.push_as::<Put, R>(rt, pass, load)
 }
 
-/// Takes the front of the lane.
+/// Takes the first load of the lane, or none if the lane was empty at some moment of the call.
 pub fn take<R: Wait>(rt: &R, lane: &Lane, pass: &mut LanePass) -> Option<Load>
     requires queue { IsSegPassOf lane.now.queue pass.old }
     requires port { IsPort pass.old.me.view.client }
@@ -60,7 +60,7 @@ pub fn take<R: Wait>(rt: &R, lane: &Lane, pass: &mut LanePass) -> Option<Load>
     lane.queue.pop_as::<Take, R>(rt, pass)
 }
 
-/// Joins the next port's pass to that of the ports below it.
+/// Joins the next port's pass to that of the ports with lower numbers.
 pub fn join(lane: &Lane, root: &mut LanePass, next: LanePass)
     requires queue { IsSegPassOf lane.now.queue root.old × IsSegPassOf lane.now.queue next }
     requires root { IsJoined root.old.me.view.client × (root.old.me.view.client.left ≡ []) }
@@ -77,7 +77,7 @@ pub fn join(lane: &Lane, root: &mut LanePass, next: LanePass)
     lane.queue.absorb::<Merge>(root, next)
 }
 
-/// Reads the front of the lane out, once all ports are joined.
+/// Reads out the first load that is left, or none if nothing is; then the law of the lane is known.
 pub fn read<R: Wait>(rt: &R, lane: &Lane, root: &mut LanePass) -> Option<Load>
     requires queue { IsSegPassOf lane.now.queue root.old }
     requires root { IsOfAllPorts root.old.me.view.client }

@@ -1,4 +1,4 @@
--- A store with the diagrams of all functions of a kind, or one without room: for one function, and for kinds that are put together.
+-- A store with the diagrams of all functions of a kind, or one without room: for one function, and for several kinds.
 use Rattle.std.proofs.Common.{◌≡◌, ◌∙◌, ℕ, zero, suc, ◌<◌, ◌≤◌, ◌⊎◌, inl, inr, Bool, List, [], ◌∷◌, refl, sym, subst, arith}
 use Rattle.std.specs.Prelude.{Contains}
 use Rattle.std.proofs.lemmas.Bool.{cases_lt}
@@ -21,7 +21,7 @@ pub record Covered (n limit : ℕ) (Values : (List Bool → Bool) → Type 0) (S
   pub diagrams : (f : List Bool → Bool) → Kind f → HasDiagram n store f
 
 module _ (n limit : ℕ) (Values : (List Bool → Bool) → Type 0) where
-  -- wherever a build begins, it gets to the diagrams of a kind, or there is no room
+  -- whichever store one begins with, there is a later one with the diagrams of the kind, or there is no room
   abbrev pub Covers : ((List Bool → Bool) → Type 0) → Type 0
   Covers Kind = (S : Nodes) → IsGood n limit Values S → Covered n limit Values S Kind ⊎ IsStuck n limit Values
 

@@ -1,4 +1,4 @@
--- A build that begins without nodes ends within the limit or beyond it.
+-- A build that begins without nodes ends within the limit, or goes beyond it.
 use Rattle.std.proofs.Common.{◌≡◌, ◌∙◌, ℕ, ◌<◌, ◌≤◌, ◌^◌, ◌⊎◌, inl, inr, Bool, List, length, Option, Some, None, refl, sym, ap, subst, arith}
 use Rattle.std.specs.Prelude.{IfSome, option_map}
 use Rattle.dd_store.specs.declared.reference.Ref.{Ref}
@@ -7,8 +7,8 @@ use Rattle.dd_store.specs.View.{part, Has}
 use Rattle.dd_store.proofs.Storing.{IsStore-empty}
 use Rattle.dd_store.proofs.View.{denotes, parts, same_ref}
 use Rattle.net_bench.specs.Circuit.{Circuit, Net, IsNet, circuit}
-use Rattle.net_order.specs.declared.order.Match.{Match}
-use Rattle.net_order.specs.declared.order.Order.{Order}
+use Rattle.net_names.specs.declared.order.Match.{Match}
+use Rattle.net_names.specs.declared.order.Order.{Order}
 use Rattle.net_order.specs.Order.{NamingModel, IsPairing, both, given_side}
 use Rattle.net_order.proofs.Orders.{ordered_count}
 use Rattle.gate_plan.specs.Building.{levelled}
@@ -31,7 +31,7 @@ few how order a b given p h =
     let most = h.few in
     omega (arith, names, count, most)
 
--- a store without nodes to begin with
+-- a store without nodes, with which one begins
 module _ (n limit : ℕ) (Values : (List Bool → Bool) → Type 0) (low : n ≤ 4096) (small : limit < 2 ^ 32) where
   none : count_of (empty_nodes n limit) ≡ 0
   none = sym (IsStore-empty n limit low small).counted

@@ -1,4 +1,4 @@
--- The diagram of a function is drawn in a store within its limit, or some function that is counted has no room there.
+-- The diagram of a function is made in a store within its limit, or some function that counts has no room there.
 use Rattle.std.proofs.Common.{◌≡◌, ◌≢◌, ◌∙◌, ℕ, zero, suc, ◌+◌, ◌<◌, ◌≤◌, ◌⊎◌, inl, inr, Bool, true, false, cond, List, [], ◌∷◌, ◌++◌, length, drop, refl, sym, ap, subst, arith}
 use Rattle.std.specs.Prelude.{Ok, Err}
 use Rattle.std.proofs.Math.Seq.{drop-append_seam}
@@ -38,9 +38,9 @@ joined n v lt f p g h q (b ∷ x) hq hx = h q b x hq (omega arith)
 for_bit : (n v : ℕ) (f : List Bool → Bool) (p : List Bool) (b : Bool) (g : List Bool → Bool) → IsFixed n (suc v) f (p ++ b ∷ []) g → (q x : List Bool) → length q ≡ v → v + suc (length x) ≡ n → g (q ++ b ∷ x) ≡ f (p ++ b ∷ x)
 for_bit n v f p b g h q x hq hx = ap g (sym (seam q b x)) ∙ h (q ++ b ∷ []) x (longer q b v hq) (omega arith) ∙ ap f (seam p b x)
 
--- ---- stores of needed nodes alone, within a limit
+-- ---- stores with only needed nodes, within a limit
 
--- a store of n levels that has counted nodes alone, and no more than the limit
+-- a store of n levels that has only nodes that count, and at most as many as the limit
 pub record IsGood (n limit : ℕ) (Values : (List Bool → Bool) → Type 0) (S : Nodes) : Type 0 where
   pub sound : IsSound S
   pub levels : S.levels ≡ n
@@ -48,14 +48,14 @@ pub record IsGood (n limit : ℕ) (Values : (List Bool → Bool) → Type 0) (S 
   pub lean : IsLean n Values (part S) (Has S) (den S)
   pub within : count_of S ≤ limit
 
--- such a store that has as many as the limit, and lacks one that is counted
+-- such a store that has as many as the limit, and lacks one that counts
 pub record IsStuck (n limit : ℕ) (Values : (List Bool → Bool) → Type 0) : Type 0 where
   pub store : Nodes
   pub good : IsGood n limit Values store
   pub full : count_of store ≡ limit
   pub lacks : LacksCounted n Values store
 
--- a later one with a reference, not above level v, that denotes f with its first v bits fixed to p
+-- a later store with a reference, not above level v, that denotes f with its first v bits fixed to p
 pub record Drawn (n limit : ℕ) (Values : (List Bool → Bool) → Type 0) (S : Nodes) (v : ℕ) (f : List Bool → Bool) (p : List Bool) : Type 0 where
   pub store : Nodes
   pub good : IsGood n limit Values store
@@ -81,7 +81,7 @@ module _ (n limit : ℕ) (Values : (List Bool → Bool) → Type 0) (f : List Bo
   can : CanMake S v lo hi
   can = record { level = inside; lo_in_store = hlo; hi_in_store = hhi; above_lo = tlo; above_hi = thi }
 
-  -- a node that is there or is made
+  -- a node that is found or made
   module _ (r : Ref) (T : Nodes) (m : Makes S v lo hi (Ok r) T) where
     sound' : IsSound T
     sound' = Makes-sound S T v lo hi (Ok r) good.sound can m

@@ -74,7 +74,7 @@ module _ (S : Nodes) (v : ℕ) (lo hi : Ref) where
       by (inl found) = inl found
       by (inr none) = inr (nowhere none)
 
-  -- ---- what making it comes to
+  -- ---- the result of making it
 
   pub make : ((r : Ref) × (T : Nodes) × Makes S v lo hi (Ok r) T) ⊎ Makes S v lo hi (Err Full) S
   make = by (same_ref lo hi) find_node (cases_lt (count_of S) S.limit)

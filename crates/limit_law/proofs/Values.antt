@@ -1,4 +1,4 @@
--- The functions that two netlists need, with a condition or without, are few: for each of them one that agrees with it is drawn.
+-- The functions that two netlists need, with a condition or without, are few: for each of them a diagram of one that agrees is made.
 use Rattle.std.proofs.Common.{◌≡◌, ◌∙◌, ℕ, zero, suc, ◌<◌, ◌≤◌, ◌⊎◌, inl, inr, Bool, List, length, map, Some, None, refl, sym, ap, subst, arith, slice_index}
 use Rattle.std.specs.Prelude.{◌&&◌, All, Contains, IsTrue}
 use Rattle.dd_store.specs.Functions.{Agree}
@@ -123,14 +123,14 @@ all_read_with a b c sound sound' sound'' p one (suc zero, lt, e) = (b, sound', a
 all_read_with a b c sound sound' sound'' p one (suc (suc zero), lt, e) = (c, sound'', ap (λ (l : Levelled). l.netlist) e)
 all_read_with a b c sound sound' sound'' p one (suc (suc (suc k)), lt, e) = absurd (omega (arith, lt))
 
--- ---- what is compared where a condition holds
+-- ---- what is compared if there is a condition
 
 module _ (a b c : Net) (sound : IsNet a) (sound' : IsNet b) (sound'' : IsNet c) (one_output : HasOneOutput (circuit c)) (p : NamingModel) (inside : All (IsInside (circuit a) (circuit b)) (subjects (circuit a) (circuit b) p))
     (limit : ℕ) (Values : (List Bool → Bool) → Type 0) (more : (f : List Bool → Bool) → IsComparedValue (circuit a) (circuit b) (Some (circuit c)) p f → Values f) where
   abbrev n : ℕ
   n = length p.names
 
-  -- where the condition holds
+  -- whether the condition holds
   holds : List Bool → Bool
   holds = signal c sound'' (slice_index p.given) (output_of (circuit c))
 
@@ -142,7 +142,7 @@ module _ (a b c : Net) (sound : IsNet a) (sound' : IsNet b) (sound'' : IsNet c) 
   unfolding holds
   holds_one h is = signal_one c sound'' (slice_index p.given) n (output_of (circuit c)) (output_inside c sound'' one_output) h is
 
-  -- f is the function of a signal of one of the netlists, where the condition holds
+  -- f is the function of a signal of one of the netlists, restricted to where the condition holds
   abbrev IsRestricted : Net → (ℕ → ℕ) → ℕ → (List Bool → Bool) → Type 0
   IsRestricted net level s f =
       (h : List Bool → Bool) × HoldsWhere (Some (circuit c)) p h × ((whole : List Bool → Bool) × IsFunctionOf (circuit net) level n s whole × Agree n f (restricted h whole))

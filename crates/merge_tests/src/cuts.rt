@@ -1,10 +1,10 @@
-// Of cuts: which windows they grow to, and in which order leaves come.
+// Cuts: to which windows they grow, and in which order leaves come.
 use cut_window::{Cut, CutKind, LeafOrder, NodeRanks, NodeTable, Window};
 use pair_graph::{Graph, GraphFault, Literal};
 use std::alloc::Global;
 use std::test::Fail;
 
-/// The And of two literals, or the constant 0 if one of them is not of the graph.
+/// The And of two literals; the constant 0 if one of them is not of the graph.
 pub(crate) fn and_of(graph: &mut Graph, a: Literal, b: Literal) -> Result<Literal, GraphFault> {
     if (a.node() as usize) < graph.len() && (b.node() as usize) < graph.len() {
         return graph.and_of(a, b);
@@ -12,7 +12,7 @@ pub(crate) fn and_of(graph: &mut Graph, a: Literal, b: Literal) -> Result<Litera
     Ok(Literal::FALSE)
 }
 
-/// The nodes of (a AND b) AND c and of a AND (b AND c), with the graph.
+/// A graph with the literals of (a AND b) AND c and of a AND (b AND c).
 pub(crate) fn two_ways(alloc: Global) -> Result<(Graph, Literal, Literal), GraphFault> {
     let mut graph = Graph::new(alloc)?;
     let a = graph.variable(0)?;
@@ -25,7 +25,7 @@ pub(crate) fn two_ways(alloc: Global) -> Result<(Graph, Literal, Literal), Graph
     Ok((graph, first, second))
 }
 
-// Both cones meet at the variables, which have the numbers 1, 2 and 3.
+// Both cones meet at the variables, which are the nodes 1, 2 and 3.
 #[test]
 fn cut_at_variables(rt: HostRuntime) -> Result<(), Fail> {
     let (graph, first, second) = two_ways(rt.alloc())?;
@@ -46,7 +46,7 @@ fn cut_at_variables(rt: HostRuntime) -> Result<(), Fail> {
     Ok(())
 }
 
-// By rank the leaf of the highest rank comes first: one step takes the newer of the two nodes of rank 2.
+// By rank the leaf of the highest rank is replaced first: one step takes the newer of the two nodes of rank 2.
 #[test]
 fn cut_by_rank(rt: HostRuntime) -> Result<(), Fail> {
     let (graph, first, second) = two_ways(rt.alloc())?;
@@ -70,7 +70,7 @@ fn window_of_nodes(rt: HostRuntime) -> Result<(), Fail> {
 fn table_of_nodes(rt: HostRuntime) -> Result<(), Fail> {
     let mut table = NodeTable::new(rt.alloc());
     table.clear(4)?;
-    table.set(2, 7);
+    table.set(2, 7)?;
     assert!(rt; table.get(2) == Some(7) && table.has(2) && !table.has(1));
     table.clear(4)?;
     assert!(rt; table.get(2).is_none());

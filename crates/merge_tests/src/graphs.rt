@@ -1,4 +1,4 @@
-// Of graphs: that operations succeed with ample memory, and that each has one node.
+// Graphs: that operations succeed if memory is ample, and that each has only one node.
 use pair_graph::{Graph, GraphFault, Literal, Node};
 use std::alloc::Global;
 use std::test::Fail;
@@ -11,7 +11,7 @@ fn two_variables(alloc: Global) -> Result<(Graph, Literal, Literal), GraphFault>
     Ok((graph, a, b))
 }
 
-// The constant, the two variables, and one And, whichever operand comes first.
+// The graph has the constant, the two variables, and one And for both orders of the operands.
 #[test]
 fn one_node_for_one_operation(rt: HostRuntime) -> Result<(), Fail> {
     let (mut graph, a, b) = two_variables(rt.alloc())?;
@@ -25,7 +25,7 @@ fn one_node_for_one_operation(rt: HostRuntime) -> Result<(), Fail> {
     Ok(())
 }
 
-// Xor nodes have no complemented operands, and their complement is on the answer.
+// Xor nodes have no complemented operands: the answer is complemented instead.
 #[test]
 fn xor_of_complements(rt: HostRuntime) -> Result<(), Fail> {
     let (mut graph, a, b) = two_variables(rt.alloc())?;

@@ -1,7 +1,7 @@
-// Of the judge of windows: what it finds with ample memory, and that each window has the whole budget.
+// The judge of windows: what it finds if memory is ample, and that each window has the whole budget.
 use crate::cuts::{and_of, two_ways};
 use cut_window::{Finding, Window};
-use expand_work::{Crew, Workers};
+use expand_work::{Crew, NoMonitor, Workers};
 use pair_graph::{Graph, Literal};
 use std::alloc::{AllocError, Global};
 use std::sync::Wait;
@@ -21,7 +21,7 @@ fn found<R: Threads + Wait + Sync>(
 ) -> Result<(Finding, u64), AllocError> {
     let (graph, window) = over;
     let (first, second) = pair;
-    let bound = WindowBound::of(nodes);
+    let bound = WindowBound::of(nodes, &NoMonitor);
     let crew = Crew {
         rt,
         alloc,
@@ -78,7 +78,7 @@ fn judge_that_gives_up(rt: HostRuntime) -> Result<(), Fail> {
     Ok(())
 }
 
-// The diagrams of this window have six nodes, which are counted as its work, with four for each of its seven nodes.
+// The diagrams of this window have six nodes, which count as work, and so do four for each of its seven nodes.
 #[test]
 fn whole_budget_for_each_window(rt: HostRuntime) -> Result<(), Fail> {
     let (graph, first, second) = two_ways(rt.alloc())?;
@@ -88,7 +88,7 @@ fn whole_budget_for_each_window(rt: HostRuntime) -> Result<(), Fail> {
     Ok(())
 }
 
-// A leaf is a free variable, also if it is an And of another one: over the leaves b and "a AND b" nothing is known of "a AND b".
+// A leaf is a free variable, also if its node is the And of another leaf: so over the leaves b and "a AND b" the two can differ.
 #[test]
 fn leaf_is_free(rt: HostRuntime) -> Result<(), Fail> {
     let (mut graph, _, _) = two_ways(rt.alloc())?;

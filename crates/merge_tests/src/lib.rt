@@ -1,7 +1,8 @@
 //! Tests of the graph of two netlists and of windows over its cuts, by their public calls.
 //!
-//! They show what no contract can: that calls with ample memory succeed, that operations are found by their structure, which
-//! windows a cut grows to, and that a window's diagrams fit into a budget that is large enough. **Begin** with `graphs`.
+//! They show what no contract can: that calls succeed if memory is ample, that an operation is found by structural
+//! hashing, to which windows a cut grows, that a window's diagrams fit in a budget that is large enough, and that workers
+//! change nothing. **Begin** with `graphs`.
 #![tactic(auto)]
 
 #[cfg(test)]
@@ -14,3 +15,5 @@ mod judging;
 mod merging;
 #[cfg(test)]
 mod rounds;
+#[cfg(test)]
+mod truth_tables;

@@ -1,4 +1,5 @@
-// Of merging: signals of a multiplier and of one that is built of other adders get the same literals, and of a wrong one they do not.
+// Merging: the outputs of a multiplier and of one with other adders get the same literals, and those of a wrong one do not.
+use expand_work::NoMonitor;
 use net_bench::netlist::{Netlist, Signal};
 use net_bench::reader::parse_bench;
 use net_merge::{Learned, LevelledNetlist, MergeTask, MergedNetlists, merge_netlists};
@@ -10,7 +11,7 @@ use std::thread::Threads;
 /// How many bits each factor has.
 const BITS: usize = 4;
 
-/// Gates of which an adder is made: its sum and its carry from x, y and c.
+/// The gates of which an adder is made: its sum and its carry from x, y and c.
 #[derive(Clone, Copy, Drop)]
 pub(crate) enum Adder {
     /// Two Xors, two Ands and an Or.
@@ -21,7 +22,7 @@ pub(crate) enum Adder {
     Wrong,
 }
 
-/// The lines of an adder at a place.
+/// Appends the lines of an adder at a place.
 fn add_adder(
     text: &mut String,
     alloc: Global,
@@ -45,7 +46,7 @@ fn add_adder(
     Ok(())
 }
 
-/// The name of the sum that comes to a place from the row before: in the first row a product, at the end of a row a carry.
+/// The name of the signal that a place gets from the row above: in row 1 a product, at the end of a row a carry.
 fn from_above(alloc: Global, row: usize, column: usize) -> Result<String, AllocError> {
     let (above, next) = (row.wrapping_sub(1), column.wrapping_add(1));
     if next == BITS && row == 1 {
@@ -105,7 +106,7 @@ pub(crate) fn multiplier(alloc: Global, adder: Adder, last: Adder) -> Result<Str
     Ok(text)
 }
 
-/// By signal the level of a variable: its place among the variables.
+/// For the signal of each variable its level, which is its place among the variables.
 pub(crate) fn levels_of(alloc: Global, net: &Netlist) -> Result<Vec<u32>, AllocError> {
     let mut levels = Vec::from_elem(alloc, 0u32, net.count())?;
     let mut level = 0u32;
@@ -119,8 +120,8 @@ pub(crate) fn levels_of(alloc: Global, net: &Netlist) -> Result<Vec<u32>, AllocE
     Ok(levels)
 }
 
-/// The two netlists in one graph, by one round; their outputs are wanted equal.
-fn merged<R: Threads + Wait + Sync>(
+/// The two netlists merged in one graph by one round. Their outputs are wanted equal.
+pub(crate) fn merged<R: Threads + Wait + Sync>(
     rt: &R,
     alloc: Global,
     first: &Netlist,
@@ -144,8 +145,10 @@ fn merged<R: Threads + Wait + Sync>(
         first: one,
         second: two,
         wanted: wanted.as_slice(),
+        workers: 2,
     };
-    let both = merge_netlists(rt, alloc, &task, 4000, &mut Learned::new(alloc))?;
+    let mut learned = Learned::new(alloc);
+    let both = merge_netlists(rt, alloc, &task, 4000, &mut learned, &NoMonitor)?;
     Ok(both)
 }
 
@@ -177,7 +180,7 @@ fn multipliers_of_other_adders(rt: HostRuntime) -> Result<(), Fail> {
     Ok(())
 }
 
-// The carry of the last adder is wrong, and it is the last output alone.
+// The carry of the last adder is wrong, which is only the last output.
 #[test]
 fn wrong_multiplier(rt: HostRuntime) -> Result<(), Fail> {
     let alloc = rt.alloc();

@@ -26,7 +26,7 @@ use Rattle.net_bench.proofs.Found.{found_later, found_append, found_inside, foun
 use Rattle.net_bench.proofs.Parts.{whole_more, symbols_more, symbols_after, inputs_after, outputs_after, lines_after, uses_found, places_more, places_after, all_front, all_last}
 use Rattle.net_bench.proofs.Interning.{interned_tokens, operands_tokens, interned_step, operands_step, begun_step, begun_closed, newest_same, newest_operands_same, live, one_more}
 
--- the fault tells what was found
+-- the fault is the one that was found
 abbrev Says : BenchFault → Option FaultOnLine → Type 0
 Says fault found = (f : FaultOnLine) × (found ≡ Some f) × (fault ≡ answered_fault f)
 
@@ -72,7 +72,7 @@ answers_broken s line t fault good h =
     let f : IsAnsweredFault (BadStatement line) s line t = answers_misplaced s line t (nothing_answered (lexical line t) good) h.1 in
     (f.0, f.1, h.0 ∙ f.2)
 
--- the first two tests pass
+-- the first two tests find nothing
 two_pass : (s : State) (line : ℕ) (t : Token) → lexical line t ≡ None → step s t ≢ Failed → first_of (token_tests s line t) ≡
     first_of (gate_word (step s t) ∷ wrong_count (closed s t) ∷ second (closed s t) ∷ over_limit line (tokens_of s ++ t ∷ []) ∷ [])
 two_pass s line t none other = skip (lexical line t) _ none ∙ skip (syntactic line (step s t)) _ (well_placed line (step s t) other)
@@ -150,7 +150,7 @@ beyond_right true b line e = refl
 beyond_right false true line e = refl
 beyond_right false false line e = cc
 
--- the names of the tokens up to here
+-- the names that the tokens up to here mention
 names_front : (s : State) (t : Token) → IsRight s → step s t ≢ Failed → interned_in (tokens_of s ++ t ∷ []) ≡ interned_of (step s t)
 names_front s t right other = let next : Goes s t (step s t) = go s t other right in ap interned_in (sym next.1) ∙ interned_tokens (step s t)
 
@@ -175,7 +175,7 @@ full s line t right other (inr many) =
     beyond_right (nat_lt max_signals (length (distinct (interned_in (tokens_of s ++ t ∷ []))))) (nat_lt max_operands (length (operands_in (tokens_of s ++ t ∷ [])))) line
     (ap (λ ws. nat_lt max_operands (length ws)) (operands_front s t right other) ∙ lt_true max_operands (length (operands_of (step s t))) many)
 
--- the table's names and operands with those of one more token
+-- the table's names and operands after one more token
 names_after : (done : List Statement) (s : State) (t : Token) (table : SymbolTable) → IsTableOf done s table → step s t ≢ Failed →
     fold with_name table.names (texts (newest (step s t) t)) ≡ distinct (interned_of (step s t))
 names_after done s t table h other =
@@ -186,9 +186,9 @@ operands_after : (done : List Statement) (s : State) (t : Token) (table : Symbol
     table.operands + newest_operands (step s t) t ≡ length (operands_of (step s t))
 operands_after done s t table h other = ap (λ n. n + newest_operands (step s t) t) h.operands ∙ sym (operands_step s t other)
 
--- ---- a token that goes on with a statement
+-- ---- a token that does not close a statement
 
--- what is known there: the part stands for the next state, and no statement is closed
+-- what is known there: the partial statement is that of the next state, and no statement is closed
 record Part_at (done : List Statement) (s : State) (line : ℕ) (t : Token) (p : PartialStatement) (table : SymbolTable) : Type 0 where
   before : IsTableOf done s table
   lexical_ok : lexical line t ≡ None

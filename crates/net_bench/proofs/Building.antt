@@ -1,4 +1,4 @@
--- A netlist put together from its parts.
+-- A netlist that is made of its parts.
 use Rattle.net_bench.proofs.CircuitOf.{name_defined, contains_map, number_back}
 use Rattle.net_bench.proofs.Numbers.{contained_in, in_distinct, number_low, number_at}
 use Rattle.std.proofs.lemmas.List.{get_or_default}
@@ -30,7 +30,7 @@ or_swap false true false h = refl
 or_swap false false true h = refl
 or_swap false false false h = refl
 
--- what is defined has an INPUT or a gate
+-- what is defined is an INPUT, a gate or a register
 either_in : (ss : List Statement) (n : List ℕ) → is_name_in (flat_map defined ss) n ≡ (is_name_in (flat_map input_name ss) n || is_name_in (flat_map gate_name ss) n)
 either_in [] n = refl
 either_in (s ∷ ss) n =
@@ -48,7 +48,7 @@ IsOf ss table = IsTableOf ss (Between ss) table
 or_both : (r : Role) (a b : Bool) → is_input_role r ≡ a → is_driven_role r ≡ b → is_defined_role r ≡ (a || b)
 or_both r a b e f = ap (λ c. c || is_driven_role r) e ∙ ap (λ c. a || c) f
 
--- a word's symbol has a definition exactly where the word is defined
+-- a word's symbol is defined exactly if the word is
 known_is : (ss : List Statement) (table : SymbolTable) → IsOf ss table → (w : Word) (i : ℕ) → find table.names w.text ≡ Some i → known_symbol (slice_get table.symbols.items i) ≡ is_defined ss w
 known_is ss table h w i e = at_symbol (slice_get table.symbols.items i) refl
   where

@@ -1,6 +1,6 @@
 -- The circuit of sound statements.
 use Rattle.std.proofs.Common.{◌≡◌, ◌≢◌, ◌⊎◌, inl, inr, ℕ, zero, suc, ◌<◌, ◌≤◌, List, [], ◌∷◌, Bool, true, false, refl, sym, ap, ◌∙◌, subst, IsTrue, map, length, get_or, take, arith}
-use Rattle.std.specs.Prelude.{cond, ◌||◌, ◌++◌, bytes_eq, flat_map, filter, filter_map, Contains, All, Option, Some, None, option_map, is_some, not}
+use Rattle.std.specs.Prelude.{cond, ◌++◌, bytes_eq, flat_map, filter, filter_map, Contains, All, Option, Some, None, option_map, is_some, not}
 use Rattle.std.specs.List.{list_any, list_all}
 use Rattle.std.proofs.lemmas.List.{get_or-take, get_or_default}
 use Rattle.std.proofs.lemmas.List.Folds.{list_any-append, list_all-append}
@@ -201,7 +201,7 @@ any_single p (x ∷ xs) n e h =
       | inr f ↦ or_right (p x) (list_any p xs) (any_single p xs n f h)
     ]
 
--- the statement defines a name that a gate before it has
+-- the statement is a second definition of the name of a gate before it
 again_gate : (front : List Statement) (s t : Statement) (n : List ℕ) → Contains front s → is_name_in (gate_name s) n ≡ true → is_name_in (defined t) n ≡ true → redefines front t ≡ true
 again_gate front s t n among has here =
     or_left _ _ (any_single (λ m. is_among m (flat_map gate_name front)) (defined t) n here (in_one gate_name front s n among has))
@@ -237,7 +237,7 @@ all_texts names (w ∷ ws) n all e =
       | inr f ↦ all_texts names ws n (both_true _ _ all).1 f
     ]
 
--- each name that a statement counts is defined, where its uses are
+-- each name that a statement mentions is defined, if its uses are
 interned_defined : (names : List (List ℕ)) (t : Statement) (n : List ℕ) → ((m : List ℕ) → is_name_in (defined t) m ≡ true → is_name_in names m ≡ true) →
     list_all (λ w. is_name_in names w.text) (uses t) ≡ true → is_name_in (interned t) n ≡ true → is_name_in names n ≡ true
 interned_defined names (Input word name) n own all e = own n e
@@ -361,7 +361,7 @@ contains_kept t [] y k low at is = absurd (omega arith)
 contains_kept t (x ∷ xs) y zero low at is = kept_this (t x) (filter t xs) x y at (ap t at ∙ is)
 contains_kept t (x ∷ xs) y (suc k) low at is = kept_later (t x) (filter t xs) x y (contains_kept t xs y k (omega arith) at is)
 
--- ---- lists one behind the other
+-- ---- appended lists
 
 all_append : {X : Type 0} (P : X → Type 0) (xs ys : List X) → All P xs → All P ys → All P (xs ++ ys)
 all_append P [] ys a b k d low = b k d low
@@ -440,7 +440,7 @@ module _ (ss : List Statement) (sound : IsSound ss) where
       never two.1 ⊥ two.3 (again_gate (take two.1 ss) (get_or ss two.0 blank) (get_or ss two.1 blank) second.0 (before ss two.0 two.1 two.2 two.3)
       (subst (λ n. is_name_in (gate_name (get_or ss two.0 blank)) n ≡ true) same first.2) (defined_gate (get_or ss two.1 blank) second.0 second.2))
 
-  -- an INPUT's statement is no gate's, neither before nor behind
+  -- the statement of an INPUT is not that of a gate, neither before nor after it
   conflict : (r p : ℕ) (m : List ℕ) (g : GateLine) → r < length ss → p < length ss → is_name_in (input_name (get_or ss r blank)) m ≡ true →
       is_name_in (gate_name (get_or ss p blank)) m ≡ true → IsOf names (get_or ss p blank) g → ⊥
   conflict r p m g in_bounds there input gate is =
@@ -572,7 +572,7 @@ module _ (ss : List Statement) (sound : IsSound ss) where
       all_append (λ i. i < length names) inputs (map (λ g. g.out) registers) inputs_inside
       (all_map (λ i. i < length names) (λ (g : GateLine). g.out) registers (all_kept (λ g. g.out < length names) is_register lines lines_outs_inside))
 
-  -- a register and a gate have two signals
+  -- a register and a gate have different signals
   two_signals : (r p : ℕ) (d : GateLine) → r < length lines → p < length lines → is_register (get_or lines r d) ≡ true → is_gate (get_or lines p d) ≡ true →
       (get_or lines p d).out ≢ (get_or lines r d).out
   two_signals r p d in_bounds there register gate e =
@@ -599,7 +599,7 @@ module _ (ss : List Statement) (sound : IsSound ss) where
       (λ k d low. all_kept (λ (g : GateLine). g.out ≢ get_or inputs k d) is_gate lines (lines_apart k d low))
       (all_map (λ i. All (λ (g : GateLine). g.out ≢ i) gates) (λ (g : GateLine). g.out) registers registers_apart)
 
-  -- an input is no register, and no signal is two
+  -- no variable is there twice: an input is no register
   pub variables_once : HaveNoRepeats variables
   variables_once =
       once_append inputs (map (λ g. g.out) registers) (numbers_once input_name inputs_interned)
@@ -608,7 +608,7 @@ module _ (ss : List Statement) (sound : IsSound ss) where
       all_map (λ s. s ≢ get_or inputs k d) (λ (g : GateLine). g.out) registers
       (all_kept (λ (g : GateLine). g.out ≢ get_or inputs k d) is_register lines (lines_apart k d low)))
 
-  -- ---- where each use is defined, each signal is a variable or has a gate
+  -- ---- if each use is defined, each signal is a variable or has a gate
 
   abbrev Signal' : ℕ → Type 0
   Signal' s = Contains variables s ⊎ ((g : GateLine) × Contains gates g × (g.out ≡ s))
@@ -619,7 +619,7 @@ module _ (ss : List Statement) (sound : IsSound ss) where
         let t : Holder interned ss n = holder interned ss n (sym (in_distinct (flat_map interned ss) n) ∙ h) in
         interned_defined (flat_map defined ss) t.0 n (λ m e. in_one defined ss t.0 m t.1 e) (all_of_flat (is_defined ss) uses ss t.0 all t.1) t.2
 
-    -- by its kind, a line's signal is a variable or a gate's
+    -- the signal of a line is a variable or a gate's, by the line's kind
     driven_by : (s : ℕ) (g : GateLine) → Contains lines g → g.out ≡ s → (b : Bool) → is_register g ≡ b → Signal' s
     driven_by s g among out true e =
         let m : Contains registers g = contains_kept is_register lines g among.0 among.1 among.2 e in

@@ -1,4 +1,4 @@
--- A walk over gates with a stack: what it has left is ranked, or can never be.
+-- A depth-first walk over gates with a stack: each gate that it has left has a height, or can never have one.
 use Rattle.std.proofs.Common.{length-set, map, ◌≡◌, inl, inr, ℕ, zero, suc, ◌+◌, ◌<◌, ◌≤◌, List, [], ◌∷◌, ◌++◌, Bool, true, false, refl, sym, ap, ◌∙◌, subst, length, take, get_or, arith}
 use Rattle.std.proofs.Math.ListN.{set}
 use Rattle.std.specs.Prelude.{nat_lt, ◌==◌, ◌||◌, All, Some, reverse, slice_get, unwrap_or}
@@ -68,7 +68,7 @@ module _ (gates : List GateLine) (heights : List ℕ) (p : ℕ) (g : GateLine) (
   pub old_ranked : 0 < get_or heights g.out 0 → 0 < get_or heights (out_at gates p) 0
   old_ranked some = subst (λ k. 0 < get_or heights k 0) (sym (gate_is gates p g low at).1) some
 
--- ---- what can never be ranked
+-- ---- what can never have a height
 
 pub never_below : (gates : List GateLine) (t s : ℕ) → IsBelow gates t s → NeverHasHeight gates t → NeverHasHeight gates s
 never_below gates t s b never ms sound =
@@ -77,7 +77,7 @@ never_below gates t s b never ms sound =
       | inr none ↦ omega arith
     ]
 
--- each gate that waits has a greater height than the one on top, if it has one
+-- each gate that waits has a greater height than the one on top of the stack, if it has one
 chain_down : (gates : List GateLine) (heights ms : List ℕ) → AreHeights gates ms → (f : WaitingGate) (fs : List WaitingGate) → AreWaiting gates heights (f ∷ fs) → (q : ℕ) → is_waiting q (f ∷ fs) ≡ true → 0 < get_or ms (out_at gates q) 0 →
     (0 < get_or ms (out_at gates f.place) 0) × (get_or ms (out_at gates f.place) 0 ≤ get_or ms (out_at gates q) 0)
 chain_down gates heights ms sound f [] h q on some =
@@ -128,7 +128,7 @@ grow_ended gates ms more h p (inr never) = inr never
 
 -- ---- the steps
 
--- a gate is begun, and the gates that wait, wait for it
+-- a gate is begun, and the gates on the stack wait for it
 pub step_begun : (gates : List GateLine) (heights : List ℕ) (begun : List Bool) (fs : List WaitingGate) (f : WaitingGate) → IsRanking gates heights begun fs → f.place < length gates → f.passed ≡ 0 → IsWaitedFor gates f fs →
     IsRanking gates heights (set begun f.place true) (f ∷ fs)
 step_begun gates heights begun fs f h low none under = record {
@@ -166,7 +166,7 @@ module _ (gates : List GateLine) (heights : List ℕ) (begun : List Bool) (f : W
         ] refl;
   }
 
-  -- it has passed all its operands
+  -- it has passed all its operands, and gets its height
   pub all_passed : length (operands_at gates f.place) ≤ f.passed → all_ranked heights (operands_at gates f.place) ≡ true
   all_passed high = subst (λ os. all_ranked heights os ≡ true) (take_all f.passed (operands_at gates f.place) high) h.chain.0.2
 
@@ -201,7 +201,7 @@ module _ (gates : List GateLine) (heights : List ℕ) (begun : List Bool) (f : W
       IsRanking gates heights (set begun q true) (record { place = q; passed = 0 } ∷ f ∷ fs)
   step_down q low in_bounds is = step_begun gates heights begun (f ∷ fs) (record { place = q; passed = 0 }) h low refl (under_next q in_bounds is)
 
-  -- the operand that it waits for was begun before, and has no height: neither will ever have one
+  -- the operand that it waits for was begun before, and has no height: neither can ever have one
   pub step_endless : (q : ℕ) → q < length gates → f.passed < length (operands_at gates f.place) → out_at gates q ≡ get_or (operands_at gates f.place) f.passed 0 → get_or begun q false ≡ true → get_or heights (out_at gates q) 0 ≡ 0 →
       IsRanking gates heights begun fs
   step_endless q low in_bounds is on none =
@@ -214,7 +214,7 @@ module _ (gates : List GateLine) (heights : List ℕ) (begun : List Bool) (f : W
         ]
       ] refl))
 
--- ---- steps that are left
+-- ---- how many steps are left
 
 pub fewer_unbegun : (gates : List GateLine) (begun : List Bool) (q : ℕ) → q < length gates → length begun ≡ length gates → get_or begun q false ≡ false →
     unbegun gates (set begun q true) + (length (operands_at gates q) + 2) ≡ unbegun gates begun
@@ -291,7 +291,7 @@ module _ (gates : List GateLine) (symbols : List Symbol) (heights : List ℕ) (b
 
 -- ---- the end
 
--- a gate that can never be ranked has an operand without a height
+-- a gate that can never have a height has an operand without one
 pub ended_settled : (gates : List GateLine) (heights : List ℕ) (p : ℕ) (g : GateLine) → p < length gates → g ≡ get_or gates p g → g.out < length heights → HasOneGateEach gates → AreHeights gates heights → HasHeightOrNeverWill gates heights p → HasHeightIfOperandsHave heights g
 ended_settled gates heights p g low at out one sound (inl some) none = let is = gate_is gates p g low at in absurd (omega (arith, some, none, ap (λ s. get_or heights s 0) is.1))
 ended_settled gates heights p g low at out one sound (inr never) none =

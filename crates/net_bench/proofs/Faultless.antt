@@ -51,7 +51,7 @@ not_true : (b : Bool) → (b ≡ true → ⊥) → b ≡ false
 not_true true h = absurd (h refl)
 not_true false h = refl
 
--- the tokens behind a gate's word
+-- the tokens after a gate's word
 abbrev after_word : Word → List Word → List Token
 after_word first others = Open ∷ Name first ∷ (flat_map after_comma others ++ Close ∷ [])
 

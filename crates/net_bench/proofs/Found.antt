@@ -1,4 +1,4 @@
--- Signals of words, as the table of names grows.
+-- Signals of words, as the list of names grows.
 use Rattle.std.proofs.Common.{◌≡◌, inl, inr, ℕ, ◌<◌, ◌≤◌, List, [], ◌∷◌, ◌++◌, Bool, true, false, refl, sym, ap, ◌∙◌, subst, map, length, get_or, arith, append_assoc, append-nil}
 use Rattle.std.specs.Prelude.{cond, bytes_eq, fold, option_map, Option, Some, None, unwrap_or, All}
 use Rattle.std.proofs.lemmas.List.Elements.{All-nil, All-cons}
@@ -73,7 +73,7 @@ in_front : (names more : List (List ℕ)) (n : List ℕ) (i : ℕ) → find (nam
 in_front names more n i e low =
     list_any_at (λ m. bytes_eq m n) names i [] low (ap (λ m. bytes_eq m n) (sym (get_or-append names more [] i low) ∙ found_at (names ++ more) n i e) ∙ name_itself n)
 
--- a name that is new stands behind the others
+-- a name that is new comes after the others
 pub new_after : (xs names : List (List ℕ)) (n : List ℕ) (i : ℕ) → find (fold with_name names xs) n ≡ Some i → is_name_in names n ≡ false → length names ≤ i
 new_after xs names n i e new =
     let (more, f) = fold_front xs names in

@@ -1,4 +1,4 @@
--- Heights of signals, one more at a time.
+-- Heights of signals, which are set one at a time.
 use Rattle.std.proofs.Common.{◌≡◌, ◌≢◌, inl, inr, ℕ, zero, suc, ◌+◌, ◌<◌, ◌≤◌, List, [], ◌∷◌, Bool, true, false, refl, sym, ap, ◌∙◌, subst, map, length, get_or, arith, length-set}
 use Rattle.std.proofs.Math.ListN.{set}
 use Rattle.std.specs.Prelude.{cond, nat_lt, nat_le, nat_eq, ◌&&◌, replicate}

@@ -1,4 +1,4 @@
--- What the tokens that lead to a state have counted.
+-- What the tokens that lead to a state have mentioned.
 use Rattle.std.proofs.Common.{◌≡◌, ◌≢◌, ℕ, ◌+◌, List, [], ◌∷◌, ◌++◌, Bool, true, false, refl, sym, ap, ◌∙◌, subst, append_assoc, append-nil, length, length-append, arith}
 use Rattle.std.specs.Prelude.{flat_map, if◌then◌else◌, Some, None}
 use Rattle.std.proofs.lemmas.List.{map-append}
@@ -34,7 +34,7 @@ interned_all (s ∷ ss) rest =
     ap interned_in (append_assoc (spelled s) (flat_map spelled ss) rest) ∙ interned_spelled s (flat_map spelled ss ++ rest) ∙
     ap (λ ns. interned s ++ ns) (interned_all ss rest) ∙ sym (append_assoc (interned s) (flat_map interned ss) (interned_in rest))
 
--- the tokens that lead to a state count its names
+-- the tokens that lead to a state mention its names
 pub interned_tokens : (s : State) → interned_in (tokens_of s) ≡ interned_of s
 interned_tokens (Between done) = ap interned_in (sym (append-nil (flat_map spelled done))) ∙ interned_all done [] ∙ append-nil (flat_map interned done)
 interned_tokens (First done w) = interned_all done (Name w ∷ []) ∙ append-nil (flat_map interned done)
@@ -145,7 +145,7 @@ operands_step (AfterComma done out g a others) (Name b) other =
     ap length (sym (append_assoc (flat_map operands done) (a ∷ others) (b ∷ []))) ∙ length-append (flat_map operands done ++ a ∷ others) (b ∷ [])
 operands_step s t other = absurd (other refl)
 
--- ---- the part alone says what was counted last
+-- ---- what was mentioned last follows from the partial statement
 
 pub newest_same : (done : List Statement) (p : PartialStatement) (t : Token) → newest (state_of done p) t ≡ newest (state_of [] p) t
 newest_same done nothing t = refl
@@ -182,7 +182,7 @@ live done (operands_open out word) e = cc
 live done (after_operand g) e = cc
 live done (comma_after g) e = cc
 
--- ---- the words of the statement that is not whole yet
+-- ---- the words that the partial statement has mentioned
 
 pub begun_step : (s : State) (t : Token) → closed s t ≡ None → step s t ≢ Failed → begun_words (step s t) ≡ begun_words s ++ newest (step s t) t
 begun_step (Between done) (Name w) still other = refl
@@ -207,7 +207,7 @@ port_words w n false = refl
 some_pair : (p q : List Statement × Statement) → Some p ≡ Some q → p.1 ≡ q.1
 some_pair p q e = cc
 
--- a statement that is closed counts them
+-- a statement that is closed mentions them
 pub begun_closed : (s : State) (t : Token) (c : List Statement × Statement) → closed s t ≡ Some c → begun_words s ≡ interned_words c.1
 begun_closed (Named done w n) Close c e = port_words w n (is_input_word w) ∙ ap interned_words (some_pair (done, port w n) c e)
 begun_closed (AfterOperand done out g a others) Close c e = ap interned_words (some_pair (done, Gate out g a others) c e)

@@ -52,7 +52,7 @@ continues done s line t ts table h e =
     let other : step s t ≢ Failed = placed_well line (step s t) (none_first (syntactic line (step s t)) _ (none_first (lexical line t) _ e).1).0 in
     judge_on s (tokens_of s) line t ts e ∙ ap (λ front. judge (step s t) front ts) (sym (go s t other h.right).1)
 
--- ---- what the walk has told
+-- ---- what the walk has found
 
 -- the fault is the judge's
 abbrev pub IsAnswer : Tokens → BenchFault → Type 0
@@ -105,7 +105,7 @@ pub breaks : (all : Tokens) (done : List Statement) (p : PartialStatement) (line
 breaks all done p line left is other same =
     stops all (state_of done p) line End [] left (BadStatement line) is same (inr (answers_misplaced (state_of done p) line End refl (broken_end done p other)))
 
--- ---- the scanner's answers
+-- ---- what the scanner returns
 
 pub one_taken : (old new : Tokens) (line : ℕ) (t : Scanned) → (t ≡ end → ⊥) → Takes old line (seen line t) new → old ≡ (line, seen line t) ∷ new
 one_taken old new line open_paren other h = h
@@ -131,7 +131,7 @@ pub table_whole : (text : List ℕ) (done : List Statement) (table : SymbolTable
 unfolding statements_in
 table_whole text done table e h = subst (λ ss. IsTableOf ss (Between ss) table) (sym (ap finished e)) h
 
--- the table of no tokens
+-- the table before the first token
 pub begins : (table : SymbolTable) → table.names ≡ [] → table.symbols.items ≡ [] → table.inputs.items ≡ [] → table.outputs.items ≡ [] → table.gates.items ≡ [] →
     table.registers.items ≡ [] → table.uses.items ≡ [] → table.begun.items ≡ [] → table.operands ≡ 0 → IsTableOf [] (Between []) table
 begins table names symbols inputs outputs gates registers uses begun operands = record {

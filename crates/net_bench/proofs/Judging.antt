@@ -15,7 +15,7 @@ use Rattle.net_bench.proofs.Machine.{run_all, run_one, Goes, go, can_begin, cann
 
 -- ---- one place of a text
 
--- the machine stands before the token at a place
+-- the machine is in the state s before the token at a place
 record At (ts : Tokens) (place line : ℕ) (t : Token) (s : State) (front : List Token) : Type 0 where
   here : slice_get ts place ≡ Some (line, t)
   whole : up_to ts place ≡ front
@@ -31,14 +31,14 @@ test_some : {X : Type 0} (b : Bool) (x y : X) → (if b then Some x else None) �
 test_some true x y e = (refl, cc)
 test_some false x y e = cc
 
--- what each cause comes to at a token: the test at its place in the order
+-- the test that finds a cause at a token
 abbrev Shows : State → ℕ → Token → List Token → Cause → ℕ → Type 0
 Shows s line t front cause l = slice_get (tests s line t front) (order_of cause) ≡ Some (Some (cause, l))
 
 some_of : {X : Type 0} (x y : X) → Some x ≡ Some y → x ≡ y
 some_of x y e = cc
 
--- after whole statements the machine is between statements, and behind a gate word at that word
+-- after whole statements the machine is between statements, and after a gate word it is at that word
 after_statement : (ss : List Statement) (x : Statement) → AreSpelledRight ss → IsSpelledRight x → run (Between []) (flat_map spelled ss ++ spelled x) ≡ Between (ss ++ x ∷ [])
 after_statement ss x h k = run_all [] ss (spelled x) h ∙ ap (run (Between ss)) (sym (append-nil (spelled x))) ∙ run_one ss x [] k
 
@@ -120,7 +120,7 @@ not_none false x e = cc
 lt_test : (a b : ℕ) → a < b → nat_lt a b ≡ true
 lt_test a b h = grind arith
 
--- where no statements begin so, the machine has failed
+-- if no statements begin like this, the machine has failed
 is_failed : (s : State) → (s ≡ Failed) ⊎ (s ≢ Failed)
 is_failed Failed = inl refl
 is_failed (Between done) = inr (λ e. cc)
@@ -263,7 +263,7 @@ second_is None f e = cc
 second_is (Some c) f e = (c, refl, test_some (redefines c.0 c.1) (found SecondDefinition (line_of c.1)) f e)
 
 module _ (ts : Tokens) (place line : ℕ) (t : Token) (s : State) (front : List Token) (at : At ts place line t s front) where
-  -- what the tokens up to here are, where the machine goes on
+  -- what the tokens up to here are, if the machine goes on
   on : step s t ≢ Failed → Goes s t (step s t)
   on other = go s t other at.before
 

@@ -1,4 +1,4 @@
--- The machine says of each list of tokens whether statements begin with it.
+-- The machine finds of each list of tokens whether statements begin with it.
 use Rattle.std.proofs.Common.{◌≡◌, ◌≢◌, ℕ, List, [], ◌∷◌, ◌++◌, Bool, true, false, refl, sym, ap, ◌∙◌, subst, append_assoc, append-nil, arith, length}
 use Rattle.std.specs.Char.{to_ascii_lowercase}
 use Rattle.std.proofs.lemmas.Slice.Eq.{bytes_eq-Decides}
@@ -87,7 +87,7 @@ begun front more ss h e f =
     let bad : run (Between []) (front ++ more) ≡ Failed = fold-append step (Between []) front more ∙ ap (λ s. run s more) f ∙ failed more in
     cc
 
--- ---- backward: where the run has not failed, the state says what the tokens were
+-- ---- backward: if the run has not failed, the state says what the tokens were
 
 right_snoc : (ss : List Statement) (s : Statement) → AreSpelledRight ss → IsSpelledRight s → AreSpelledRight (ss ++ s ∷ [])
 right_snoc [] s h k = (k, tt)
@@ -165,7 +165,7 @@ finished ts ss e =
     let all : Goes' (Between []) ts (run (Between []) ts) = reads_back (Between []) ts (λ f. no_end ss (sym e ∙ f)) tt in
     (subst IsRight e all.0, sym all.1 ∙ ap tokens_of e)
 
--- ---- a state that has not failed can be gone on from
+-- ---- from a state that has not failed the statements can be finished
 
 abbrev CanFinish : State → Type 0
 CanFinish s = (more : List Token) × (ss : List Statement) × (run s more ≡ Finished ss)

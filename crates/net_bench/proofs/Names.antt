@@ -1,4 +1,4 @@
--- Names among the bytes of all, and what one more leaves.
+-- Names among the bytes of all, and what remains true after one more name.
 use Rattle.std.proofs.Common.{◌≡◌, inl, inr, ℕ, zero, suc, ◌+◌, ◌*◌, ◌<◌, ◌≤◌, List, [], ◌∷◌, ◌++◌, Bool, true, false, true≢false, refl, sym, ap, ◌∙◌, subst, length, get_or, set, take, drop, slice_get, arith, length-append, add-one}
 use Rattle.std.specs.Prelude.{All, bytes_eq, Some, None, option_map}
 use Rattle.std.proofs.lemmas.List.{take-append-le, drop-append-le, length-map, map-append, length_push, length-set}
@@ -90,7 +90,7 @@ once_more names name once new i j n e f =
 
 -- ---- the number of a name
 
--- where each name stands once, find answers the place of the name
+-- if no name is there twice, find returns the place of the name
 pub found_place : (names : List (List ℕ)) (n : List ℕ) (i : ℕ) → NamesAreDistinct names → slice_get names i ≡ Some n → find names n ≡ Some i
 found_place names n i once at =
     elim (find names n) as (λ o. find names n ≡ o → o ≡ Some i) [
@@ -105,7 +105,7 @@ found_place names n i once at =
           ap (λ j. Some j) (once k i n (slice_get-get_or names k [] h.0 ∙ ap (λ m. Some m) same) at)
     ] refl
 
--- a name that stands nowhere has no place
+-- a name that is not in the list has no place
 pub found_missing : (names : List (List ℕ)) (n : List ℕ) → ((i : ℕ) → slice_get names i ≡ Some n → ⊥) → find names n ≡ None
 found_missing names n none =
     elim (find names n) as (λ o. find names n ≡ o → o ≡ None) [
@@ -116,7 +116,7 @@ found_missing names n none =
           absurd (none k (slice_get-get_or names k [] h.0 ∙ ap (λ m. Some m) same))
     ] refl
 
--- a name without a number stands nowhere
+-- a name without a number is not in the list
 pub nowhere : (names : List (List ℕ)) (n : List ℕ) → find names n ≡ None → (i : ℕ) → slice_get names i ≡ Some n → ⊥
 nowhere names n e i at =
     let none : is_name_in names n ≡ false = passes_none (λ m. bytes_eq m n) names e in

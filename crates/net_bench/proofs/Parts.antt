@@ -1,4 +1,4 @@
--- What the table says of signals, a statement further.
+-- What the symbol table says of signals after one more statement.
 use Rattle.std.proofs.Common.{◌≡◌, ◌⊎◌, inl, inr, ℕ, zero, suc, ◌<◌, ◌≤◌, List, [], ◌∷◌, ◌++◌, Bool, true, false, refl, sym, ap, ◌∙◌, subst, map, length, arith, append-nil}
 use Rattle.std.specs.Prelude.{cond, ◌||◌, if◌then◌else◌, bytes_eq, flat_map, filter, filter_map, fold, replicate, slice_get, slice_set, Option, Some, None, option_to_list, option_map, is_some, not, All}
 use Rattle.std.proofs.lemmas.List.{map-append}
@@ -31,9 +31,9 @@ or_true : (a : Bool) → (a || true) ≡ true
 or_true true = refl
 or_true false = refl
 
--- ---- a name that no statement has counted
+-- ---- a name that no statement has mentioned
 
--- what the statements say of names, they have counted
+-- the names of which the statements say something are among those that they mention
 among : (f : Statement → List (List ℕ)) (n : List ℕ) → ((s : Statement) → is_name_in (f s) n ≡ true → is_name_in (interned s) n ≡ true) →
     (ss : List Statement) → is_name_in (flat_map f ss) n ≡ true → is_name_in (flat_map interned ss) n ≡ true
 among f n h [] e = e
@@ -108,13 +108,13 @@ module _ (done : List Statement) (names xs : List (List ℕ)) (symbols more : Li
   pub symbols_more : AreSymbols done (fold with_name names xs) more
   symbols_more n i s e at = symbol_more n i s (is_name_in names n) refl e (subst (λ ss. slice_get ss i ≡ Some s) are at)
 
--- ---- symbols behind one more statement
+-- ---- symbols after one more statement
 
 said_more : (f : Statement → List (List ℕ)) (done : List Statement) (x : Statement) (n : List ℕ) →
     is_name_in (flat_map f (done ++ x ∷ [])) n ≡ (is_name_in (flat_map f done) n || is_name_in (f x) n)
 said_more f done x n = ap (λ ns. is_name_in ns n) (one_more f done x (f x) refl) ∙ list_any-append (λ m. bytes_eq m n) (flat_map f done) (f x)
 
--- the symbol of another name stays
+-- the symbol of another name is unchanged
 input_other : (x : Statement) (n : List ℕ) → bytes_eq (subject x).text n ≡ false → is_name_in (input_name x) n ≡ false
 input_other (Input word name) n e = or_false (bytes_eq name.text n) ∙ e
 input_other (Output word name) n e = refl
@@ -141,7 +141,7 @@ other_symbol done x n s e h = record {
   output = stays output_name done x n s.is_output (output_other x n e) h.output;
 }
 
--- the symbol of the statement's own
+-- the symbol of the statement's own name
 comes : (f : Statement → List (List ℕ)) (done : List Statement) (x : Statement) (n : List ℕ) → is_name_in (f x) n ≡ true → true ≡ is_name_in (flat_map f (done ++ x ∷ [])) n
 comes f done x n there = sym (said_more f done x n ∙ ap (λ c. is_name_in (flat_map f done) n || c) there ∙ or_true (is_name_in (flat_map f done) n))
 
@@ -291,7 +291,7 @@ places_more gates registers symbols more k e h i s at =
       | inr high ↦ subst (λ (y : Symbol). IsPlacedAt gates registers i y.role) (sym (slice_back symbols k blank i s high there)) tt
     ]
 
--- the role of a gate or register is that of the line that comes
+-- the role of a gate or register is its place in the list to which it is appended
 driven_place : (gates registers : List GateLine) (g : GateLine) (i : ℕ) → g.out ≡ i →
     IsPlacedAt (gates ++ filter is_gate (g ∷ [])) (registers ++ filter is_register (g ∷ [])) i (if is_register_kind g.kind then register (length registers) else gate (length gates))
 driven_place gates registers g i out =

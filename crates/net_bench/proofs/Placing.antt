@@ -1,4 +1,4 @@
--- Roles of signals, told one at a time.
+-- Roles of signals, which are set one at a time.
 use Rattle.std.proofs.Common.{◌≡◌, ◌≢◌, ◌⊎◌, inl, inr, ℕ, zero, suc, ◌<◌, List, true, false, refl, sym, ap, ◌∙◌, subst, length, get_or, ◌++◌, [], ◌∷◌, map, arith}
 use Rattle.std.proofs.Math.ListN.{set}
 use Rattle.std.specs.Prelude.{nat_eq, replicate, Contains, All}
@@ -18,7 +18,7 @@ role_here ss i x low = ap (λ (y : Symbol). y.role) (get_or-set_same ss i x blan
 role_there : (ss : List Symbol) (i s : ℕ) (x : Symbol) → s ≢ i → role_in (set ss i x) s ≡ role_in ss s
 role_there ss i s x other = ap (λ (y : Symbol). y.role) (get_or-set_other ss i s x blank other)
 
--- a fact of each signal's role holds behind a set, where it holds of the new role and held of the others
+-- after a set, a fact is true of each signal's role if it is true of the new role and was true of the others
 by_place : (ss : List Symbol) (i : ℕ) (x : Symbol) (P : ℕ → Role → Type 0) → i < length ss → P i x.role → (s : ℕ) → (s ≢ i → P s (role_in ss s)) → P s (role_in (set ss i x) s)
 by_place ss i x P low new s old =
     elim (nat_eq s i) as (λ b. nat_eq s i ≡ b → P s (role_in (set ss i x) s)) [
@@ -37,15 +37,12 @@ placed_set ss i x low some = ap is_defined_role (role_here ss i x low) ∙ some
 pub kept_set : (ss : List Symbol) (i : ℕ) (x : Symbol) → i < length ss → is_defined_role x.role ≡ true → KeepsRoles ss (set ss i x)
 kept_set ss i x low some s was = by_place ss i x (λ k r. is_defined_role r ≡ true) low some s (λ other. was)
 
-pub none_set : (ss : List Symbol) (i : ℕ) (x : Symbol) → i < length ss → x.role ≡ undefined → ((s : ℕ) → role_in ss s ≡ undefined) → (s : ℕ) → role_in (set ss i x) s ≡ undefined
-none_set ss i x low is none s = by_place ss i x (λ k r. r ≡ undefined) low is s (λ other. none s)
-
 pub none_yet : (n s : ℕ) (x : Symbol) → x.role ≡ undefined → role_in (replicate n x) s ≡ undefined
 none_yet zero s x e = refl
 none_yet (suc n) zero x e = e
 none_yet (suc n) (suc s) x e = none_yet n s x e
 
--- ---- all roles are told
+-- ---- all roles are set
 
 pub none_right : (n : Net) (ss : List Symbol) → ((s : ℕ) → role_in ss s ≡ undefined) → AreRolesRight n ss
 none_right n ss none s = inl (none s)

@@ -1,4 +1,4 @@
--- Why a text is no netlist: the faulty places of a text, and which fault is answered.
+-- The faulty places of a text, and which fault is answered: why a text is no netlist.
 use Rattle.std.specs.Prelude.{◌≡◌, ℕ, ◌+◌, ◌<◌, ◌≤◌, Bool, false, ◌||◌, ◌⊎◌, IsTrue, List, [], ◌∷◌, ◌++◌, map, length, take, flat_map}
 use Rattle.std.specs.Prelude.{slice_get, Option, Some, None, Contains}
 use Rattle.std.specs.List.{list_any, list_all}
@@ -24,11 +24,11 @@ max_name = 255
 abbrev pub max_signals : ℕ
 max_signals = 1000000
 
--- the most operands of all gates
+-- the most operands of all gates and registers together
 abbrev pub max_operands : ℕ
 max_operands = 4000000
 
--- the tokens from the first up to the one at this place
+-- the tokens from the first to the one at this place
 abbrev pub up_to : List (ℕ × Token) → ℕ → List Token
 up_to ts place = map token_of (take (place + 1) ts)
 
@@ -36,7 +36,7 @@ up_to ts place = map token_of (take (place + 1) ts)
 abbrev pub Begins : List Token → Type 0
 Begins front = (ss : List Statement) × (more : List Token) × AreSpelledRight ss × (front ++ more ≡ spelling ss)
 
--- The names that the tokens count: behind `(` and `,` where they stand, left of `=` at the `=`.
+-- The names that the tokens mention as signals: after `(` and `,`, and to the left of `=` when it is read.
 abbrev pub interned_in : List Token → List (List ℕ)
 interned_in [] = []
 interned_in (Open ∷ Name w ∷ ts) = w.text ∷ interned_in (Name w ∷ ts)
@@ -44,7 +44,7 @@ interned_in (Comma ∷ Name w ∷ ts) = w.text ∷ interned_in (Name w ∷ ts)
 interned_in (Name w ∷ Equals ∷ ts) = w.text ∷ interned_in (Equals ∷ ts)
 interned_in (t ∷ ts) = interned_in ts
 
--- The operands: in a gate behind `(` and `,`. A gate's `(` stands behind `=` and the gate word.
+-- The operands: in a gate the names after `(` and `,`. The `(` of a gate comes after `=` and the gate word.
 abbrev pub operands_in : List Token → List Word
 operands_in [] = []
 operands_in (Equals ∷ Name g ∷ Open ∷ Name w ∷ ts) = w ∷ operands_in (Name w ∷ ts)
@@ -61,7 +61,7 @@ pub data Cause : Type 0 where
   SecondDefinition : Cause
   LimitExceeded : Cause
 
--- which comes first at one place
+-- which cause comes first if one place has several
 abbrev pub order_of : Cause → ℕ
 order_of StrayByte = 0
 order_of LongName = 0
@@ -86,7 +86,7 @@ abbrev pub is_one_operand_kind : Option Kind → Bool
 is_one_operand_kind None = false
 is_one_operand_kind (Some kind) = takes_one kind
 
--- a gate of one operand has more
+-- whether a gate that takes one operand has more
 abbrev pub has_wrong_operands : Statement → Bool
 has_wrong_operands (Input word name) = false
 has_wrong_operands (Output word name) = false
@@ -97,17 +97,18 @@ has_wrong_operands (Gate out word first (second ∷ others)) = is_one_operand_ki
 abbrev pub is_among : List ℕ → List (List ℕ) → Bool
 is_among name names = is_name_in names name
 
--- the statement's signal has a gate or register before it, or has an INPUT before it and the statement is a gate or register
+-- whether the statement is a second definition: its signal has a gate or register before it, or it is a gate or
+-- register whose signal has an INPUT before it
 abbrev pub redefines : List Statement → Statement → Bool
 redefines before s =
     list_any (λ n. is_among n (flat_map gate_name before)) (defined s) || list_any (λ n. is_among n (flat_map input_name before))
     (gate_name s)
 
--- up to this place the tokens are these whole statements, and then these
+-- the tokens up to this place are those of these whole statements, followed by these
 abbrev pub IsAfterStatements : List Statement → List (ℕ × Token) → ℕ → List Token → Type 0
 IsAfterStatements ss ts place last = AreSpelledRight ss × (up_to ts place ≡ flat_map spelled ss ++ last)
 
--- The place has this fault, whose line this is. Tokens before the place may be faulty too.
+-- The place has a fault of this cause, which is reported with this line. Tokens before the place may be faulty too.
 abbrev pub IsFaulty : List (ℕ × Token) → ℕ → Cause → ℕ → Type 0
 IsFaulty ts place StrayByte line = (b : ℕ) × (slice_get ts place ≡ Some (line, Unknown b))
 IsFaulty ts place LongName line = (w : Word) × (slice_get ts place ≡ Some (line, Name w)) × (max_name < length w.text)
@@ -125,7 +126,7 @@ IsFaulty ts place LimitExceeded line =
     (t : Token) × (slice_get ts place ≡ Some (line, t)) ×
     ((max_signals < length (distinct (interned_in (up_to ts place)))) ⊎ (max_operands < length (operands_in (up_to ts place))))
 
--- This is the first faulty place, and the first fault there.
+-- This is the first faulty place, and the first of the causes there.
 pub record IsFirst (ts : List (ℕ × Token)) (place : ℕ) (cause : Cause) (line : ℕ) : Type 0 where
   pub in_bounds : place < length ts
   pub here : IsFaulty ts place cause line
@@ -136,17 +137,17 @@ pub record IsFirst (ts : List (ℕ × Token)) (place : ℕ) (cause : Cause) (lin
 abbrev pub IsFaultless : List (ℕ × Token) → Type 0
 IsFaultless ts = (place line : ℕ) (cause : Cause) → place < length ts → IsFaulty ts place cause line → ⊥
 
--- the word's name has an INPUT, a gate or a register
+-- whether the word's name has an INPUT, a gate or a register
 abbrev pub is_defined : List Statement → Word → Bool
 is_defined ss w = is_among w.text (flat_map defined ss)
 
--- the first use of a name without definition stands on this line
+-- the first use of a name without a definition is on this line
 abbrev pub FirstUndefined : List Statement → ℕ → Type 0
 FirstUndefined ss line =
     (front back : List Word) × (w : Word) × (flat_map uses ss ≡ front ++ w ∷ back) ×
     IsTrue (list_all (is_defined ss) front) × (is_defined ss w ≡ false) × (line ≡ w.line)
 
--- the first gate at which an endless chain of operands starts stands on this line
+-- the first gate that depends on a cycle, so that an endless chain of operands starts at it, is on this line
 abbrev pub FirstEndless : Circuit → ℕ → Type 0
 FirstEndless c line =
     (front back : List GateLine) × (g : GateLine) × (c.gates ≡ front ++ g ∷ back) ×
@@ -160,7 +161,7 @@ pub record IsNetlistText (text : List ℕ) (ss : List Statement) : Type 0 where
   pub defined : IsTrue (list_all (is_defined ss) (flat_map uses ss))
   pub acyclic : (s : ℕ) → IsEndless (circuit_of ss) s → ⊥
 
--- a refusal at a place of the text
+-- the text is refused because of the first fault at its first faulty place
 abbrev pub IsFaultAtPlace : List ℕ → BenchFault → Type 0
 IsFaultAtPlace text fault =
     (length text ≤ max_text) × (ts : List (ℕ × Token)) × HasTokens text ts ×
@@ -170,7 +171,7 @@ IsFaultAtPlace text fault =
 abbrev pub ReadsWell : List ℕ → List Statement → Type 0
 ReadsWell text ss = (length text ≤ max_text) × Reads text ss × ((ts : List (ℕ × Token)) → HasTokens text ts → IsFaultless ts)
 
--- The text is refused with this fault, apart from memory and devices.
+-- The text is refused with this fault. (Refused memory and failed devices are left out: they do not follow from the text.)
 abbrev pub IsRefused : List ℕ → BenchFault → Type 0
 IsRefused text TooLong = max_text < length text
 IsRefused text (Undefined line) = (ss : List Statement) × ReadsWell text ss × FirstUndefined ss line

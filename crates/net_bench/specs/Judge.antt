@@ -1,6 +1,6 @@
--- The first fault of a text, computed token by token from the reader's states. The definition of faulty places does not mention it; the
--- laws in proofs/ tie the two.
-use Rattle.std.specs.Prelude.{◌≡◌, ℕ, ◌+◌, Bool, true, false, ◌||◌, nat_lt, if◌then◌else◌, List, [], ◌∷◌, ◌++◌, map, flat_map, length}
+-- The first fault of a text, computed token by token from the reader's states. The definition of faulty places does not
+-- mention it; laws in proofs/ show that both agree.
+use Rattle.std.specs.Prelude.{ℕ, ◌+◌, Bool, ◌||◌, nat_lt, if◌then◌else◌, List, [], ◌∷◌, ◌++◌, flat_map, length}
 use Rattle.std.specs.Prelude.{fold, Option, Some, None, Result, Ok, Err}
 use Rattle.std.specs.List.{list_all, list_any}
 use Rattle.net_bench.specs.declared.netlist.Kind.{Kind}
@@ -29,7 +29,7 @@ lexical line (Unknown b) = Some (StrayByte, line)
 lexical line (Name w) = if nat_lt max_name (length w.text) then Some (LongName, line) else None
 lexical line t = None
 
--- no statement has the token there
+-- no statement has the token at this place
 abbrev pub syntactic : ℕ → State → Option FaultOnLine
 syntactic line Failed = Some (Misplaced, line)
 syntactic line s = None
@@ -39,12 +39,12 @@ abbrev pub without_kind : ℕ → Option Kind → Option FaultOnLine
 without_kind line None = Some (NoGateWord, line)
 without_kind line (Some kind) = None
 
--- the gate word at which the state stands names no kind
+-- the gate word at which the state is names no kind
 abbrev pub gate_word : State → Option FaultOnLine
 gate_word (AtWord done out g) = without_kind out.line (kind_of g.text)
 gate_word s = None
 
--- the statement that the token closes, with those before it
+-- the statement that the token closes, after those before it
 abbrev pub closed : State → Token → Option (List Statement × Statement)
 closed (Named done w n) Close = Some (done, port w n)
 closed (AfterOperand done out g a others) Close = Some (done, Gate out g a others)
@@ -55,18 +55,18 @@ abbrev pub wrong_count : Option (List Statement × Statement) → Option FaultOn
 wrong_count None = None
 wrong_count (Some c) = if has_wrong_operands c.1 then Some (OperandCount, line_of c.1) else None
 
--- the closed statement defines a signal again
+-- the closed statement is a second definition
 abbrev pub second : Option (List Statement × Statement) → Option FaultOnLine
 second None = None
 second (Some c) = if redefines c.0 c.1 then Some (SecondDefinition, line_of c.1) else None
 
--- the tokens up to here count too many signals or operands
+-- the tokens up to here have too many signals or operands
 abbrev pub over_limit : ℕ → List Token → Option FaultOnLine
 over_limit line front =
     if nat_lt max_signals (length (distinct (interned_in front))) || nat_lt max_operands (length (operands_in front)) then Some
     (LimitExceeded, line) else None
 
--- what is wrong at the token, the causes in their order
+-- what is wrong at the token, by the causes in their order
 abbrev pub tests : State → ℕ → Token → List Token → List (Option FaultOnLine)
 tests s line t front =
     lexical line t ∷ syntactic line (step s t) ∷ gate_word (step s t) ∷ wrong_count (closed s t) ∷ second (closed s t)
@@ -78,23 +78,23 @@ first_of [] = None
 first_of (Some found ∷ more) = Some found
 first_of (None ∷ more) = first_of more
 
--- goes on where nothing was found
+-- goes on if nothing was found
 abbrev pub unless : Option FaultOnLine → (Unit {0} → Result State FaultOnLine) → Result State FaultOnLine
 unless (Some found) next = Err found
 unless None next = next tt
 
--- walks over the tokens with the reader's state and the tokens seen, up to the first fault
+-- walks over the tokens with the reader's state and the tokens before, up to the first fault
 unfoldable pub judge : State → List Token → Tokens → Result State FaultOnLine
 judge s seen [] = Ok s
 judge s seen (t ∷ ts) = unless (first_of (tests s t.0 t.1 (seen ++ t.1 ∷ []))) (λ _. judge (step s t.1) (seen ++ t.1 ∷ []) ts)
 
--- the statements that the judge has ended with
+-- the statements of a run that has ended without a fault; otherwise none
 abbrev pub finished : Result State FaultOnLine → List Statement
 finished (Ok (Finished ss)) = ss
 finished (Ok s) = []
 finished (Err found) = []
 
--- the statements of a text, none where the judge finds a fault
+-- the statements of a text; none if the judge finds a fault
 unfoldable pub statements_in : List ℕ → List Statement
 statements_in text = finished (judge (Between []) [] (tokens_at 1 text))
 
@@ -109,11 +109,11 @@ undefined_line good (w ∷ ws) = if good w then undefined_line good ws else Some
 abbrev pub is_member : ℕ → List ℕ → Bool
 is_member n ns = list_any (λ m. Rattle.std.specs.Prelude.nat_eq n m) ns
 
--- the signals that are known, and those of the gates all of whose operands are known
+-- the signals that are known, with that of the gate if all its operands are known
 abbrev pub with_gate : List ℕ → GateLine → List ℕ
 with_gate known g = if list_all (λ s. is_member s known) g.operands then known ++ g.out ∷ [] else known
 
--- what is known after as many sweeps over the gates as the first list is long
+-- what is known after as many passes over the gates as the first list is long
 abbrev pub sweeps : {A : Type 0} → List A → List GateLine → List ℕ → List ℕ
 sweeps [] gates known = known
 sweeps (x ∷ xs) gates known = sweeps xs gates (fold with_gate known gates)

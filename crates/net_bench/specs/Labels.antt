@@ -23,7 +23,7 @@ abbrev pub odd : List Bool → Bool
 odd [] = false
 odd (b ∷ bs) = cond b (not (odd bs)) (odd bs)
 
--- the value of the operation that a gate folds with: of AND, NAND, NOT and BUFF it is And (and of DFF, which no gate has)
+-- the value of the operation that folds a gate's operands: And also for NAND, NOT and BUFF (and for DFF, which no gate has)
 abbrev pub folded : Kind → List Bool → Bool
 folded And bits = all_ones bits
 folded Nand bits = all_ones bits
@@ -35,7 +35,7 @@ folded Nor bits = some_one bits
 folded Xor bits = odd bits
 folded Xnor bits = odd bits
 
--- the kinds whose value is the complement of what they fold
+-- the kinds whose value is the complement of the folded one
 abbrev pub is_complemented : Kind → Bool
 is_complemented And = false
 is_complemented Or = false
@@ -51,14 +51,14 @@ is_complemented Not = true
 abbrev pub value_of : Kind → List Bool → Bool
 value_of kind bits = cond (is_complemented kind) (not (folded kind bits)) (folded kind bits)
 
--- One bit for each signal: each variable has the bit of its level, and each gate its kind's value of its operands' bits. A register has no
--- equation.
+-- A consistent labelling, one bit for each signal: each variable has the bit of its level in x, and each gate the value
+-- of its kind for its operands' bits. A register's next state imposes nothing on the register's bit.
 pub record IsLabelling (c : Circuit) (level : ℕ → ℕ) (x bits : List Bool) : Type 0 where
   pub each : length bits ≡ length c.names
   pub variables : All (λ s. bit_of bits s ≡ bit_of x (level s)) (variables_of c)
   pub gates : All (λ g. bit_of bits g.out ≡ value_of g.kind (map (bit_of bits) g.operands)) c.gates
 
--- the signal's function: its bit in the labelling whose variables have the bits of x
+-- b is the signal's value at x: its bit in the labelling whose variables have the bits of x
 abbrev pub Computes : Circuit → (ℕ → ℕ) → ℕ → List Bool → Bool → Type 0
 Computes c level s x b = (bits : List Bool) × IsLabelling c level x bits × (bit_of bits s ≡ b)
 

@@ -7,9 +7,7 @@ pub mod Machine
 pub mod ParsedStatement
 pub mod Circuit
 pub mod Assembly
-pub mod Devices
 pub mod Fault
-pub mod FaultText
 pub mod Judge
 pub mod Labels
 pub mod Heights

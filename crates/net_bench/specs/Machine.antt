@@ -1,9 +1,10 @@
--- The reader's states: what the tokens so far have said. The grammar does not mention it; the laws in proofs/ tie the two.
+-- The reader's states: what the tokens so far have said. The grammar does not mention them; laws in proofs/ show that
+-- both agree.
 use Rattle.std.specs.Prelude.{Bool, ◌||◌, if◌then◌else◌, IsTrue, List, [], ◌∷◌, ◌++◌, flat_map, fold, codes}
 use Rattle.net_bench.specs.Text.{Word, Token, Open, Close, Comma, Equals, Name, End}
 use Rattle.net_bench.specs.Statement.{Statement, Input, Output, Gate, spelled, after_comma, AreSpelledRight, is_word}
 
--- between statements, or the part of a statement that has been read, behind those that are whole
+-- between statements, or in a partial statement, each with the whole statements before it
 pub data State : Type 0 where
   Between : (done : List Statement) → State
   First : (done : List Statement) (w : Word) → State
@@ -25,7 +26,7 @@ is_input_word w = is_word w.text (codes "INPUT")
 abbrev pub is_output_word : Word → Bool
 is_output_word w = is_word w.text (codes "OUTPUT")
 
--- one of the two
+-- INPUT or OUTPUT
 abbrev pub is_port_word : Word → Bool
 is_port_word w = is_input_word w || is_output_word w
 
@@ -69,7 +70,7 @@ tokens_of (AfterComma done out g a others) = flat_map spelled done ++ Name out �
 tokens_of (Finished done) = flat_map spelled done ++ End ∷ []
 tokens_of Failed = []
 
--- what holds of a state that has not failed
+-- what is true of a state that has not failed
 abbrev pub IsRight : State → Type 0
 IsRight (Between done) = AreSpelledRight done
 IsRight (First done w) = AreSpelledRight done

@@ -1,4 +1,4 @@
--- The code's words, statements and parts of a statement, without where they lie in memory.
+-- The words, statements and partial statements of the code as those of the definitions, which leave out where they are in memory.
 use Rattle.std.specs.Prelude.{List, [], ◌∷◌, ◌++◌, map, Option, Some, None}
 use Rattle.net_bench.specs.declared.syntax.Word.{Word as CodeWord}
 use Rattle.net_bench.specs.declared.syntax.ParsedStatement.{ParsedStatement}
@@ -23,7 +23,7 @@ statement_of (input word name) = Input (word_of word) (word_of name)
 statement_of (output word name) = Output (word_of word) (word_of name)
 statement_of (gate g) = Gate (word_of g.out) (word_of g.word) (word_of g.first) (map word_of g.others.items)
 
--- the reader's state, from the statements so far and the part of the next
+-- the reader's state, from the whole statements so far and the partial statement
 abbrev pub state_of : List Statement → PartialStatement → State
 state_of done nothing = Between done
 state_of done (first_name word) = First done (word_of word)
@@ -40,7 +40,7 @@ abbrev pub next_state : List Statement → Next → State
 next_state done (more part) = state_of done part
 next_state done (whole parsed) = Between (done ++ statement_of parsed ∷ [])
 
--- the statement that the token has closed, with those before it
+-- the statement that the token has closed, after those before it
 abbrev pub closing : List Statement → Next → Option (List Statement × Statement)
 closing done (more part) = None
 closing done (whole parsed) = Some (done, statement_of parsed)

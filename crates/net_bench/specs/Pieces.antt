@@ -1,4 +1,4 @@
--- The pieces of a text, computed from its end, and the tokens left of a text.
+-- The pieces of a text, computed from its end, and the tokens that are left of a text.
 use Rattle.std.specs.Prelude.{◌≡◌, ℕ, Bool, true, false, ◌==◌, if◌then◌else◌, List, [], ◌∷◌}
 use Rattle.net_bench.specs.Text.{Piece, Blank, Comment, Mark, Run, Stray, is_blank, is_mark, is_name_byte, Token, tokens_from}
 
@@ -20,7 +20,7 @@ class_of b =
     if is_mark b then Punctuation else (
     if is_name_byte b then Letter else Other))))
 
--- whether the text stands in a comment
+-- whether the text is within a comment
 pub data Mode : Type 0 where
   Between : Mode
   InComment : Mode
@@ -43,7 +43,7 @@ with_letter b (Comment c ∷ ps) = Run (b ∷ []) ∷ Comment c ∷ ps
 with_letter b (Mark c ∷ ps) = Run (b ∷ []) ∷ Mark c ∷ ps
 with_letter b (Stray c ∷ ps) = Run (b ∷ []) ∷ Stray c ∷ ps
 
--- one more byte at the front of a text, whose rest is read in the mode that the byte leaves
+-- one more byte at the front of a text, whose rest is read in the mode that comes after the byte
 abbrev pub with_byte : Mode → Class → ℕ → (Mode → List Piece) → List Piece
 with_byte Between Newline b rest = Blank b ∷ rest Between
 with_byte Between Space b rest = Blank b ∷ rest Between
@@ -72,12 +72,12 @@ tokens_in mode line text = tokens_from line (pieces_in mode text)
 abbrev pub tokens_at : ℕ → List ℕ → List (ℕ × Token)
 tokens_at line text = tokens_in Between line text
 
--- the mode of a flag
+-- the mode by whether the text is within a comment
 abbrev pub mode_of : Bool → Mode
 mode_of true = InComment
 mode_of false = Between
 
--- nothing is left, or a token's first byte stands at the front
+-- nothing is left, or the first byte of a token is at the front
 abbrev pub StartsToken : List ℕ → Type 0
 StartsToken [] = Unit {0}
 StartsToken (b ∷ bs) = (is_blank b ≡ false) × ((b == 35) ≡ false)

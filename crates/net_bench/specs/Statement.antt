@@ -12,7 +12,7 @@ pub data Statement : Type 0 where
   Output : (word name : Word) → Statement
   Gate : (out word first : Word) → (others : List Word) → Statement
 
--- an operand behind the first
+-- the tokens of an operand after the first
 abbrev pub after_comma : Word → List Token
 after_comma w = Comma ∷ Name w ∷ []
 
@@ -45,7 +45,7 @@ token_of t = t.1
 abbrev pub Reads : List ℕ → List Statement → Type 0
 Reads text ss = (ts : List (ℕ × Token)) × HasTokens text ts × AreSpelledRight ss × (map token_of ts ≡ spelling ss)
 
--- ---- what a statement says
+-- ---- what a statement contains
 
 -- the text is the word, in either case
 abbrev pub is_word : List ℕ → List ℕ → Bool
@@ -83,7 +83,7 @@ line_of (Input word name) = word.line
 line_of (Output word name) = word.line
 line_of (Gate out word first others) = out.line
 
--- the signals in the order in which a statement counts them
+-- the names of signals in the order in which a statement mentions them
 abbrev pub interned : Statement → List (List ℕ)
 interned (Input word name) = name.text ∷ []
 interned (Output word name) = name.text ∷ []
@@ -113,12 +113,12 @@ operands (Input word name) = []
 operands (Output word name) = []
 operands (Gate out word first others) = first ∷ others
 
--- the names that have to be defined
+-- the names that have to be defined somewhere in the text
 abbrev pub uses : Statement → List Word
 uses (Input word name) = []
 uses (Output word name) = name ∷ []
 uses (Gate out word first others) = first ∷ others
 
--- the names that it defines
+-- the names that the statement defines
 abbrev pub defined : Statement → List (List ℕ)
 defined s = input_name s ++ gate_name s

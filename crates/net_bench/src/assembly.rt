@@ -1,4 +1,4 @@
-//! The parts of a netlist that no text gave, and the symbols of its signals.
+//! Netlists that are made of their parts instead of read from a text, such as the cone of a signal.
 ghost use Rattle.std.specs.Prelude.{◌≡◌, ℕ, ◌<◌, length, All, IfOk, OnOk, true};
 ghost use Rattle.net_bench.specs.declared.netlist.Role.TheVariants.{Undefined};
 ghost use Rattle.net_bench.specs.Circuit.{HasRole, IsNet};
@@ -10,7 +10,8 @@ use crate::netlist::{GateLine, Role, Signal};
 use crate::symbols::Symbol;
 use std::alloc::{AllocError, Global};
 
-/// The parts of a netlist: its signals by number, as `Netlist` has them.
+/// The parts of a netlist that a caller has computed, for `reader::netlist_of_parts`. A signal is the number of its
+/// name in `names`.
 #[derive(Drop)]
 pub struct Assembly {
     pub names: NameTable,
@@ -18,14 +19,13 @@ pub struct Assembly {
     pub outputs: Vec<Signal>,
     pub gates: Vec<GateLine>,
     pub registers: Vec<GateLine>,
-    /// By signal: 0 for a variable, 1 more than the greatest of its operands for a gate.
+    /// The rank of each signal: 0 for a variable; for a gate, 1 more than the greatest rank of its operands.
     pub ranks: Vec<u32>,
 }
 
-/// The symbols before any role is told.
-#[tactic(auto, using(crate::proofs::Placing::none_set, crate::proofs::Placing::none_yet))]
+/// The symbols before any role is set. `is_output` is false in all of them: only while a text is read does it matter.
+#[tactic(auto, using(crate::proofs::Placing::none_yet))]
 fn without_roles(alloc: Global, parts: &Assembly) -> Result<Vec<Symbol>, AllocError>
-    requires in_bounds { All (λ s. s < length parts.now.names) parts.now.outputs.items }
     ensures one_symbol_per_name { IfOk result (λ v. length v.items ≡ length parts.now.names) }
     ensures none { IfOk result (λ v. (s : ℕ) → role_in v.items s ≡ Undefined) }
 {
@@ -37,17 +37,10 @@ fn without_roles(alloc: Global, parts: &Assembly) -> Result<Vec<Symbol>, AllocEr
             is_output: false,
         },
     )?;
-    let outputs = parts.outputs.as_slice();
-    for output in outputs {
-        symbols[output.number() as usize] = Symbol {
-            role: Role::Undefined,
-            is_output: true,
-        };
-    }
     Ok(symbols)
 }
 
-/// Tells the role of a signal.
+/// Sets the role of a signal.
 #[tactic(auto, using(crate::proofs::Placing::right_set, crate::proofs::Placing::placed_set, crate::proofs::Placing::kept_set))]
 fn set_role(parts: &Assembly, symbols: &mut [Symbol], signal: Signal, role: Role)
     requires in_bounds { signal < length symbols.old }
@@ -58,13 +51,15 @@ fn set_role(parts: &Assembly, symbols: &mut [Symbol], signal: Signal, role: Role
     ensures role_set { HasRoleSet symbols.new signal }
     ensures kept { KeepsRoles symbols.old symbols.new }
 {
-    let _ = parts;
+    let _ = parts; // For the proof.
     let place = signal.number() as usize;
-    let is_output = symbols[place].is_output;
-    symbols[place] = Symbol { role, is_output };
+    symbols[place] = Symbol {
+        role,
+        is_output: false,
+    };
 }
 
-/// Tells the roles of the inputs.
+/// Sets the roles of the inputs.
 fn set_input_roles(parts: &Assembly, symbols: &mut [Symbol])
     requires in_bounds { All (λ s. s < length symbols.old) parts.now.inputs.items }
     requires right { AreRolesRight (net_of_parts parts.now) symbols.old }
@@ -77,7 +72,7 @@ fn set_input_roles(parts: &Assembly, symbols: &mut [Symbol])
     }
 }
 
-/// Tells the roles of the gates' signals.
+/// Sets the roles of the gates' signals.
 fn set_gate_roles(parts: &Assembly, symbols: &mut [Symbol]) -> Result<(), AllocError>
     requires in_bounds { All (λ g. g.out < length symbols.old) parts.now.gates.items }
     requires right { AreRolesRight (net_of_parts parts.now) symbols.old }
@@ -92,7 +87,7 @@ fn set_gate_roles(parts: &Assembly, symbols: &mut [Symbol]) -> Result<(), AllocE
     Ok(())
 }
 
-/// Tells the roles of the registers' signals.
+/// Sets the roles of the registers' signals.
 fn set_register_roles(parts: &Assembly, symbols: &mut [Symbol]) -> Result<(), AllocError>
     requires in_bounds { All (λ g. g.out < length symbols.old) parts.now.registers.items }
     requires right { AreRolesRight (net_of_parts parts.now) symbols.old }
@@ -112,7 +107,7 @@ fn set_register_roles(parts: &Assembly, symbols: &mut [Symbol]) -> Result<(), Al
     Ok(())
 }
 
-/// Tells the roles of all signals.
+/// Sets the roles of all signals.
 #[tactic(auto, using(crate::proofs::Placing::inputs_low, crate::proofs::Placing::registers_low))]
 fn set_all_roles(parts: &Assembly, symbols: &mut [Symbol]) -> Result<(), AllocError>
     requires sound { IsNet (net_of_parts parts.now) }

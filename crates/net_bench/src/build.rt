@@ -1,4 +1,4 @@
-// The parts of a netlist, a statement at a time, by the numbers of its signals.
+// What one statement adds to the parts of a netlist, by the numbers of its signals.
 ghost use Rattle.std.specs.Prelude.{◌≡◌, ◌++◌, length, map, filter, IfOk, OnOk, option_to_list};
 ghost use Rattle.net_bench.specs.ParsedStatement.{statement_of};
 ghost use Rattle.net_bench.specs.Circuit.{is_gate, is_register};
@@ -11,7 +11,7 @@ use crate::symbols::{Symbol, Use};
 use crate::syntax::ParsedStatement;
 use std::alloc::{AllocError, Global};
 
-/// Puts the signal of an INPUT at the end, where it is no input yet.
+/// Appends the signal of an INPUT to the inputs, unless it is one already.
 pub fn add_input(
     inputs: &mut Vec<Signal>,
     parsed: &ParsedStatement<'_>,
@@ -29,7 +29,7 @@ pub fn add_input(
     Ok(())
 }
 
-/// Puts the signal of an OUTPUT at the end, where it is no output yet.
+/// Appends the signal of an OUTPUT to the outputs, unless it is one already.
 pub fn add_output(
     outputs: &mut Vec<Signal>,
     parsed: &ParsedStatement<'_>,
@@ -47,7 +47,7 @@ pub fn add_output(
     Ok(())
 }
 
-/// Puts the uses of a statement at the end.
+/// Appends the uses of a statement: those of its names that have to be defined somewhere in the text.
 pub fn add_uses(
     uses: &mut Vec<Use>,
     parsed: &ParsedStatement<'_>,
@@ -64,7 +64,7 @@ pub fn add_uses(
     Ok(())
 }
 
-/// The signals of uses.
+/// The signals of the operands, without the lines of their names.
 fn operands_of(alloc: Global, uses: &[Use]) -> Result<Operands, AllocError>
     ensures { IfOk result (λ v. v ≡ map (λ u. u.signal) uses.now) }
 {
@@ -75,7 +75,7 @@ fn operands_of(alloc: Global, uses: &[Use]) -> Result<Operands, AllocError>
     Ok(Operands::of(signals))
 }
 
-/// The gate or register of a statement, where it has one.
+/// The gate or register of a statement; None for an INPUT or an OUTPUT. (A word that names no kind was refused before.)
 fn gate_line_of(
     alloc: Global,
     parsed: &ParsedStatement<'_>,
@@ -99,7 +99,7 @@ fn gate_line_of(
     }))
 }
 
-/// Puts a gate at the end of the gates, and a register at the end of the registers.
+/// Appends a gate to the gates, and a register to the registers.
 fn add_line(
     gates: &mut Vec<GateLine>,
     registers: &mut Vec<GateLine>,
@@ -119,7 +119,7 @@ fn add_line(
     Ok(())
 }
 
-/// Puts the gate or register of a statement at the end of its list, where it has one.
+/// Appends the gate or register of a statement, if it has one, to its list.
 pub fn add_driven(
     alloc: Global,
     gates: &mut Vec<GateLine>,
@@ -137,7 +137,8 @@ pub fn add_driven(
     add_line(gates, registers, line)
 }
 
-/// The role that the word of a gate or register gives, which goes to one of these places.
+/// The role of a signal that a statement of this kind defines: the gate at the place `gate`, or the register at the
+/// place `register`.
 fn driven_role(kind: Option<Kind>, gate: u32, register: u32) -> Role
     ensures { result ≡ driven_role kind gate register }
 {
@@ -147,7 +148,8 @@ fn driven_role(kind: Option<Kind>, gate: u32, register: u32) -> Role
     }
 }
 
-/// The symbol of a statement's signal behind it, where a gate or register goes to one of these places.
+/// The symbol of a statement's signal after the statement, if its gate comes to the place `gate`, or its register to
+/// `register`.
 fn symbol_after(parsed: &ParsedStatement<'_>, symbol: Symbol, gate: u32, register: u32) -> Symbol
     ensures { result ≡ symbol_after (statement_of parsed.now) symbol gate register }
 {
@@ -167,7 +169,7 @@ fn symbol_after(parsed: &ParsedStatement<'_>, symbol: Symbol, gate: u32, registe
     }
 }
 
-/// The symbol of a statement's signal behind it, where its gate or register comes to the end of its list.
+/// The symbol of a statement's signal after the statement, whose gate or register is appended to its list.
 pub fn next_symbol(
     parsed: &ParsedStatement<'_>,
     symbol: Symbol,
@@ -181,7 +183,7 @@ pub fn next_symbol(
     Ok(symbol_after(parsed, symbol, gate, register))
 }
 
-/// The inputs, then the registers' signals.
+/// The variables: the inputs, then the signals of the registers.
 pub fn variables_of(
     alloc: Global,
     inputs: &[Signal],

@@ -1,63 +1,34 @@
 //! Why a text is no netlist.
-ghost use Rattle.std.specs.Prelude.{◌≡◌, Some};
-ghost use Rattle.net_bench.specs.FaultText.{fault_text};
+ghost use Rattle.std.specs.Prelude.{◌≡◌};
 ghost use Rattle.net_bench.specs.declared.fault.BenchFault.TheVariants.{OutOfMemory};
 
 use std::alloc::AllocError;
-use std::fmt;
-use thiserror::Error;
 
-/// Why a text is no netlist. Lines are counted from 1. The faults are numbered from 1 to 12 in this order; number 8 is not used.
-#[derive(Clone, Copy, Debug, PartialEq, Eq, Error)]
+/// Why a text is no netlist. Lines are counted from 1.
+#[derive(Clone, Copy, Debug, PartialEq, Eq)]
 pub enum BenchFault {
-    /// The text has more than 67,108,864 bytes.
+    /// The text has more than 67,108,864 bytes (64 MiB).
     TooLong,
-    /// A byte outside comments that is no blank and not printable.
+    /// A byte outside comments that is neither a blank nor printable.
     BadByte { line: u32 },
-    /// A token that no statement has there, or the text ends in a statement.
+    /// A token that cannot come after those before it, or a text that ends within a statement.
     BadStatement { line: u32 },
     /// The word of a gate is none of the gate words.
     UnknownGate { line: u32 },
     /// NOT, BUFF or DFF with two operands or more.
     WrongOperands { line: u32 },
-    /// The signal has a gate or register already, or an INPUT and one of these.
+    /// A second definition: the signal has a gate or register already, or it has both an INPUT and one of these.
     Redefined { line: u32 },
-    /// A name over 255 bytes, the 1,000,001st signal, or the 4,000,001st operand.
+    /// A name of more than 255 bytes, more than 1,000,000 signals, or more than 4,000,000 operands.
     TooMany { line: u32 },
-    /// An operand or an OUTPUT name without INPUT, gate and register.
+    /// An operand or an OUTPUT that no INPUT, gate or register defines.
     Undefined { line: u32 },
-    /// An endless chain of operands starts at the gate.
+    /// The gate depends on a cycle of gates: an endless chain of operands starts at it.
     Cycle { line: u32 },
     /// The device failed.
     Read,
-    /// A growth was refused.
+    /// An allocation was refused.
     OutOfMemory,
-}
-
-impl fmt::Display for BenchFault {
-    ghost output = { λ f. Some (fault_text f) };
-
-    fn fmt<W: fmt::Write>(&self, f: &mut fmt::Formatter<W>) -> fmt::Result {
-        match self {
-            BenchFault::TooLong => write!(f, "longer than 67108864 bytes"),
-            BenchFault::BadByte { line } => write!(f, "line {line}: a byte that no statement has"),
-            BenchFault::BadStatement { line } => write!(f, "line {line}: broken statement"),
-            BenchFault::UnknownGate { line } => write!(f, "line {line}: unknown gate"),
-            BenchFault::WrongOperands { line } => write!(
-                f,
-                "line {line}: wrong number of operands"
-            ),
-            BenchFault::Redefined { line } => write!(f, "line {line}: signal defined twice"),
-            BenchFault::TooMany { line } => write!(
-                f,
-                "line {line}: too many signals or operands, or a name too long"
-            ),
-            BenchFault::Undefined { line } => write!(f, "line {line}: signal without definition"),
-            BenchFault::Cycle { line } => write!(f, "line {line}: gate that depends on a cycle"),
-            BenchFault::Read => write!(f, "cannot be read"),
-            BenchFault::OutOfMemory => write!(f, "out of memory"),
-        }
-    }
 }
 
 impl From<AllocError> for BenchFault {

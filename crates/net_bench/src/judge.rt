@@ -1,5 +1,5 @@
-// The statements of a text without a faulty place, in one pass over its tokens, or the first fault.
-ghost use Rattle.std.specs.Prelude.{◌≡◌, ◌≢◌, ◌⊎◌, ◌≤◌, ◌<◌, List, [], ◌∷◌, ◌++◌, length, All, Some, None, option_map, IfOk, IfErr, OnOk};
+// The reader's pass over the tokens of a text: what its statements say of its signals, or the first fault.
+ghost use Rattle.std.specs.Prelude.{◌≡◌, ◌≢◌, ◌⊎◌, ◌≤◌, ◌<◌, List, [], length, All, Some, None, option_map, IfOk, IfErr, OnOk};
 ghost use Rattle.std.specs.Prelude.{Ok, Err};
 ghost use Rattle.net_bench.specs.Text.{End};
 ghost use Rattle.net_bench.specs.Scan.{seen};
@@ -20,7 +20,7 @@ use std::alloc::Global;
 /// The most bytes of a name.
 const MAX_NAME: usize = 255;
 
-/// A byte that no statement has, or a name that is too long.
+/// The fault of the token itself: a byte that no statement has, or a name that is too long.
 fn token_fault(line: u32, token: Token<'_>) -> Option<BenchFault>
     ensures { result ≡ option_map answered_fault (lexical line (seen line token.entry)) }
 {
@@ -36,7 +36,7 @@ fn token_fault(line: u32, token: Token<'_>) -> Option<BenchFault>
     }
 }
 
-/// A gate word that names no kind, where the part ends in a gate word.
+/// The fault of a gate word that names no kind, if the partial statement ends in a gate word.
 fn word_fault(part: &PartialStatement<'_>) -> Option<BenchFault>
     ensures { (done : List Statement) → result ≡ option_map answered_fault (gate_word (state_of done part.now)) }
 {
@@ -49,7 +49,7 @@ fn word_fault(part: &PartialStatement<'_>) -> Option<BenchFault>
     }
 }
 
-/// Closes a statement, where nothing is wrong with it.
+/// Notes what a statement says that has just become whole, unless it has a fault.
 fn close(
     alloc: Global,
     symbols: &mut SymbolTable,
@@ -71,7 +71,7 @@ fn close(
     Ok(())
 }
 
-/// Takes one more token, which is not the end, and answers the part of a statement that it leads to.
+/// Takes one more token, which is not the end, and returns the partial statement that it leads to.
 fn take_token<'a>(
     alloc: Global,
     symbols: &mut SymbolTable,
@@ -105,9 +105,9 @@ fn take_token<'a>(
     }
 }
 
-/// The signals of a text and what its statements say of them, or its first fault: at each token a broken token comes first, then one
-/// that no statement has there, a gate word that names no kind, a wrong number of operands, a second definition, and last a limit that
-/// is passed.
+/// The symbol table of a text, or its first fault. If one token shows several, the first of this list counts: the token
+/// itself is faulty, no statement has it there, a gate word names no kind, the number of operands is wrong, the signal
+/// is defined already, a limit is passed.
 pub fn judge_text(alloc: Global, text: &[u8]) -> Result<SymbolTable, BenchFault>
     requires { length text.now ≤ 67108864 }
     ensures ok { OnOk result (judge (Between []) [] (tokens_at 1 text.now) ≡ Ok (Finished (statements_in text.now))) }

@@ -1,10 +1,10 @@
-// The words of gates.
+// The words of gates and registers.
 ghost use Rattle.std.specs.Prelude.{◌≡◌};
 ghost use Rattle.net_bench.specs.Statement.{kind_of};
 
 use crate::netlist::Kind;
 
-/// The kind that a word names, in either case.
+/// The kind that a word names, in upper or lower case.
 pub fn kind_of(word: &[u8]) -> Option<Kind>
     ensures { result ≡ kind_of word.now }
 {

@@ -1,22 +1,22 @@
-//! Names by number. Each name's bytes are held once, one name behind the other; a name is found by open addressing.
-ghost use Rattle.std.specs.Prelude.{◌≡◌, ℕ, ◌+◌, ◌*◌, ◌<◌, ◌≤◌, ◌==◌, ◌^◌, List, [], ◌∷◌, ◌++◌, All, bytes_eq, fold, map, length};
-ghost use Rattle.std.specs.Prelude.{slice_get, slice_index_or, if◌then◌else◌, IfOk, OnOk, OnErr, Some, None};
-ghost use Rattle.net_bench.specs.Circuit.{with_name, find, number_of, is_name_in};
+//! Names by number. The bytes of all names are in one list, one name after the other; a name is found by open addressing.
+ghost use Rattle.std.specs.Prelude.{◌≡◌, ℕ, ◌+◌, ◌*◌, ◌<◌, ◌≤◌, ◌==◌, ◌^◌, List, [], ◌∷◌, ◌++◌, All, bytes_eq, map, length};
+ghost use Rattle.std.specs.Prelude.{slice_get, slice_index_or, IfOk, OnOk, OnErr, Some, None};
+ghost use Rattle.net_bench.specs.Circuit.{with_name, find, is_name_in};
 ghost use Rattle.slot_table.specs.Probes.{Probes, home_of};
-ghost use Rattle.net_bench.specs.NameTable.{NamesAreDistinct, IsInside, IsProbe, IsTable, hash_of, name_in, names_in, folded_hash_of};
+ghost use Rattle.net_bench.specs.NameTable.{IsInside, IsProbe, IsTable, hash_of, name_in, names_in, folded_hash_of};
 
 use slot_table::{free_slot, next_slot};
 use std::alloc::{AllocError, Global};
 use std::marker::Model;
 
-/// Where a name lies among the bytes.
+/// Where a name is among the bytes of all names.
 #[derive(Clone, Copy)]
 pub struct Span {
     start: u32,
     len: u32,
 }
 
-/// What a search of the slots ends at.
+/// Where a search of the slots ends.
 pub enum Probe {
     /// The number of the name.
     Number(u32),
@@ -24,12 +24,12 @@ pub enum Probe {
     Slot(usize),
 }
 
-/// Names, each once, in the order in which they came.
+/// Names, each once, numbered from 0 in the order in which they came.
 #[derive(Drop)]
 pub struct NameTable {
     bytes: Vec<u8>,
     spans: Vec<Span>,
-    /// 0 where a slot is empty, else a number and 1. Their number is 0 or a power of two, and at most half are taken.
+    /// For each slot 0 if it is empty, else 1 more than a name's number. There are 0 slots or a power of two, at most half taken.
     slots: Vec<u32>,
 }
 
@@ -44,7 +44,7 @@ impl Model for NameTable {
     ghost invariant = { λ a. IsTable a.bytes.items a.spans.items a.slots.items };
 }
 
-/// A number of 32 bits, where it is one.
+/// The number as a `u32`. The error for one that does not fit is that of refused memory, the only one that callers have.
 pub fn narrow(number: usize) -> Result<u32, AllocError>
     ensures { IfOk result (λ n. n ≡ number) }
 {
@@ -54,7 +54,8 @@ pub fn narrow(number: usize) -> Result<u32, AllocError>
     }
 }
 
-/// A number that spreads names over the slots.
+/// The 64-bit hash FNV-1a (Fowler, Noll and Vo) of the name. It has no seed, so each run takes the same time. Names that
+/// are made to collide cost time, but change no answer.
 fn hash(name: &[u8]) -> u64
     ensures { result ≡ hash_of name.now }
 {
@@ -65,7 +66,7 @@ fn hash(name: &[u8]) -> u64
     hash
 }
 
-/// The same from both halves of the hash.
+/// The hash with its upper half folded into the lower, from which slots are chosen.
 fn folded_hash(name: &[u8]) -> u64
     ensures { result ≡ folded_hash_of name.now }
 {
@@ -73,7 +74,7 @@ fn folded_hash(name: &[u8]) -> u64
     hash ^ (hash >> 32)
 }
 
-/// The slot, of `count`, in which the search for a name begins.
+/// The slot, of `count`, at which the search for a name begins.
 fn home(name: &[u8], count: usize) -> usize
     requires { 0 < count }
     ensures value { result ≡ home_of folded_hash_of count name.now }
@@ -82,7 +83,7 @@ fn home(name: &[u8], count: usize) -> usize
     folded_hash(name) as usize & (count - 1)
 }
 
-/// The name in a span.
+/// The bytes of the name in a span.
 fn name_in<'a>(bytes: &'a [u8], span: Span) -> &'a [u8]
     requires { IsInside bytes.now span }
     ensures { result.now ≡ name_in bytes.now span }
@@ -93,7 +94,7 @@ fn name_in<'a>(bytes: &'a [u8], span: Span) -> &'a [u8]
     name
 }
 
-/// Slots that find each of the names.
+/// `count` new slots that find each of the names.
 fn slots_of(
     alloc: Global,
     bytes: &[u8],
@@ -115,8 +116,8 @@ fn slots_of(
     Ok(slots)
 }
 
-/// Gives the slots room for one name more, all names in their slots anew where they need twice as many. After an error
-/// the slots are as before.
+/// Makes room in the slots for one more name. If half of them are taken, twice as many are made, with all names put
+/// into them anew. After an error the slots are as before.
 fn grow_slots(bytes: &[u8], spans: &[Span], slots: &mut Vec<u32>) -> Result<(), AllocError>
     requires in_bounds { All (IsInside bytes.now) spans.now }
     requires probes { Probes folded_hash_of (length slots.old.items) (names_in bytes.now spans.now) slots.old.items }
@@ -136,7 +137,7 @@ fn grow_slots(bytes: &[u8], spans: &[Span], slots: &mut Vec<u32>) -> Result<(), 
     Ok(())
 }
 
-/// Where a name lies that is put behind these bytes.
+/// The span of a name that is appended to these bytes.
 fn next_span(bytes: &[u8], name: &[u8]) -> Result<Span, AllocError>
     ensures start { IfOk result (λ span. span.start ≡ length bytes.now) }
     ensures len { IfOk result (λ span. span.len ≡ length name.now) }
@@ -146,7 +147,7 @@ fn next_span(bytes: &[u8], name: &[u8]) -> Result<Span, AllocError>
     Ok(Span { start, len })
 }
 
-/// Puts a name and its span at the end. After an error both lists are as before.
+/// Appends a name and its span. After an error both lists are as before.
 fn put(
     bytes: &mut Vec<u8>,
     spans: &mut Vec<Span>,
@@ -171,7 +172,7 @@ fn is_same(left: &[u8], right: &[u8]) -> bool
     left == right
 }
 
-/// Where the search for a name ends.
+/// Where the search for a name ends: from its home, slot by slot, at the name or at the first empty slot.
 fn seek(bytes: &[u8], spans: &[Span], slots: &[u32], name: &[u8]) -> Probe
     requires in_bounds { All (IsInside bytes.now) spans.now }
     requires probes { Probes folded_hash_of (length slots.now) (names_in bytes.now spans.now) slots.now }
@@ -205,7 +206,7 @@ impl NameTable {
         }
     }
 
-    /// The number of the name.
+    /// The number of the name; None if it is not in the table.
     pub fn find(&self, name: &[u8]) -> Option<u32>
         ensures { result ≡ find self.now name.now }
     {
@@ -223,14 +224,14 @@ impl NameTable {
         }
     }
 
-    /// Puts the name at the end, where it is not there yet, and answers its number. A table holds less than 4,294,967,296 names and
-    /// bytes of names.
+    /// The number of the name, which is appended if it is not in the table yet. A table has fewer than 4,294,967,296
+    /// names, and bytes of names.
     pub fn intern(&mut self, alloc: Global, name: &[u8]) -> Result<u32, AllocError>
         ensures added { OnOk result (self.new ≡ with_name self.old name.now) }
         ensures number { IfOk result (λ n. find self.new name.now ≡ Some n) }
         ensures err { OnErr result (self.new ≡ self.old) }
     {
-        let _ = alloc;
+        let _ = alloc; // Not used: each of the table's lists has its allocator.
         let slot_value = narrow(self.spans.len() + 1)?;
         let span = next_span(self.bytes.as_slice(), name)?;
         grow_slots(
@@ -268,7 +269,7 @@ impl NameTable {
         name_in(self.bytes.as_slice(), self.spans[place])
     }
 
-    /// Whether the name is there.
+    /// Whether the name is in the table.
     #[tactic(auto, using(crate::proofs::Tables::found_there, crate::proofs::Tables::found_none))]
     pub fn has(&self, name: &[u8]) -> bool
         ensures { result ≡ is_name_in self.now name.now }
@@ -287,7 +288,7 @@ impl NameTable {
         name_in(self.bytes.as_slice(), self.spans[number as usize])
     }
 
-    /// The names alone, in their order.
+    /// A copy of the names, in their order.
     pub fn to_names(&self, alloc: Global) -> Result<Vec<Vec<u8>>, AllocError>
         ensures { IfOk result (λ v. map (λ w. w.items) v.items ≡ self.now) }
     {

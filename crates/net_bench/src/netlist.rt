@@ -1,12 +1,12 @@
-//! A netlist and its parts.
-ghost use Rattle.std.specs.Prelude.{◌≡◌, ◌<◌, length, map, IfSome, slice_index, slice_get};
-ghost use Rattle.net_bench.specs.Circuit.{circuit, find, variables_of, HasRole, gate_by, gate_of, is_register_kind, IsNet, rank_of};
+//! A netlist, its parts, and what users can ask of it.
+ghost use Rattle.std.specs.Prelude.{◌≡◌, ◌<◌, length, map, slice_index, slice_get};
+ghost use Rattle.net_bench.specs.Circuit.{circuit, find, variables_of, HasRole, gate_by, gate_of, is_register_kind, IsNet};
 
 use crate::name_table::NameTable;
 use crate::symbols::{Symbol, symbol_of};
 use std::marker::Model;
 
-/// What a gate computes of its operands; `Dff` is a register, whose signal is a variable and whose operand is its next state.
+/// What a gate computes of its operands. `Dff` is a register: its signal is a variable, and its operand is its next state.
 #[derive(Clone, Copy, Debug, PartialEq, Eq)]
 pub enum Kind {
     And,
@@ -21,7 +21,7 @@ pub enum Kind {
 }
 
 impl Kind {
-    /// Whether it is the kind of registers.
+    /// Whether this is the kind of registers.
     pub fn is_register(self) -> bool
         ensures { result ≡ is_register_kind self }
     {
@@ -29,7 +29,8 @@ impl Kind {
     }
 }
 
-/// What gives a signal its value: an INPUT, or the gate or register at this place of its list. Each signal of a netlist has one of these.
+/// What gives a signal its value: an INPUT, or the gate or register at this place of its list. Only while a text is
+/// read can a signal be `Undefined`.
 #[derive(Clone, Copy, Debug, PartialEq, Eq)]
 pub enum Role {
     Undefined,
@@ -38,7 +39,7 @@ pub enum Role {
     Register(u32),
 }
 
-/// The number of a signal in its netlist.
+/// A signal, as its number in its netlist.
 #[derive(Clone, Copy, Debug, PartialEq, Eq)]
 pub struct Signal {
     number: u32,
@@ -62,7 +63,7 @@ impl Signal {
         Signal { number }
     }
 
-    /// The number, from 0.
+    /// The number, counted from 0.
     pub fn number(&self) -> u32
         ensures { result ≡ self.now }
     {
@@ -100,7 +101,7 @@ impl Operands {
     }
 }
 
-/// A gate or a register, and the line of its statement's first token.
+/// A gate or a register. `line` is the line of its statement's first token, counted from 1.
 #[derive(Debug, Drop)]
 pub struct GateLine {
     pub out: Signal,
@@ -109,7 +110,7 @@ pub struct GateLine {
     pub line: u32,
 }
 
-/// A netlist. Its signals are numbered in the order in which the text counts them.
+/// A netlist. Its signals are numbered in the order in which the text first mentions them as signals.
 #[derive(Drop)]
 pub struct Netlist {
     pub(crate) names: NameTable,
@@ -172,7 +173,7 @@ impl Netlist {
         self.outputs.as_slice()
     }
 
-    /// The registers, in text order, each with its next state as its operand. Their signals are variables.
+    /// The registers, in the order of the text. The signal of each is a variable, and its one operand is its next state.
     pub fn registers(&self) -> &[GateLine]
         ensures value { result.now ≡ self.now.registers }
         ensures sound { IsNet self.now }
@@ -188,7 +189,7 @@ impl Netlist {
         self.variables.as_slice()
     }
 
-    /// The gates that are no registers, in text order.
+    /// The gates that are no registers, in the order of the text.
     pub fn gates(&self) -> &[GateLine]
         ensures value { result.now ≡ self.now.gates }
         ensures sound { IsNet self.now }
@@ -196,7 +197,7 @@ impl Netlist {
         self.gates.as_slice()
     }
 
-    /// How many signals the netlist has: their numbers are those below.
+    /// How many signals the netlist has. They are numbered from 0.
     pub fn count(&self) -> usize
         ensures value { result ≡ length self.now.names }
         ensures sound { IsNet self.now }
@@ -204,7 +205,7 @@ impl Netlist {
         self.names.len()
     }
 
-    /// The signal of this name.
+    /// The signal of this name; None if there is none.
     pub fn find(&self, name: &[u8]) -> Option<Signal>
         ensures value { result ≡ find self.now.names name.now }
         ensures sound { IsNet self.now }
@@ -224,18 +225,18 @@ impl Netlist {
         self.names.name(signal.number())
     }
 
-    /// What gives the signal its value. It is never undefined.
+    /// What gives the signal its value; never `Undefined`.
     pub fn role(&self, signal: Signal) -> Role
         requires { signal < length self.now.names }
         ensures value { HasRole self.now signal result }
-        // The gate at its place is the signal's only one, and where the role is no gate, the signal has none.
+        // The gate of the role is the only one of the signal; if the role is no gate, the signal has none.
         ensures gate { gate_of self.now.gates signal ≡ gate_by self.now.gates result }
         ensures sound { IsNet self.now }
     {
         symbol_of(self.symbols.as_slice(), signal).role
     }
 
-    /// 0 for a variable, 1 more than the greatest of its operands for a gate.
+    /// The rank of a signal: 0 for a variable; for a gate, 1 more than the greatest rank of its operands.
     pub fn rank(&self, signal: Signal) -> u32
         requires { signal < length self.now.names }
         ensures value { result ≡ slice_index self.now.ranks signal }

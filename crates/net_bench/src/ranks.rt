@@ -1,4 +1,4 @@
-// The ranks of the signals, or the first gate at which an endless chain of operands starts; and the greatest rank.
+// The ranks of the signals, or the first gate that depends on a cycle of gates; and the greatest rank.
 ghost use Rattle.std.specs.Prelude.{◌≡◌, ◌≢◌, ◌⊎◌, ℕ, ◌+◌, ◌-◌, ◌<◌, ◌≤◌, length, Contains, slice_index, All, IfOk, IfErr, OnOk};
 ghost use Rattle.net_bench.specs.declared.netlist.GateLine.{GateLine};
 ghost use Rattle.net_bench.specs.Circuit.{Circuit, AreRanks, highest_rank, variables_of};
@@ -12,7 +12,7 @@ use crate::symbols::Symbol;
 use crate::walk::{height_of, set_heights};
 use std::alloc::Global;
 
-/// The line of the first gate without a height.
+/// The line of the first gate without a height; None if each has one.
 fn unranked_line(heights: &[u32], gates: &[GateLine]) -> Option<u32>
     ensures { result ≡ unranked_line heights.now gates.now }
 {
@@ -26,7 +26,7 @@ fn unranked_line(heights: &[u32], gates: &[GateLine]) -> Option<u32>
     None
 }
 
-/// The signal gets the height 1.
+/// Gives the signal the height 1, which is that of a variable.
 #[tactic(auto, using(crate::proofs::Heights::input_low))]
 fn set_variable_height(heights: &mut [u32], signal: Signal)
     requires in_bounds { signal < length heights.old }
@@ -43,7 +43,7 @@ fn set_variable_height(heights: &mut [u32], signal: Signal)
     }
 }
 
-/// Each variable gets the height 1, and nothing else a height.
+/// Gives each variable the height 1. No signal has a height yet.
 fn set_variable_heights(heights: &mut [u32], variables: &[Signal])
     requires in_bounds { All (λ s. s < length heights.old) variables.now }
     requires none { (s : ℕ) → slice_index heights.old s ≡ 0 }
@@ -57,7 +57,7 @@ fn set_variable_heights(heights: &mut [u32], variables: &[Signal])
     }
 }
 
-/// Ranks from heights: each 1 less, and 0 stays.
+/// Turns heights into ranks: each becomes 1 less, and 0 remains 0.
 fn lower(heights: &mut [u32])
     ensures { (s : ℕ) → slice_index heights.new s ≡ slice_index heights.old s - 1 }
 {
@@ -66,7 +66,7 @@ fn lower(heights: &mut [u32])
     }
 }
 
-/// The ranks of the signals, from their symbols, or the line of the first gate at which an endless chain of operands starts.
+/// The ranks of the signals, or the line of the first gate that depends on a cycle (an endless chain of operands starts at it).
 #[tactic(auto, using(crate::proofs::Heights::none_yet, crate::proofs::Heights::all_unranked))]
 pub fn ranks_of(
     alloc: Global,
@@ -98,7 +98,7 @@ pub fn ranks_of(
     }
 }
 
-/// The same, in a place for the ranks that holds zeros.
+/// The same, into a list of ranks that holds zeros. While they are sought it holds heights.
 #[tactic(auto, using(crate::proofs::Settled::inputs_sound))]
 fn rank_all(
     alloc: Global,
@@ -138,7 +138,7 @@ fn rank_all(
 }
 
 impl Netlist {
-    /// The greatest rank of a gate, 0 where there is none.
+    /// The greatest rank of a gate; 0 if there is none.
     pub fn highest_rank(&self) -> usize
         ensures value { result ≡ highest_rank self.now }
     {

@@ -1,9 +1,9 @@
-//! The netlist of a text.
-ghost use Rattle.std.specs.Prelude.{◌≡◌, ◌+◌, ◌<◌, ◌⊎◌, ℕ, length, Contains, IfOk, IfErr, IfSome, OnOk, IsTrue, slice_index, slice_get};
+//! Reads a netlist from a text or a device, or makes it of its parts.
+ghost use Rattle.std.specs.Prelude.{◌≡◌, ◌+◌, ◌<◌, ◌⊎◌, ℕ, length, Contains, IfOk, IfErr, IfSome, OnOk, IsTrue};
 ghost use Rattle.std.specs.Prelude.{Some, Err};
 ghost use Rattle.net_bench.specs.Circuit.{circuit, circuit_of, variables_of, IsNet, AreRanks};
 ghost use Rattle.net_bench.specs.Fault.{IsRefused, MakesNetlist, max_text};
-ghost use Rattle.net_bench.specs.Devices.{TakesAtMost};
+ghost use Rattle.text_device.specs.Devices.{TakesAtMost};
 ghost use Rattle.net_bench.specs.Judge.{statements_in};
 ghost use Rattle.net_bench.specs.Sound.{IsSound, AreDefined, IsLateFault};
 ghost use Rattle.net_bench.specs.Machine.{Between};
@@ -13,18 +13,18 @@ ghost use Rattle.net_bench.specs.Symbols.{IsTableOf};
 
 use crate::assembly::{Assembly, symbols_of};
 use crate::build::variables_of;
-use crate::device::{Source, TextFault, read_text};
 use crate::fault::BenchFault;
 use crate::judge::judge_text;
 use crate::netlist::{GateLine, Netlist, Signal};
 use crate::ranks::ranks_of;
 use crate::symbols::{Symbol, SymbolTable, first_undefined};
 use std::alloc::{AllocError, Global};
+use text_device::{Source, TextFault, read_text};
 
-/// The most bytes of a text, and of an order file.
+/// The most bytes of a text, and of an order file: 64 MiB.
 pub const MAX_TEXT: usize = 67_108_864;
 
-/// The ranks of the circuit of a text's statements.
+/// The ranks of the circuit of a text's statements. The text itself is only for the contract.
 fn ranks_for(
     alloc: Global,
     text: &[u8],
@@ -41,24 +41,24 @@ fn ranks_for(
     ensures ranks { IfOk result (λ v. AreRanks (circuit_of (statements_in text.now)) v.items) }
     ensures refused { IfErr result (IsLateFault (statements_in text.now)) }
 {
-    let _ = text;
+    let _ = text; // For the proof.
     ranks_of(alloc, symbols, variables, gates)
 }
 
-/// Refuses a text that uses a signal without definition.
+/// Refuses a text that uses a signal without a definition. The text itself is only for the contract.
 fn check_defined(text: &[u8], symbols: &SymbolTable) -> Result<(), BenchFault>
     requires table_matches { IsTableOf (statements_in text.now) (Between (statements_in text.now)) symbols.now }
     ensures defined { OnOk result (AreDefined (statements_in text.now)) }
     ensures refused { IfErr result (IsLateFault (statements_in text.now)) }
 {
-    let _ = text;
+    let _ = text; // For the proof.
     match first_undefined(symbols.symbols.as_slice(), symbols.uses.as_slice()) {
         Some(line) => Err(BenchFault::Undefined { line }),
         None => Ok(()),
     }
 }
 
-/// The netlist of a text whose statements are sound one by one, and use no signal without definition.
+/// The netlist of a text whose statements are sound, and use no signal without a definition.
 fn netlist_of(alloc: Global, text: &[u8], symbols: SymbolTable) -> Result<Netlist, BenchFault>
     requires sound { IsSound (statements_in text.now) }
     requires defined { AreDefined (statements_in text.now) }
@@ -95,7 +95,7 @@ fn netlist_of(alloc: Global, text: &[u8], symbols: SymbolTable) -> Result<Netlis
     })
 }
 
-/// The netlist of parts that are at hand.
+/// The netlist that has these parts.
 pub fn netlist_of_parts(alloc: Global, parts: Assembly) -> Result<Netlist, AllocError>
     requires { IsNet (net_of_parts parts) }
     ensures { IfOk result (λ net. net ≡ net_of_parts parts) }
@@ -122,12 +122,13 @@ pub fn netlist_of_parts(alloc: Global, parts: Assembly) -> Result<Netlist, Alloc
     })
 }
 
-/// The netlist of a text in the bench format: INPUT, OUTPUT, gates and registers, as ISCAS 1985 and 1989 benchmarks are distributed.
-/// A text is one pass over its tokens; then undefined uses are sought, then endless chains of operands. Never answers `Read`.
+/// The netlist of a text in the bench format: INPUT, OUTPUT, gates and registers, as ISCAS 1985 and 1989 benchmarks are
+/// distributed. After one pass over the text's tokens, uses without a definition are sought, then cycles of gates. The
+/// error is never `Read`.
 pub fn parse_bench(alloc: Global, text: &[u8]) -> Result<Netlist, BenchFault>
-    // What is accepted is a netlist, and the answer is the netlist of its statements.
+    // A text that is accepted is a netlist, and the answer is the netlist of its statements.
     ensures accepted { IfOk result (λ net. MakesNetlist text.now (circuit net)) }
-    // What is refused has the fault that comes first, unless memory ran out.
+    // A text that is refused has the fault that comes first, unless memory ran out.
     ensures refused { IfErr result (λ fault. (fault ≡ BenchFault.OutOfMemory) ⊎ IsRefused text.now fault) }
 {
     if text.len() > MAX_TEXT {
@@ -138,15 +139,15 @@ pub fn parse_bench(alloc: Global, text: &[u8]) -> Result<Netlist, BenchFault>
     netlist_of(alloc, text, symbols)
 }
 
-/// The netlist of the text that the device gives. A failed read is `Read`; a read of 0 bytes is the end.
-/// No more than 67,108,865 bytes are asked for.
+/// The netlist of the text that the device gives. A read that fails is `Read`; a read of 0 bytes is the end of the
+/// text. At most 67,108,865 bytes are read.
 pub fn read_bench<R: Source>(alloc: Global, device: &mut R) -> Result<Netlist, BenchFault>
     ensures accepted { IfOk result (λ net. IfSome (R.remaining device.old) (λ text. MakesNetlist text (circuit net))) }
     ensures refused { IfErr result (λ fault. (fault ≡ BenchFault.OutOfMemory) ⊎ (fault ≡ BenchFault.Read) ⊎
         IfSome (R.remaining device.old) (λ text. IsRefused text fault)) }
-    // At most one byte more than a text may have is taken.
+    // At most one byte more than a text may have is read.
     ensures taken { TakesAtMost (max_text + 1) (R.remaining device.old) (R.remaining device.new) }
-    // Read says that the device has failed, and nothing else does.
+    // `Read` says that the device has failed. After any other answer it has failed only if it had before.
     ensures read { result ≡ Err BenchFault.Read → IsTrue (R.has_failed device.new) }
     ensures kept { (result ≡ Err BenchFault.Read → ⊥) → R.has_failed device.new ≡ R.has_failed device.old }
     ensures origin { R.origin device.new ≡ R.origin device.old }

@@ -1,8 +1,8 @@
-//! The tokens of a text, one after the other.
-ghost use Rattle.std.specs.Prelude.{◌≡◌, ℕ, ◌+◌, ◌<◌, ◌≤◌, ◌^◌, ◌∷◌, length, IsTrue, take, drop};
-ghost use Rattle.std.specs.List.{list_all, prefix_len};
-ghost use Rattle.net_bench.specs.Text.{is_blank, is_mark, is_name_byte, tokens_from};
-ghost use Rattle.net_bench.specs.Pieces.{tokens_at, pieces_in, Between, InComment, mode_of, StartsToken, tokens_in};
+//! The scanner: the tokens of a text, one after the other.
+ghost use Rattle.std.specs.Prelude.{◌≡◌, ℕ, ◌+◌, ◌<◌, ◌≤◌, ◌^◌, length};
+ghost use Rattle.std.specs.List.{prefix_len};
+ghost use Rattle.net_bench.specs.Text.{is_blank, is_mark, is_name_byte};
+ghost use Rattle.net_bench.specs.Pieces.{tokens_at, StartsToken};
 ghost use Rattle.net_bench.specs.Scan.{seen, Takes};
 
 use std::marker::Model;
@@ -21,14 +21,14 @@ fn is_mark(b: u8) -> bool
     b == b'(' || b == b')' || b == b',' || b == b'='
 }
 
-/// A byte that names are made of.
+/// A byte of names: printable, no punctuation and no `#`.
 fn is_name_byte(b: u8) -> bool
     ensures { result ≡ is_name_byte b }
 {
     33 <= b && b <= 126 && !is_mark(b) && b != b'#'
 }
 
-/// The text from its first token on, and the line of that token.
+/// Skips blanks and comments: the text from its first token on, and the line of that token.
 #[tactic(auto, using(crate::proofs::Scanning::comment_newline, crate::proofs::Scanning::newline, crate::proofs::Scanning::hash, crate::proofs::Scanning::in_comment, crate::proofs::Scanning::blank, crate::proofs::Scanning::end_of))]
 fn skip_gap(text: &[u8], line: u32) -> (&[u8], u32)
     requires { line + length text.now < 2 ^ 32 }
@@ -66,7 +66,7 @@ fn name_len(text: &[u8]) -> usize
     text.iter().take_while(|b| is_name_byte(**b)).count()
 }
 
-/// A token of a text. A name lies in the text.
+/// A token of a text. A name is a slice of the text, not a copy.
 #[derive(Clone, Copy, Debug)]
 pub enum Token<'a> {
     Open,
@@ -80,7 +80,7 @@ pub enum Token<'a> {
     End,
 }
 
-/// The tokens left of a text.
+/// What is left of a text, as tokens.
 #[derive(Drop)]
 pub struct Scanner<'a> {
     rest: &'a [u8],
@@ -88,7 +88,7 @@ pub struct Scanner<'a> {
 }
 
 impl<'a> Model for Scanner<'a> {
-    ghost use Rattle.std.specs.Prelude.{List, ℕ, ◌+◌, ◌<◌, ◌^◌, length};
+    ghost use Rattle.std.specs.Prelude.{ℕ, ◌+◌, ◌<◌, ◌^◌, length};
     ghost use Rattle.net_bench.specs.Text.{Tokens};
 
     ghost Value = { Tokens };
@@ -101,7 +101,7 @@ impl<'a> Model for Scanner<'a> {
 }
 
 impl<'a> Scanner<'a> {
-    /// The tokens of a text, from line 1 on.
+    /// The scanner at the beginning of a text, on line 1.
     pub fn new(text: &'a [u8]) -> Self
         requires { length text.now ≤ 67108864 }
         ensures { result ≡ tokens_at 1 text.now }
@@ -112,7 +112,7 @@ impl<'a> Scanner<'a> {
         }
     }
 
-    /// The next token, and its line. The end stays.
+    /// The next token and its line. After the end of the text comes the end again.
     pub fn next(&mut self) -> (u32, Token<'a>)
         ensures { Takes self.old result.0 (seen result.0 result.1) self.new }
     {
@@ -124,7 +124,7 @@ impl<'a> Scanner<'a> {
     }
 }
 
-/// The token at the front of the text, and the text behind it.
+/// The token at the front of the text, and the text after it.
 #[tactic(auto, using(crate::proofs::Scanning::open_at, crate::proofs::Scanning::close_at, crate::proofs::Scanning::comma_at, crate::proofs::Scanning::equals_at, crate::proofs::Scanning::end_at, crate::proofs::Scanning::unknown_at, crate::proofs::Scanning::name_at))]
 fn first_token(text: &[u8]) -> (Token<'_>, &[u8])
     requires { StartsToken text.now }

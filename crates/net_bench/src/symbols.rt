@@ -1,4 +1,4 @@
-// The signals of a text, as its tokens count them and its statements define them.
+// The symbol table of the reader: the signals that a text has mentioned so far, and what its whole statements say of them.
 ghost use Rattle.std.specs.Prelude.{◌≡◌, ℕ, ◌+◌, ◌<◌, ◌≤◌, List, [], ◌∷◌, ◌++◌, length, replicate, slice_get, option_map, All, Some, IfErr};
 ghost use Rattle.std.specs.Prelude.{OnOk};
 ghost use Rattle.net_bench.specs.Fault.{has_wrong_operands, is_one_operand_kind, redefines};
@@ -21,25 +21,26 @@ use std::alloc::{AllocError, Global};
 /// The most signals of a netlist.
 const MAX_SIGNALS: usize = 1_000_000;
 
-/// The most operands of all gates.
+/// The most operands of all gates and registers together.
 const MAX_OPERANDS: u32 = 4_000_000;
 
-/// What the statements say of a signal.
+/// What the whole statements so far say of a signal.
 #[derive(Clone, Copy, Debug, PartialEq, Eq)]
 pub struct Symbol {
     pub role: Role,
     pub is_output: bool,
 }
 
-/// A signal where its name stands in a statement, and the line of the name.
+/// A signal that a statement mentions, and the line of its name.
 #[derive(Clone, Copy, Debug, PartialEq, Eq)]
 pub struct Use {
     pub signal: Signal,
     pub line: u32,
 }
 
-/// The names that were counted, each with its symbol; the parts of the netlist, by number; the uses of signals; the signals of
-/// the statement that is not whole yet; and the number of operands.
+/// What the reader knows after some tokens: the names so far, each with its symbol; the parts of the netlist, by
+/// number; the uses that need a definition; the signals that the partial statement has mentioned; and the number of
+/// operands.
 #[derive(Drop)]
 pub struct SymbolTable {
     pub names: NameTable,
@@ -53,21 +54,21 @@ pub struct SymbolTable {
     pub operands: u32,
 }
 
-/// Whether a gate or register has the signal.
+/// Whether a gate or register defines the signal.
 fn is_driven(role: Role) -> bool
     ensures { result ≡ is_driven_role role }
 {
     matches!(role, Role::Gate(_) | Role::Register(_))
 }
 
-/// Whether an INPUT, a gate or a register has the signal.
+/// Whether an INPUT, a gate or a register defines the signal.
 fn is_defined(role: Role) -> bool
     ensures { result ≡ is_defined_role role }
 {
     !matches!(role, Role::Undefined)
 }
 
-/// The line of the first use of a signal without definition.
+/// The line of the first use of a signal without a definition.
 pub fn first_undefined(symbols: &[Symbol], uses: &[Use]) -> Option<u32>
     ensures { result ≡ undefined_use symbols.now uses.now }
 {
@@ -81,7 +82,7 @@ pub fn first_undefined(symbols: &[Symbol], uses: &[Use]) -> Option<u32>
     None
 }
 
-/// Whether the signal has a symbol with a definition.
+/// Whether the signal has a symbol, and it is defined.
 fn is_known(symbols: &[Symbol], signal: Signal) -> bool
     ensures { result ≡ known_symbol (slice_get symbols.now signal) }
 {
@@ -100,7 +101,7 @@ pub fn symbol_of(symbols: &[Symbol], signal: Signal) -> Symbol
 }
 
 impl SymbolTable {
-    /// The table of no tokens.
+    /// The table before the first token.
     pub fn new(alloc: Global) -> Self
         ensures names { result.names ≡ [] }
         ensures symbols { result.symbols.items ≡ [] }
@@ -125,7 +126,7 @@ impl SymbolTable {
         }
     }
 
-    /// What is wrong with a statement that is whole now.
+    /// The fault of a statement that has just become whole: a wrong number of operands, or a second definition.
     pub fn fault_of(&self, parsed: &ParsedStatement<'_>) -> Option<BenchFault>
         requires some { 0 < length self.now.begun.items }
         requires in_bounds { All (λ u. u.signal < length self.now.symbols.items) self.now.begun.items }
@@ -146,7 +147,7 @@ impl SymbolTable {
         None
     }
 
-    /// Notes what the statement says of its signals.
+    /// Adds to the parts of the netlist what the whole statement says of its signals.
     pub fn define(&mut self, alloc: Global, parsed: &ParsedStatement<'_>) -> Result<(), AllocError>
         requires some { 0 < length self.old.begun.items }
         requires in_bounds { All (λ u. u.signal < length self.old.symbols.items) self.old.begun.items }
@@ -179,7 +180,7 @@ impl SymbolTable {
         Ok(())
     }
 
-    /// Notes a signal that was counted in the statement that is not whole yet, and its symbol where it is new.
+    /// Notes a signal that the partial statement mentions, with a symbol of its own if its name is new.
     fn note_use(&mut self, signal: Signal, line: u32) -> Result<(), AllocError>
         requires { length self.old.symbols.items ≤ length self.old.names }
         ensures symbols { OnOk result ((n : ℕ) × (self.new.symbols.items ≡ self.old.symbols.items ++ replicate n blank)) }
@@ -200,7 +201,7 @@ impl SymbolTable {
         Ok(())
     }
 
-    /// Counts a signal.
+    /// Interns the name of a signal and notes that it was mentioned. `line` is that of the last token, which a refusal names.
     fn intern_name(&mut self, alloc: Global, line: u32, name: Word<'_>) -> Result<(), BenchFault>
         requires operands { self.old.operands ≤ 4000000 }
         requires one_symbol_per_name { length self.old.symbols.items ≡ length self.old.names }
@@ -215,7 +216,7 @@ impl SymbolTable {
         Ok(())
     }
 
-    /// Counts an operand, and its signal.
+    /// Interns the name of an operand and counts the operand.
     fn intern_operand(&mut self, alloc: Global, line: u32, name: Word<'_>) -> Result<(), BenchFault>
         requires operands { self.old.operands ≤ 4000000 }
         requires one_symbol_per_name { length self.old.symbols.items ≡ length self.old.names }
@@ -230,7 +231,7 @@ impl SymbolTable {
         Ok(())
     }
 
-    /// Counts what a token counts that leads to this part of a statement.
+    /// Interns what the token mentions that has led to this partial statement: an operand, or the name of a statement's signal.
     pub fn intern_token(
         &mut self,
         alloc: Global,
@@ -258,7 +259,7 @@ impl SymbolTable {
     }
 }
 
-/// Whether the statement defines a signal again that has this symbol.
+/// Whether the statement is a second definition of a signal that has this symbol. (A repeated INPUT is none.)
 fn redefines(symbol: Symbol, parsed: &ParsedStatement<'_>) -> bool
     ensures { (done : List Statement) → IsSymbol done (subject (statement_of parsed.now)).text symbol
         → result ≡ redefines done (statement_of parsed.now) }
@@ -270,7 +271,7 @@ fn redefines(symbol: Symbol, parsed: &ParsedStatement<'_>) -> bool
     }
 }
 
-/// Whether a gate of this word takes one operand.
+/// Whether a gate of this word takes exactly one operand.
 fn takes_one(word: &[u8]) -> bool
     ensures { result ≡ is_one_operand_kind (kind_of word.now) }
 {
@@ -280,7 +281,7 @@ fn takes_one(word: &[u8]) -> bool
     }
 }
 
-/// Whether a gate of one operand has more.
+/// Whether the statement is a gate that takes one operand and has more.
 fn has_wrong_operands(parsed: &ParsedStatement<'_>) -> bool
     ensures { result ≡ has_wrong_operands (statement_of parsed.now) }
 {

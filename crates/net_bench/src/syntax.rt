@@ -1,4 +1,4 @@
-// The statements of a text, as they are spelled, and the parts of a statement.
+// Statements as a text spells them, and partial statements.
 ghost use Rattle.std.specs.Prelude.{◌≡◌, ◌≢◌, ◌⊎◌, List, [], ◌∷◌, ◌++◌, None, IfOk, IfErr};
 ghost use Rattle.net_bench.specs.Text.{Name, End};
 ghost use Rattle.net_bench.specs.ParsedStatement.{word_of, statement_of, state_of, next_state, closing};
@@ -48,35 +48,44 @@ impl ParsedStatement<'_> {
     }
 }
 
-/// What the tokens behind the last whole statement have said.
+/// A partial statement: what the tokens after the last whole statement have said.
 #[derive(Drop)]
 pub enum PartialStatement<'a> {
+    /// No token.
     Nothing,
+    /// A name, which may be INPUT, OUTPUT, or the signal of a gate or register.
     First { word: Word<'a> },
+    /// `INPUT (` or `OUTPUT (`.
     Opened { word: Word<'a> },
+    /// The same, and a name.
     Named { word: Word<'a>, name: Word<'a> },
+    /// `out =`.
     Defining { out: Word<'a> },
+    /// `out = word`.
     AtWord { out: Word<'a>, word: Word<'a> },
+    /// `out = word (`.
     Operands { out: Word<'a>, word: Word<'a> },
+    /// The same, and operands, the last of which has just been read.
     AfterOperand(ParsedGate<'a>),
+    /// The same, and a comma after the last operand.
     AfterComma(ParsedGate<'a>),
 }
 
-/// INPUT, in either case.
+/// Whether the word is INPUT, in upper or lower case.
 fn is_input(word: Word<'_>) -> bool
     ensures { result ≡ is_input_word (word_of word.entry) }
 {
     word.text.eq_ignore_ascii_case(b"INPUT")
 }
 
-/// OUTPUT, in either case.
+/// Whether the word is OUTPUT, in upper or lower case.
 fn is_output(word: Word<'_>) -> bool
     ensures { result ≡ is_output_word (word_of word.entry) }
 {
     word.text.eq_ignore_ascii_case(b"OUTPUT")
 }
 
-/// The statement of a word that is INPUT or OUTPUT.
+/// The statement of a word that is INPUT or OUTPUT, with this name.
 fn port<'a>(word: Word<'a>, name: Word<'a>) -> ParsedStatement<'a>
     ensures { statement_of result ≡ port (word_of word.entry) (word_of name.entry) }
 {
@@ -86,14 +95,14 @@ fn port<'a>(word: Word<'a>, name: Word<'a>) -> ParsedStatement<'a>
     ParsedStatement::Output { word, name }
 }
 
-/// What one more token makes of a part of a statement: more of it, or the whole.
+/// What one more token makes of a partial statement: a longer one, or a whole statement.
 #[derive(Drop)]
 pub enum Next<'a> {
     More(PartialStatement<'a>),
     Complete(ParsedStatement<'a>),
 }
 
-/// The gate with one operand more.
+/// The gate with one more operand.
 fn with_operand<'a>(gate: ParsedGate<'a>, operand: Word<'a>) -> Result<ParsedGate<'a>, AllocError>
     ensures { IfOk result (λ g. (g.out ≡ gate.entry.out) × (g.word ≡ gate.entry.word) × (g.first ≡ gate.entry.first)
         × (g.others.items ≡ gate.entry.others.items ++ operand.entry ∷ [])) }
@@ -113,7 +122,7 @@ fn with_operand<'a>(gate: ParsedGate<'a>, operand: Word<'a>) -> Result<ParsedGat
     })
 }
 
-/// What a name makes of a part of a statement.
+/// The partial statement with a name after it. The fault is `BadStatement` if no statement has a name there.
 fn next_name<'a>(
     alloc: Global,
     part: PartialStatement<'a>,
@@ -145,7 +154,7 @@ fn next_name<'a>(
     }
 }
 
-/// What one more token, which is not the end, makes of a part of a statement.
+/// What one more token, which is not the end, makes of a partial statement.
 pub fn next_part<'a>(
     alloc: Global,
     part: PartialStatement<'a>,

@@ -1,4 +1,5 @@
-// Heights of the gates, each 1 more than its rank, by one walk over the gates, on a stack of those that wait for an operand.
+// The heights of the gates, by one depth-first walk with a stack of the gates that wait for an operand. A height is 1
+// more than a rank, so that 0 says that a signal has none (yet). A gate that depends on a cycle never gets one.
 ghost use Rattle.std.specs.Prelude.{◌≡◌, ℕ, ◌<◌, ◌≤◌, [], ◌∷◌, map, length, reverse, slice_get, slice_index, slice_index_or, All, OnOk};
 ghost use Rattle.std.specs.Prelude.{true, false};
 ghost use Rattle.net_bench.specs.Circuit.{greatest};
@@ -9,7 +10,7 @@ use crate::netlist::{GateLine, Role, Signal};
 use crate::symbols::Symbol;
 use std::alloc::{AllocError, Global};
 
-/// The signal's height: 0, or 1 more than its rank.
+/// The height of the signal; 0 if it has none.
 pub fn height_of(heights: &[u32], signal: Signal) -> u32
     ensures { result ≡ slice_index heights.now signal }
 {
@@ -19,7 +20,7 @@ pub fn height_of(heights: &[u32], signal: Signal) -> u32
     }
 }
 
-/// The greatest height of these signals, 0 where there are none.
+/// The greatest height of these signals; 0 if there are none.
 fn greatest_height(heights: &[u32], signals: &[Signal]) -> u32
     ensures { result ≡ greatest (map (slice_index heights.now) signals.now) }
 {
@@ -35,7 +36,7 @@ fn greatest_height(heights: &[u32], signals: &[Signal]) -> u32
     most
 }
 
-/// Heights the gate at this place, all of whose operands have heights, where it has none.
+/// Gives the gate at this place its height, unless it has one. All its operands have heights.
 #[tactic(auto, using(crate::proofs::Heights::small, crate::proofs::Heights::ranked_more))]
 fn set_gate_height(gates: &[GateLine], place: usize, heights: &mut [u32])
     requires in_bounds { place < length gates.now }
@@ -56,7 +57,7 @@ fn set_gate_height(gates: &[GateLine], place: usize, heights: &mut [u32])
     heights[gate.out.number() as usize] = most + 1;
 }
 
-/// The place of the signal's gate, where it has one.
+/// The place of the signal's gate; None if it has no gate.
 fn gate_of(symbols: &[Symbol], signal: Signal) -> Option<usize>
     ensures { result ≡ gate_place (slice_get symbols.now signal) }
 {
@@ -71,15 +72,16 @@ fn gate_of(symbols: &[Symbol], signal: Signal) -> Option<usize>
     }
 }
 
-/// A gate that waits for an operand, and how many of its operands it has passed.
+/// A gate on the stack, and how many of its operands have been passed: these have heights.
 #[derive(Clone, Copy, Debug)]
 pub struct WaitingGate {
     pub place: usize,
     pub passed: usize,
 }
 
-/// The gate passes its next operand, waits for that operand's gate, gets its height, or is left: where the operand's gate was begun
-/// before and has no height, neither will ever have one.
+/// One step of the gate on top of the stack. It passes an operand that has a height, or waits for the gate of one that
+/// has none, or gets its own height after the last operand. If the operand's gate was begun before and has no height,
+/// both depend on a cycle: then the gate leaves the stack without a height.
 fn advance(
     gates: &[GateLine],
     symbols: &[Symbol],
@@ -126,7 +128,7 @@ fn advance(
     Ok(())
 }
 
-/// Heights the gate at this place, and those below it, each after its operands. A gate from which an endless chain starts gets no height.
+/// Gives heights to the gate at this place and those below it, each after its operands, except to those that depend on a cycle.
 fn set_heights_below(
     alloc: Global,
     gates: &[GateLine],
@@ -162,7 +164,7 @@ fn set_heights_below(
     Ok(())
 }
 
-/// Heights each gate from which no endless chain of operands starts: one walk over the gates, on a stack of those that wait.
+/// Gives a height to each gate that does not depend on a cycle.
 pub fn set_heights(
     alloc: Global,
     gates: &[GateLine],

@@ -24,7 +24,7 @@ no_registers (x ∷ xs) [] s e (zero, low, at) = (0, omega arith, at)
 no_registers (x ∷ xs) [] s e (suc i, low, at) = let (j, less, is) = no_registers xs [] s e (i, omega arith, at) in (suc j, omega arith, is)
 no_registers xs (g ∷ gs) s e among = cc
 
--- what stands behind numbers below a length stands in the list
+-- the signals at places below a list's length are in the list
 behind : (from ts : List ℕ) (s : ℕ) → All (λ t. t < length from) ts → Contains (map (slice_index from) ts) s → Contains from s
 behind from [] s low (i, less, at) = absurd (omega arith)
 behind from (t ∷ ts) s low (zero, less, at) =

@@ -1,9 +1,10 @@
--- The parts of a cone are a netlist, and its cone.
-use Rattle.std.proofs.Common.{◌≡◌, ◌≢◌, inl, inr, ℕ, ◌+◌, ◌-◌, ◌<◌, ◌≤◌, List, [], ◌∷◌, ◌++◌, Bool, true, false, refl, sym, ap, ◌∙◌, subst, map, take, drop, length, get_or, arith}
-use Rattle.std.specs.Prelude.{All, Contains, IsTrue, cond, filter, fold, nat_le, slice_index}
+-- The parts of a cone make a netlist, which is the cone.
+use Rattle.std.proofs.Common.{◌≡◌, ◌≢◌, inl, inr, ℕ, ◌+◌, ◌-◌, ◌^◌, ◌<◌, ◌≤◌, List, [], ◌∷◌, ◌++◌, Bool, true, false, refl, sym, ap, ◌∙◌, subst, map, take, drop, length, get_or, arith}
+use Rattle.std.specs.Prelude.{All, Contains, IsTrue, cond, decimal, filter, fold, nat_le, slice_index}
 use Rattle.std.proofs.Math.Seq.{get_or-append_seam, take-append_seam, drop-append_seam}
 use Rattle.std.proofs.lemmas.Bool.{cases_lt}
 use Rattle.std.proofs.lemmas.Bool.Decides.{nat_tests}
+use Rattle.std.proofs.lemmas.Fmt.{decimal_injective}
 use Rattle.std.proofs.lemmas.List.{get_or-append-add, get_or-map, get_or_append_left, get_or_default, append-nil, length-append, length-map}
 use Rattle.std.proofs.lemmas.List.Elements.{All-append, All-contains_itself, All-filter, filter_passes}
 use Rattle.net_bench.specs.declared.netlist.GateLine.{GateLine}
@@ -12,13 +13,13 @@ use Rattle.net_bench.specs.Statement.{takes_one}
 use Rattle.net_bench.proofs.OneLabelling.{at_contained}
 use Rattle.net_cone.specs.declared.cone.ConeNumbering.{ConeNumbering}
 use Rattle.net_cone.specs.Cones.{AreNames, IsBelow, IsCone, IsCopy, gate_name, last_gate, variable_name}
-use Rattle.net_cone.specs.Walk.{AreBelow, HasConeParts, IsVisited, IsNumbering, cone_names, gates_of, is_visited, visited_gates, renumbered}
+use Rattle.net_cone.specs.Walk.{AreBelow, HasConeParts, IsVisited, IsNumbering, cone_names, gates_of, is_visited, numbered_name, visited_gates, renumbered}
 use Rattle.net_cone.proofs.Lists.{all_map, filter_after_map, in_filter, in_first, in_map, in_second, map_alike, map_itself, map_twice, none_of, one_of}
 use Rattle.net_cone.proofs.Names.{AreApart, apart_append, apart_map, at_two, counted, new_map, none_map}
-use Rattle.net_cone.proofs.Numbered.{no_gate, one_name}
+use Rattle.net_cone.proofs.Numbered.{no_gate}
 use Rattle.net_cone.proofs.Walking.{all_found}
 
--- what cones are made of
+-- what a cone is made of
 pub record IsReady (n : Net) (root : ℕ) (given : List (List ℕ)) (seen : List Bool) (k : ConeNumbering) (cone : Net) : Type 0 where
   pub sound : IsNet n
   pub root_low : root < length n.names
@@ -37,7 +38,7 @@ greatest_one x =
       | false ↦ λ e. refl
     ] refl
 
--- a name's first byte, and those behind it
+-- a name's first byte, and those after it
 first_of : List ℕ → ℕ
 first_of [] = 0
 first_of (x ∷ xs) = x
@@ -159,7 +160,7 @@ module _ (n : Net) (root : ℕ) (given : List (List ℕ)) (seen : List Bool) (k 
   gates_count : length cone.gates ≡ length gates + 1
   gates_count = ap length gates_are ∙ length-append copies (last ∷ []) ∙ ap (λ m. m + 1) copies_count
 
-  -- the gates' signals stand behind the variables, in their order
+  -- the gates' signals come after the variables, in their order
   copy_out : (i : ℕ) (d : GateLine) → i < length gates → (get_or copies i d).out ≡ k.variables + i
   copy_out i d low =
       let far : length from ≡ k.variables + length gates = count in
@@ -201,16 +202,16 @@ module _ (n : Net) (root : ℕ) (given : List (List ℕ)) (seen : List Bool) (k 
   front = map (variable_name given) vars
 
   abbrev back : List (List ℕ)
-  back = map (gate_name n) outs
+  back = map (numbered_name to) outs
 
   abbrev all_names : List (List ℕ)
   all_names = (front ++ back) ++ (111 ∷ []) ∷ []
 
-  names_are : cone_names n given k.variables k.from.items ≡ all_names
+  names_are : cone_names given k.to.items k.variables k.from.items ≡ all_names
   names_are =
       let first : take k.variables k.from.items ≡ vars = ap (take k.variables) parts ∙ ap (λ m. take m (vars ++ outs)) r.variables ∙ take-append_seam vars outs in
-      ap (λ xs. (map (variable_name given) xs ++ map (gate_name n) (drop k.variables k.from.items)) ++ (111 ∷ []) ∷ []) first ∙
-      ap (λ ys. (front ++ map (gate_name n) ys) ++ (111 ∷ []) ∷ []) behind_variables
+      ap (λ xs. (map (variable_name given) xs ++ map (numbered_name to) (drop k.variables k.from.items)) ++ (111 ∷ []) ∷ []) first ∙
+      ap (λ ys. (front ++ map (numbered_name to) ys) ++ (111 ∷ []) ∷ []) behind_variables
 
   var_once : HaveNoRepeats vars
   var_once i j less low same =
@@ -231,24 +232,43 @@ module _ (n : Net) (root : ℕ) (given : List (List ℕ)) (seen : List Bool) (k 
       let many : length outs ≡ length gates = outs_count in
       once (k.variables + i) (k.variables + j) (omega arith) (omega arith) (sym (out_at i (omega arith)) ∙ same ∙ out_at j (omega arith))
 
-  out_low : (i : ℕ) → i < length outs → slice_index outs i < length n.names
-  out_low i low = all_map (λ (g : GateLine). g.out) (λ s. s < length n.names) gates
-      (λ j d less. at_contained (λ g. g.out < length n.names) n.gates (get_or gates j d) r.sound.outs (met j d less).0) i 0 low
+  -- the gates have the numbers after those of the variables, and so names of their own
+  number_at : (i : ℕ) → i < length outs → slice_index to (slice_index outs i) ≡ k.variables + i
+  number_at i low =
+      let far : length from ≡ k.variables + length gates = count in
+      let many : length outs ≡ length gates = outs_count in
+      ap (slice_index to) (out_at i (omega arith)) ∙ r.numbered.place (k.variables + i) (omega arith)
+
+  name_number : (i : ℕ) → i < length outs → numbered_name to (slice_index outs i) ≡ gate_name (k.variables + i)
+  name_number i low = ap gate_name (number_at i low)
+
+  numbers_short : (i : ℕ) → i < length outs → k.variables + i < 2 ^ 64
+  numbers_short i low =
+      let far : length from ≡ k.variables + length gates = count in
+      let many : length outs ≡ length gates = outs_count in
+      let short : length from ≤ 1000000 = r.cone_parts.short in
+      let million : 1000000 < 2 ^ 64 = omega arith in
+      omega arith
 
   back_apart : AreApart back
-  back_apart = apart_map (gate_name n) outs out_once
-      (λ i j low less same. one_name n r.sound (slice_index outs i) (slice_index outs j) (out_low i low) (out_low j less) (same_rest 103 (get_or n.names (slice_index outs i) []) (get_or n.names (slice_index outs j) []) same))
+  back_apart = apart_map (numbered_name to) outs out_once
+      (λ i j low less same.
+      let digits : decimal (k.variables + i) ≡ decimal (k.variables + j) =
+      same_rest 103 (decimal (k.variables + i)) (decimal (k.variables + j)) (sym (name_number i low) ∙ same ∙ name_number j less) in
+      let number : k.variables + i ≡ k.variables + j = decimal_injective (k.variables + i) (k.variables + j) (numbers_short i low) (numbers_short j less) digits in
+      let place : i ≡ j = omega arith in
+      ap (slice_index outs) place)
 
   both_apart : AreApart (front ++ back)
   both_apart = apart_append front back front_apart back_apart
-      (new_map front (gate_name n) outs (λ s. none_map (variable_name given) vars (gate_name n s) (λ t. other_first 118 103 (get_or given t []) (get_or n.names s []) (λ e. omega arith))))
+      (new_map front (numbered_name to) outs (λ s. none_map (variable_name given) vars (numbered_name to s) (λ t. other_first 118 103 (get_or given t []) (decimal (slice_index to s)) (λ e. omega arith))))
 
   all_apart : AreApart all_names
   all_apart = apart_append (front ++ back) ((111 ∷ []) ∷ []) both_apart (none_of (λ y. y ≢ 111 ∷ []) [] refl, tt)
       (one_of (λ y. All (λ x. x ≢ y) (front ++ back)) (111 ∷ [])
       (All-append (λ x. x ≢ 111 ∷ []) front back
       (none_map (variable_name given) vars (111 ∷ []) (λ t. other_first 118 111 (get_or given t []) [] (λ e. omega arith)))
-      (none_map (gate_name n) outs (111 ∷ []) (λ t. other_first 103 111 (get_or n.names t []) [] (λ e. omega arith)))))
+      (none_map (numbered_name to) outs (111 ∷ []) (λ t. other_first 103 111 (decimal (slice_index to t)) [] (λ e. omega arith)))))
 
   names_is : cone.names ≡ all_names
   names_is = r.cone_parts.names ∙ ap (fold with_name []) names_are ∙ counted [] all_names all_apart (λ i d low. none_of (λ x. x ≢ get_or all_names i d) [] refl)
@@ -256,7 +276,7 @@ module _ (n : Net) (root : ℕ) (given : List (List ℕ)) (seen : List Bool) (k 
   both_count : length (front ++ back) ≡ length k.from.items
   both_count =
       length-append front back ∙ ap (λ m. m + length back) (length-map vars (variable_name given)) ∙
-      ap (λ m. length vars + m) (length-map outs (gate_name n) ∙ outs_count) ∙ ap (λ m. m + length gates) (sym r.variables) ∙ sym count
+      ap (λ m. length vars + m) (length-map outs (numbered_name to) ∙ outs_count) ∙ ap (λ m. m + length gates) (sym r.variables) ∙ sym count
 
   names_count : length cone.names ≡ length k.from.items + 1
   names_count = ap length names_is ∙ length-append (front ++ back) ((111 ∷ []) ∷ []) ∙ ap (λ m. m + 1) both_count
@@ -270,14 +290,14 @@ module _ (n : Net) (root : ℕ) (given : List (List ℕ)) (seen : List Bool) (k 
       ap (λ ns. get_or ns t []) names_is ∙ get_or_append_left (front ++ back) ((111 ∷ []) ∷ []) [] t (omega arith) ∙
       get_or_append_left front back [] t (omega arith) ∙ get_or-map (variable_name given) vars t 0 [] (omega arith) ∙ ap (variable_name given) (sym (variable_at t low))
 
-  copy_name : (i : ℕ) → i < length gates → get_or cone.names (k.variables + i) [] ≡ gate_name n (slice_index k.from.items (k.variables + i))
+  copy_name : (i : ℕ) → i < length gates → get_or cone.names (k.variables + i) [] ≡ gate_name (k.variables + i)
   copy_name i low =
       let far : length from ≡ k.variables + length gates = count in
       let one : length (front ++ back) ≡ length from = both_count in
       let two : k.variables ≡ length front = r.variables ∙ sym (length-map vars (variable_name given)) in
       let three : length outs ≡ length gates = outs_count in
       ap (λ ns. get_or ns (k.variables + i) []) names_is ∙ get_or_append_left (front ++ back) ((111 ∷ []) ∷ []) [] (k.variables + i) (omega arith) ∙
-      ap (λ m. get_or (front ++ back) (m + i) []) two ∙ get_or-append-add front back i [] ∙ get_or-map (gate_name n) outs i 0 [] (omega arith) ∙ ap (gate_name n) (out_at i low)
+      ap (λ m. get_or (front ++ back) (m + i) []) two ∙ get_or-append-add front back i [] ∙ get_or-map (numbered_name to) outs i 0 [] (omega arith) ∙ name_number i (omega arith)
 
   end_name : get_or cone.names (length k.from.items) [] ≡ 111 ∷ []
   end_name =
@@ -414,6 +434,8 @@ module _ (n : Net) (root : ℕ) (given : List (List ℕ)) (seen : List Bool) (k 
         once = once;
         met = is_visited seen;
         order = r.from;
+        input_count = r.cone_parts.inputs ∙ r.variables;
+        gate_count = copies_count ∙ sym outs_count ∙ sym (ap length (filter_after_map (is_visited seen) (λ (g : GateLine). g.out) n.gates));
         input_places = λ t d low. r.cone_parts.input t d (subst (λ m. t < m) r.cone_parts.inputs low);
         gate_places = λ i d low. copy_out i d (subst (λ m. i < m) copies_count low) ∙ ap (λ m. m + i) (sym r.cone_parts.inputs);
         inputs = inputs_all (λ t. (t < length from) × Contains (variables_of (circuit n)) (slice_index from t)) (λ t low. (omega arith, is_variable t low));
@@ -426,6 +448,6 @@ module _ (n : Net) (root : ℕ) (given : List (List ℕ)) (seen : List Bool) (k 
         input_names = inputs_all (λ t. get_or cone.names t [] ≡ variable_name given (slice_index from t)) input_name;
         gate_names = λ i d low.
             let less : i < length gates = subst (λ m. i < m) copies_count low in
-            subst (λ t. get_or cone.names t [] ≡ gate_name n (slice_index from t)) (sym (copy_out i d less)) (copy_name i less);
+            subst (λ t. get_or cone.names t [] ≡ gate_name t) (sym (copy_out i d less)) (copy_name i less);
         last_name = end_name;
       }

@@ -1,4 +1,4 @@
--- A signal's function in its cone is its function in the netlist.
+-- A signal has the same function in its cone as in the netlist.
 use Rattle.std.proofs.Common.{◌≡◌, ◌↔◌, ℕ, zero, suc, ◌+◌, ◌<◌, List, [], ◌∷◌, ◌++◌, Bool, true, false, refl, sym, ap, ◌∙◌, subst, map, length, get_or, arith}
 use Rattle.std.specs.Prelude.{Contains, All, slice_index}
 use Rattle.std.proofs.lemmas.List.{get_or-map}
@@ -113,7 +113,7 @@ module _ (n : Net) (root : ℕ) (names : List (List ℕ)) (cone : Net) (from : L
   pub root_bit : bit_of lowered (length from) ≡ bit_of bits root
   root_bit = at_end
 
--- the function of a cone's output is the root's, where each assignment has a labelling of the netlist
+-- the function of a cone's output is the root's, if each assignment has a labelling of the netlist
 pub from_cone : (n : Net) (root : ℕ) (names : List (List ℕ)) (cone : Net) (from : List ℕ) → IsCone n root names cone from →
     (level inner : ℕ → ℕ) → ((t : ℕ) → Contains cone.inputs t → inner t ≡ level (slice_index from t)) →
     ((x : List Bool) → (bits : List Bool) × IsLabelling (circuit n) level x bits) →

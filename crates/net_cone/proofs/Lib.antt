@@ -1,5 +1,6 @@
 pub mod Functions
 pub mod Closed
+pub mod Unique
 pub mod Visiting
 pub mod Unvisiting
 pub mod Walking

@@ -1,4 +1,4 @@
--- Lists, and what stands in them.
+-- Lists, and their elements.
 use Rattle.std.proofs.Common.{◌≡◌, ℕ, zero, suc, List, [], ◌∷◌, ◌++◌, Bool, true, false, refl, sym, ap, ◌∙◌, subst, map, arith}
 use Rattle.std.specs.Prelude.{All, Contains, cond, filter}
 

@@ -1,4 +1,4 @@
--- Names that are apart stay as they are when they are counted.
+-- Names that are all different are unchanged if each is interned.
 use Rattle.std.proofs.Common.{◌≡◌, ◌≢◌, ℕ, zero, suc, ◌<◌, List, [], ◌∷◌, ◌++◌, true, false, refl, sym, ap, ◌∙◌, map, length, get_or, arith}
 use Rattle.std.specs.Prelude.{All, cond, ◌||◌, bytes_eq, fold, slice_index}
 use Rattle.std.proofs.lemmas.List.{append-nil, append_assoc}
@@ -6,12 +6,12 @@ use Rattle.std.proofs.lemmas.List.Elements.{All-append}
 use Rattle.net_bench.specs.Circuit.{HaveNoRepeats, is_name_in, with_name}
 use Rattle.net_bench.proofs.Names.{same_bytes}
 
--- each name differs from those behind it
+-- each name differs from those after it
 abbrev pub AreApart : List (List ℕ) → Type 0
 AreApart [] = Unit {0}
 AreApart (x ∷ xs) = All (λ y. y ≢ x) xs × AreApart xs
 
--- no name of the second list stands in the first
+-- no name of the second list is in the first
 abbrev pub AreNew : List (List ℕ) → List (List ℕ) → Type 0
 AreNew old new = All (λ y. All (λ x. x ≢ y) old) new
 
@@ -64,7 +64,7 @@ apart_map f (x ∷ xs) once differ = (
     all_map (y ∷ ys) none zero d low = none 0 (omega arith)
     all_map (y ∷ ys) none (suc i) d low = all_map ys (λ j small. none (suc j) (omega arith)) i d (omega arith)
 
--- names behind different bytes
+-- names with different first bytes
 pub new_map : (old : List (List ℕ)) (f : ℕ → List ℕ) (xs : List ℕ) → ((s : ℕ) → All (λ x. x ≢ f s) old) → AreNew old (map f xs)
 new_map old f [] none i d low = absurd (omega arith)
 new_map old f (x ∷ xs) none zero d low = none x

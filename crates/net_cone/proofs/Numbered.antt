@@ -1,4 +1,4 @@
--- One signal more gets a number.
+-- One more signal gets a number.
 use Rattle.std.proofs.Common.{◌≡◌, ◌≢◌, inl, inr, ℕ, zero, suc, ◌<◌, List, [], ◌∷◌, ◌++◌, Bool, refl, sym, ap, ◌∙◌, subst, map, take, length, get_or, arith}
 use Rattle.std.specs.Prelude.{All, Some, filter, slice_get}
 use Rattle.std.proofs.lemmas.List.{get_or-map, get_or-take, get_or_default}

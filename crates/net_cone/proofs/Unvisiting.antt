@@ -1,4 +1,4 @@
--- Marks that are taken away again, and the gates that have one.
+-- Flags that are cleared, and the gates that have them set.
 use Rattle.std.proofs.Common.{◌≡◌, ◌≢◌, ◌⊎◌, inl, inr, ℕ, zero, suc, ◌+◌, ◌<◌, ◌≤◌, List, [], ◌∷◌, ◌++◌, Bool, true, false, refl, sym, ap, ◌∙◌, subst, length, get_or, arith}
 use Rattle.std.proofs.Math.ListN.{set}
 use Rattle.std.specs.Prelude.{nat_eq, cond, Contains, All, Some, None, drop}
@@ -11,7 +11,7 @@ use Rattle.net_bench.proofs.OneLabelling.{at_contained}
 use Rattle.net_cone.specs.Cones.{HasGates, IsBelow, here, deeper}
 use Rattle.net_cone.specs.Walk.{AreBelow, IsVisited, gates_visited, is_visited}
 
--- a mark behind a set is none or an old one
+-- a flag after one was cleared is that one, or is as before
 split : (ms : List Bool) (i s : ℕ) → (s ≡ i) ⊎ (is_visited (set ms i false) s ≡ is_visited ms s)
 split ms i s =
     elim (nat_eq s i) as (λ b. nat_eq s i ≡ b → (s ≡ i) ⊎ (is_visited (set ms i false) s ≡ is_visited ms s)) [
@@ -28,7 +28,7 @@ only_others ms i s low now = elim (split ms i s) [
   | inr as_was ↦ sym as_was ∙ now
 ]
 
--- ---- gates that have a mark
+-- ---- gates whose flags are set
 
 abbrev one : Bool → ℕ
 one b = cond b 1 0

@@ -1,11 +1,11 @@
--- Marks of signals, one more at a time.
+-- Flags of signals, which are set one at a time.
 use Rattle.std.proofs.Common.{◌≡◌, ◌≢◌, ◌⊎◌, inl, inr, ℕ, zero, suc, ◌+◌, ◌<◌, List, [], ◌∷◌, ◌++◌, Bool, true, false, refl, sym, ◌∙◌, subst, length, get_or, arith}
 use Rattle.std.proofs.Math.ListN.{set}
 use Rattle.std.specs.Prelude.{nat_eq, Contains, All}
 use Rattle.std.proofs.lemmas.List.{get_or-set_same, get_or-set_other}
 use Rattle.net_cone.specs.Walk.{IsVisited, KeepsVisited, unvisited}
 
--- a mark behind a set is the new one or an old one
+-- a flag after one was set is that one, or is as before
 split : (ms : List Bool) (i s : ℕ) → (s ≡ i) ⊎ (get_or (set ms i true) s false ≡ get_or ms s false)
 split ms i s =
     elim (nat_eq s i) as (λ b. nat_eq s i ≡ b → (s ≡ i) ⊎ (get_or (set ms i true) s false ≡ get_or ms s false)) [

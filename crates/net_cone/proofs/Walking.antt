@@ -1,4 +1,4 @@
--- A walk below a root, one signal at a time.
+-- A walk below a root, signal by signal.
 use Rattle.std.proofs.Common.{◌≡◌, ◌⊎◌, inl, inr, ℕ, zero, suc, ◌+◌, ◌<◌, List, [], ◌∷◌, ◌++◌, Bool, false, refl, sym, ap, ◌∙◌, subst, map, take, length, get_or, arith}
 use Rattle.std.specs.Prelude.{Contains, All, Option, Some, None, IsTrue, filter_map, slice_get, replicate}
 use Rattle.net_bench.specs.Statement.{takes_one}
@@ -17,13 +17,13 @@ use Rattle.net_cone.specs.Walk.{AreBelow, IsVisited, IsWalkBelow, KeepsVisited, 
 pub contained_at : (xs : List ℕ) (i d : ℕ) → i < length xs → Contains xs (get_or xs i d)
 contained_at xs i d low = (i, low, get_or_default xs i (get_or xs i d) d low)
 
--- the gates' signals are apart
+-- each gate is found by its signal
 pub gate_found : (n : Net) → IsNet n → (g : GateLine) → Contains n.gates g → gate_of n.gates g.out ≡ Some g
 gate_found n sound g (i, low, at) =
     let is : slice_get n.gates i ≡ Some g = slice_get-get_or n.gates i g low ∙ ap (λ x. Some x) at in
     role_gate n sound g.out (gate i) (g, is, refl) ∙ is
 
--- one signal's gates
+-- the gate of one signal
 one_of : (gates : List GateLine) (s : ℕ) (o : Option GateLine) → gate_of gates s ≡ o → gates_of gates (s ∷ []) ≡ filter_map (λ x. x) (o ∷ [])
 one_of gates s o is = ap (λ x. filter_map (λ y. y) (x ∷ [])) is
 
@@ -35,7 +35,7 @@ all_found n sound (g ∷ gs) all =
     ap (λ xs. xs ++ gates_of n.gates (map (λ h. h.out) gs)) (one_of n.gates g.out (Some g) (gate_found n sound g (all 0 g (omega arith)))) ∙
     ap (λ hs. g ∷ hs) (all_found n sound gs (λ i d low. all (suc i) d (omega arith)))
 
--- one signal more, without a gate or with one
+-- one more signal, without a gate or with one
 module _ (gates : List GateLine) (signals : List ℕ) (p s : ℕ) (low : p < length signals) (is : s ≡ get_or signals p s) where
   one_more : (o : Option GateLine) → gate_of gates s ≡ o → gates_of gates (take (p + 1) signals) ≡ gates_of gates (take p signals) ++ filter_map (λ x. x) (o ∷ [])
   one_more o found =
@@ -48,7 +48,7 @@ module _ (gates : List GateLine) (signals : List ℕ) (p s : ℕ) (low : p < len
   pub gate_more : (g : GateLine) → gate_of gates s ≡ Some g → gates_of gates (take (p + 1) signals) ≡ gates_of gates (take p signals) ++ g ∷ []
   gate_more g found = one_more (Some g) found
 
--- the last one of those that wait, or one of the others
+-- the last one on the stack, or one of the others
 pub last_or : (xs : List ℕ) (y s : ℕ) → Contains (xs ++ y ∷ []) s → (y ≡ s) ⊎ Contains xs s
 last_or [] y s (zero, low, at) = inl at
 last_or [] y s (suc i, low, at) = absurd (omega arith)
@@ -68,7 +68,7 @@ last_of P [] y all = all 0 0 (omega arith)
 last_of P (x ∷ xs) y all = last_of P xs y (λ j e less. all (suc j) e (omega arith))
 
 module _ (n : Net) (sound : IsNet n) (root s : ℕ) (old new : List Bool) (before after : List ℕ) (w : IsWalkBelow n root old (before ++ s ∷ [])) where
-  -- a variable is passed
+  -- a variable has no operands to visit
   pub pass_variable : gate_of n.gates s ≡ None → IsWalkBelow n root old before
   pass_variable none = record {
     each = w.each;

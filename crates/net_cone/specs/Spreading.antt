@@ -1,4 +1,4 @@
--- Assignments of some of the variables, out of assignments of all.
+-- Assignments of some of the variables, taken from assignments of all.
 use Rattle.std.specs.Prelude.{ℕ, Bool, false, List, map, slice_index_or}
 
 -- the bits of an assignment at these places

@@ -1,13 +1,12 @@
-// The signals below a root: a walk with a stack of its own, which passes each signal once.
-ghost use Rattle.std.specs.Prelude.{◌≡◌, ◌⊎◌, ◌<◌, ◌≤◌, ◌+◌, ℕ, ◌++◌, ◌∷◌, [], length, All, Contains, IfOk, OnOk};
-ghost use Rattle.net_bench.specs.declared.netlist.GateLine.{GateLine};
-ghost use Rattle.net_bench.specs.Circuit.{IsNet, circuit};
+// The signals below a root, by a depth-first walk with a stack of its own, which visits each signal once.
+ghost use Rattle.std.specs.Prelude.{◌≡◌, ◌⊎◌, ◌<◌, ◌+◌, ℕ, ◌++◌, ◌∷◌, [], length, All, Contains, IfOk, OnOk};
+ghost use Rattle.net_bench.specs.Circuit.{IsNet};
 ghost use Rattle.net_cone.specs.Walk.{AreBelow, IsVisited, IsWalkBelow, KeepsVisited, unvisited};
 
 use net_bench::netlist::{Netlist, Role, Signal};
 use std::alloc::{AllocError, Global};
 
-/// Notes a signal that was not visited as visited, and lets it wait.
+/// Flags a signal as visited and puts it on the stack, unless it was visited before.
 #[tactic(auto, using(crate::proofs::Visiting::unvisited_set, crate::proofs::Visiting::kept_set, crate::proofs::Visiting::only_set, crate::proofs::Visiting::visited_here, crate::proofs::Visiting::still))]
 fn visit(seen: &mut [bool], waiting: &mut Vec<Signal>, signal: Signal) -> Result<(), AllocError>
     requires in_bounds { signal < length seen.old }
@@ -27,7 +26,7 @@ fn visit(seen: &mut [bool], waiting: &mut Vec<Signal>, signal: Signal) -> Result
     Ok(())
 }
 
-/// Visits signals, one after the other.
+/// Visits these signals, one after the other.
 #[tactic(auto, using(crate::proofs::Walking::contained_at))]
 fn visit_all(
     seen: &mut [bool],
@@ -49,7 +48,7 @@ fn visit_all(
     Ok(())
 }
 
-/// Passes a signal: visits the operands of its gate, where it has one.
+/// Takes a signal that has left the stack: visits the operands of its gate, if it has one. The root is only for the contract.
 fn visit_operands(
     net: &Netlist,
     root: Signal,
@@ -64,7 +63,7 @@ fn visit_operands(
     ensures waiting { OnOk result ((s : ℕ) → Contains waiting.old.items s → Contains waiting.new.items s) }
     ensures steps { OnOk result (unvisited seen.new + length waiting.new.items ≡ unvisited seen.old + length waiting.old.items) }
 {
-    let _ = root;
+    let _ = root; // For the proof.
     let Role::Gate(place) = net.role(signal) else {
         return Ok(());
     };
@@ -73,7 +72,7 @@ fn visit_operands(
     Ok(())
 }
 
-/// Visits the signals below the root, and puts each at the end of those that were met.
+/// Visits the signals below the root, and appends each of them to `met`.
 #[tactic(auto, using(crate::proofs::Walking::begun, crate::proofs::Walking::ended, crate::proofs::Walking::taken))]
 pub fn visit_below(
     alloc: Global,
@@ -99,7 +98,7 @@ pub fn visit_below(
     Ok(())
 }
 
-/// Marks of the signals below the root. Time and memory are linear in the netlist.
+/// For each signal whether it is below the root. Time and memory are linear in the netlist.
 #[tactic(auto, using(crate::proofs::Walking::none_seen))]
 pub fn seen_below(alloc: Global, net: &Netlist, root: Signal) -> Result<Vec<bool>, AllocError>
     requires { root < length net.now.names }

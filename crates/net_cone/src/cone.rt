@@ -1,9 +1,9 @@
-// The cone of a signal.
-ghost use Rattle.std.specs.Prelude.{◌≡◌, ◌<◌, ◌≤◌, ℕ, ◌++◌, ◌∷◌, [], filter, fold, map, length, slice_index, All, IfOk, OnOk};
+// The cone of a signal, made of the signals below it.
+ghost use Rattle.std.specs.Prelude.{◌≡◌, ◌<◌, ◌≤◌, ◌++◌, [], filter, fold, map, length, All, IfOk, OnOk};
 ghost use Rattle.net_bench.specs.Assembly.{net_of_parts};
-ghost use Rattle.net_bench.specs.Circuit.{IsNet, circuit, variables_of, with_name};
+ghost use Rattle.net_bench.specs.Circuit.{circuit, variables_of, with_name};
 ghost use Rattle.net_cone.specs.Cones.{AreNames, IsCone, gate_signals};
-ghost use Rattle.net_cone.specs.Walk.{AreBelow, HasConeParts, IsNumbering, cone_names, is_visited};
+ghost use Rattle.net_cone.specs.Walk.{HasConeParts, IsNumbering, cone_names, is_visited};
 
 use crate::below::seen_below;
 use crate::naming::{intern_gates, intern_variables};
@@ -17,8 +17,9 @@ use std::alloc::{AllocError, Global};
 /// The most signals of a netlist.
 const MAX_SIGNALS: usize = 1_000_000;
 
-/// The cone of a signal: what a walk below it meets, as a netlist of its own. The variables that are met are its inputs, in their
-/// order; the gates that are met are its gates, in text order; and a last gate, BUFF of the signal, is its one output.
+/// The cone of a signal: the signal and all that it depends on, as a netlist of its own. Its inputs are the variables
+/// that are met, in their order; its gates are the gates that are met, in the order of the text, and last a BUFF of the
+/// signal, which is its one output.
 #[derive(Drop)]
 pub struct Cone {
     pub net: Netlist,
@@ -26,7 +27,7 @@ pub struct Cone {
 }
 
 impl Cone {
-    /// By signal of the cone but the last, the signal of the netlist that it stands for.
+    /// For each signal of the cone but the last, the signal of the netlist of which it is a copy.
     pub fn sources(&self) -> &[Signal]
         ensures { result.now ≡ self.now.from.items }
     {
@@ -34,7 +35,8 @@ impl Cone {
     }
 }
 
-/// The signals of a cone but the last, its variables first; their numbers by signal of the netlist; and how many are variables.
+/// The numbering of a cone: `from` has the signal of each number but the last, variables first; `to` has the number of
+/// each signal of the netlist that is met; `variables` is how many are variables.
 #[derive(Drop)]
 pub struct ConeNumbering {
     pub from: Vec<Signal>,
@@ -42,7 +44,7 @@ pub struct ConeNumbering {
     pub variables: usize,
 }
 
-/// Numbers the visited signals, the variables first, and answers how many of these there are.
+/// Numbers the visited signals, variables first, and returns how many of these there are.
 fn number_all(
     net: &Netlist,
     seen: &[bool],
@@ -65,7 +67,7 @@ fn number_all(
     Ok(variables)
 }
 
-/// The numbers of the visited signals.
+/// The numbering of the visited signals.
 fn numbers_of(
     alloc: Global,
     net: &Netlist,
@@ -90,24 +92,28 @@ fn numbers_of(
     })
 }
 
-/// The names of a cone's signals. More than a netlist may have are refused.
+/// The names of a cone's signals. More names than a netlist may have are refused like memory.
 fn names_of(
     alloc: Global,
-    net: &Netlist,
     from: &[Signal],
+    to: &[u32],
     variables: usize,
     given: &[Vec<u8>],
 ) -> Result<NameTable, AllocError>
     requires variables { variables ≤ length from.now }
-    requires given { length given.now ≡ length net.now.names }
-    requires known { All (λ s. s < length net.now.names) from.now }
-    ensures names { IfOk result (λ v. v ≡ fold with_name [] (cone_names net.now (map (λ w. w.items) given.now) variables from.now)) }
+    requires given { length given.now ≡ length to.now }
+    requires known { All (λ s. s < length to.now) from.now }
+    ensures names { IfOk result (λ v. v ≡ fold with_name [] (cone_names (map (λ w. w.items) given.now) to.now variables from.now)) }
     ensures few { IfOk result (λ v. length v ≤ 1000000) }
+    ensures short { IfOk result (λ v. length from.now ≤ 1000000) }
 {
+    if from.len() > MAX_SIGNALS {
+        return Err(AllocError);
+    }
     let mut names = NameTable::new(alloc);
     let (inputs, gates) = from.split_at(variables);
     intern_variables(alloc, &mut names, inputs, given)?;
-    intern_gates(alloc, &mut names, net, gates)?;
+    intern_gates(alloc, &mut names, to, gates)?;
     names.intern(alloc, b"o")?;
     if names.len() > MAX_SIGNALS {
         return Err(AllocError);
@@ -115,7 +121,7 @@ fn names_of(
     Ok(names)
 }
 
-/// The parts of a cone.
+/// The parts of a cone, from which its netlist is made.
 fn parts_of(
     alloc: Global,
     net: &Netlist,
@@ -132,7 +138,7 @@ fn parts_of(
 {
     let from = numbers.from.as_slice();
     let to = numbers.to.as_slice();
-    let names = names_of(alloc, net, from, numbers.variables, given)?;
+    let names = names_of(alloc, from, to, numbers.variables, given)?;
     let (_, own) = from.split_at(numbers.variables);
     let mut gates = renumbered_gates(alloc, net, own, to)?;
     let out = Signal::of(narrow(from.len())?);
@@ -149,10 +155,11 @@ fn parts_of(
     })
 }
 
-/// The cone of a signal of the netlist. Its variables get the names that are given by signal behind a 'v', and its gates their own
-/// names behind a 'g'; its output is "o". The signals of the netlist's gates are handed in, so that one list of them serves many cones.
-/// Time and memory are linear in the netlist: a walk over what is met, and one look at each signal. A cone of more signals than a netlist
-/// may have is refused like memory.
+/// The cone of a signal of the netlist. Its variables have the names that are given, by signal, with a 'v' before them;
+/// its gates have their numbers in the cone, with a 'g' before them; its output is "o". So no two names are the same, and
+/// two cones of the same gates over the same variables are the same. The signals of the netlist's gates (`gate_signals`)
+/// are an argument, so that one list of them serves many cones. Time and memory are linear in the netlist: a walk over
+/// what is met, and one look at each signal. A cone of more signals than a netlist may have is refused like memory.
 pub fn cone_of(
     alloc: Global,
     net: &Netlist,

@@ -1,4 +1,4 @@
-// How many gates are below signals: walks that take their seen away again, so that none reads or writes more than it meets.
+// How many gates are below signals. Each walk clears the flags that it has set, so that it reads and writes no more than it meets.
 ghost use Rattle.std.specs.Prelude.{◌≡◌, ◌<◌, ◌≤◌, ◌+◌, ℕ, length, All, Contains, IfOk};
 ghost use Rattle.std.specs.List.{AllZip};
 ghost use Rattle.net_bench.specs.Circuit.{IsNet, circuit};
@@ -9,7 +9,7 @@ use crate::below::visit_below;
 use net_bench::netlist::{Netlist, Role, Signal};
 use std::alloc::{AllocError, Global};
 
-/// Makes a signal one that was not visited: 1 where it was and is a gate's, else 0.
+/// Clears the flag of a signal. Returns 1 if it was set and the signal is a gate's, otherwise 0.
 fn unvisit(net: &Netlist, seen: &mut [bool], signal: Signal) -> u64
     requires in_bounds { signal < length net.now.names }
     requires one_per_signal { length seen.old ≡ length net.now.names }
@@ -29,7 +29,7 @@ fn unvisit(net: &Netlist, seen: &mut [bool], signal: Signal) -> u64
     }
 }
 
-/// Takes the seen of these signals away, and counts the gates that had one.
+/// Clears the flags of these signals, and returns how many gates had them set.
 fn unvisit_all(net: &Netlist, seen: &mut [bool], met: &[Signal]) -> u64
     requires in_bounds { All (λ s. s < length net.now.names) met.now }
     requires one_per_signal { length seen.old ≡ length net.now.names }
@@ -44,7 +44,7 @@ fn unvisit_all(net: &Netlist, seen: &mut [bool], met: &[Signal]) -> u64
     gates
 }
 
-/// How many gates are below the root. None is left visited.
+/// How many gates are below the root. Before and after, no flag is set.
 fn count_below(
     alloc: Global,
     net: &Netlist,
@@ -63,7 +63,7 @@ fn count_below(
     Ok(unvisit_all(net, seen, met.as_slice()))
 }
 
-/// How many gates are below each of the roots. None is left visited behind a root.
+/// How many gates are below each of the roots. Before and after each of them, no flag is set.
 fn counts_below(
     alloc: Global,
     net: &Netlist,
@@ -83,8 +83,8 @@ fn counts_below(
     Ok(counts)
 }
 
-/// How many gates are below each of the signals. Time is that of the walks and one look at the netlist, and memory is linear in the
-/// netlist and in the signals.
+/// How many gates are below each of the signals, themselves included. Time is that of the walks and one look at the
+/// netlist; memory is linear in the netlist and in the number of signals.
 #[tactic(auto, using(crate::proofs::Walking::none_seen))]
 pub fn gates_below(alloc: Global, net: &Netlist, roots: &[Signal]) -> Result<Vec<u64>, AllocError>
     requires { All (λ s. s < length net.now.names) roots.now }

@@ -1,7 +1,7 @@
-// The numbers of signals in a cone, and its gates by these numbers.
+// The numbers of signals in a cone, and gates whose signals are replaced by these numbers.
 ghost use Rattle.std.specs.Prelude.{◌≡◌, ◌≢◌, ◌<◌, ℕ, ◌++◌, ◌∷◌, [], filter, map, length, slice_index, slice_index_or, ◌+◌, All, IfOk};
 ghost use Rattle.std.specs.Prelude.{OnOk};
-ghost use Rattle.net_bench.specs.Circuit.{HaveNoRepeats, IsNet};
+ghost use Rattle.net_bench.specs.Circuit.{HaveNoRepeats};
 ghost use Rattle.net_cone.specs.Cones.{gate_signals, last_gate};
 ghost use Rattle.net_cone.specs.Walk.{IsNumbering, gates_of, is_visited, renumbered};
 
@@ -23,7 +23,7 @@ fn number(signal: Signal, from: &mut Vec<Signal>, to: &mut [u32]) -> Result<(), 
     Ok(())
 }
 
-/// Gives the visited ones of these signals the next numbers, in their order.
+/// Gives those of these signals that were visited the next numbers, in their order.
 pub fn number_visited(
     seen: &[bool],
     signals: &[Signal],
@@ -47,7 +47,7 @@ pub fn number_visited(
     Ok(())
 }
 
-/// The signals of a netlist's gates, in text order. Time and memory are linear in the netlist.
+/// The signals of a netlist's gates, in the order of the text. Time and memory are linear in the netlist.
 pub fn gate_signals(alloc: Global, net: &Netlist) -> Result<Vec<Signal>, AllocError>
     ensures { IfOk result (λ v. v.items ≡ gate_signals net.now) }
 {
@@ -59,7 +59,7 @@ pub fn gate_signals(alloc: Global, net: &Netlist) -> Result<Vec<Signal>, AllocEr
     Ok(signals)
 }
 
-/// The number of a signal.
+/// The number of a signal in the cone.
 fn number_of(to: &[u32], signal: Signal) -> Signal
     requires { signal < length to.now }
     ensures { result ≡ slice_index to.now signal }
@@ -67,7 +67,7 @@ fn number_of(to: &[u32], signal: Signal) -> Signal
     Signal::of(to[signal.number() as usize])
 }
 
-/// A gate by numbers.
+/// A gate by numbers, without the line of its text.
 fn renumbered(alloc: Global, gate: &GateLine, to: &[u32]) -> Result<GateLine, AllocError>
     requires out { gate.now.out < length to.now }
     requires operands { All (λ s. s < length to.now) gate.now.operands }
@@ -82,11 +82,11 @@ fn renumbered(alloc: Global, gate: &GateLine, to: &[u32]) -> Result<GateLine, Al
         out: number_of(to, gate.out),
         kind: gate.kind,
         operands: Operands::of(operands),
-        line: gate.line,
+        line: 0,
     })
 }
 
-/// The gates of these signals, by numbers.
+/// Copies of the gates of these signals, with the numbers of their signals in the cone.
 pub fn renumbered_gates(
     alloc: Global,
     net: &Netlist,
@@ -107,7 +107,7 @@ pub fn renumbered_gates(
     Ok(copies)
 }
 
-/// The ranks of a cone's signals.
+/// The ranks of a cone's signals: those in the netlist, and for the last gate 1 more than the root's.
 pub fn ranks_of(
     alloc: Global,
     net: &Netlist,
@@ -129,7 +129,7 @@ pub fn ranks_of(
     Ok(ranks)
 }
 
-/// The first numbers.
+/// The signals from 0 to `count - 1`, which are the cone's inputs.
 pub fn first_numbers(alloc: Global, count: usize) -> Result<Vec<Signal>, AllocError>
     ensures count { IfOk result (λ v. length v.items ≡ count) }
     ensures each_is_its_place { IfOk result (λ v. (i d : ℕ) → i < count → slice_index_or v.items i d ≡ i) }
@@ -141,7 +141,7 @@ pub fn first_numbers(alloc: Global, count: usize) -> Result<Vec<Signal>, AllocEr
     Ok(signals)
 }
 
-/// The last gate of a cone: a copy of the root.
+/// The last gate of a cone: a BUFF of the root. It has no line in a text, so its line is 0.
 pub fn last_gate(
     alloc: Global,
     out: Signal,

@@ -16,7 +16,7 @@ unfolding code_within
 last_byte zero k low short = absurd (omega arith)
 last_byte (suc most) k low short = ap (λ b. (33 + k % 94) ∷ cond b [] (code_within most (k / 94 - 1))) (less k short)
 
--- what is left of an identifier, of so many bytes at most
+-- what remains of an identifier, of at most so many bytes
 pub record IsLeft (whole text : List ℕ) (k : ℕ) : Type 0 where
   pub most : ℕ
   pub low : k < most

@@ -1,4 +1,4 @@
--- Gates are counted.
+-- Gates are counted one by one.
 use Rattle.std.proofs.Common.{◌≡◌, ◌<◌, Bool, true, false, not, ◌&&◌, List, ◌∷◌, [], Some, None, refl, subst, get_or, length, arith}
 use Rattle.net_bench.specs.Circuit.{Net}
 use Rattle.net_explain.specs.declared.differing.InnerSignal.{InnerSignal}

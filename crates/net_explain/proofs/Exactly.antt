@@ -1,4 +1,4 @@
--- The list of inner signals that differ has exactly these.
+-- The list has exactly the inner signals that differ.
 use Rattle.std.proofs.Common.{◌≡◌, ◌⊎◌, inl, inr, ℕ, zero, suc, ◌<◌, ◌≤◌, ◌==◌, Bool, true, false, not, cond, ◌&&◌, List, [], ◌∷◌, ◌++◌, Option, Some, None, refl, sym, ap, ◌∙◌, subst, length, get_or, eq-eqb, arith}
 use Rattle.std.specs.Prelude.{Contains, filter_map, option_to_list}
 use Rattle.std.proofs.lemmas.Bool.{ne_eqb}
@@ -93,7 +93,7 @@ names_once n sound i j name e f =
     one_name n sound i j (slice_get_within n.names i name e) (slice_get_within n.names j name f)
     (get_or_from_slice_get n.names i name [] e ∙ sym (get_or_from_slice_get n.names j name [] f))
 
--- ---- what a listed signal is
+-- ---- what a signal of the list is
 
 pub record IsOn (s t : ℕ) (value : Bool) (x y : Option ℕ) (i : InnerSignal) : Type 0 where
   pub first : i.first ≡ s

@@ -5,7 +5,7 @@ use Rattle.std.proofs.lemmas.Bool.{cases_lt}
 use Rattle.net_explain.specs.Vcd.{code, code_within}
 use Rattle.net_explain.proofs.Codes.{less, not_less}
 
--- the bytes behind the first
+-- the bytes after the first
 abbrev outside : ℕ → ℕ → List ℕ
 outside most k = cond (nat_lt k 94) [] (code_within most (k / 94 - 1))
 

@@ -66,6 +66,6 @@ module _ (a b : Net) (sound : IsNet a) (v w : SimulationModel) where
       (all_given (λ i. i.second < length b.names) (inner_at a b v w) (rank_row a (suc r))
       (λ s i among e. found_low b.names (get_or a.names s []) i.second (with_facts a b v w s (find b.names (get_or a.names s [])) i e).1))
 
--- the row of one rank more
+-- the row of one more rank
 pub row_added : (a b : Net) (v w : SimulationModel) (r : ℕ) (row : List ℕ) → row ≡ rank_row a (r + 1) → inner_to a b v w r ++ filter_map (inner_at a b v w) row ≡ inner_to a b v w (r + 1)
 row_added a b v w r row e = rw (e, add-one) refl

@@ -1,7 +1,7 @@
--- Texts and what is added to them.
+-- Texts to which parts are appended.
 use Rattle.std.proofs.Common.{◌≡◌, List, [], ◌++◌, sym, ap, ◌∙◌, append_assoc}
 
--- what was added goes from the rest to the text
+-- a part that was appended no longer belongs to the rest
 pub moved : {A : Type 0} (whole text more part rest all : List A) → text ++ all ≡ whole → all ≡ part ++ rest → more ≡ text ++ part → more ++ rest ≡ whole
 moved whole text more part rest all done split added =
     ap (λ z. z ++ rest) added ∙ append_assoc text part rest ∙ ap (λ z. text ++ z) (sym split) ∙ done

@@ -1,4 +1,4 @@
--- Marks of signals.
+-- Flags of signals.
 use Rattle.std.proofs.Common.{◌≡◌, ◌⊎◌, ◌↔◌, inl, inr, ℕ, zero, suc, ◌<◌, Bool, true, false, List, sym, ap, ◌∙◌, subst, length, set, replicate, take, drop, ◌++◌}
 use Rattle.std.specs.Prelude.{Contains, All, IsTrue}
 use Rattle.std.proofs.lemmas.List.{get_or-set_same, get_or-set_other}

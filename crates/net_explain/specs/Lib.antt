@@ -1,4 +1,3 @@
-pub mod Values
 pub mod Explaining
 pub mod Text
 pub mod Vcd

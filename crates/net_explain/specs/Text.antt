@@ -24,16 +24,16 @@ abbrev pub inners_text : List (List ℕ) → List InnerSignal → List ℕ
 inners_text names [] = []
 inners_text names (i ∷ is) = inner_text names i ++ inners_text names is
 
--- how many gates of how many
+-- how many gates, of how many, are outside
 abbrev pub gate_count_text : GateCount → List ℕ
 gate_count_text p = decimal p.outside ++ (codes " of " ++ decimal p.all)
 
--- the last line: how many gates below what is explained are not below a signal, in each netlist
+-- the last line: for each netlist how many gates below the pair are outside the cone of a signal
 abbrev pub outside_text : List ℕ → (first second : GateCount) → List ℕ
 outside_text name first second = codes "  " ++ (gate_count_text first ++ (codes " gates in the first netlist and " ++ (gate_count_text second
     ++ (codes " in the second are outside the cone of " ++ (name ++ 10 ∷ [])))))
 
--- the same of the first of the inner signals, where there is one
+-- the last line for the first of the inner signals; nothing if there is none
 abbrev pub last_line_text : List (List ℕ) → List InnerSignal → Option (GateCount × GateCount) → List ℕ
 last_line_text names (i ∷ is) (Some ps) = outside_text (slice_index_or names i.first []) ps.0 ps.1
 last_line_text names is ps = []

@@ -2,7 +2,8 @@
 use Rattle.std.specs.Prelude.{ℕ, zero, suc, ◌+◌, ◌-◌, ◌/◌, ◌%◌, Bool, nat_lt, if◌then◌else◌, List, [], ◌∷◌, ◌++◌, codes, length}
 use Rattle.net_explain.specs.Text.{bit_text}
 
--- an identifier by its number, of so many bytes at most: printable ASCII, 94 of one byte first, then those of two, and so on
+-- the identifier of a number, of at most so many bytes: first the 94 identifiers of one printable byte, then those of
+-- two, and so on
 unfoldable pub code_within : ℕ → ℕ → List ℕ
 code_within zero k = []
 code_within (suc most) k = (33 + k % 94) ∷ (if nat_lt k 94 then [] else code_within most (k / 94 - 1))

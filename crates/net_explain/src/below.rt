@@ -1,6 +1,5 @@
 // Which signals are below a root.
-ghost use Rattle.std.specs.Prelude.{◌≡◌, ◌<◌, ◌↔◌, ◌⊎◌, ℕ, length, All, Contains, IfOk, IsTrue, true};
-ghost use Rattle.net_bench.specs.Circuit.{circuit};
+ghost use Rattle.std.specs.Prelude.{◌≡◌, ◌<◌, ◌↔◌, ◌⊎◌, ℕ, length, All, Contains, IfOk, true};
 ghost use Rattle.net_bench.specs.Labels.{bit_of};
 ghost use Rattle.net_explain.specs.Explaining.{AreBelowFlags};
 
@@ -8,7 +7,7 @@ use net_bench::netlist::{Netlist, Signal};
 use net_cone::{cone_of, gate_signals, own_names};
 use std::alloc::{AllocError, Global};
 
-/// Visits the signals.
+/// Sets the flags of these signals.
 fn set_flags(visited: &mut [bool], signals: &[Signal])
     requires { All (λ s. s < length visited.old) signals.now }
     ensures { (s : ℕ) → (bit_of visited.new s ≡ true) ↔ ((bit_of visited.old s ≡ true) ⊎ Contains signals.now s) }
@@ -18,7 +17,8 @@ fn set_flags(visited: &mut [bool], signals: &[Signal])
     }
 }
 
-/// By signal, whether it is below the root: the root itself, an operand of its gate, and so on. Time and memory are linear in the netlist.
+/// For each signal whether it is below the root: the root itself, an operand of its gate, and so on. Time and memory
+/// are linear in the netlist.
 pub fn visited_below(alloc: Global, net: &Netlist, root: Signal) -> Result<Vec<bool>, AllocError>
     requires { root < length net.now.names }
     ensures { IfOk result (λ v. AreBelowFlags net.now root v.items) }

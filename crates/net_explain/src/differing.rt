@@ -1,6 +1,5 @@
-// The inner signals that have one name and other values.
+// The inner signals that have the same name in both netlists, and different values.
 ghost use Rattle.std.specs.Prelude.{◌≡◌, ◌<◌, ◌++◌, [], length, filter_map, option_to_list, slice_index_or, All, IfOk, OnOk};
-ghost use Rattle.net_bench.specs.Circuit.{IsNet};
 ghost use Rattle.net_explain.specs.Explaining.{differ, differing, inner_at, is_inner, line_of};
 
 use crate::simulation::Simulation;
@@ -8,18 +7,19 @@ use net_bench::netlist::{Netlist, Role, Signal};
 use net_simulate::gates_by_rank;
 use std::alloc::{AllocError, Global};
 
-/// A signal of the first netlist and the one of its name in the second. Each is the signal of a gate, whose line is told.
+/// An inner signal that differs: a gate's signal of the first netlist, the one of the same name in the second, and the
+/// lines of both gates.
 #[derive(Clone, Copy, Drop, Debug, PartialEq, Eq)]
 pub struct InnerSignal {
     pub first: Signal,
     pub second: Signal,
-    /// In the first netlist. In the second it is the other one.
+    /// The value in the first netlist. In the second it is the complement.
     pub value: bool,
     pub first_line: u32,
     pub second_line: u32,
 }
 
-/// The line of the signal's gate, where it has one.
+/// The line of the signal's gate; None if it has none.
 fn line_of(net: &Netlist, signal: Signal) -> Option<u32>
     requires { signal < length net.now.names }
     ensures { result ≡ line_of net.now signal }
@@ -30,14 +30,14 @@ fn line_of(net: &Netlist, signal: Signal) -> Option<u32>
     }
 }
 
-/// Whether two values are not the same.
+/// Whether two values are different.
 fn differ(first: bool, second: bool) -> bool
     ensures { result ≡ differ first second }
 {
     if first { !second } else { second }
 }
 
-/// Whether both are inner signals, and have other values.
+/// Whether both are inner signals that differ: below the two signals that are compared, not these two, and of different values.
 fn is_inner(seen: &Simulation, other: &Simulation, first: Signal, second: Signal) -> bool
     ensures { result ≡ is_inner seen.now other.now first second }
 {
@@ -58,7 +58,7 @@ pub fn name_of<'a>(net: &'a Netlist, signal: Signal) -> &'a [u8]
     net.name(signal)
 }
 
-/// The signal with the one of its name in the other netlist, if both are inner signals and have other values.
+/// The signal with the one of the same name in the second netlist, if both are inner signals that differ and have gates.
 fn inner_at(
     first: &Netlist,
     second: &Netlist,
@@ -84,7 +84,7 @@ fn inner_at(
     })
 }
 
-/// Adds an inner signal, if there is one.
+/// Appends an inner signal, if there is one.
 fn add(found: &mut Vec<InnerSignal>, inner: Option<InnerSignal>) -> Result<(), AllocError>
     ensures { OnOk result (found.new.items ≡ found.old.items ++ option_to_list inner) }
 {
@@ -94,7 +94,7 @@ fn add(found: &mut Vec<InnerSignal>, inner: Option<InnerSignal>) -> Result<(), A
     Ok(())
 }
 
-/// Adds the inner signals of a row that differ.
+/// Appends the inner signals of a row that differ.
 fn add_row(
     first: &Netlist,
     second: &Netlist,
@@ -112,7 +112,7 @@ fn add_row(
     Ok(())
 }
 
-/// The inner signals that differ, by rank in the first netlist, those of one rank in the order of its text.
+/// The inner signals that differ, by rising rank in the first netlist, those of one rank in the order of its text.
 pub fn differing(
     alloc: Global,
     first: &Netlist,
@@ -121,7 +121,7 @@ pub fn differing(
     other: &Simulation,
 ) -> Result<Vec<InnerSignal>, AllocError>
     ensures inner { IfOk result (λ v. v.items ≡ differing first.now second.now seen.now other.now) }
-    // They are signals of their netlists.
+    // All of them are signals of their netlists.
     ensures first { IfOk result (λ v. All (λ i. i.first < length first.now.names) v.items) }
     ensures second { IfOk result (λ v. All (λ i. i.second < length second.now.names) v.items) }
 {

@@ -1,25 +1,26 @@
-//! What explains that two signals differ at an assignment.
+//! The explanation of a difference: which inner signals differ at an assignment.
 ghost use Rattle.std.specs.Prelude.{◌≡◌, ◌<◌, length, All, IfOk};
 ghost use Rattle.net_explain.specs.Explaining.{AreGateCounts, IsExplanation, IsGateCount};
 
 use crate::below::visited_below;
 use crate::bits::bit_at;
 use crate::differing::{InnerSignal, differing};
-use crate::evaluate::WhichNetlist;
 use crate::simulation::Simulation;
 use net_bench::netlist::{Netlist, Signal};
 use net_order::naming::Naming;
+use net_order::netlist_role::NetlistRole;
 use std::alloc::{AllocError, Global};
 use std::marker::Model;
 
-/// How many gates are below a signal, and how many of these lie behind another one: they are not below it.
+/// How many gates are below a signal, and how many of these are outside the cone of another signal, that is, not below it.
 #[derive(Clone, Copy, Drop, Debug, PartialEq, Eq)]
 pub struct GateCount {
     pub all: usize,
     pub outside: usize,
 }
 
-/// Which inner signals of a pair differ, and how many gates of each netlist lie between the first of them and the pair.
+/// Which inner signals of a pair differ, and for each netlist how many gates are below the pair but outside the cone of
+/// the first of them: no such gate makes that one differ.
 #[derive(Drop)]
 pub struct Explanation {
     inner: Vec<InnerSignal>,
@@ -35,14 +36,15 @@ impl Model for Explanation {
 }
 
 impl Explanation {
-    /// The inner signals that differ, by rank in the first netlist, those of one rank in the order of its text.
+    /// The inner signals that differ, by rising rank in the first netlist, those of one rank in the order of its text.
     pub fn inner(&self) -> &[InnerSignal]
         ensures { result.now ≡ self.now.inner }
     {
         self.inner.as_slice()
     }
 
-    /// The gates below the pair's signal of each netlist, and those behind the first inner signal that differs, if there is one.
+    /// For each netlist, the gates below the pair's signal, and those of them outside the cone of the first inner
+    /// signal; None if none differs.
     pub fn gate_counts(&self) -> Option<(GateCount, GateCount)>
         ensures { result ≡ self.now.gate_counts }
     {
@@ -50,7 +52,7 @@ impl Explanation {
     }
 }
 
-/// The gates below what is seen, and those behind the signal.
+/// The gates below the root of the simulation, and those of them that are not below `low`.
 fn gate_count_of(
     alloc: Global,
     net: &Netlist,
@@ -74,7 +76,7 @@ fn gate_count_of(
     Ok(GateCount { all, outside })
 }
 
-/// The gates behind the first of the inner signals, if there is one.
+/// The gate counts of both netlists for the first of the inner signals; None if there is none.
 fn gate_counts_of(
     alloc: Global,
     first: &Netlist,
@@ -96,8 +98,8 @@ fn gate_counts_of(
     Ok(Some((outside, other)))
 }
 
-/// Explains that two signals differ at the assignment: the gates below them that have one name and other values. Variables are left
-/// out, and so is the pair itself. Time and memory are linear in the netlists.
+/// Explains why two signals differ at an assignment: by the signals of gates below them that have the same name and
+/// different values. Variables are left out, and so is the pair itself. Time and memory are linear in the netlists.
 pub fn explain(
     alloc: Global,
     first: &Netlist,
@@ -108,13 +110,13 @@ pub fn explain(
 ) -> Result<Explanation, AllocError>
     requires first { pair.0 < length first.now.names }
     requires second { pair.1 < length second.now.names }
-    // What is answered explains the pair: exactly its inner signals that differ, in their order.
+    // The answer explains the pair: it has exactly the inner signals that differ, in their order.
     ensures explains { IfOk result (IsExplanation first.now second.now naming.now pair at.now) }
     ensures known { IfOk result (λ e. All (λ i. i.first < length first.now.names) e.inner) }
 {
     let (root, partner) = pair;
-    let seen = Simulation::new(alloc, first, naming, WhichNetlist::First, at, root)?;
-    let other = Simulation::new(alloc, second, naming, WhichNetlist::Second, at, partner)?;
+    let seen = Simulation::new(alloc, first, naming, NetlistRole::First, at, root)?;
+    let other = Simulation::new(alloc, second, naming, NetlistRole::Second, at, partner)?;
     let inner = differing(alloc, first, second, &seen, &other)?;
     let gate_counts = gate_counts_of(alloc, first, second, &seen, &other, inner.as_slice())?;
     Ok(Explanation { inner, gate_counts })

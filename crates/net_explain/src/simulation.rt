@@ -1,4 +1,4 @@
-// A netlist as it is seen from a signal.
+// One netlist at an assignment, with what is below the signal that is compared.
 ghost use Rattle.std.specs.Prelude.{◌≡◌, ◌<◌, length, IfOk};
 ghost use Rattle.net_bench.specs.Circuit.{IsNet};
 ghost use Rattle.net_bench.specs.Labels.{bit_of};
@@ -6,13 +6,14 @@ ghost use Rattle.net_explain.specs.Explaining.{IsSimulation};
 
 use crate::below::visited_below;
 use crate::bits::bit_at;
-use crate::evaluate::{WhichNetlist, values};
+use crate::evaluate::values;
 use net_bench::netlist::{Netlist, Signal};
 use net_order::naming::Naming;
+use net_order::netlist_role::NetlistRole;
 use std::alloc::{AllocError, Global};
 use std::marker::Model;
 
-/// By signal, the values at an assignment, and which signals are below the root.
+/// The values of all signals at an assignment, and which signals are below the root, both by signal.
 #[derive(Drop)]
 pub struct Simulation {
     root: Signal,
@@ -29,12 +30,12 @@ impl Model for Simulation {
 }
 
 impl Simulation {
-    /// What is seen of a netlist of a naming.
+    /// The simulation of one netlist of a naming.
     pub fn new(
         alloc: Global,
         net: &Netlist,
         naming: &Naming,
-        which: WhichNetlist,
+        which: NetlistRole,
         at: &[bool],
         root: Signal,
     ) -> Result<Simulation, AllocError>
@@ -51,7 +52,7 @@ impl Simulation {
         })
     }
 
-    /// The signal from which the netlist is seen.
+    /// The signal that is compared.
     pub fn root(&self) -> Signal
         ensures { result ≡ self.now.root }
     {

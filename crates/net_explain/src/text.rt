@@ -8,14 +8,14 @@ use crate::explanation::{Explanation, GateCount};
 use net_bench::netlist::Netlist;
 use std::alloc::{AllocError, Global};
 
-/// The digit of a bit.
+/// The digit of a bit, 0 or 1.
 fn bit_word(bit: bool) -> &'static [u8]
     ensures { result.now ≡ bit_text bit }
 {
     if bit { b"1" } else { b"0" }
 }
 
-/// Adds the first line.
+/// Appends the first line.
 fn add_head(
     alloc: Global,
     text: &mut Vec<u8>,
@@ -31,7 +31,7 @@ fn add_head(
     Ok(())
 }
 
-/// Adds the line of an inner signal.
+/// Appends the line of an inner signal.
 fn add_inner(
     alloc: Global,
     text: &mut Vec<u8>,
@@ -59,7 +59,7 @@ fn add_inner(
     Ok(())
 }
 
-/// Adds the lines of inner signals.
+/// Appends the lines of inner signals.
 fn add_inners(
     alloc: Global,
     text: &mut Vec<u8>,
@@ -75,7 +75,7 @@ fn add_inners(
     Ok(())
 }
 
-/// Adds how many gates of how many.
+/// Appends how many gates, of how many, are outside.
 fn add_gate_count(alloc: Global, text: &mut Vec<u8>, part: GateCount) -> Result<(), AllocError>
     ensures { OnOk result (text.new.items ≡ text.old.items ++ gate_count_text part) }
 {
@@ -85,7 +85,7 @@ fn add_gate_count(alloc: Global, text: &mut Vec<u8>, part: GateCount) -> Result<
     Ok(())
 }
 
-/// Adds the last line: how many gates are outside the cone of a signal.
+/// Appends the last line: how many gates are outside the cone of a signal.
 fn add_outside_line(
     alloc: Global,
     text: &mut Vec<u8>,
@@ -105,7 +105,7 @@ fn add_outside_line(
     Ok(())
 }
 
-/// Adds the last line, where there are inner signals that differ.
+/// Appends the last line, if there are inner signals that differ.
 fn add_last_line(
     alloc: Global,
     text: &mut Vec<u8>,
@@ -125,7 +125,7 @@ fn add_last_line(
     add_outside_line(alloc, text, name_of(net, inner[0].first), first, second)
 }
 
-/// The lines of an explanation. The subject is what its report line speaks of, as "s" or "NEXT q"; the netlist is the first of the two.
+/// The lines of an explanation. The subject is that of the report's line, such as "s" or "NEXT q"; the netlist is the first of the two.
 pub fn explanation_of(
     alloc: Global,
     subject: &[u8],

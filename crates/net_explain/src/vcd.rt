@@ -1,4 +1,4 @@
-//! The values of two netlists as a VCD.
+//! The values of two netlists as a VCD (value change dump, IEEE 1364).
 ghost use Rattle.std.specs.Prelude.{◌≡◌, ◌<◌, ◌≤◌, ◌+◌, ◌++◌, length, IfOk, OnOk};
 ghost use Rattle.net_explain.specs.Vcd.{change_text, changes_text, code, scope_text, var_text, vars_text, vcd_text};
 
@@ -6,10 +6,10 @@ use crate::differing::name_of;
 use net_bench::netlist::{Netlist, Signal};
 use std::alloc::{AllocError, Global};
 
-/// How many bytes identifiers are made of, from '!' to '~'.
+/// The number of bytes that identifiers are made of: the printable ones from '!' to '~'.
 const GLYPHS: usize = 94;
 
-/// Adds the identifier of a number.
+/// Appends the identifier of a number.
 fn add_code(text: &mut Vec<u8>, number: usize) -> Result<(), AllocError>
     ensures { OnOk result (text.new.items ≡ text.old.items ++ code number) }
 {
@@ -22,7 +22,7 @@ fn add_code(text: &mut Vec<u8>, number: usize) -> Result<(), AllocError>
     Ok(())
 }
 
-/// Adds a signal with its identifier.
+/// Appends the declaration of a signal with its identifier.
 fn add_var(text: &mut Vec<u8>, number: usize, name: &[u8]) -> Result<(), AllocError>
     ensures { OnOk result (text.new.items ≡ text.old.items ++ var_text number name.now) }
 {
@@ -34,7 +34,7 @@ fn add_var(text: &mut Vec<u8>, number: usize, name: &[u8]) -> Result<(), AllocEr
     Ok(())
 }
 
-/// Adds the signals of a netlist with their identifiers, from this number on.
+/// Appends the declarations of a netlist's signals, with identifiers from this number on.
 fn add_vars(text: &mut Vec<u8>, number: usize, net: &Netlist) -> Result<(), AllocError>
     requires { number ≤ 1000000 }
     ensures { OnOk result (text.new.items ≡ text.old.items ++ vars_text number net.now.names) }
@@ -45,7 +45,7 @@ fn add_vars(text: &mut Vec<u8>, number: usize, net: &Netlist) -> Result<(), Allo
     Ok(())
 }
 
-/// Adds the scope of a netlist.
+/// Appends the scope of a netlist.
 fn add_scope(
     text: &mut Vec<u8>,
     scope: &[u8],
@@ -63,7 +63,7 @@ fn add_scope(
     Ok(())
 }
 
-/// Adds the value of a signal.
+/// Appends the value of a signal.
 fn add_change(text: &mut Vec<u8>, number: usize, bit: bool) -> Result<(), AllocError>
     ensures { OnOk result (text.new.items ≡ text.old.items ++ change_text number bit) }
 {
@@ -73,7 +73,7 @@ fn add_change(text: &mut Vec<u8>, number: usize, bit: bool) -> Result<(), AllocE
     Ok(())
 }
 
-/// Adds the values of signals, from this number on.
+/// Appends the values of signals, with identifiers from this number on.
 fn add_changes(text: &mut Vec<u8>, number: usize, bits: &[bool]) -> Result<(), AllocError>
     requires number { number ≤ 1000000 }
     requires few { length bits.now ≤ 1000000 }
@@ -85,8 +85,8 @@ fn add_changes(text: &mut Vec<u8>, number: usize, bits: &[bool]) -> Result<(), A
     Ok(())
 }
 
-/// The values of all signals of two netlists as a VCD (value change dump) of one step, with a scope for each netlist. It has no date, so
-/// it depends on nothing else. The values are given by signal; names stand as they are.
+/// The values of all signals of two netlists as a VCD of one step, with a scope for each netlist. The values are given
+/// by signal; names are written as they are. It has no date, so that it depends on nothing but its arguments.
 pub fn vcd_of(
     alloc: Global,
     first: &Netlist,
@@ -99,7 +99,7 @@ pub fn vcd_of(
     ensures { IfOk result (λ text. text.items ≡ vcd_text first.now.names values.now second.now.names others.now) }
 {
     let start = first.count();
-    let _ = second.count();
+    let _ = second.count(); // For the proof.
     let mut text = Vec::new(alloc);
     text.extend_from_slice(b"$timescale 1 ns $end\n")?;
     add_scope(&mut text, b"first", 0, first)?;

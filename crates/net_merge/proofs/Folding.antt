@@ -1,4 +1,4 @@
--- Folds of operands' values, one operand after the other.
+-- Folds of operands' values, operand after operand.
 use Rattle.std.proofs.Common.{◌≡◌, ℕ, zero, suc, ◌+◌, ◌<◌, Bool, true, false, not, ◌&&◌, ◌||◌, List, [], ◌∷◌, length, map, take, get_or, refl, sym, ap, subst, ◌∙◌, arith, add-one}
 use Rattle.std.specs.Prelude.{All}
 use Rattle.std.proofs.lemmas.Option.{slice_get_within}
@@ -9,7 +9,7 @@ use Rattle.pair_graph.specs.Literals.{Parts, complemented_if}
 use Rattle.pair_graph.specs.Graphs.{HasNode, KeepsNodes, IsGraph, exclusive_or, node_value, inverted_if, value}
 use Rattle.pair_graph.proofs.Values.{KeepsNodes-has, inverted_if-not, value-false, value-keeps, value-true}
 
--- a literal of a graph that has grown, and the function that it has come to
+-- a literal of a graph that has grown, and the function that it has there
 pub record IsFolding (old new : List Node) (answer : Parts) (f : List Bool → Bool) : Type 0 where
   pub sound : IsGraph new
   pub keeps : KeepsNodes old new
@@ -50,7 +50,7 @@ odd-more f (x ∷ xs) zero d low = xor_false (f x)
 odd-more f (x ∷ xs) (suc i) d low =
     ap (exclusive_or (f x)) (odd-more f xs i d (omega arith)) ∙ xor_assoc (f x) (odd (map f (take i xs))) (f (get_or xs i d))
 
--- the same at a place that a loop has reached
+-- the same for the operand at which a loop is
 pub ones-next : (f : Parts → Bool) (xs : List Parts) (i : ℕ) (d : Parts) → i < length xs → d ≡ get_or xs i d
     → all_ones (map f (take (i + 1) xs)) ≡ (all_ones (map f (take i xs)) && f d)
 ones-next f xs i d low e =
@@ -107,7 +107,7 @@ complemented_has old g keeps b o l low e = subst (HasNode g) (sym e) (by_bit b)
     by_bit true = KeepsNodes-has old g keeps o.node low
     by_bit false = KeepsNodes-has old g keeps o.node low
 
--- the fold takes in one operand more, by what a graph answers
+-- the fold with one more operand, by the graph's answer
 pub fold-step : (op : Bool → Bool → Bool) (old g new : List Node) (a b o : Parts) (f k h : List Bool → Bool) → IsFolding old g a f
     → IsGraph new → KeepsNodes g new → HasNode new b → ((x : List Bool) → value new x b ≡ op (value g x a) (value g x o))
     → ((x : List Bool) → value g x o ≡ k x) → ((x : List Bool) → h x ≡ op (f x) (k x)) → IsFolding old new b h

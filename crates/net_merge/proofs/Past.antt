@@ -1,4 +1,4 @@
--- A write past the end of a list changes nothing.
+-- A write beyond the end of a list changes nothing.
 use Rattle.std.proofs.Common.{◌≡◌, ◌≤◌, ℕ, zero, suc, List, [], ◌∷◌, length, set, refl, ap, arith}
 use Rattle.pair_graph.specs.Literals.{Parts}
 

@@ -1,6 +1,5 @@
 -- Representatives: in newer graphs, and what they say of literals.
-use Rattle.std.proofs.Common.{◌≡◌, ◌<◌, ◌≤◌, Bool, true, false, not, List, length, get_or, refl, sym, ap, ◌∙◌, arith, inl, inr, unwrap_or}
-use Rattle.std.specs.Prelude.{Result, Ok, Err, IfOk}
+use Rattle.std.proofs.Common.{◌≡◌, ◌<◌, ◌≤◌, Bool, true, false, not, List, length, get_or, refl, sym, ap, subst, ◌∙◌, arith, inl, inr, unwrap_or}
 use Rattle.std.proofs.lemmas.Bool.{cases_lt}
 use Rattle.std.proofs.lemmas.Option.{slice_get-get_or, slice_get_past, slice_get_within}
 use Rattle.pair_graph.specs.declared.node.Node.{Node}
@@ -44,7 +43,7 @@ of_node l = by_bit l.complemented
     by_bit true = refl
     by_bit false = refl
 
--- complements go along
+-- equivalence remains if both are complemented
 AreEquivalent-complemented : (g : List Node) (b : Bool) (k l : Parts) → AreEquivalent g k l → AreEquivalent g (complemented_if b k) (complemented_if b l)
 AreEquivalent-complemented g true k l equivalent x = value-negated g x k ∙ ap not (equivalent x) ∙ sym (value-negated g x l)
 AreEquivalent-complemented g false k l equivalent x = equivalent x
@@ -66,3 +65,20 @@ representative-equivalent g representatives l are x = elim (cases_lt l.node (len
 pub representative-past : (representatives : List Parts) (l : Parts) → length representatives ≤ l.node → representative_of representatives l ≡ l
 representative-past representatives l past =
     ap (λ o. complemented_if l.complemented (unwrap_or o (node_literal l.node))) (slice_get_past representatives l.node past) ∙ of_node l
+
+complemented-node : (b : Bool) (l : Parts) → (complemented_if b l).node ≡ l.node
+complemented-node true l = refl
+complemented-node false l = refl
+
+-- a representative is of the graph, if its literal is
+pub representative-has : (g : List Node) (representatives : List Parts) (l : Parts) → AreRepresentatives g representatives → HasNode g l
+    → HasNode g (representative_of representatives l)
+representative-has g representatives l are has = elim (cases_lt l.node (length representatives)) [
+  | inl low ↦ (
+      let s : Parts = get_or representatives l.node (node_literal l.node) in
+      let e = slice_get-get_or representatives l.node (node_literal l.node) low in
+      let there : s.node < length g = omega (arith, has, are.below l.node s e) in
+      subst (λ o. HasNode g (complemented_if l.complemented (unwrap_or o (node_literal l.node)))) (sym e)
+      (subst (λ n. n < length g) (sym (complemented-node l.complemented s)) there))
+  | inr past ↦ subst (HasNode g) (sym (representative-past representatives l past)) has
+]

@@ -1,4 +1,4 @@
--- What the literals of signals say of their functions, and that a newer graph keeps it.
+-- What the literals of signals say of their functions, also in a newer graph.
 use Rattle.std.proofs.Common.{◌≡◌, ℕ, ◌<◌, Bool, not, List, length, sym, ap, ◌∙◌}
 use Rattle.dd_store.specs.Functions.{Agree}
 use Rattle.net_bench.specs.Circuit.{Circuit, IsNet, Net, circuit}
@@ -22,7 +22,7 @@ functions net sound level g ls are n s low x size =
     let (bits, label) = has_labelling net sound level x in
     (bits, label, sym (are.values s low x bits label))
 
--- literals that have the same values are of equal functions
+-- literals that have the same values have equal functions
 pub equivalent_functions : (c d : Circuit) (level inner : ℕ → ℕ) (g : List Node) (ls ms : List Parts) → AreSignalLiterals c level g ls
     → AreSignalLiterals d inner g ms → (s t : ℕ) → s < length c.names → t < length d.names → AreEquivalent g (literal_at ls s) (literal_at ms t)
     → (n : ℕ) (f h : List Bool → Bool) → IsFunctionOf c level n s f → IsFunctionOf d inner n t h → Agree n f h

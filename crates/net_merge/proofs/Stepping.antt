@@ -1,15 +1,15 @@
--- One variable more, or one gate more, gets its literal.
-use Rattle.std.proofs.Common.{◌≡◌, ◌≢◌, ◌⊎◌, inl, inr, ℕ, zero, suc, ◌+◌, ◌<◌, ◌≤◌, Bool, List, [], ◌∷◌, ◌++◌, Some, None, length, map, take, drop, get_or, set, replicate, slice_get, refl, sym, ap, subst, ◌∙◌, arith}
+-- One more variable, or one more gate, gets its literal.
+use Rattle.std.proofs.Common.{◌≡◌, ◌≢◌, ◌⊎◌, inl, inr, ℕ, zero, suc, ◌+◌, ◌<◌, ◌≤◌, Bool, List, [], ◌∷◌, Some, length, map, take, get_or, set, slice_get, refl, sym, ap, subst, ◌∙◌, arith}
 use Rattle.std.specs.Prelude.{All, Contains, slice_index}
 use Rattle.std.proofs.lemmas.Bool.{cases_lt}
-use Rattle.std.proofs.lemmas.List.{get_or-set_other, get_or-set_same, get_or_default}
+use Rattle.std.proofs.lemmas.List.{get_or-set_other, get_or-set_same}
 use Rattle.std.proofs.lemmas.Option.{get_or_from_slice_get, none-some, same_Some, slice_get-get_or, slice_get_within}
 use Rattle.net_bench.specs.declared.netlist.GateLine.{GateLine}
 use Rattle.net_bench.specs.Circuit.{Circuit, IsNet, Net, circuit, rank_of, variables_of}
-use Rattle.net_bench.specs.Labels.{IsLabelling, bit_of, value_of}
+use Rattle.net_bench.specs.Labels.{bit_of, value_of}
 use Rattle.net_bench.proofs.OneLabelling.{at_contained, map_same}
 use Rattle.net_cone.proofs.Walking.{operands_low}
-use Rattle.net_simulate.specs.Schedules.{AreRising, Equation, IsOfGate, IsSchedule, equation_of, rank_in}
+use Rattle.net_simulate.specs.Schedules.{Equation, IsOfGate, IsSchedule, equation_of, rank_in}
 use Rattle.net_simulate.proofs.Lists.{same_or}
 use Rattle.net_simulate.proofs.Rows.{operand_lower}
 use Rattle.pair_graph.specs.declared.node.Node.{Node}
@@ -60,7 +60,7 @@ variable_literal c level g s l among made x bits label =
     made x ∙ sym (at_contained (λ t. bit_of bits t ≡ bit_of x (level t)) (variables_of c) s label.variables among)
 
 module _ (n : Net) (net_sound : IsNet n) (level : ℕ → ℕ) (g h : List Node) (sound : IsGraph g) (keeps : KeepsNodes g h) (ls : List Parts) where
-  -- one variable more
+  -- one more variable
   pub variable_step : (place s v : ℕ) (l : Parts) → AreVariablesDone (circuit n) level g place ls → slice_get (variables_of (circuit n)) place ≡ Some s
       → v ≡ level s → HasNode h l → ((x : List Bool) → value h x l ≡ bit x v) → AreVariablesDone (circuit n) level h (place + 1) (set ls s l)
   variable_step place s v l done at is_level here made = record {
@@ -92,13 +92,13 @@ module _ (n : Net) (net_sound : IsNet n) (level : ℕ → ℕ) (g h : List Node)
   }
 
   module _ (es : List Equation) (schedule : IsSchedule n es) (place : ℕ) (done : AreGatesDone (circuit n) level es g place ls) where
-    -- a gate of a schedule that has come so far is done
+    -- a gate of the schedule that comes earlier is done
     early_gate : (k : ℕ) → k < length es → (f : GateLine) → Contains n.gates f → get_or es k (equation_of f) ≡ equation_of f → k < place
         → IsLiteralOf (circuit n) level g f.out (literal_at ls f.out)
     early_gate k low f there is early =
         done.gates k (equation_of f) early (slice_get-get_or es k (equation_of f) low ∙ ap (λ e. Some e) is)
 
-    -- all gates are done after the last
+    -- after the last gate all are done
     pub all_gates : length es ≤ place → AreSignalLiterals (circuit n) level g ls
     all_gates past = record {
       each = done.each;
@@ -160,7 +160,7 @@ module _ (n : Net) (net_sound : IsNet n) (level : ℕ → ℕ) (g h : List Node)
       gate_low = subst (λ k. e.out < k) (sym done.each) (subst (λ (a : Equation). a.out < length n.names) is
           (at_contained (λ k. k.out < length n.names) n.gates f net_sound.outs there))
 
-      -- one gate more
+      -- one more gate
       step : (l : Parts) → HasNode h l → ((x : List Bool) → value h x l ≡ value_of e.kind (map (λ s. value g x (literal_at ls s)) e.operands))
           → AreGatesDone (circuit n) level es h (place + 1) (set ls e.out l)
       step l here made = record {
@@ -181,7 +181,7 @@ module _ (n : Net) (net_sound : IsNet n) (level : ℕ → ℕ) (g h : List Node)
     gate_at : (low : place < length es) (e : Equation) → slice_get es place ≡ Some e → IsOfGate n e
     gate_at low e at = at_contained (IsOfGate n) es e schedule.gates (place, low, get_or_from_slice_get es place e e at)
 
-    -- one gate more, found by its place
+    -- one more gate, found by its place
     pub gate_step : (low : place < length es) (e : Equation) → slice_get es place ≡ Some e → (l : Parts) → HasNode h l
         → ((x : List Bool) → value h x l ≡ value_of e.kind (map (λ s. value g x (literal_at ls s)) e.operands))
         → AreGatesDone (circuit n) level es h (place + 1) (set ls e.out l)

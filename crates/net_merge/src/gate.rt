@@ -1,17 +1,18 @@
-//! The literal of a gate, from its operands' literals: a fold, as the plan of a gate has it.
+//! The literal of a gate: a fold of its operands' literals, and its complement for the kinds that have one.
 ghost use Rattle.std.specs.Prelude.{◌≡◌, Bool, List, All, IfOk, map};
 ghost use Rattle.net_bench.specs.Labels.{all_ones, folded, is_complemented, odd, some_one, value_of};
 ghost use Rattle.pair_graph.specs.Graphs.{HasNode, IsGraph, KeepsNodes, inverted_if, value};
 
 use crate::merged_graph::MergedGraph;
+use expand_work::Monitor;
 use net_bench::netlist::Kind;
 use pair_graph::{GraphFault, Literal};
 use std::sync::Wait;
 use std::thread::Threads;
 
-/// The And of literals, or of their complements if `complemented` is true.
-fn and_all<R: Threads + Wait + Sync>(
-    graph: &mut MergedGraph<'_, R>,
+/// The And of these literals, or of their complements if `complemented` is true.
+fn and_all<R: Threads + Wait + Sync, G: Monitor>(
+    graph: &mut MergedGraph<'_, R, G>,
     operands: &[Literal],
     complemented: bool,
 ) -> Result<Literal, GraphFault>
@@ -22,7 +23,7 @@ fn and_all<R: Threads + Wait + Sync>(
     ensures sound { IsGraph graph.new }
     ensures keeps { KeepsNodes graph.old graph.new }
 {
-    let _ = graph.len();
+    let _ = graph.len(); // For the proof.
     let mut answer = Literal::TRUE;
     for operand in operands {
         answer = graph.and_of(answer, operand.complement_if(complemented))?;
@@ -31,8 +32,8 @@ fn and_all<R: Threads + Wait + Sync>(
 }
 
 /// The Or of literals.
-fn or_all<R: Threads + Wait + Sync>(
-    graph: &mut MergedGraph<'_, R>,
+fn or_all<R: Threads + Wait + Sync, G: Monitor>(
+    graph: &mut MergedGraph<'_, R, G>,
     operands: &[Literal],
 ) -> Result<Literal, GraphFault>
     requires operands { All (HasNode graph.old) operands.now }
@@ -46,8 +47,8 @@ fn or_all<R: Threads + Wait + Sync>(
 }
 
 /// The Xor of literals.
-fn xor_all<R: Threads + Wait + Sync>(
-    graph: &mut MergedGraph<'_, R>,
+fn xor_all<R: Threads + Wait + Sync, G: Monitor>(
+    graph: &mut MergedGraph<'_, R, G>,
     operands: &[Literal],
 ) -> Result<Literal, GraphFault>
     requires operands { All (HasNode graph.old) operands.now }
@@ -56,7 +57,7 @@ fn xor_all<R: Threads + Wait + Sync>(
     ensures sound { IsGraph graph.new }
     ensures keeps { KeepsNodes graph.old graph.new }
 {
-    let _ = graph.len();
+    let _ = graph.len(); // For the proof.
     let mut answer = Literal::FALSE;
     for operand in operands {
         answer = graph.xor_of(answer, *operand)?;
@@ -64,16 +65,16 @@ fn xor_all<R: Threads + Wait + Sync>(
     Ok(answer)
 }
 
-/// Whether a kind's value is the complement of what it folds.
+/// Whether a gate's value is the complement of the folded one.
 fn is_complemented(kind: Kind) -> bool
     ensures { result ≡ is_complemented kind }
 {
     matches!(kind, Kind::Nand | Kind::Nor | Kind::Xnor | Kind::Not)
 }
 
-/// The literal of what a gate folds.
-fn folded_literal<R: Threads + Wait + Sync>(
-    graph: &mut MergedGraph<'_, R>,
+/// The literal of the operation that folds the operands of a gate of this kind: And, Or or Xor.
+fn folded_literal<R: Threads + Wait + Sync, G: Monitor>(
+    graph: &mut MergedGraph<'_, R, G>,
     kind: Kind,
     operands: &[Literal],
 ) -> Result<Literal, GraphFault>
@@ -92,10 +93,10 @@ fn folded_literal<R: Threads + Wait + Sync>(
     }
 }
 
-/// The literal of a gate, which has the gate's value of its operands' literals at every assignment. All nodes are kept, also if the
-/// graph refuses one.
-pub(crate) fn gate_literal<R: Threads + Wait + Sync>(
-    graph: &mut MergedGraph<'_, R>,
+/// The literal of a gate: at every assignment it has the gate's value for the values of its operands' literals. No node
+/// is lost, also if the graph refuses a new one.
+pub(crate) fn gate_literal<R: Threads + Wait + Sync, G: Monitor>(
+    graph: &mut MergedGraph<'_, R, G>,
     kind: Kind,
     operands: &[Literal],
 ) -> Result<Literal, GraphFault>

@@ -1,57 +1,71 @@
-//! Guesses: assignments at which two literals may differ. They are hints: whoever takes one evaluates it.
+//! Guesses: assignments at which two literals may differ. They are hints: the merger evaluates each before it relies on it.
+use crate::assignment::{Assignment, add_bit};
 use crate::random::Random;
-use crate::words::{GateNode, gate_of, variable_of, word_if};
+use crate::words::{GateNode, gate_of, word_if};
 use cut_window::NodeTable;
 use pair_graph::{Graph, Literal};
 use std::alloc::{AllocError, Global};
 use std::collections::BinaryHeap;
 
-/// Aims at assignments at which two literals differ: 64 at once, by values that are required of nodes, from the two nodes down to the
-/// variables, where there is a choice at random.
+/// Keeps the random words of guesses apart from others.
+const GUESSES: u64 = 2;
+
+/// Searches for assignments at which two literals differ, 64 at once: different values are required of the two nodes,
+/// and then of the nodes below them the values that bring these about (backward justification, as in the generation of
+/// test patterns). If there is a choice, it is made at random, and never revised; so a guess may fail.
 #[derive(Drop)]
 pub(crate) struct Guess {
-    alloc: Global,
     random: Random,
-    /// By node, at which assignments a value is required, and which.
+    /// For each node, at which of the 64 assignments a value is required.
     places: NodeTable,
     required: NodeTable,
     values: NodeTable,
     waiting: BinaryHeap<u32>,
     stack: Vec<u32>,
-    /// How many gates were looked at, in all guesses.
+    /// The nodes that are no gates and have a value.
+    sources: Vec<u32>,
+    /// How many gates were looked at since this was asked last.
     gates: u64,
 }
 
 impl Guess {
-    /// No guess yet.
+    /// A search that has not made a guess yet.
     pub(crate) fn new(alloc: Global) -> Guess {
         Guess {
-            alloc,
-            random: Random::new(2),
+            random: Random::of(GUESSES, 0),
             places: NodeTable::new(alloc),
             required: NodeTable::new(alloc),
             values: NodeTable::new(alloc),
             waiting: BinaryHeap::new(alloc),
             stack: Vec::new(alloc),
+            sources: Vec::new(alloc),
             gates: 0,
         }
     }
 
-    /// How many gates were looked at, in all guesses.
-    pub(crate) fn gates(&self) -> u64 {
-        self.gates
+    /// How many gates were looked at since this was asked last.
+    pub(crate) fn take_gates(&mut self) -> u64 {
+        let gates = self.gates;
+        self.gates = 0;
+        gates
     }
 
-    /// Finds an assignment at which two literals differ, and gives `bits` those of the variables below them. Whether one was found.
+    /// Begins the random words of a number. So what is guessed of a pair does not depend on the pairs before.
+    pub(crate) fn restart(&mut self, number: u64) {
+        self.random = Random::of(GUESSES, number);
+    }
+
+    /// Finds an assignment at which two literals differ, and adds it to one that is empty. Whether one was found.
     pub(crate) fn find(
         &mut self,
         graph: &Graph,
         first: Literal,
         second: Literal,
-        bits: &mut NodeTable,
+        assignment: &mut Assignment,
     ) -> Result<bool, AllocError> {
         self.require_difference(graph, first, second)?;
         self.values.clear(graph.len())?;
+        self.sources.clear();
         let one = self.word(graph, first)?;
         let two = self.word(graph, second)?;
         let differ = one ^ two;
@@ -59,19 +73,15 @@ impl Guess {
             return Ok(false);
         }
         let lane = differ.trailing_zeros();
-        bits.clear(graph.len())?;
-        for node in 0..graph.len() {
-            if let (Some(_), Some(word)) = (
-                variable_of(graph, node as u32),
-                self.values.get(node as u32),
-            ) {
-                bits.set(node as u32, word.rotate_right(lane) % 2);
-            }
+        for node in &self.sources {
+            let word = self.values.get(*node).unwrap_or(0);
+            add_bit(assignment, graph, *node, word.rotate_right(lane) % 2 == 1)?;
         }
         Ok(true)
     }
 
-    /// Requires different values of two literals, and of the nodes below them values that bring these about, as far as that is easy.
+    /// Requires different values of two literals, and of the nodes below them the values that bring these about, as far
+    /// as this is easy.
     fn require_difference(
         &mut self,
         graph: &Graph,
@@ -101,7 +111,7 @@ impl Guess {
         Ok(())
     }
 
-    /// Requires values of a literal at the assignments `at`. What is required already stays.
+    /// Requires values of a literal at the assignments `at`. What was required before does not change.
     fn require(&mut self, literal: Literal, at: u64, values: u64) -> Result<(), AllocError> {
         let node = literal.node();
         if node == 0 || at == 0 {
@@ -117,12 +127,11 @@ impl Guess {
         let more = at & !there;
         let old = self.required.get(node).unwrap_or(0);
         let values = word_if(values, literal.is_complemented());
-        self.places.set(node, there | more);
-        self.required.set(node, old | (more & values));
-        Ok(())
+        self.places.set(node, there | more)?;
+        self.required.set(node, old | (more & values))
     }
 
-    /// At which assignments a value is required of a literal, and which.
+    /// At which assignments a value is required of a literal, and these values.
     fn required_of(&self, literal: Literal) -> (u64, u64) {
         let complemented = literal.is_complemented();
         if literal.node() == 0 {
@@ -133,7 +142,7 @@ impl Guess {
         (at, word_if(values, complemented) & at)
     }
 
-    /// Requires of a gate's operands what is required of the gate.
+    /// Requires of a gate's operands what brings about the values required of the gate.
     fn require_operands(&mut self, node: u32, gate: GateNode) -> Result<(), AllocError> {
         let at = self.places.get(node).unwrap_or(0);
         let values = self.required.get(node).unwrap_or(0);
@@ -154,7 +163,7 @@ impl Guess {
         self.require(gate.second, at & first_at, first ^ values)
     }
 
-    /// The word of a literal, if variables have what is required of them, and random bits elsewhere.
+    /// The value of a literal at the 64 assignments, if the variables have the bits required of them, and otherwise random bits.
     fn word(&mut self, graph: &Graph, literal: Literal) -> Result<u64, AllocError> {
         self.stack.clear();
         self.stack.push(literal.node())?;
@@ -170,7 +179,7 @@ impl Guess {
         Ok(word_if(word, literal.is_complemented()))
     }
 
-    /// Gives a node its word, or puts it on the stack again below the operands that have none.
+    /// Gives a node its value, or puts it back on the stack below an operand that has none yet.
     fn evaluate(&mut self, graph: &Graph, node: u32) -> Result<(), AllocError> {
         self.gates = self.gates.saturating_add(1);
         let Some(gate) = gate_of(graph, node) else {
@@ -181,14 +190,14 @@ impl Guess {
             } else {
                 values | (self.random.word() & !at)
             };
-            self.values.set(node, word);
-            return Ok(());
+            self.sources.push(node)?;
+            return self.values.set(node, word);
         };
         match (
             self.values.get(gate.first.node()),
             self.values.get(gate.second.node()),
         ) {
-            (Some(first), Some(second)) => self.values.set(node, gate.word(first, second)),
+            (Some(first), Some(second)) => self.values.set(node, gate.word(first, second))?,
             (None, _) => {
                 self.stack.push(node)?;
                 self.stack.push(gate.first.node())?;

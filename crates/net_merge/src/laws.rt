@@ -1,4 +1,4 @@
-//! Laws of signals that are literals of one graph.
+//! Laws: theorems about signals that are literals of one graph, as functions that are called by proofs only.
 ghost use Rattle.std.specs.Prelude.{◌≡◌, ◌<◌, ℕ, Bool, List, length, not};
 ghost use Rattle.dd_store.specs.Functions.{Agree};
 ghost use Rattle.net_bench.specs.Circuit.{Circuit, IsNet, Net, circuit};

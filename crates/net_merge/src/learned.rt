@@ -1,22 +1,22 @@
-//! What rounds of merging have learned, which the next round begins with.
+//! What rounds of merging have learned, with which the next round begins.
 use std::alloc::{AllocError, Global};
 
-/// The most words that are carried from round to round, each of 64 assignments. The last ones are.
+/// The most words, of 64 assignments each, that go from round to round. The last ones do.
 const MOST_WORDS: usize = 64;
 
-/// Assignments at which candidates differed, 64 in each word, and how much all rounds so far have done. The words are hints: which of
-/// them there are changes what is tried, and never whether an answer is right.
+/// Assignments at which candidates differed, 64 in each word, and how much all rounds so far have done. The words are
+/// hints: they change what is tried, but never whether an answer is right.
 #[derive(Drop)]
 pub struct Learned {
     alloc: Global,
-    /// For each word, by level the variables' bits.
+    /// The words, each by level: the bits of the variables at 64 assignments.
     words: Vec<Vec<u64>>,
     merged: usize,
     windows: usize,
 }
 
 impl Learned {
-    /// Before the first round nothing is learned.
+    /// What is known before the first round: nothing.
     pub fn new(alloc: Global) -> Learned {
         Learned {
             alloc,
@@ -26,12 +26,12 @@ impl Learned {
         }
     }
 
-    /// How many gates were merged with older ones, by all rounds so far.
+    /// How many nodes all rounds so far have merged with older ones.
     pub fn merged(&self) -> usize {
         self.merged
     }
 
-    /// How many windows were judged, by all rounds so far.
+    /// How many windows all rounds so far have judged.
     pub fn windows(&self) -> usize {
         self.windows
     }
@@ -51,7 +51,7 @@ impl Learned {
         Ok(copy)
     }
 
-    /// Takes one more word, by level the variables' bits.
+    /// Adds one more word, the bits of the variables by level.
     pub(crate) fn add(&mut self, word: Vec<u64>) -> Result<(), AllocError> {
         if self.words.len() >= MOST_WORDS && !self.words.is_empty() {
             let _ = self.words.remove(0);

@@ -1,39 +1,42 @@
-//! Two netlists in one graph.
-ghost use Rattle.std.specs.Prelude.{◌≡◌, ◌↔◌, IfOk, IsTrue, slice_index};
+//! Two netlists merged in one graph.
+ghost use Rattle.std.specs.Prelude.{◌≡◌, ◌↔◌, All, IfOk, IsTrue, slice_index};
 ghost use Rattle.std.specs.List.{AllZip};
 ghost use Rattle.net_bench.specs.Circuit.{circuit};
 ghost use Rattle.pair_graph.specs.Graphs.{AreEquivalent, IsGraph};
+ghost use Rattle.net_merge.specs.Merging.{IsShown};
 ghost use Rattle.net_merge.specs.SignalLiterals.{AreSignalLiterals, IsPairFinding, literal_at};
 
+use crate::batches::MergeCrew;
 use crate::learned::Learned;
 use crate::merged_graph::MergedGraph;
 use crate::merger::{MergeCounts, Merger, WorkLimits};
+use crate::shown::{ShownPair, is_shown};
 use crate::signals::{LevelledNetlist, add_netlist, literal_of};
-use expand_work::{Crew, Workers};
+use expand_work::Monitor;
 use net_bench::netlist::Signal;
 use pair_graph::{Graph, GraphFault, Literal};
 use std::alloc::{AllocError, Global};
 use std::marker::Model;
 use std::sync::Wait;
 use std::thread::Threads;
-use wave_engine::Engine;
-use wave_judge::{WaveJudge, WindowBound};
 
-/// How much work all windows of a round may take together for each gate of the texts, in nodes of diagrams.
+/// How much work all windows of a round may do together for each gate of both texts, in nodes of diagrams.
 const WORK_PER_TEXT_GATE: u64 = 1000;
 
-/// How much of it the gates may take: the rest is for the signals that are wanted equal.
-const WORK_FOR_GATES: u64 = 800;
+/// How much of it may be done for gates. The rest is for the pairs of signals that are wanted equal.
+const WORK_FOR_GATES: u64 = 900;
 
-/// Two netlists that are to be merged, and pairs of their signals that are wanted equal, the first netlist's first.
+/// Two netlists that are to be merged, and the pairs of their signals that are wanted equal, the first netlist's signal first.
 #[derive(Clone, Copy, Drop)]
 pub struct MergeTask<'a> {
     pub first: LevelledNetlist<'a>,
     pub second: LevelledNetlist<'a>,
     pub wanted: &'a [(Signal, Signal)],
+    /// By how many threads windows are judged, at least one. What is found does not depend on it.
+    pub workers: u32,
 }
 
-/// Two netlists in one graph, with a literal for each signal, and for each pair that is wanted equal whether it is found so.
+/// Two netlists merged in one graph: a literal for each signal, and for each pair that was wanted equal whether it was found so.
 #[derive(Drop)]
 pub struct MergedNetlists {
     graph: Graph,
@@ -81,7 +84,7 @@ impl MergedNetlists {
         self.equal.as_slice()
     }
 
-    /// The same, without the graph.
+    /// The same list, without the graph.
     pub fn into_equal(self) -> Vec<bool>
         ensures { result.items ≡ self.equal }
     {
@@ -109,7 +112,7 @@ impl MergedNetlists {
     }
 }
 
-/// How much work the windows of a round may take.
+/// How much work the windows of a round may do.
 fn work_limits(task: &MergeTask<'_>) -> WorkLimits {
     let gates = task.first.net.gates().len() as u64;
     let more = task.second.net.gates().len() as u64;
@@ -127,28 +130,69 @@ fn are_same(first: Literal, second: Literal) -> bool
     first == second
 }
 
-/// Whether two literals are the same, or windows show them equal.
-fn find_pair<R: Threads + Wait + Sync>(
-    graph: &mut MergedGraph<'_, R>,
+/// The literals of the pairs that are wanted equal.
+fn wanted_literals(
+    alloc: Global,
+    firsts: &[Literal],
+    seconds: &[Literal],
+    wanted: &[(Signal, Signal)],
+) -> Result<Vec<(Literal, Literal)>, AllocError> {
+    let mut literals = Vec::new(alloc);
+    for pair in wanted {
+        literals.push((literal_of(firsts, pair.0), literal_of(seconds, pair.1)))?;
+    }
+    Ok(literals)
+}
+
+/// Whether two literals are the same, or are those that are shown equal at a place.
+fn find_pair(
+    graph: &Graph,
+    shown: &[ShownPair],
+    place: usize,
     first: Literal,
     second: Literal,
-) -> Result<bool, AllocError>
-    ensures equal { IfOk result (λ b. IsTrue b → AreEquivalent graph.old first second) }
-    ensures same { IfOk result (λ b. first ≡ second → IsTrue b) }
-    ensures unchanged { graph.new ≡ graph.old }
+) -> bool
+    requires { All (IsShown graph.now) shown.now }
+    ensures equal { IsTrue result → AreEquivalent graph.now first second }
+    ensures same { first ≡ second → IsTrue result }
 {
-    let _ = graph.len();
+    let _ = graph.len(); // For the proof.
     if are_same(first, second) {
-        return Ok(true);
+        return true;
     }
-    let found = graph.are_equal(first, second)?;
+    is_shown(graph, shown, place, first, second)
+}
+
+/// For each pair whether its literals are the same, or are shown equal. Pairs that are shown equal are in the same order.
+fn pair_findings(
+    alloc: Global,
+    graph: &Graph,
+    firsts: &[Literal],
+    seconds: &[Literal],
+    wanted: &[(Signal, Signal)],
+    shown: &[ShownPair],
+) -> Result<Vec<bool>, AllocError>
+    requires { All (IsShown graph.now) shown.now }
+    ensures { IfOk result (λ v. AllZip (IsPairFinding graph.now firsts.now seconds.now) wanted.now v.items) }
+{
+    let _ = graph.len(); // For the proof.
+    let mut found = Vec::new(alloc);
+    let mut next = 0usize;
+    for i in 0..wanted.len() {
+        let pair = wanted[i];
+        let one = literal_of(firsts, pair.0);
+        let two = literal_of(seconds, pair.1);
+        let finding = find_pair(graph, shown, next, one, two);
+        next = next.saturating_add((finding && one != two) as usize);
+        found.push(finding)?;
+    }
     Ok(found)
 }
 
-/// For each pair whether its literals are the same, or windows show them equal.
-fn pair_findings<R: Threads + Wait + Sync>(
+/// Which pairs are equal, by their literals or by windows of their own.
+fn wanted_findings<R: Threads + Wait + Sync, G: Monitor>(
     alloc: Global,
-    graph: &mut MergedGraph<'_, R>,
+    graph: &mut MergedGraph<'_, R, G>,
     firsts: &[Literal],
     seconds: &[Literal],
     wanted: &[(Signal, Signal)],
@@ -156,23 +200,20 @@ fn pair_findings<R: Threads + Wait + Sync>(
     ensures found { IfOk result (λ v. AllZip (IsPairFinding graph.old firsts.now seconds.now) wanted.now v.items) }
     ensures unchanged { graph.new ≡ graph.old }
 {
-    let _ = graph.len();
-    let mut found = Vec::new(alloc);
-    for i in 0..wanted.len() {
-        let pair = wanted[i];
-        let one = literal_of(firsts, pair.0);
-        let two = literal_of(seconds, pair.1);
-        let finding = find_pair(graph, one, two)?;
-        found.push(finding)?;
-    }
+    let _ = graph.len(); // For the proof.
+    let literals = wanted_literals(alloc, firsts, seconds, wanted)?;
+    let shown = graph.show_wanted(literals.as_slice())?;
+    let nodes = graph.graph();
+    let pairs = shown.as_slice();
+    let found = pair_findings(alloc, nodes, firsts, seconds, wanted, pairs)?;
     Ok(found)
 }
 
-/// Puts two netlists into a graph that has only the constant, and looks for pairs of equal signals.
-fn merge_into<R: Threads + Wait + Sync>(
+/// Adds two netlists to a graph that has only the constant, and judges the pairs that are wanted equal.
+fn merge_into<R: Threads + Wait + Sync, G: Monitor>(
     alloc: Global,
     task: &MergeTask<'_>,
-    mut graph: MergedGraph<'_, R>,
+    mut graph: MergedGraph<'_, R, G>,
     learned: &mut Learned,
 ) -> Result<MergedNetlists, GraphFault>
     ensures first { IfOk result (λ m. AreSignalLiterals (circuit task.now.first.net.now) (slice_index task.now.first.levels.now) m.graph m.first) }
@@ -183,7 +224,7 @@ fn merge_into<R: Threads + Wait + Sync>(
     let first = add_netlist(alloc, &task.first, &mut graph)?;
     let second = add_netlist(alloc, &task.second, &mut graph)?;
     let (firsts, seconds) = (first.as_slice(), second.as_slice());
-    let equal = pair_findings(alloc, &mut graph, firsts, seconds, task.wanted)?;
+    let equal = wanted_findings(alloc, &mut graph, firsts, seconds, task.wanted)?;
     graph.save(learned)?;
     let counts = graph.counts();
     Ok(MergedNetlists {
@@ -195,16 +236,19 @@ fn merge_into<R: Threads + Wait + Sync>(
     })
 }
 
-/// Puts two netlists into one graph, over the variables of their levels: the gates of the first netlist by rising rank, then those of
-/// the second. A gate's node that a window shows equal to an older one is merged with it; the diagrams of a window may have so many nodes.
-/// Then pairs of signals that are wanted equal, and have different literals, are judged by windows of their own. What earlier rounds have
-/// learned is begun with, and what this round learns is added. Want of memory and a graph that is full are the only errors.
-pub fn merge_netlists<R: Threads + Wait + Sync>(
+/// Adds two netlists to one graph, over the variables of their levels: the gates of the first netlist by rising rank,
+/// then those of the second. A gate's node that a window shows equal to an older one is merged with it. Then the pairs
+/// of signals that are wanted equal, but have different literals, are judged by windows of their own. The diagrams of a
+/// window may have at most `nodes` nodes. The round begins with what earlier rounds have learned, and adds what it
+/// learns. Once the monitor stops the run, no window is judged any more, and no node merged. The only errors are
+/// refused memory and a graph that is full.
+pub fn merge_netlists<R: Threads + Wait + Sync, G: Monitor>(
     rt: &R,
     alloc: Global,
     task: &MergeTask<'_>,
     nodes: u32,
     learned: &mut Learned,
+    monitor: &G,
 ) -> Result<MergedNetlists, GraphFault>
     // Each signal has a literal with its values.
     ensures first { IfOk result (λ m. AreSignalLiterals (circuit task.now.first.net.now) (slice_index task.now.first.levels.now) m.graph m.first) }
@@ -213,15 +257,13 @@ pub fn merge_netlists<R: Threads + Wait + Sync>(
     ensures found { IfOk result (λ m. AllZip (IsPairFinding m.graph m.first m.second) task.now.wanted.now m.equal) }
     ensures sound { IfOk result (λ m. IsGraph m.graph) }
 {
-    let bound = WindowBound::of(nodes);
-    let crew = Crew {
+    let crew = MergeCrew {
         rt,
         alloc,
-        workers: Workers::new(1),
-        monitor: &bound,
+        monitor,
+        nodes,
     };
-    let judge = WaveJudge::new(Engine::new(&crew)?, nodes);
-    let merger = Merger::new(alloc, judge, work_limits(task), learned)?;
+    let merger = Merger::new(crew, task.workers, work_limits(task), learned)?;
     let graph = MergedGraph::new(alloc, merger)?;
     merge_into(alloc, task, graph, learned)
 }

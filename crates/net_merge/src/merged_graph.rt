@@ -1,27 +1,32 @@
-//! A graph whose new nodes are merged with older ones that are found equal.
-ghost use Rattle.std.specs.Prelude.{◌≡◌, ◌<◌, ◌∷◌, ◌&&◌, [], Bool, List, IfOk, IsTrue, length};
-ghost use Rattle.pair_graph.specs.Graphs.{AreEquivalent, HasNode, IsGraph, KeepsNodes, bit, exclusive_or, value};
-ghost use Rattle.net_merge.specs.Merging.{AreRepresentatives};
+//! A graph in which new nodes are merged with older ones that are found equal.
+ghost use Rattle.std.specs.Prelude.{◌≡◌, ◌<◌, ◌∷◌, ◌&&◌, [], All, Bool, List, IfOk, length};
+ghost use Rattle.pair_graph.specs.Graphs.{HasNode, IsGraph, KeepsNodes, bit, exclusive_or, value};
+ghost use Rattle.net_merge.specs.Merging.{AreJudged, AreRepresentatives, IsSettled, IsShown};
 
+use crate::batches::{ProbeBatch, job_at};
 use crate::learned::Learned;
 use crate::merger::{MergeCounts, Merger};
 use crate::representatives::Representatives;
+use crate::shown::ShownPair;
+use expand_work::Monitor;
 use pair_graph::{Graph, GraphFault, Literal, Node};
 use std::alloc::{AllocError, Global};
 use std::marker::Model;
 use std::sync::Wait;
 use std::thread::Threads;
 
-/// A graph in which an operation is answered by the representative of its node. It is seen as the graph: the representative has the same
-/// values.
+/// A graph in which operands are replaced by their representatives. It is seen as the graph: a representative has the same values. New
+/// nodes wait until one of them is an operand; then all that wait are tried, several side by side.
 #[derive(Drop)]
-pub(crate) struct MergedGraph<'a, R> {
+pub(crate) struct MergedGraph<'a, R, G: Monitor> {
     graph: Graph,
     representatives: Representatives,
-    merger: Merger<'a, R>,
+    merger: Merger<'a, R, G>,
+    /// How many nodes were tried.
+    tried: usize,
 }
 
-impl<'a, R> Model for MergedGraph<'a, R> {
+impl<'a, R, G: Monitor> Model for MergedGraph<'a, R, G> {
     ghost use Rattle.std.specs.Prelude.{List};
     ghost use Rattle.pair_graph.specs.declared.node.Node.{Node};
     ghost use Rattle.net_merge.specs.Merging.{AreRepresentatives};
@@ -33,35 +38,95 @@ impl<'a, R> Model for MergedGraph<'a, R> {
     ghost invariant = { λ m. AreRepresentatives m.graph m.representatives };
 }
 
-/// The representative of a literal's node. If the node is new, it is merged with an older one that is found equal.
-fn settle<R: Threads + Wait + Sync>(
-    graph: &Graph,
-    representatives: &mut Representatives,
-    merger: &mut Merger<'_, R>,
-    literal: Literal,
-    is_new: bool,
-) -> Result<Literal, AllocError>
-    requires literal { HasNode graph.now literal }
-    requires representatives { AreRepresentatives graph.now representatives.old }
-    ensures equivalent { IfOk result (AreEquivalent graph.now literal) }
-    ensures has { IfOk result (HasNode graph.now) }
-    ensures representatives { AreRepresentatives graph.now representatives.new }
+/// The representative of a literal.
+fn representative_in(graph: &Graph, representatives: &Representatives, literal: Literal) -> Literal
+    requires { AreRepresentatives graph.now representatives.now }
+    ensures { IsSettled graph.now literal result }
 {
-    if !is_new {
-        return Ok(representatives.of(literal));
-    }
-    match merger.find_equal(graph, literal)? {
-        Some(older) => {
-            representatives.merge(graph, literal, older)?;
-            Ok(older)
-        }
-        None => Ok(literal),
-    }
+    let _ = graph.len(); // For the proof.
+    representatives.of(literal)
 }
 
-impl<'a, R: Threads + Wait + Sync> MergedGraph<'a, R> {
-    /// A graph that has only the constant.
-    pub(crate) fn new(alloc: Global, merger: Merger<'a, R>) -> Result<Self, GraphFault>
+/// Merges the node of the job at a place with an older one, if the two are shown equivalent.
+fn merge_job(
+    graph: &Graph,
+    representatives: &mut Representatives,
+    batches: &[ProbeBatch],
+    place: usize,
+) -> Result<(), AllocError>
+    requires representatives { AreRepresentatives graph.now representatives.old }
+    requires judged { AreJudged graph.now batches.now }
+    ensures representatives { AreRepresentatives graph.now representatives.new }
+{
+    let Some(job) = job_at(graph, batches, place) else {
+        return Ok(());
+    };
+    let newer = job.newer;
+    let Some(older) = job.equivalent(graph) else {
+        return Ok(());
+    };
+    if newer.node() as usize >= graph.len() || older.node() > newer.node() {
+        return Ok(());
+    }
+    representatives.merge(graph, newer, older)
+}
+
+/// Merges the nodes of so many jobs.
+fn merge_jobs(
+    graph: &Graph,
+    representatives: &mut Representatives,
+    batches: &[ProbeBatch],
+    jobs: usize,
+) -> Result<(), AllocError>
+    requires representatives { AreRepresentatives graph.now representatives.old }
+    requires judged { AreJudged graph.now batches.now }
+    ensures representatives { AreRepresentatives graph.now representatives.new }
+{
+    for place in 0..jobs {
+        merge_job(graph, representatives, batches, place)?;
+    }
+    Ok(())
+}
+
+/// Judges the next nodes that wait, side by side, and merges those that are found equal to older ones. Whether there were some.
+fn merge_next<R: Threads + Wait + Sync, G: Monitor>(
+    graph: &Graph,
+    representatives: &mut Representatives,
+    merger: &mut Merger<'_, R, G>,
+) -> Result<bool, AllocError>
+    requires representatives { AreRepresentatives graph.now representatives.old }
+    ensures representatives { AreRepresentatives graph.now representatives.new }
+{
+    let some = merger.judge_next(graph)?;
+    if !some {
+        return Ok(false);
+    }
+    merge_jobs(graph, representatives, merger.batches(), merger.jobs())?;
+    merger.settle_jobs()?;
+    Ok(true)
+}
+
+/// Tries all nodes that wait.
+fn merge_waiting<R: Threads + Wait + Sync, G: Monitor>(
+    graph: &Graph,
+    representatives: &mut Representatives,
+    merger: &mut Merger<'_, R, G>,
+) -> Result<(), AllocError>
+    requires representatives { AreRepresentatives graph.now representatives.old }
+    ensures representatives { AreRepresentatives graph.now representatives.new }
+{
+    merger.extend(graph)?;
+    for _ in 0..u64::MAX {
+        if !merge_next(graph, representatives, merger)? {
+            break;
+        }
+    }
+    Ok(())
+}
+
+impl<'a, R: Threads + Wait + Sync, G: Monitor> MergedGraph<'a, R, G> {
+    /// Returns a graph that has only the constant.
+    pub(crate) fn new(alloc: Global, merger: Merger<'a, R, G>) -> Result<Self, GraphFault>
         ensures { IfOk result (λ m. m ≡ Node.Constant ∷ []) }
     {
         let graph = Graph::new(alloc)?;
@@ -69,6 +134,7 @@ impl<'a, R: Threads + Wait + Sync> MergedGraph<'a, R> {
             graph,
             representatives: Representatives::new(alloc),
             merger,
+            tried: 0,
         })
     }
 
@@ -80,25 +146,68 @@ impl<'a, R: Threads + Wait + Sync> MergedGraph<'a, R> {
         self.graph.len()
     }
 
-    /// Whether two literals are found equal by windows below them.
-    pub(crate) fn are_equal(&mut self, first: Literal, second: Literal) -> Result<bool, AllocError>
-        ensures equal { IfOk result (λ b. IsTrue b → AreEquivalent self.old first second) }
-        ensures unchanged { self.new ≡ self.old }
+    /// Tries all nodes that wait.
+    fn try_waiting(&mut self) -> Result<(), AllocError>
+        ensures { self.new ≡ self.old }
     {
-        self.merger.are_equal(&self.graph, first, second)
+        merge_waiting(&self.graph, &mut self.representatives, &mut self.merger)?;
+        self.tried = self.graph.len();
+        Ok(())
     }
 
-    /// What its search has done.
+    /// The representative of a literal, as far as nodes were tried.
+    fn representative(&self, literal: Literal) -> Literal
+        ensures { IsSettled self.now literal result }
+    {
+        representative_in(&self.graph, &self.representatives, literal)
+    }
+
+    /// The representative of a literal. If its node waits, all that wait are tried before.
+    pub(crate) fn settled(&mut self, literal: Literal) -> Result<Literal, AllocError>
+        ensures settled { IfOk result (IsSettled self.old literal) }
+        ensures unchanged { self.new ≡ self.old }
+        ensures keeps { KeepsNodes self.old self.new }
+        ensures sound { IsGraph self.new }
+    {
+        let _ = self.len(); // For the proof.
+        if (literal.node() as usize) < self.tried {
+            return Ok(self.representative(literal));
+        }
+        self.try_waiting()?;
+        let answer = self.representative(literal);
+        Ok(answer)
+    }
+
+    /// Which of these pairs of literals are shown equal by windows below them, in their order.
+    pub(crate) fn show_wanted(
+        &mut self,
+        wanted: &[(Literal, Literal)],
+    ) -> Result<Vec<ShownPair>, AllocError>
+        ensures shown { IfOk result (λ v. All (IsShown self.new) v.items) }
+        ensures unchanged { self.new ≡ self.old }
+    {
+        self.merger.extend(&self.graph)?;
+        self.merger.show_wanted(&self.graph, wanted)
+    }
+
+    /// What the search for equal nodes has done.
     pub(crate) fn counts(&self) -> MergeCounts {
         self.merger.counts()
     }
 
-    /// Adds what its search has learned.
+    /// Adds what the search has learned to what earlier rounds have.
     pub(crate) fn save(&self, learned: &mut Learned) -> Result<(), AllocError> {
-        self.merger.save(&self.graph, learned)
+        self.merger.save(learned)
     }
 
-    /// The graph, without what it was made by.
+    /// The graph.
+    pub(crate) fn graph(&self) -> &Graph
+        ensures { result.now ≡ self.now }
+    {
+        &self.graph
+    }
+
+    /// The graph, without the representatives and the search.
     pub(crate) fn into_graph(self) -> Graph
         ensures { result ≡ self.entry }
     {
@@ -106,6 +215,7 @@ impl<'a, R: Threads + Wait + Sync> MergedGraph<'a, R> {
             graph,
             representatives: _,
             merger: _,
+            tried: _,
         } = self;
         graph
     }
@@ -117,11 +227,38 @@ impl<'a, R: Threads + Wait + Sync> MergedGraph<'a, R> {
         ensures sound { IsGraph self.new }
         ensures keeps { KeepsNodes self.old self.new }
     {
-        let _ = self.graph.len();
+        let _ = self.graph.len(); // For the proof.
         self.graph.variable(number)
     }
 
-    /// The literal whose value is the And of two.
+    /// A literal whose value is the And of the values of two.
+    fn add_and(&mut self, first: Literal, second: Literal) -> Result<Literal, GraphFault>
+        requires first { HasNode self.old first }
+        requires second { HasNode self.old second }
+        ensures value { IfOk result (λ l. (x : List Bool) → value self.new x l ≡ (value self.old x first && value self.old x second)) }
+        ensures has { IfOk result (HasNode self.new) }
+        ensures sound { IsGraph self.new }
+        ensures keeps { KeepsNodes self.old self.new }
+    {
+        let _ = self.graph.len(); // For the proof.
+        self.graph.and_of(first, second)
+    }
+
+    /// A literal whose value is the Xor of the values of two.
+    fn add_xor(&mut self, first: Literal, second: Literal) -> Result<Literal, GraphFault>
+        requires first { HasNode self.old first }
+        requires second { HasNode self.old second }
+        ensures value { IfOk result (λ l. (x : List Bool) →
+            value self.new x l ≡ exclusive_or (value self.old x first) (value self.old x second)) }
+        ensures has { IfOk result (HasNode self.new) }
+        ensures sound { IsGraph self.new }
+        ensures keeps { KeepsNodes self.old self.new }
+    {
+        let _ = self.graph.len(); // For the proof.
+        self.graph.xor_of(first, second)
+    }
+
+    /// The literal whose value is the And of two, of their representatives.
     pub(crate) fn and_of(&mut self, first: Literal, second: Literal) -> Result<Literal, GraphFault>
         requires first { HasNode self.old first }
         requires second { HasNode self.old second }
@@ -130,20 +267,14 @@ impl<'a, R: Threads + Wait + Sync> MergedGraph<'a, R> {
         ensures sound { IsGraph self.new }
         ensures keeps { KeepsNodes self.old self.new }
     {
-        let before = self.graph.len();
-        let literal = self.graph.and_of(first, second)?;
-        let is_new = literal.node() as usize >= before;
-        let settled = settle(
-            &self.graph,
-            &mut self.representatives,
-            &mut self.merger,
-            literal,
-            is_new,
-        )?;
-        Ok(settled)
+        let _ = self.len(); // For the proof.
+        let one = self.settled(first)?;
+        let two = self.settled(second)?;
+        let literal = self.add_and(one, two)?;
+        Ok(literal)
     }
 
-    /// The literal whose value is the Xor of two.
+    /// The literal whose value is the Xor of two, of their representatives.
     pub(crate) fn xor_of(&mut self, first: Literal, second: Literal) -> Result<Literal, GraphFault>
         requires first { HasNode self.old first }
         requires second { HasNode self.old second }
@@ -153,16 +284,10 @@ impl<'a, R: Threads + Wait + Sync> MergedGraph<'a, R> {
         ensures sound { IsGraph self.new }
         ensures keeps { KeepsNodes self.old self.new }
     {
-        let before = self.graph.len();
-        let literal = self.graph.xor_of(first, second)?;
-        let is_new = literal.node() as usize >= before;
-        let settled = settle(
-            &self.graph,
-            &mut self.representatives,
-            &mut self.merger,
-            literal,
-            is_new,
-        )?;
-        Ok(settled)
+        let _ = self.len(); // For the proof.
+        let one = self.settled(first)?;
+        let two = self.settled(second)?;
+        let literal = self.add_xor(one, two)?;
+        Ok(literal)
     }
 }

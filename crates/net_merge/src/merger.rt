@@ -1,87 +1,78 @@
-//! The search for older nodes that are equal to a new one. Only what the judge finds counts.
-ghost use Rattle.std.specs.Prelude.{IfOk, IfSome, IsTrue};
-ghost use Rattle.cut_window.specs.Windows.{Holds};
-ghost use Rattle.pair_graph.specs.Graphs.{AreEquivalent, HasNode};
-ghost use Rattle.net_merge.specs.Merging.{IsMergeable};
+//! The search for older nodes that are equal to new ones. Only what the judge finds counts.
+ghost use Rattle.std.specs.Prelude.{◌≡◌, All, IfOk, IsTrue, OnOk};
+ghost use Rattle.net_merge.specs.Merging.{AreJudged, IsShown};
 
-use crate::guess::Guess;
+use crate::batches::{MergeCrew, ProbeBatch, empty_batches, run_batches};
 use crate::learned::Learned;
+use crate::pair_job::{Effort, PairJob};
+use crate::probe::RankedGraph;
+use crate::shown::{ShownPair, keep_shown};
 use crate::signatures::Signatures;
-use crate::window_values::WindowValues;
-use cut_window::{Cut, CutKind, Finding, LeafOrder, NodeRanks, NodeTable, Window};
+use crate::words::gate_of;
+use cut_window::{Finding, NodeRanks};
+use expand_work::Monitor;
 use pair_graph::{Graph, Literal};
-use std::alloc::{AllocError, Global};
+use std::alloc::AllocError;
+use std::mem;
 use std::sync::Wait;
 use std::thread::Threads;
-use wave_judge::WaveJudge;
 
-/// The most candidates that are tried for one node: each but the last was told apart by an assignment.
+/// The most candidates that are tried for one node. A candidate that differs is distinguished by what is learned, so another one comes.
 const MOST_CANDIDATES: u32 = 256;
 
-/// How many nodes are above the first cut of a pair.
-const FIRST_ABOVE: usize = 8;
+/// The most pairs that are judged side by side. What they show is known to the pairs after them only.
+const MOST_JOBS: usize = 64;
 
-/// Cuts with more nodes above them are not grown further.
+/// A cut that has more nodes above it is not grown further.
 const MOST_ABOVE: usize = 1000;
 
-/// The same of the cuts below two signals that are wanted equal.
+/// The same for the cuts below two signals that are wanted equal.
 const MOST_ABOVE_WANTED: usize = 8000;
 
-/// How many guesses are made first for two signals that are wanted equal.
+/// How many guesses are made before two signals that are wanted equal are judged.
 const GUESSES_WANTED: usize = 3;
 
-/// The windows of a node that is rarely 1 have an eighth of the nodes, since most such nodes are different.
+/// The windows of a node that is rarely 1 get one eighth of the nodes, since most such nodes have no equal.
 const RARE_SHARE: u32 = 8;
 
-/// FORCE is tried within so many nodes or more.
-const LEAST_FOR_FORCE: u32 = 1000;
-
-/// Values of so many nodes, or so many leaves that are looked at, count as one node of a diagram.
+/// Words of so many nodes count as one node of a diagram.
 const VALUES_PER_WORK: u64 = 16;
 
-/// The most cuts of one kind that are tried for a pair.
-const MOST_CUTS: u32 = 64;
+/// A new node that is neither merged nor a candidate yet.
+#[derive(Clone, Copy, Drop)]
+struct OpenNode {
+    node: u32,
+    /// How many candidates of it were tried.
+    tried: u32,
+}
 
-/// What a gate that a guess looks at counts as work, in nodes of diagrams.
-const WORK_PER_GATE: u64 = 4;
-
-/// Looks for older nodes that are equal to new ones: candidates by signatures, judged by windows over cuts.
+/// Looks for older nodes that are equal to new ones: candidates by signatures, judged by windows over cuts, several side by side.
 #[derive(Drop)]
-pub(crate) struct Merger<'a, R> {
-    alloc: Global,
-    judge: WaveJudge<'a, R>,
-    cut: Cut,
+pub(crate) struct Merger<'a, R, G: Monitor> {
+    crew: MergeCrew<'a, R, G>,
     ranks: NodeRanks,
     signatures: Signatures,
-    guess: Guess,
-    values: WindowValues,
-    bits: NodeTable,
-    /// How much it may do, for nodes, and for the signals that are wanted equal besides.
+    batches: Vec<ProbeBatch>,
+    /// How many pairs the batches have.
+    jobs: usize,
+    /// The first node that was not proposed.
+    next: usize,
+    /// Nodes before it that are open, by number.
+    open: Vec<OpenNode>,
+    /// The most work: for the nodes of gates, and for the pairs that are wanted equal as well.
     limits: WorkLimits,
-    effort: Effort,
+    /// The work of all pairs so far.
+    work: u64,
     counts: MergeCounts,
-    /// How many values were computed, and leaves looked at, in all.
-    evaluated: u64,
 }
 
-/// How much work the windows of a round may do: nodes of diagrams, and what counts as much.
+/// The most work of a round: nodes of diagrams, and what counts as such.
 #[derive(Clone, Copy, Drop)]
 pub(crate) struct WorkLimits {
-    /// For the gates.
+    /// For the nodes of gates.
     pub(crate) gates: u64,
-    /// In all.
+    /// In all, with the pairs of signals that are wanted equal.
     pub(crate) all: u64,
-}
-
-/// How much is done for one pair, and until when.
-#[derive(Clone, Copy, Drop)]
-struct Effort {
-    /// The nodes of a window's diagrams.
-    nodes: u32,
-    /// The nodes above the last cut.
-    above: usize,
-    /// The work of all pairs so far and this one.
-    limit: u64,
 }
 
 /// What a round has done.
@@ -91,318 +82,310 @@ pub struct MergeCounts {
     pub merged: usize,
     /// How many windows were judged.
     pub windows: usize,
-    /// How many nodes have an older one that no assignment tells apart from them, but that no window shows equal.
+    /// How many nodes had an older one that no assignment distinguished from them, but that no window showed equal.
     pub candidates: usize,
 }
 
-impl<'a, R: Threads + Wait + Sync> Merger<'a, R> {
-    /// A merger that has seen no node.
+impl<'a, R: Threads + Wait + Sync, G: Monitor> Merger<'a, R, G> {
+    /// A merger that has seen no node, with so many workers.
     pub(crate) fn new(
-        alloc: Global,
-        judge: WaveJudge<'a, R>,
+        crew: MergeCrew<'a, R, G>,
+        workers: u32,
         limits: WorkLimits,
         learned: &Learned,
     ) -> Result<Self, AllocError> {
-        let effort = Effort {
-            nodes: judge.nodes(),
-            above: MOST_ABOVE,
-            limit: limits.gates,
-        };
+        let alloc = crew.alloc;
         Ok(Merger {
-            alloc,
-            judge,
-            cut: Cut::new(alloc),
+            crew,
             ranks: NodeRanks::new(alloc),
             signatures: Signatures::new(alloc, learned)?,
-            guess: Guess::new(alloc),
-            values: WindowValues::new(alloc),
-            bits: NodeTable::new(alloc),
+            batches: empty_batches(alloc, workers)?,
+            jobs: 0,
+            next: 0,
+            open: Vec::new(alloc),
             limits,
-            effort,
+            work: 0,
             counts: MergeCounts {
                 merged: 0,
                 windows: 0,
                 candidates: 0,
             },
-            evaluated: 0,
         })
     }
 
-    /// What it has done.
+    /// What the search has done so far.
     pub(crate) fn counts(&self) -> MergeCounts {
         self.counts
     }
 
-    /// Adds what was learned, and how much was done.
-    pub(crate) fn save(&self, graph: &Graph, learned: &mut Learned) -> Result<(), AllocError> {
+    /// Adds what was learned, and how much was done, to what earlier rounds have.
+    pub(crate) fn save(&self, learned: &mut Learned) -> Result<(), AllocError> {
         learned.count(self.counts.merged, self.counts.windows);
-        self.signatures.save(graph, learned)
+        self.signatures.save(learned)
     }
 
-    /// Whether it has done all the work that it may do.
-    fn is_spent(&self) -> bool {
-        let guessed = self.guess.gates().saturating_mul(WORK_PER_GATE);
-        let evaluated = self.evaluated / VALUES_PER_WORK;
-        self.judge
-            .work()
-            .saturating_add(guessed)
-            .saturating_add(evaluated)
-            > self.effort.limit
+    /// How many pairs were judged side by side.
+    pub(crate) fn jobs(&self) -> usize {
+        self.jobs
     }
 
-    /// Sets how much is done for a node.
-    fn set_effort(&mut self, literal: Literal) {
-        let all = self.judge.nodes();
-        let is_rare = self.signatures.is_rare(literal.node());
-        self.effort = Effort {
-            nodes: if is_rare { all / RARE_SHARE } else { all },
-            above: MOST_ABOVE,
-            limit: self.limits.gates,
-        };
-    }
-
-    /// A literal of an older node that is equivalent to the literal of a new one, if one is found.
-    pub(crate) fn find_equal(
-        &mut self,
-        graph: &Graph,
-        literal: Literal,
-    ) -> Result<Option<Literal>, AllocError>
-        requires literal { HasNode graph.now literal }
-        ensures { IfOk result (λ o. IfSome o (IsMergeable graph.now literal)) }
+    /// The pairs that were judged side by side.
+    pub(crate) fn batches(&self) -> &[ProbeBatch]
+        ensures { result.now ≡ self.now.batches.items }
     {
+        self.batches.as_slice()
+    }
+
+    /// Whether as much work is done as may be.
+    fn is_spent(&self, limit: u64) -> bool {
+        let evaluated = self.signatures.evaluated() / VALUES_PER_WORK;
+        self.work.saturating_add(evaluated) > limit
+    }
+
+    /// Takes the nodes that the graph has got since.
+    pub(crate) fn extend(&mut self, graph: &Graph) -> Result<(), AllocError> {
         self.ranks.extend(graph)?;
-        self.signatures.extend(graph)?;
-        let found = self.find_candidate(graph, literal)?;
-        match found {
-            Some(_) => self.counts.merged = self.counts.merged.saturating_add(1),
-            None => self.signatures.add_to_class(literal.node())?,
-        }
-        Ok(found)
+        self.signatures.extend(graph)
     }
 
-    /// The candidate that is equivalent to a literal, if windows show it: the first one that no assignment tells apart.
-    fn find_candidate(
-        &mut self,
-        graph: &Graph,
-        literal: Literal,
-    ) -> Result<Option<Literal>, AllocError>
-        requires literal { HasNode graph.now literal }
-        ensures { IfOk result (λ o. IfSome o (IsMergeable graph.now literal)) }
+    /// Judges the next candidates of open nodes, side by side. Whether there were some.
+    pub(crate) fn judge_next(&mut self, graph: &Graph) -> Result<bool, AllocError>
+        ensures { IfOk result (λ some. IsTrue some → AreJudged graph.now self.new.batches.items) }
     {
-        for turn in 0..MOST_CANDIDATES {
-            let Some(candidate) = self.signatures.candidate(literal) else {
-                break;
-            };
-            if turn == 0 {
-                self.set_effort(literal);
-            }
-            if candidate.node() >= literal.node() {
-                break;
-            }
-            match self.judge_pair(graph, literal, candidate)? {
-                Finding::Equal => return Ok(Some(candidate)),
-                Finding::Complement => return Ok(Some(candidate.negate())),
-                Finding::Differ(_) => {}
-                Finding::GivenUp => {
-                    self.counts.candidates = self.counts.candidates.saturating_add(1);
-                    return Ok(None);
-                }
-            }
-        }
-        Ok(None)
-    }
-
-    /// Whether two literals are found equal: with the effort for signals that are wanted equal.
-    pub(crate) fn are_equal(
-        &mut self,
-        graph: &Graph,
-        first: Literal,
-        second: Literal,
-    ) -> Result<bool, AllocError>
-        ensures { IfOk result (λ b. IsTrue b → AreEquivalent graph.now first second) }
-    {
-        self.ranks.extend(graph)?;
-        self.signatures.extend(graph)?;
-        self.effort = Effort {
-            nodes: self.judge.nodes(),
-            above: MOST_ABOVE_WANTED,
-            limit: self.limits.all,
-        };
-        for _ in 0..GUESSES_WANTED {
-            if self.signatures.tell_apart(first, second) {
-                return Ok(false);
-            }
-            self.guess_difference(graph, first, second)?;
-        }
-        match self.judge_pair(graph, first, second)? {
-            Finding::Equal => Ok(true),
-            _ => Ok(false),
-        }
-    }
-
-    /// Guesses an assignment at which two literals differ, and learns it. Whether there is one.
-    fn guess_difference(
-        &mut self,
-        graph: &Graph,
-        first: Literal,
-        second: Literal,
-    ) -> Result<bool, AllocError> {
-        if !self.guess.find(graph, first, second, &mut self.bits)? {
+        self.propose(graph)?;
+        if self.jobs == 0 {
             return Ok(false);
         }
-        self.learn_bits(graph)?;
+        self.run(graph)?;
         Ok(true)
     }
 
-    /// Learns the assignment that the table of bits has.
-    fn learn_bits(&mut self, graph: &Graph) -> Result<(), AllocError> {
-        self.evaluated = self.evaluated.saturating_add(graph.len() as u64);
-        self.signatures.learn(graph, &self.bits)
+    /// Judges the pairs of all batches.
+    fn run(&mut self, graph: &Graph) -> Result<(), AllocError>
+        ensures { OnOk result (AreJudged graph.now self.new.batches.items) }
+    {
+        let on = RankedGraph {
+            graph,
+            ranks: &self.ranks,
+        };
+        run_batches(&self.crew, &on, self.batches.as_mut_slice(), self.jobs);
+        self.check_memory()
     }
 
-    /// What windows show of two literals: over cuts where both cones meet, then over cuts by rank. Between them a guess is made.
-    fn judge_pair(
-        &mut self,
-        graph: &Graph,
-        first: Literal,
-        second: Literal,
-    ) -> Result<Finding, AllocError>
-        ensures { IfOk result (Holds graph.now first second) }
-    {
-        if self.is_spent() {
-            return Ok(Finding::GivenUp);
-        }
-        if !second.is_constant() {
-            let finding = self.judge_by_cuts(graph, first, second, CutKind::Shared)?;
-            if !matches!(finding, Finding::GivenUp) {
-                return Ok(finding);
+    /// Whether memory was refused to no pair.
+    fn check_memory(&self) -> Result<(), AllocError> {
+        for batch in &self.batches {
+            if batch.is_refused {
+                return Err(AllocError);
             }
-        }
-        if self.guess_difference(graph, first, second)? {
-            return Ok(Finding::Differ(Vec::new(self.alloc)));
-        }
-        self.judge_by_cuts(graph, first, second, CutKind::Rank)
-    }
-
-    /// What windows over cuts of one kind show of two literals. A cut over which they differ is grown; that it cannot be judged ends it.
-    fn judge_by_cuts(
-        &mut self,
-        graph: &Graph,
-        first: Literal,
-        second: Literal,
-        kind: CutKind,
-    ) -> Result<Finding, AllocError>
-        ensures { IfOk result (Holds graph.now first second) }
-    {
-        self.cut.start(graph, first.node(), second.node(), kind)?;
-        let mut size = FIRST_ABOVE;
-        for turn in 0..MOST_CUTS {
-            if turn > 0 && size > self.effort.above {
-                break;
-            }
-            let grown = self.grow_cut(graph, size)?;
-            if grown || turn == 0 {
-                let finding = self.judge_cut(graph, first, second)?;
-                if !matches!(finding, Finding::Differ(_)) || self.cut.is_at_variables(graph) {
-                    return Ok(finding);
+            for job in &batch.jobs {
+                if job.report.is_refused {
+                    return Err(AllocError);
                 }
             }
-            let above = size.max(self.cut.above());
-            size = above.saturating_add(1).max(above.saturating_mul(8) / 5);
         }
-        Ok(Finding::GivenUp)
+        Ok(())
     }
 
-    /// Grows the cut until about so many nodes are above it. Whether there is one more now. Each looks at all leaves.
-    fn grow_cut(&mut self, graph: &Graph, size: usize) -> Result<bool, AllocError> {
-        let before = self.cut.above();
-        let grown = self.cut.grow(graph, &self.ranks, size)?;
-        let more = self.cut.above().saturating_sub(before) as u64;
-        let leaves = self.cut.leaves().len() as u64;
-        self.evaluated = self.evaluated.saturating_add(more.saturating_mul(leaves));
-        Ok(grown)
+    /// Removes the pairs of all batches.
+    fn clear_jobs(&mut self) {
+        for batch in self.batches.iter_mut() {
+            batch.jobs.clear();
+        }
+        self.jobs = 0;
     }
 
-    /// What the window over the cut shows of two literals, its leaves in the order of a walk, and by FORCE if that is given up.
-    fn judge_cut(
-        &mut self,
-        graph: &Graph,
-        first: Literal,
-        second: Literal,
-    ) -> Result<Finding, AllocError>
-        ensures { IfOk result (Holds graph.now first second) }
-    {
-        let finding = self.judge_in_order(graph, first, second, LeafOrder::Walk)?;
-        if !matches!(finding, Finding::GivenUp) || self.effort.nodes < LEAST_FOR_FORCE {
-            return Ok(finding);
+    /// Adds a pair to the batches, which are dealt pairs in turn.
+    fn add_job(&mut self, job: PairJob) -> Result<(), AllocError> {
+        let place = self.jobs % self.batches.len().max(1);
+        if let Some(batch) = self.batches.get_mut(place) {
+            batch.jobs.push(job)?;
         }
-        self.judge_in_order(graph, first, second, LeafOrder::Force)
+        self.jobs = self.jobs.saturating_add(1);
+        Ok(())
     }
 
-    /// What the window over the cut shows of two literals, its leaves in this order. An assignment of variables at which they differ is
-    /// learned.
-    fn judge_in_order(
-        &mut self,
-        graph: &Graph,
-        first: Literal,
-        second: Literal,
-        order: LeafOrder,
-    ) -> Result<Finding, AllocError>
-        ensures { IfOk result (Holds graph.now first second) }
-    {
-        let roots = (first.node(), second.node());
-        let window = self
-            .cut
-            .window(self.alloc, graph, &self.ranks, roots, order)?;
-        self.counts.windows = self.counts.windows.saturating_add(1);
-        if order == LeafOrder::Walk && self.differ_by_values(graph, &window, first, second)? {
-            return Ok(Finding::Differ(Vec::new(self.alloc)));
+    /// Proposes pairs: open nodes with their candidates, and the next nodes with theirs, as long as there are few. Of each class there is one
+    /// pair.
+    fn propose(&mut self, graph: &Graph) -> Result<(), AllocError> {
+        self.clear_jobs();
+        let alloc = self.crew.alloc;
+        let open = mem::replace(&mut self.open, Vec::new(alloc));
+        let mut keys: Vec<u64> = Vec::new(alloc);
+        for node in &open {
+            self.propose_node(graph, *node, &mut keys)?;
         }
-        let nodes = self.effort.nodes;
-        let finding = self.judge.judge(nodes, graph, &window, first, second)?;
-        if self.cut.is_at_variables(graph) {
-            self.learn(graph, &window, &finding)?;
-        }
-        Ok(finding)
-    }
-
-    /// Whether values at random bits of the leaves show that two literals differ over the window. An assignment of variables is learned.
-    fn differ_by_values(
-        &mut self,
-        graph: &Graph,
-        window: &Window,
-        first: Literal,
-        second: Literal,
-    ) -> Result<bool, AllocError> {
-        let computed = window.nodes().len() as u64;
-        self.evaluated = self.evaluated.saturating_add(computed);
-        if !self.values.tell_apart(graph, window, first, second)? {
-            return Ok(false);
-        }
-        if self.cut.is_at_variables(graph) {
-            self.bits.clear(graph.len())?;
-            for leaf in self.cut.leaves() {
-                self.bits.set(*leaf, self.values.bit(*leaf));
+        for node in self.next..graph.len() {
+            if self.jobs >= MOST_JOBS || self.open.len() >= MOST_JOBS {
+                break;
             }
-            self.learn_bits(graph)?;
+            self.next = node.saturating_add(1);
+            let node = node as u32;
+            if gate_of(graph, node).is_some() {
+                self.propose_node(graph, OpenNode { node, tried: 0 }, &mut keys)?;
+            }
         }
-        Ok(true)
+        Ok(())
     }
 
-    /// Learns the assignment at which two literals differ over a window whose leaves are variables.
-    fn learn(
+    /// Proposes the pair of a node and its candidate. A node stays open if another one of its class is proposed, and becomes a candidate if
+    /// it has none.
+    fn propose_node(
         &mut self,
         graph: &Graph,
-        window: &Window,
-        finding: &Finding,
+        open: OpenNode,
+        keys: &mut Vec<u64>,
     ) -> Result<(), AllocError> {
-        let Finding::Differ(bits) = finding else {
+        let key = self.signatures.key(open.node);
+        if self.jobs >= MOST_JOBS || keys.as_slice().contains(&key) {
+            self.open.push(open)?;
             return Ok(());
-        };
-        self.bits.clear(graph.len())?;
-        for (leaf, bit) in window.nodes().iter().zip(bits.as_slice()) {
-            self.bits.set(*leaf, *bit as u64);
         }
-        self.learn_bits(graph)
+        match self.job_of(graph, open)? {
+            Some(job) => {
+                keys.push(key)?;
+                self.add_job(job)
+            }
+            None => self.signatures.add_to_class(open.node),
+        }
+    }
+
+    /// The pair of an open node and its candidate, if there is one and it may be tried.
+    fn job_of(&mut self, graph: &Graph, open: OpenNode) -> Result<Option<PairJob>, AllocError> {
+        if open.tried >= MOST_CANDIDATES || open.node >= 1 << 31 {
+            return Ok(None);
+        }
+        let literal = Literal::new(open.node, false);
+        let Some(candidate) = self.signatures.candidate(graph, literal)? else {
+            return Ok(None);
+        };
+        if candidate.node() >= open.node {
+            return Ok(None);
+        }
+        if self.is_spent(self.limits.gates) {
+            self.counts.candidates = self.counts.candidates.saturating_add(1);
+            return Ok(None);
+        }
+        let all = self.crew.nodes;
+        let effort = Effort {
+            guesses: 0,
+            nodes: if self.signatures.is_rare(open.node) {
+                all / RARE_SHARE
+            } else {
+                all
+            },
+            above: MOST_ABOVE,
+        };
+        let pair = (literal, candidate);
+        Ok(Some(PairJob::of(self.crew.alloc, pair, effort, open.tried)))
+    }
+
+    /// Counts what the pairs have taken, and learns the assignments at which they differ.
+    fn count_jobs(&mut self) -> Result<(), AllocError> {
+        for place in 0..self.jobs {
+            let number = place % self.batches.len().max(1);
+            let index = place / self.batches.len().max(1);
+            if let Some(batch) = self.batches.get(number)
+                && let Some(job) = batch.jobs.get(index)
+            {
+                let report = &job.report;
+                self.work = self.work.saturating_add(report.work);
+                self.counts.windows = self.counts.windows.saturating_add(report.windows);
+                if !report.assignment.is_empty() {
+                    self.signatures.learn(report.assignment.as_slice())?;
+                }
+            }
+        }
+        Ok(())
+    }
+
+    /// Takes note of what pairs have shown: a node is merged, or is open for the next candidate, or becomes one itself.
+    pub(crate) fn settle_jobs(&mut self) -> Result<(), AllocError> {
+        self.count_jobs()?;
+        for place in 0..self.jobs {
+            let number = place % self.batches.len().max(1);
+            let index = place / self.batches.len().max(1);
+            if let Some(batch) = self.batches.get(number)
+                && let Some(job) = batch.jobs.get(index)
+            {
+                let node = job.newer.node();
+                match &job.finding {
+                    Finding::Differ(_) => self.open.push(OpenNode {
+                        node,
+                        tried: job.tried.saturating_add(1),
+                    })?,
+                    Finding::GivenUp => {
+                        self.counts.candidates = self.counts.candidates.saturating_add(1);
+                        self.signatures.add_to_class(node)?;
+                    }
+                    _ => self.counts.merged = self.counts.merged.saturating_add(1),
+                }
+            }
+        }
+        self.open.sort_by_key(|open| open.node)?;
+        Ok(())
+    }
+
+    /// Which of these pairs of literals are shown equal, by their places: with the effort for signals that are wanted equal.
+    pub(crate) fn show_wanted(
+        &mut self,
+        graph: &Graph,
+        wanted: &[(Literal, Literal)],
+    ) -> Result<Vec<ShownPair>, AllocError>
+        ensures { IfOk result (λ shown. All (IsShown graph.now) shown.items) }
+    {
+        let mut shown = Vec::new(self.crew.alloc);
+        let mut from = 0;
+        for _ in 0..wanted.len() {
+            if from >= wanted.len() {
+                break;
+            }
+            from = self.propose_wanted(graph, wanted, from)?;
+            self.run(graph)?;
+            self.keep_jobs(graph, &mut shown)?;
+            self.count_jobs()?;
+        }
+        Ok(shown)
+    }
+
+    /// Keeps those pairs that are shown equal.
+    fn keep_jobs(&self, graph: &Graph, shown: &mut Vec<ShownPair>) -> Result<(), AllocError>
+        requires judged { AreJudged graph.now self.now.batches.items }
+        requires shown { All (IsShown graph.now) shown.old.items }
+        ensures { All (IsShown graph.now) shown.new.items }
+    {
+        let batches = self.batches.as_slice();
+        for place in 0..self.jobs {
+            keep_shown(graph, batches, place, shown)?;
+        }
+        Ok(())
+    }
+
+    /// Proposes the next of the wanted pairs, from a place on, that differ in their literals and in no value. Answers the place after them.
+    fn propose_wanted(
+        &mut self,
+        graph: &Graph,
+        wanted: &[(Literal, Literal)],
+        from: usize,
+    ) -> Result<usize, AllocError> {
+        self.clear_jobs();
+        let effort = Effort {
+            guesses: GUESSES_WANTED,
+            nodes: self.crew.nodes,
+            above: MOST_ABOVE_WANTED,
+        };
+        for place in from..wanted.len() {
+            if self.jobs >= MOST_JOBS {
+                return Ok(place);
+            }
+            let (first, second) = wanted[place];
+            if first != second
+                && !self.is_spent(self.limits.all)
+                && !self.signatures.tell_apart(graph, first, second)?
+            {
+                self.add_job(PairJob::of(self.crew.alloc, (first, second), effort, 0))?;
+            }
+        }
+        Ok(wanted.len())
     }
 }

@@ -1,4 +1,4 @@
-//! Random words, the same in each run.
+//! Pseudo-random words, the same in each run.
 
 /// The generator SplitMix64 (Steele, Lea and Flood 2014).
 #[derive(Drop)]
@@ -7,9 +7,15 @@ pub(crate) struct Random {
 }
 
 impl Random {
-    /// The generator that begins with a seed.
+    /// The generator with this seed.
     pub(crate) fn new(seed: u64) -> Random {
         Random { state: seed }
+    }
+
+    /// A generator of its own for each number, and for each kind of words.
+    pub(crate) fn of(kind: u64, number: u64) -> Random {
+        let mut numbers = Random::new(number ^ kind.rotate_left(32));
+        Random::new(numbers.word())
     }
 
     /// The next word.

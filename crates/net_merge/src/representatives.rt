@@ -1,4 +1,4 @@
-//! Which literal a node is merged with.
+//! Representatives: the literals with which nodes are merged.
 ghost use Rattle.std.specs.Prelude.{◌≡◌, ◌<◌, ◌≤◌, ◌+◌, [], length, OnOk, List};
 ghost use Rattle.pair_graph.specs.declared.node.Node.{Node};
 ghost use Rattle.pair_graph.specs.Graphs.{AreEquivalent, HasNode};
@@ -23,14 +23,14 @@ impl Model for Representatives {
     ghost view = { λ r. r.literals.items };
 }
 
-/// Makes nodes their own representatives, as many as are missing for this count.
+/// Makes the first `count` nodes their own representatives, as far as they have none.
 fn fill(literals: &mut Vec<Literal>, graph: &Graph, count: usize) -> Result<(), AllocError>
     requires representatives { AreRepresentatives graph.now literals.old.items }
     requires low { count ≤ length graph.now }
     ensures representatives { AreRepresentatives graph.now literals.new.items }
     ensures filled { OnOk result (count ≤ length literals.new.items) }
 {
-    let _ = graph.len();
+    let _ = graph.len(); // For the proof.
     for node in literals.len()..count {
         literals.push(Literal::new(node as u32, false))?;
     }
@@ -38,7 +38,7 @@ fn fill(literals: &mut Vec<Literal>, graph: &Graph, count: usize) -> Result<(), 
 }
 
 impl Representatives {
-    /// Each node is its own representative.
+    /// No node is merged: each is its own representative.
     pub(crate) fn new(alloc: Global) -> Representatives
         ensures value { result ≡ [] }
         ensures representatives { (g : List Node) → AreRepresentatives g result }
@@ -48,7 +48,7 @@ impl Representatives {
         }
     }
 
-    /// The representative of a literal.
+    /// The representative of a literal: that of its node, complemented if the literal is.
     pub(crate) fn of(&self, literal: Literal) -> Literal
         ensures { result ≡ representative_of self.now literal }
     {

@@ -1,14 +1,15 @@
-//! A literal for each signal of a netlist: of the variables first, then of the gates by rising rank.
-ghost use Rattle.std.specs.Prelude.{◌≡◌, ◌<◌, ℕ, Bool, List, All, IfOk, OnOk, length, map, slice_index, slice_index_or, slice_set};
-ghost use Rattle.net_bench.specs.Circuit.{IsNet, circuit, variables_of};
+//! A literal for each signal of a netlist: first for the variables, then for the gates by rising rank.
+ghost use Rattle.std.specs.Prelude.{◌≡◌, ◌<◌, Bool, List, IfOk, OnOk, length, map, slice_index, slice_index_or, slice_set};
+ghost use Rattle.net_bench.specs.Circuit.{circuit, variables_of};
 ghost use Rattle.net_bench.specs.Labels.{value_of};
 ghost use Rattle.net_simulate.specs.Schedules.{Equation, IsSchedule};
-ghost use Rattle.pair_graph.specs.Literals.{false_literal};
 ghost use Rattle.pair_graph.specs.Graphs.{HasNode, IsGraph, KeepsNodes, value};
+ghost use Rattle.net_merge.specs.Merging.{AreSettled};
 ghost use Rattle.net_merge.specs.SignalLiterals.{AreGatesDone, AreSignalLiterals, AreVariablesDone, HaveNodes, literal_at};
 
 use crate::gate::gate_literal;
 use crate::merged_graph::MergedGraph;
+use expand_work::Monitor;
 use net_bench::netlist::{Netlist, Signal};
 use net_simulate::{Schedule, schedule_of};
 use pair_graph::{GraphFault, Literal};
@@ -20,11 +21,11 @@ use std::thread::Threads;
 #[derive(Clone, Copy, Drop)]
 pub struct LevelledNetlist<'a> {
     pub net: &'a Netlist,
-    /// By signal, the level of a variable. What is missing is 0.
+    /// For the signal of each variable its level. A signal beyond the end has level 0.
     pub levels: &'a [u32],
 }
 
-/// The literal of a signal, the constant 0 after the last.
+/// The literal of a signal; the constant 0 beyond the end.
 pub(crate) fn literal_of(literals: &[Literal], signal: Signal) -> Literal
     ensures { result ≡ literal_at literals.now signal }
 {
@@ -34,7 +35,7 @@ pub(crate) fn literal_of(literals: &[Literal], signal: Signal) -> Literal
     }
 }
 
-/// The level of a signal.
+/// The level of a signal; 0 beyond the end.
 fn level_of(levels: &[u32], signal: Signal) -> u32
     ensures { result ≡ slice_index levels.now signal }
 {
@@ -44,7 +45,7 @@ fn level_of(levels: &[u32], signal: Signal) -> u32
     }
 }
 
-/// Sets the literal of a signal, if there is one.
+/// Sets the literal of a signal. Beyond the end nothing is written.
 #[tactic(auto, using(crate::proofs::Past::set_past))]
 fn put(literals: &mut [Literal], signal: Signal, literal: Literal)
     ensures { literals.new ≡ slice_set literals.old signal literal }
@@ -72,9 +73,9 @@ fn operand_literals(
 }
 
 /// Gives the variables of a netlist their literals.
-fn add_variables<R: Threads + Wait + Sync>(
+fn add_variables<R: Threads + Wait + Sync, G: Monitor>(
     netlist: &LevelledNetlist<'_>,
-    graph: &mut MergedGraph<'_, R>,
+    graph: &mut MergedGraph<'_, R, G>,
     literals: &mut [Literal],
 ) -> Result<(), GraphFault>
     requires start { AreVariablesDone (circuit netlist.now.net.now) (slice_index netlist.now.levels.now) graph.old 0 literals.old }
@@ -83,7 +84,7 @@ fn add_variables<R: Threads + Wait + Sync>(
     ensures keeps { KeepsNodes graph.old graph.new }
     ensures sound { IsGraph graph.new }
 {
-    let _ = graph.len();
+    let _ = graph.len(); // For the proof.
     let variables = netlist.net.variables();
     for place in 0..variables.len() {
         let signal = variables[place];
@@ -94,9 +95,9 @@ fn add_variables<R: Threads + Wait + Sync>(
 }
 
 /// The literal of the gate at a place of a schedule, from those of its operands.
-fn scheduled_literal<R: Threads + Wait + Sync>(
+fn scheduled_literal<R: Threads + Wait + Sync, G: Monitor>(
     alloc: Global,
-    graph: &mut MergedGraph<'_, R>,
+    graph: &mut MergedGraph<'_, R, G>,
     schedule: &Schedule,
     place: usize,
     literals: &[Literal],
@@ -109,7 +110,7 @@ fn scheduled_literal<R: Threads + Wait + Sync>(
     ensures sound { IsGraph graph.new }
     ensures keeps { KeepsNodes graph.old graph.new }
 {
-    let _ = graph.len();
+    let _ = graph.len(); // For the proof.
     let gate = schedule.gate(place);
     let operands = operand_literals(alloc, literals, gate.operands)?;
     let literal = gate_literal(graph, gate.kind, operands.as_slice())?;
@@ -117,11 +118,11 @@ fn scheduled_literal<R: Threads + Wait + Sync>(
 }
 
 /// Gives the gates of a netlist their literals, in the order of its schedule.
-fn add_gates<R: Threads + Wait + Sync>(
+fn add_gates<R: Threads + Wait + Sync, G: Monitor>(
     alloc: Global,
     netlist: &LevelledNetlist<'_>,
     schedule: &Schedule,
-    graph: &mut MergedGraph<'_, R>,
+    graph: &mut MergedGraph<'_, R, G>,
     literals: &mut [Literal],
 ) -> Result<(), GraphFault>
     requires schedule { IsSchedule netlist.now.net.now schedule.now }
@@ -130,7 +131,7 @@ fn add_gates<R: Threads + Wait + Sync>(
     ensures keeps { KeepsNodes graph.old graph.new }
     ensures sound { IsGraph graph.new }
 {
-    let _ = (graph.len(), netlist.net.count());
+    let _ = (graph.len(), netlist.net.count()); // For the proof.
     for place in 0..schedule.len() {
         let literal = scheduled_literal(alloc, graph, schedule, place, literals)?;
         put(literals, schedule.gate(place).out, literal);
@@ -138,23 +139,42 @@ fn add_gates<R: Threads + Wait + Sync>(
     Ok(())
 }
 
-/// A literal for each signal of a netlist. Nodes and literals of netlists that are in the graph already are kept.
-pub(crate) fn add_netlist<R: Threads + Wait + Sync>(
+/// The representatives of literals.
+fn settled_literals<R: Threads + Wait + Sync, G: Monitor>(
+    alloc: Global,
+    graph: &mut MergedGraph<'_, R, G>,
+    literals: &[Literal],
+) -> Result<Vec<Literal>, AllocError>
+    ensures settled { IfOk result (λ v. AreSettled graph.old literals.now v.items) }
+    ensures unchanged { graph.new ≡ graph.old }
+{
+    let _ = graph.len(); // For the proof.
+    let mut settled = Vec::new(alloc);
+    for place in 0..literals.len() {
+        let literal = graph.settled(literals[place])?;
+        settled.push(literal)?;
+    }
+    Ok(settled)
+}
+
+/// Adds a netlist to the graph, and returns the literal of each signal. Nodes and literals that are there already are kept.
+pub(crate) fn add_netlist<R: Threads + Wait + Sync, G: Monitor>(
     alloc: Global,
     netlist: &LevelledNetlist<'_>,
-    graph: &mut MergedGraph<'_, R>,
+    graph: &mut MergedGraph<'_, R, G>,
 ) -> Result<Vec<Literal>, GraphFault>
     ensures literals { IfOk result (λ ls. AreSignalLiterals (circuit netlist.now.net.now) (slice_index netlist.now.levels.now) graph.new
         ls.items) }
     ensures keeps { KeepsNodes graph.old graph.new }
     ensures sound { IsGraph graph.new }
 {
-    let _ = graph.len();
+    let _ = graph.len(); // For the proof.
     let net = netlist.net;
     let schedule = schedule_of(alloc, net)?;
     let mut literals = Vec::from_elem(alloc, Literal::FALSE, net.count())?;
     let slice = literals.as_mut_slice();
     add_variables(netlist, graph, slice)?;
     add_gates(alloc, netlist, &schedule, graph, slice)?;
-    Ok(literals)
+    let settled = settled_literals(alloc, graph, slice)?;
+    Ok(settled)
 }

@@ -1,25 +1,22 @@
-//! Signatures: the values of nodes at random assignments, by which candidates are found. They are hints: nothing is promised of them.
+//! Signatures: the values of nodes at random assignments, by which candidates are found. They are hints, of which nothing is promised.
 use crate::learned::Learned;
+use crate::learned_word::LearnedWord;
 use crate::random::Random;
-use crate::words::{gate_of, variable_of, word_at, word_if};
-use cut_window::NodeTable;
+use crate::words::{GateNode, gate_of, variable_of, word_at, word_if};
 use pair_graph::{Graph, Literal};
 use std::alloc::{AllocError, Global};
 use std::collections::HashMap;
 
-/// How many words of random values a node has, besides those that earlier rounds have learned.
+/// How many words of random values each node has, besides those for assignments that earlier rounds have learned.
 const WORDS: usize = 64;
 
-/// A node is rarely 1 if it is at no more of its assignments.
+/// A node is rarely 1 if it is 1 at no more than so many of its assignments.
 const RARE: u32 = 8;
 
-/// The most nodes of a class that are candidates.
+/// The most nodes of a class that can be candidates.
 const MOST_IN_CLASS: u32 = 256;
 
-/// How many assignments a word has.
-const BITS: u32 = 64;
-
-/// Nodes with the same values, or complementary ones, at all random assignments.
+/// Nodes with equal or complementary values at all random assignments: the first and the last node of a linked list, and its length.
 #[derive(Clone, Copy, Drop)]
 struct Class {
     first: u32,
@@ -27,34 +24,32 @@ struct Class {
     count: u32,
 }
 
-/// The values of all nodes at random assignments and at those that were learned, and the classes of nodes that they do not tell apart.
+/// The values of all nodes at random and learned assignments, and the classes of nodes with equal or complementary random values.
 #[derive(Drop)]
 pub(crate) struct Signatures {
     alloc: Global,
     random: Random,
-    /// What earlier rounds have learned: words of the variables by level.
+    /// What earlier rounds have learned: words of the variables, by level.
     kept: Vec<Vec<u64>>,
-    /// By node, `WORDS` words and one for each that is kept.
+    /// For each node `WORDS` words, and one for each word of `kept`, node after node.
     words: Vec<u64>,
-    /// By node, a number that is the same for equal and for complementary words.
+    /// For each node a number that is the same for equal and for complementary words.
     keys: Vec<u64>,
-    /// Words of assignments at which nodes of one class differ, each by node.
-    learned: Vec<Vec<u64>>,
-    /// How many assignments of the last learned word are taken.
-    taken: u32,
+    /// Words of assignments at which nodes of one class differ.
+    learned: Vec<LearnedWord>,
     classes: HashMap<u64, Class>,
-    /// By node, the next one of its class, 0 for the last.
+    /// For each node the next one of its class; 0 for the last.
     next: Vec<u32>,
 }
 
-/// A node's key, one word more.
+/// A node's key with one more word.
 fn fold_key(key: u64, word: u64) -> u64 {
     let mixed = (key ^ word).wrapping_mul(0x9E37_79B9_7F4A_7C15);
     mixed ^ (mixed >> 32)
 }
 
 impl Signatures {
-    /// Signatures of no nodes, over random assignments and those that are learned.
+    /// Signatures without nodes, over random assignments and those that earlier rounds have learned.
     pub(crate) fn new(alloc: Global, learned: &Learned) -> Result<Signatures, AllocError> {
         Ok(Signatures {
             alloc,
@@ -63,36 +58,35 @@ impl Signatures {
             words: Vec::new(alloc),
             keys: Vec::new(alloc),
             learned: Vec::new(alloc),
-            taken: BITS,
             classes: HashMap::new(alloc),
             next: Vec::new(alloc),
         })
     }
 
-    /// Gives the nodes that the graph has got since their values.
+    /// Gives the nodes that the graph has got since their values. Those that are no gates become candidates.
     pub(crate) fn extend(&mut self, graph: &Graph) -> Result<(), AllocError> {
         for node in self.keys.len()..graph.len() {
-            self.add_words(graph, node as u32)?;
-            for place in 0..self.learned.len() {
-                let word = self.learned_word(graph, node as u32, place);
-                if let Some(words) = self.learned.get_mut(place) {
-                    words.push(word)?;
-                }
-            }
+            let gate = gate_of(graph, node as u32);
+            self.add_words(graph, node as u32, gate.as_ref())?;
             self.next.push(0)?;
-            if gate_of(graph, node as u32).is_none() {
+            if gate.is_none() {
                 self.add_to_class(node as u32)?;
             }
         }
         Ok(())
     }
 
-    /// Gives a node its random words, and its key.
-    fn add_words(&mut self, graph: &Graph, node: u32) -> Result<(), AllocError> {
+    /// Gives a node its words, and its key.
+    fn add_words(
+        &mut self,
+        graph: &Graph,
+        node: u32,
+        gate: Option<&GateNode>,
+    ) -> Result<(), AllocError> {
         let mut key = 0;
         let mut is_flipped = false;
         for place in 0..self.width() {
-            let word = self.first_word(graph, node, place);
+            let word = self.new_word(graph, node, gate, place);
             if place == 0 {
                 is_flipped = word % 2 == 1;
             }
@@ -103,18 +97,28 @@ impl Signatures {
         Ok(())
     }
 
-    /// How many words a node has, without those that this round learns.
+    /// The word at a place of a node that has none yet, a gate or not.
+    fn new_word(&mut self, graph: &Graph, node: u32, gate: Option<&GateNode>, place: usize) -> u64 {
+        match gate {
+            Some(gate) => self.gate_word(gate, place),
+            None => self.first_word(graph, node, place),
+        }
+    }
+
+    /// How many words a node has, without those learned in this round.
     fn width(&self) -> usize {
         WORDS.saturating_add(self.kept.len())
     }
 
-    /// The word of a node at a place, of the random ones or of those that are kept.
+    /// The word of a gate at a place, of the random ones or of those that are kept.
+    fn gate_word(&self, gate: &GateNode, place: usize) -> u64 {
+        let first = self.word(gate.first.node(), place);
+        let second = self.word(gate.second.node(), place);
+        gate.word(first, second)
+    }
+
+    /// The word of a node that is no gate.
     fn first_word(&mut self, graph: &Graph, node: u32, place: usize) -> u64 {
-        if let Some(gate) = gate_of(graph, node) {
-            let first = self.word(gate.first.node(), place);
-            let second = self.word(gate.second.node(), place);
-            return gate.word(first, second);
-        }
         match variable_of(graph, node) {
             Some(level) if place >= WORDS => self.kept_word(level, place.wrapping_sub(WORDS)),
             Some(_) => self.random_word(place),
@@ -122,7 +126,7 @@ impl Signatures {
         }
     }
 
-    /// The word of the variable of a level at a place of those that are kept.
+    /// The word of the variable of a level, at a place of the words of earlier rounds.
     fn kept_word(&self, level: u32, place: usize) -> u64 {
         match self.kept.get(place) {
             Some(word) => word_at(word.as_slice(), level as usize),
@@ -130,7 +134,7 @@ impl Signatures {
         }
     }
 
-    /// A random word of a variable. Half of its words are even, the others are mostly 0 or mostly 1.
+    /// A random word of a variable. In half of the words 0 and 1 are equally likely; a quarter are mostly 0, and a quarter mostly 1.
     fn random_word(&mut self, place: usize) -> u64 {
         let word = self.random.word();
         match place % 4 {
@@ -148,24 +152,14 @@ impl Signatures {
         word_at(self.words.as_slice(), at)
     }
 
-    /// The word of a new node at a place of the learned words.
-    fn learned_word(&mut self, graph: &Graph, node: u32, place: usize) -> u64 {
-        let Some(words) = self.learned.get(place) else {
-            return 0;
-        };
-        match gate_of(graph, node) {
-            Some(gate) => gate.word(
-                word_at(words.as_slice(), gate.first.node() as usize),
-                word_at(words.as_slice(), gate.second.node() as usize),
-            ),
-            None if node == 0 => 0,
-            None => self.random.word(),
-        }
+    /// A number that is the same for nodes of one class.
+    pub(crate) fn key(&self, node: u32) -> u64 {
+        word_at(self.keys.as_slice(), node as usize)
     }
 
-    /// Makes a node a candidate.
+    /// Adds a node to the class of its key, so that it becomes a candidate.
     pub(crate) fn add_to_class(&mut self, node: u32) -> Result<(), AllocError> {
-        let key = word_at(self.keys.as_slice(), node as usize);
+        let key = self.key(node);
         let class = match self.classes.get(&key) {
             Some(class) => *class,
             None => {
@@ -199,17 +193,31 @@ impl Signatures {
         self.word(node, 0) % 2 == 1
     }
 
-    /// Whether no learned word tells two nodes of a class apart.
-    fn agree(&self, node: u32, other: u32) -> bool {
+    /// Whether no learned word distinguishes two nodes of a class.
+    fn agree(&mut self, graph: &Graph, node: u32, other: u32) -> Result<bool, AllocError> {
         let flip = self.is_flipped(node) != self.is_flipped(other);
-        self.learned.as_slice().iter().all(|words| {
-            let one = word_at(words.as_slice(), node as usize);
-            let two = word_at(words.as_slice(), other as usize);
-            one == word_if(two, flip)
-        })
+        for place in 0..self.learned.len() {
+            if let Some(learned) = self.learned.get_mut(place) {
+                let one = learned.word(graph, node)?;
+                let two = learned.word(graph, other)?;
+                if one != word_if(two, flip) {
+                    return Ok(false);
+                }
+            }
+        }
+        Ok(true)
     }
 
-    /// Whether a node, or its complement, is 1 at few of its assignments.
+    /// How many words were computed for assignments that were learned.
+    pub(crate) fn evaluated(&self) -> u64 {
+        let mut count = 0u64;
+        for learned in &self.learned {
+            count = count.saturating_add(learned.evaluated());
+        }
+        count
+    }
+
+    /// Whether a node, or its complement, is 1 at only a few of its assignments.
     pub(crate) fn is_rare(&self, node: u32) -> bool {
         let mut ones = 0u32;
         let mut zeros = 0u32;
@@ -222,96 +230,70 @@ impl Signatures {
     }
 
     /// Whether the values of two literals differ, as far as they are known.
-    pub(crate) fn tell_apart(&self, first: Literal, second: Literal) -> bool {
+    pub(crate) fn tell_apart(
+        &mut self,
+        graph: &Graph,
+        first: Literal,
+        second: Literal,
+    ) -> Result<bool, AllocError> {
         let (one, two) = (first.node(), second.node());
         let flip = self.is_flipped(one) != self.is_flipped(two);
         let opposite = first.is_complemented() != second.is_complemented();
-        let key = word_at(self.keys.as_slice(), one as usize);
-        key != word_at(self.keys.as_slice(), two as usize)
-            || flip != opposite
-            || !self.agree(one, two)
+        if self.key(one) != self.key(two) || flip != opposite {
+            return Ok(true);
+        }
+        let agree = self.agree(graph, one, two)?;
+        Ok(!agree)
     }
 
-    /// Adds what this round has learned.
-    pub(crate) fn save(&self, graph: &Graph, learned: &mut Learned) -> Result<(), AllocError> {
-        let mut levels = 0usize;
-        for node in 0..graph.len() {
-            if let Some(level) = variable_of(graph, node as u32) {
-                levels = levels.max((level as usize).saturating_add(1));
-            }
-        }
-        for words in &self.learned {
-            let mut word = Vec::from_elem(self.alloc, 0u64, levels)?;
-            for node in 0..graph.len() {
-                if let Some(level) = variable_of(graph, node as u32)
-                    && (level as usize) < word.len()
-                {
-                    word[level as usize] = word_at(words.as_slice(), node);
-                }
-            }
-            learned.add(word)?;
+    /// Adds the words that this round has learned.
+    pub(crate) fn save(&self, learned: &mut Learned) -> Result<(), AllocError> {
+        for word in &self.learned {
+            learned.add(Vec::from_slice(self.alloc, word.variables())?)?;
         }
         Ok(())
     }
 
-    /// A literal that has the values of this one as far as they are known: of the first node of the class that nothing tells apart.
-    pub(crate) fn candidate(&self, literal: Literal) -> Option<Literal> {
+    /// A literal that has the values of this one as far as they are known: of the first node of its class that nothing
+    /// distinguishes from it.
+    pub(crate) fn candidate(
+        &mut self,
+        graph: &Graph,
+        literal: Literal,
+    ) -> Result<Option<Literal>, AllocError> {
         let node = literal.node();
-        let key = word_at(self.keys.as_slice(), node as usize);
-        let class = *self.classes.get(&key)?;
+        let Some(class) = self.classes.get(&self.key(node)) else {
+            return Ok(None);
+        };
+        let class = *class;
         let mut member = class.first;
         for _ in 0..class.count {
-            if member != node && self.agree(node, member) && member < 1 << 31 {
+            if member != node && member < 1 << 31 && self.agree(graph, node, member)? {
                 let flip = self.is_flipped(node) != self.is_flipped(member);
-                return Some(Literal::new(member, flip != literal.is_complemented()));
+                return Ok(Some(Literal::new(member, flip != literal.is_complemented())));
             }
             match self.next.get(member as usize) {
                 Some(next) => member = *next,
-                None => return None,
+                None => return Ok(None),
             }
         }
-        None
+        Ok(None)
     }
 
-    /// Learns an assignment, given by the nodes of variables. The rest of its word are neighbours of it.
-    pub(crate) fn learn(&mut self, graph: &Graph, bits: &NodeTable) -> Result<(), AllocError> {
-        if self.taken >= BITS {
-            let words = Vec::from_elem(self.alloc, 0u64, self.keys.len())?;
-            self.learned.push(words)?;
-            self.taken = 0;
+    /// Learns an assignment. The rest of its word are neighbours of it.
+    pub(crate) fn learn(&mut self, assignment: &[(u32, bool)]) -> Result<(), AllocError> {
+        let is_full = match self.learned.as_slice().last() {
+            Some(last) => last.is_full(),
+            None => true,
+        };
+        if is_full {
+            let number = self.learned.len();
+            self.learned.push(LearnedWord::new(self.alloc, number))?;
         }
-        let here = 1u64.rotate_left(self.taken);
-        let rest = !here.wrapping_sub(1);
-        self.taken = self.taken.saturating_add(1);
-        let Some(place) = self.learned.len().checked_sub(1) else {
-            return Ok(());
-        };
-        for node in 1..graph.len() {
-            let word = match variable_of(graph, node as u32) {
-                Some(_) => self.neighbours(place, node as u32, bits, (here, rest)),
-                None => self.learned_word(graph, node as u32, place),
-            };
-            if let Some(words) = self.learned.get_mut(place)
-                && node < words.len()
-            {
-                words[node] = word;
-            }
+        let last = self.learned.len().wrapping_sub(1);
+        match self.learned.get_mut(last) {
+            Some(word) => word.learn(assignment),
+            None => Ok(()),
         }
-        Ok(())
-    }
-
-    /// A variable's word with one assignment more: `here` is its bit, `rest` this bit and those that are not taken yet.
-    fn neighbours(&mut self, place: usize, node: u32, bits: &NodeTable, masks: (u64, u64)) -> u64 {
-        let (here, rest) = masks;
-        let old = match self.learned.get(place) {
-            Some(words) => word_at(words.as_slice(), node as usize),
-            None => 0,
-        };
-        let flips = self.random.word() & self.random.word() & self.random.word();
-        let word = match bits.get(node) {
-            Some(bit) => word_if(0, bit == 1),
-            None => self.random.word(),
-        };
-        (old & !rest) | ((word ^ (flips & !here)) & rest)
     }
 }

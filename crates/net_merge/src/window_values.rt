@@ -1,42 +1,51 @@
-//! Values of a window's nodes at random bits of its leaves, which show most differences without a diagram. They are hints.
+//! Values above a cut at random bits of its leaves, which show most differences without a window. They are hints.
 use crate::random::Random;
 use crate::words::{gate_of, word_if};
-use cut_window::{NodeTable, Window};
+use cut_window::{Cut, NodeTable};
 use pair_graph::{Graph, Literal};
 use std::alloc::{AllocError, Global};
 
-/// How many words of random bits the leaves get in turn, each of 64 assignments.
+/// How often the leaves get random words, each of 64 assignments, before a difference is thought unlikely.
 const WORDS: usize = 4;
+
+/// Keeps the random words of windows apart from others.
+const WINDOWS: u64 = 3;
 
 /// Evaluates windows at random bits of their leaves.
 #[derive(Drop)]
 pub(crate) struct WindowValues {
     random: Random,
     values: NodeTable,
-    /// Which bit of the values shows the last difference that was found.
+    /// The number of the bit at which the last difference was found.
     lane: u32,
 }
 
 impl WindowValues {
-    /// No window was evaluated yet.
+    /// An evaluation that has not seen a window yet.
     pub(crate) fn new(alloc: Global) -> WindowValues {
         WindowValues {
-            random: Random::new(3),
+            random: Random::of(WINDOWS, 0),
             values: NodeTable::new(alloc),
             lane: 0,
         }
     }
 
-    /// Whether two literals are seen to differ at some bits of the leaves, also if one of the two is taken as its complement.
+    /// Begins the random words of a number. So what windows of a pair show does not depend on the pairs before.
+    pub(crate) fn restart(&mut self, number: u64) {
+        self.random = Random::of(WINDOWS, number);
+    }
+
+    /// Whether two literals are seen to differ at some bits of a cut's leaves, also if one of the two is taken as its complement. The nodes
+    /// above the leaves are sorted.
     pub(crate) fn tell_apart(
         &mut self,
         graph: &Graph,
-        window: &Window,
+        cut: &Cut,
         first: Literal,
         second: Literal,
     ) -> Result<bool, AllocError> {
         for _ in 0..WORDS {
-            self.evaluate(graph, window)?;
+            self.evaluate(graph, cut)?;
             let differ = self.word(first) ^ self.word(second);
             if differ != 0 {
                 self.lane = differ.trailing_zeros();
@@ -46,9 +55,9 @@ impl WindowValues {
         Ok(false)
     }
 
-    /// The bit that a leaf has in the difference that was found last.
-    pub(crate) fn bit(&self, leaf: u32) -> u64 {
-        self.values.get(leaf).unwrap_or(0).rotate_right(self.lane) % 2
+    /// The bit of a leaf at the difference that was found last.
+    pub(crate) fn bit(&self, leaf: u32) -> bool {
+        self.values.get(leaf).unwrap_or(0).rotate_right(self.lane) % 2 == 1
     }
 
     /// The word of a literal.
@@ -57,22 +66,19 @@ impl WindowValues {
         word_if(word, literal.is_complemented())
     }
 
-    /// Gives all nodes of a window words, the leaves random ones.
-    fn evaluate(&mut self, graph: &Graph, window: &Window) -> Result<(), AllocError> {
+    /// Gives the leaves of a cut random words, and the nodes above them theirs.
+    fn evaluate(&mut self, graph: &Graph, cut: &Cut) -> Result<(), AllocError> {
         self.values.clear(graph.len())?;
-        self.values.set(0, 0);
-        let leaves = window.leaves();
-        let nodes = window.nodes();
-        for place in 0..nodes.len() {
-            let node = nodes[place];
-            let word = match gate_of(graph, node) {
-                Some(gate) if place >= leaves => gate.word(
-                    self.values.get(gate.first.node()).unwrap_or(0),
-                    self.values.get(gate.second.node()).unwrap_or(0),
-                ),
-                _ => self.random.word(),
-            };
-            self.values.set(node, word);
+        self.values.set(0, 0)?;
+        for leaf in cut.leaves() {
+            self.values.set(*leaf, self.random.word())?;
+        }
+        for node in cut.nodes_above() {
+            if let Some(gate) = gate_of(graph, *node) {
+                let first = self.values.get(gate.first.node()).unwrap_or(0);
+                let second = self.values.get(gate.second.node()).unwrap_or(0);
+                self.values.set(*node, gate.word(first, second))?;
+            }
         }
         Ok(())
     }

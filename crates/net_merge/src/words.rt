@@ -1,7 +1,7 @@
-//! Words of values: 64 assignments at once.
+//! Words of values, each at 64 assignments.
 use pair_graph::{Graph, Literal, Node};
 
-/// The number at a place of a list, or 0.
+/// The word at a place of a list; 0 beyond the end.
 pub(crate) fn word_at(words: &[u64], place: usize) -> u64 {
     match words.get(place) {
         Some(word) => *word,
@@ -22,7 +22,7 @@ pub(crate) struct GateNode {
     pub(crate) second: Literal,
 }
 
-/// The gate that a node is, or none if it is the constant, a variable or no node.
+/// The gate that a node is; None for the constant, a variable, or a number that is no node.
 pub(crate) fn gate_of(graph: &Graph, node: u32) -> Option<GateNode> {
     if node as usize >= graph.len() {
         return None;
@@ -42,7 +42,7 @@ pub(crate) fn gate_of(graph: &Graph, node: u32) -> Option<GateNode> {
     }
 }
 
-/// The level of the variable that a node is, or none if it is no variable.
+/// The level of the variable that a node is; None if it is no variable.
 pub(crate) fn variable_of(graph: &Graph, node: u32) -> Option<u32> {
     if node as usize >= graph.len() {
         return None;

@@ -13,13 +13,13 @@ all_right : {X : Type 0} (P : X → Type 0) (xs ys : List X) → All P (xs ++ ys
 all_right P [] ys h = h
 all_right P (x ∷ xs) ys h = all_right P xs ys (λ j e k. h (suc j) e (omega (arith, k)))
 
--- what holds of all variables holds of the registers
+-- what is true of all variables is true of the registers
 pub registers_low : (n : Net) → IsNet n → All (λ s. s < length n.names) (registers_of (circuit n))
 registers_low n sound = all_right (λ s. s < length n.names) n.inputs (registers_of (circuit n)) sound.variables
 
 -- ---- sides
 
--- names that are told one by one
+-- names that are given one by one
 pub known_names : (f : ℕ → List ℕ) (xs : List ℕ) (names : List (List ℕ)) → ((s : ℕ) → is_member s xs ≡ true → is_name_in names (f s) ≡ true) → AmongNames (map f xs) names
 known_names f [] names h n e = absurd (no_true e)
 known_names f (x ∷ xs) names h n e = elim (or_cases (bytes_eq (f x) n) (is_name_in (map f xs) n) e) [

@@ -42,7 +42,7 @@ not_equal : (b : Bool) → (b ≡ true → ⊥) → b ≡ false
 not_equal true h = absurd (h refl)
 not_equal false h = refl
 
--- a name that stands in no other place
+-- a name that is not at any other place
 head_apart : (x : List ℕ) (xs : List (List ℕ)) → ((j : ℕ) → j < length xs → x ≡ get_or xs j [] → ⊥) → AllByRecursion (λ y. bytes_eq x y ≡ false) xs
 head_apart x [] h = tt
 head_apart x (y ∷ xs) h = (not_equal (bytes_eq x y) (λ e. h 0 (omega arith) (same_name x y e)), head_apart x xs (λ j low e. h (suc j) (omega arith) e))
@@ -75,7 +75,7 @@ either_name xs ys n m among e h = elim (or_cases (bytes_eq n m) (is_name_in xs m
   | inr more ↦ among m more
 ]
 
--- different names that are as many as the list they come from are all of it
+-- different names that are as many as the list that they are from are all of it
 pub all_there : (xs ys : List (List ℕ)) → IsDistinct bytes_eq xs → AmongNames xs ys → length ys ≤ length xs → AmongNames ys xs
 all_there xs ys h among many n e =
     elim (is_name_in xs n) as (λ b. is_name_in xs n ≡ b → b ≡ true) [

@@ -28,7 +28,7 @@ put_contains rank s (t ∷ ts) o among =
       ]
     ] among
 
--- what stands in the sorted list stood in the list
+-- what is in the sorted list was in the list
 pub falling_contains : (rank : ℕ → ℕ) (xs : List ℕ) (o : ℕ) → Contains (falling rank xs) o → Contains xs o
 falling_contains rank [] o among = among
 falling_contains rank (x ∷ xs) o among = elim (put_contains rank x (falling rank xs) o among) [
@@ -141,7 +141,7 @@ one_order rank (x ∷ xs) (y ∷ ys) f g same =
       ]
     ]
 
--- ---- what a stable sort by falling rank gives
+-- ---- what a stable sort by falling rank yields
 
 abbrev pub before : (ℕ → ℕ) → ℕ → ℕ → Bool
 before rank x y = is_lt (nat_cmp (rank y) (rank x))

@@ -1,4 +1,4 @@
--- The steps of FORCE, and the variables that they leave.
+-- The steps of FORCE, and the variables in the order that they end with.
 use Rattle.std.proofs.Common.{◌≡◌, ℕ, suc, ◌+◌, ◌-◌, ◌<◌, List, [], ◌∷◌, ◌++◌, Bool, true, false, refl, sym, ap, ◌∙◌, subst, length, map, arith, add-one, inl, inr, reverse, filter, All}
 use Rattle.std.specs.Prelude.{cond, nat_lt, ◌==◌}
 use Rattle.std.proofs.lemmas.Bool.Decides.{nat_tests}
@@ -15,7 +15,7 @@ steps_more edges shares n i places new low is =
     let one : suc (n - (i + 1)) ≡ n - i = omega arith in
     ap (steps_of edges shares (n - (i + 1))) is ∙ ap (λ k. steps_of edges shares k places) one
 
--- what a function makes of the numbers below one more
+-- a function mapped over the numbers below one more
 pub mapped_more : (f : ℕ → ℕ) (n : ℕ) → map f (numbers_below (n + 1)) ≡ map f (numbers_below n) ++ f n ∷ []
 unfolding numbers_below
 mapped_more f n = rw add-one (map-append f (numbers_below n) (n ∷ []))
@@ -35,7 +35,7 @@ filter_low : (n : ℕ) (xs : List ℕ) (s : ℕ) → is_member s (filter (λ v. 
 filter_low n [] s e = absurd (no_true e)
 filter_low n (v ∷ xs) s e = either_low n v s (nat_lt v n) (filter (λ w. nat_lt w n) xs) refl (filter_low n xs s) e
 
--- the numbers that are left are those of variables
+-- the numbers that remain are those of variables
 pub forced_low : (names : List (List ℕ)) (sides given : List NamedNetlistModel) (s : ℕ) → is_member s (force_numbers names sides given) ≡ true → s < length names
 unfolding force_numbers
 forced_low names sides given s e = filter_low (length names) (reverse (force_order (length names) (graph_of names sides given))) s e

@@ -23,7 +23,7 @@ absent : (x : List ℕ) (xs : List (List ℕ)) → AllByRecursion (λ y. bytes_e
 absent x [] h = refl
 absent x (y ∷ xs) h = ap (λ b. b || is_name_in xs x) (names_equal.symm y x ∙ h.0) ∙ absent x xs h.1
 
--- names that are new to those before stand behind them
+-- names that are not among those before come after them
 all_new : (before xs : List (List ℕ)) → IsDistinct bytes_eq xs → AllByRecursion (λ x. is_name_in before x ≡ false) xs → fold with_name before xs ≡ before ++ xs
 unfolding IsDistinct
 all_new before [] h new = sym (append-nil before)

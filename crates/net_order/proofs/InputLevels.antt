@@ -3,8 +3,8 @@ use Rattle.std.proofs.Common.{Option, Some, IfSome, ◌≡◌, ℕ, ◌<◌, Lis
 use Rattle.std.specs.Prelude.{Contains, slice_index}
 use Rattle.net_bench.specs.Circuit.{Circuit, is_name_in, variables_of}
 use Rattle.net_bench.proofs.Numbers.{in_distinct, number_low}
-use Rattle.net_order.specs.declared.order.Match.{Match}
-use Rattle.net_order.specs.declared.order.Order.{Order}
+use Rattle.net_names.specs.declared.order.Match.{Match}
+use Rattle.net_names.specs.declared.order.Order.{Order}
 use Rattle.net_order.specs.Order.{HasLevels, IsNaming, NamingModel, NamedNetlistModel, all_names, both, given_side, level_of, named, names_by, own, variables_in}
 use Rattle.net_order.specs.Tables.{IsKnown}
 use Rattle.net_order.proofs.AllNames.{known_given, known_sides}

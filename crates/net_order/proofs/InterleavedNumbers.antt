@@ -1,4 +1,4 @@
--- A netlist is woven into an order: what the walks below its outputs add.
+-- A netlist is interleaved with an order: what the walks below its outputs add.
 use Rattle.std.proofs.Common.{◌≡◌, ℕ, ◌+◌, ◌<◌, ◌≤◌, ◌⊎◌, inl, inr, List, [], ◌∷◌, ◌++◌, true, false, refl, sym, ap, ◌∙◌, subst, length, map, drop, arith, get_or, All, length-append}
 use Rattle.std.specs.Prelude.{cond, ◌||◌, ◌==◌, fold, None}
 use Rattle.std.proofs.lemmas.List.{drop_more}
@@ -73,7 +73,7 @@ fold_longer : (xs found : List ℕ) → length found ≤ length (fold with_numbe
 fold_longer [] found = omega arith
 fold_longer (y ∷ xs) found = omega (arith, one_longer found y, fold_longer xs (with_number found y))
 
--- what did not grow had all
+-- if nothing was added, all was there
 no_growth : (xs found : List ℕ) → length (fold with_number found xs) ≤ length found → IsSubset xs found
 no_growth [] found h x e = absurd (no_true e)
 no_growth (y ∷ xs) found h x e =
@@ -105,7 +105,7 @@ map_same f g (x ∷ xs) h = ap (λ y. y ∷ map f xs) (h x (member_head x xs)) �
 
 -- ---- one walk after the other
 
--- the variables of what has been found stand in the order
+-- the variables of what has been found are in the order
 abbrev pub AreIn : (ℕ → ℕ) → List ℕ → List ℕ → Type 0
 AreIn variable found order = (s : ℕ) → is_member s found ≡ true → is_member (variable s) order ≡ true
 
@@ -167,11 +167,11 @@ outputs_same c f g h (s ∷ outs) order =
     ap (λ vs. fold (interleave_below c f) (interleave_walk order None vs) outs) (map_same f g (met_below ByRank c s) (λ x e. h x (met_below_inputs ByRank c s x e))) ∙
     outputs_same c f g h outs (interleave_below c g order s)
 
--- what is the variable of a signal matters for variables alone
+-- only the variables of a netlist's variables matter, not those of other signals
 pub netlist_same : (c : Circuit) (f g : ℕ → ℕ) → ((s : ℕ) → is_member s (variables_of c) ≡ true → f s ≡ g s) → (order : List ℕ) → interleave_netlist c f order ≡ interleave_netlist c g order
 netlist_same c f g h order = outputs_same c f g h (falling (rank_of c) (roots c)) order
 
--- ---- what holds of variables
+-- ---- what is true of variables
 
 pub all_met : (P : ℕ → Type 0) (c : Circuit) (s : ℕ) (xs : List ℕ) → All P (variables_of c) → xs ≡ met_below ByRank c s → All P xs
 all_met P c s xs h e = subst (All P) (sym e) (all_of P (met_below ByRank c s) (λ x k. at_inputs P (variables_of c) h x (met_below_inputs ByRank c s x k)))
@@ -204,7 +204,7 @@ module _ (names : List (List ℕ)) where
       (λ s e. subst (λ k. k < count) (sym (at_inputs (λ x. get_or levels x 0 ≡ level_of names (named side x)) (variables_of side.net) has s e))
       (subst (λ k. level_of names (named side s) < k) (sym same) (number_low names (named side s) (known s e)))))
 
-  -- what is woven by the levels of a side is woven
+  -- a side is interleaved by the levels of its variables
   pub side_interleaved : (side : NamedNetlistModel) (levels : List ℕ) (c : Circuit) (order new : List ℕ) → c ≡ side.net → HasLevels names side levels → new ≡ interleave_netlist c (λ s. get_or levels s 0) order → new ≡ interleave_side names order side
   side_interleaved side levels c order new is has e =
       e ∙ ap (λ (d : Circuit). interleave_netlist d (λ s. get_or levels s 0) order) is ∙

@@ -1,4 +1,4 @@
--- Variables interleaved: what a walk adds to an order.
+-- Interleaved orders: what a walk adds to an order.
 use Rattle.std.proofs.Common.{◌≡◌, ℕ, zero, suc, ◌+◌, ◌<◌, ◌≤◌, ◌⊎◌, inl, inr, List, [], ◌∷◌, ◌++◌, Bool, true, false, refl, sym, ap, ◌∙◌, subst, length, map, take, drop, arith, append_assoc, get_or, set, All}
 use Rattle.std.specs.Prelude.{cond, ◌||◌, ◌==◌, insert, Option, Some, None}
 use Rattle.std.proofs.lemmas.Bool.{cases_eq}
@@ -9,9 +9,9 @@ use Rattle.net_order.specs.Tables.{AreMembershipFlags}
 use Rattle.net_order.proofs.Members.{equal_numbers, member_head, no_true}
 use Rattle.net_order.proofs.Walking.{same_visit}
 
--- ---- right behind a variable
+-- ---- right after a variable
 
--- what stands before the place stays
+-- what is before the place does not change
 abbrev pub Behind : ℕ → List ℕ → ℕ → Type 0
 Behind last order i = (v : ℕ) → take i order ++ put_after (Some last) v (drop i order) ≡ put_after (Some last) v order
 
@@ -48,7 +48,7 @@ after_end last order i n is_n high h v =
     let gone : drop i order ≡ [] = none_left order i (omega arith) in
     ap (λ xs. xs ++ v ∷ drop n order) all ∙ ap (λ xs. take i order ++ v ∷ xs) rest ∙ ap (λ xs. take i order ++ put_after (Some last) v xs) (sym gone) ∙ h v
 
--- ---- what stands in an order
+-- ---- what is in an order
 
 swapped : (a b c : Bool) → (a || (b || c)) ≡ (b || (a || c))
 swapped true true c = refl
@@ -161,7 +161,7 @@ module _ (variable : ℕ → ℕ) (met : List ℕ) (i s v : ℕ) (low : i < leng
   pub rest_more : (order new total : List ℕ) (last : Option ℕ) → new ≡ with_variable last v order → interleave_walk order last (map variable (drop i met)) ≡ total → interleave_walk new (Some v) (map variable (drop (i + 1) met)) ≡ total
   rest_more order new total last is_new h = ap (λ xs. interleave_walk xs (Some v) (map variable (drop (i + 1) met))) is_new ∙ ap (interleave_walk order last) (sym rest_is) ∙ h
 
--- the variable that is met is one of the numbers that have a mark or none
+-- the variable that is met is one of the numbers that have flags
 pub met_low : (variable : ℕ → ℕ) (count : ℕ) (met : List ℕ) (i s v : ℕ) → i < length met → s ≡ get_or met i s → v ≡ variable s → All (λ x. variable x < count) met → v < count
 met_low variable count met i s v low at is_v h = subst (λ x. x < count) (sym is_v) (subst (λ x. variable x < count) (sym at) (h i s low))
 

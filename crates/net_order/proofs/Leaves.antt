@@ -32,8 +32,8 @@ empty : (xs : List ℕ) → ((x : ℕ) → Contains xs x → ⊥) → xs ≡ []
 empty [] h = refl
 empty (x ∷ xs) h = absurd (h x (0, omega arith, refl))
 
--- A value that is computed from a signal's operands down to a bound on depth: `value depth s`. With a bound that no rank passes it
--- computes the same one step further down.
+-- A value that is computed from a signal's operands down to a bound on depth: `value depth s`. If no rank is greater
+-- than the bound, a greater bound gives the same value.
 module _ (c : Circuit) (ranks : List ℕ) (ranked : AreRanks c ranks) (steps : ℕ → List ℕ) (feeds : (s o : ℕ) → Contains (steps s) o → Feeds c o s) (A : Type 0) (value : ℕ → ℕ → A) (at_input : ℕ → A) (at_gate : (ℕ → A) → List ℕ → A)
     (same : (f g : ℕ → A) (xs : List ℕ) → ((x : ℕ) → Contains xs x → f x ≡ g x) → at_gate f xs ≡ at_gate g xs)
     (start : (s : ℕ) → value zero s ≡ cond (is_member s (variables_of c)) (at_input s) (at_gate (value zero) []))
@@ -41,7 +41,7 @@ module _ (c : Circuit) (ranks : List ℕ) (ranked : AreRanks c ranks) (steps : �
   lower_rank : (s o : ℕ) → Contains (steps s) o → slice_index ranks o < slice_index ranks s
   lower_rank s o among = lower c ranks ranked o s (feeds s o among)
 
-  -- a bound that is not below the rank makes no difference
+  -- from the rank on, the bound makes no difference
   stable : (depth s : ℕ) → slice_index ranks s ≤ depth → value depth s ≡ value (suc depth) s
   stable zero s h =
       let none : steps s ≡ [] = empty (steps s) (λ o among. let low : slice_index ranks o < slice_index ranks s = lower_rank s o among in absurd (omega arith)) in
@@ -53,7 +53,7 @@ module _ (c : Circuit) (ranks : List ℕ) (ranked : AreRanks c ranks) (steps : �
       (λ o among. let low : slice_index ranks o < slice_index ranks s = lower_rank s o among in stable depth o (omega arith))) ∙
       sym (step (suc depth) s)
 
-  -- with a bound that no rank passes, a gate's value is that of its operands, with the same bound
+  -- if no rank is greater than the bound, a gate's value is that of its operands, with the same bound
   pub unfolds : (bound s : ℕ) → slice_index ranks s ≤ bound → is_member s (variables_of c) ≡ false → value bound s ≡ at_gate (value bound) (steps s)
   unfolds bound s h e = stable bound s h ∙ step bound s ∙ ap (λ b. cond b (at_input s) (at_gate (value bound) (steps s))) e
 
@@ -146,7 +146,7 @@ module _ (n : Net) (sound : IsNet n) where
       (length n.gates) s (deep n sound s) (no_input s g e) ∙
       ap (λ f. flat_map (below operand_order (circuit n)) (in_walk_order operand_order (circuit n) (gate_operands f))) e
 
-  -- walking a gate takes two steps beside those of its operands
+  -- to walk a gate takes two steps besides those of its operands
   pub gate_steps : (operand_order : OperandOrder) (s : ℕ) (g : GateLine) → find (λ x. x.out == s) n.gates ≡ Some g → steps_below operand_order (circuit n) s ≡ sum_by (steps_below operand_order (circuit n)) (in_walk_order operand_order (circuit n) g.operands) + 2
   gate_steps operand_order s g e =
       unfolds (circuit n) n.ranks sound.ranks (walk_operands operand_order (circuit n)) (steps_feed operand_order (circuit n)) ℕ (steps_within operand_order (circuit n)) (λ t. 1) (λ f xs. sum_by f xs + 2) (λ f h xs same. ap (λ k. k + 2) (sum_by_same f h xs same)) (λ t. refl) (λ depth t. refl)

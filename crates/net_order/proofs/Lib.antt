@@ -19,6 +19,4 @@ pub mod Orders
 pub mod Unfitting
 pub mod InputLevels
 pub mod Matching
-pub mod NameTexts
-pub mod Written
 pub mod Pairings

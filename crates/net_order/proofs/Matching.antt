@@ -1,11 +1,11 @@
--- What corresponds in a pairing: signals among those that are matched.
+-- What corresponds in a pairing is among the signals that are matched.
 use Rattle.std.proofs.Common.{◌≡◌, ℕ, zero, suc, ◌<◌, List, [], ◌∷◌, Bool, true, false, refl, sym, ap, subst, length, arith, All}
 use Rattle.std.specs.Prelude.{cond, ◌==◌, zip, Option, Some, None}
 use Rattle.net_bench.specs.Circuit.{Circuit, Net, IsNet, circuit, find}
 use Rattle.net_bench.proofs.Numbers.{or_left, or_right}
-use Rattle.net_order.specs.declared.order.Match.{Match}
-use Rattle.net_order.specs.declared.order.Match.TheVariants.{Name, Position}
-use Rattle.net_order.specs.declared.order.Order.{Order}
+use Rattle.net_names.specs.declared.order.Match.{Match}
+use Rattle.net_names.specs.declared.order.Match.TheVariants.{Name, Position}
+use Rattle.net_names.specs.declared.order.Order.{Order}
 use Rattle.net_order.specs.Order.{is_member, IsNaming, NamingModel, name_of, signal_named, where_among, pairs_by_name, with_pair, unmatched, without_pair, matched, only_in, registers_of}
 use Rattle.net_order.proofs.AllNames.{registers_low}
 use Rattle.net_order.proofs.Leaves.{member_at}
@@ -83,7 +83,7 @@ module _ (a b : Circuit) (ss ts : List ℕ) where
   without_partner_in Name = without_partner ss (themselves ss)
   without_partner_in Position = all_nil (IsIn ss)
 
--- what holds of all of the signals holds of each that is one of them
+-- what is true of all the signals is true of each that is one of them
 pub one_of : (P : ℕ → Type 0) (ss : List ℕ) (s : ℕ) → All P ss → IsIn ss s → P s
 one_of P ss s h e = let at = member_at s ss e in subst P at.2 (h at.0 s at.1)
 

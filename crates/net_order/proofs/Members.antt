@@ -12,7 +12,7 @@ use Rattle.net_order.proofs.Walking.{in_append}
 use Rattle.net_order.proofs.Leaves.{member_at}
 use Rattle.net_order.proofs.Different.{AmongNames}
 
--- ---- what is met are variables
+-- ---- what walks meet are variables
 
 pub no_true : false ≡ true → ⊥
 no_true e = cc
@@ -106,7 +106,7 @@ contains_member [] s (i, low, at) = absurd (omega arith)
 contains_member (x ∷ xs) s (zero, low, at) = ap (λ y. y == s || is_member s xs) at ∙ member_head s xs
 contains_member (x ∷ xs) s (suc i, low, at) = or_right (x == s) (is_member s xs) (contains_member xs s (i, omega arith, at))
 
--- ---- what holds of members
+-- ---- what is true of members
 
 pub at_inputs : (P : ℕ → Type 0) (inputs : List ℕ) → All P inputs → (s : ℕ) → is_member s inputs ≡ true → P s
 at_inputs P inputs h s e = let at = member_at s inputs e in subst P at.2 (h at.0 s at.1)

@@ -1,14 +1,14 @@
 -- Lists of names that grow, each name once.
-use Rattle.std.proofs.Common.{◌≡◌, ℕ, zero, refl, ◌+◌, ◌<◌, ◌≤◌, List, [], ◌∷◌, ◌++◌, Bool, true, false, sym, ap, ◌∙◌, suc, length, map, drop, get_or, arith, length-append}
-use Rattle.std.specs.Prelude.{cond, Some, slice_get}
+use Rattle.std.proofs.Common.{◌≡◌, ℕ, zero, refl, ◌+◌, ◌<◌, List, [], ◌∷◌, ◌++◌, sym, ap, ◌∙◌, suc, length, map, drop, get_or, arith}
+use Rattle.std.specs.Prelude.{Some, slice_get}
 use Rattle.std.proofs.lemmas.List.Sums.{fold-append}
 use Rattle.std.proofs.lemmas.List.{drop_more}
 use Rattle.std.proofs.lemmas.Option.{get_or_from_slice_get}
-use Rattle.net_bench.specs.Circuit.{Circuit, with_name, is_name_in}
+use Rattle.net_bench.specs.Circuit.{Circuit, with_name}
 use Rattle.net_order.specs.Order.{name_of}
 use Rattle.net_order.specs.Tables.{with_names}
 
--- the name that the netlist answers
+-- the name that the netlist returns
 pub name_is : (c : Circuit) (s : ℕ) (n : List ℕ) → slice_get c.names s ≡ Some n → name_of c s ≡ n
 name_is c s n e = get_or_from_slice_get c.names s n [] e
 
@@ -19,7 +19,7 @@ one_more f ss i s n old new h at is grown =
     let rest : drop i ss ≡ s ∷ drop (i + 1) ss = drop_more ss i s h ∙ ap (λ x. x ∷ drop (i + 1) ss) (sym at) in
     ap (λ t. with_names t (map f (drop (i + 1) ss))) grown ∙ sym (ap (λ xs. with_names old (map f xs)) rest ∙ ap (λ m. with_names (with_name old m) (map f (drop (i + 1) ss))) (sym is))
 
--- names on top of names
+-- names after names
 pub joined : (old xs ys : List (List ℕ)) → with_names (with_names old xs) ys ≡ with_names old (xs ++ ys)
 joined old xs ys = sym (fold-append with_name old xs ys)
 

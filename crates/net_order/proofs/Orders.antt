@@ -1,12 +1,12 @@
--- The names of the variables in each order: they are the same, and as many.
+-- The names of the variables in each order: always the same names, and equally many.
 use Rattle.std.proofs.Common.{◌≡◌, ℕ, zero, suc, ◌+◌, ◌<◌, ◌≤◌, inl, inr, List, [], ◌∷◌, ◌++◌, Bool, true, false, refl, sym, ap, ◌∙◌, subst, length, arith, append_assoc}
 use Rattle.std.specs.Prelude.{cond, ◌&&◌, not, filter, fold, bytes_eq, nat_lt, Option, Some, None}
 use Rattle.std.specs.List.{IsDistinct}
 use Rattle.std.proofs.lemmas.List.{append-nil}
 use Rattle.net_bench.specs.Circuit.{is_name_in, with_name, distinct}
 use Rattle.net_bench.proofs.Numbers.{name_itself, in_distinct, or_left, or_right, or_cases, same_name}
-use Rattle.net_order.specs.declared.order.Order.{Order}
-use Rattle.net_order.specs.declared.order.Order.TheVariants.{Declared, Depth, Interleave, Index, Force, Listed, Extended}
+use Rattle.net_names.specs.declared.order.Order.{Order}
+use Rattle.net_names.specs.declared.order.Order.TheVariants.{Declared, Depth, Interleave, Index, Force, Listed, Extended}
 use Rattle.std.specs.List.{slice_index_or}
 use Rattle.net_order.specs.Order.{NamedNetlistModel, by_index, extended, forced, force_numbers, met, all_names, declared, by_depth, interleaved, interleaved_numbers, numbered, ordered, names_of_sides, bad_place, HasEachVariableOnce, IsFit}
 use Rattle.net_order.specs.Tables.{with_names}
@@ -46,7 +46,7 @@ module _ (sides given : List NamedNetlistModel) where
   few_of : (xs : List (List ℕ)) → AmongNames xs (all_names sides given) → length (distinct xs) ≤ length (declared sides given)
   few_of xs h = no_more (distinct xs) (declared sides given) (all_different xs) (distinct_names xs (all_names sides given) h)
 
-  -- what stands at a place of the declared names is a variable
+  -- what is at a place of the declared names is a variable
   at_declared : (v : ℕ) → v < length (declared sides given) → is_name_in (all_names sides given) (slice_index_or (declared sides given) v []) ≡ true
   at_declared v low = sym (in_distinct (all_names sides given) (slice_index_or (declared sides given) v [])) ∙ name_there (declared sides given) v low
 
@@ -62,7 +62,7 @@ module _ (sides given : List NamedNetlistModel) where
       let n = slice_index_or (by_index sides given) v [] in
       sym (in_distinct (all_names sides given) n) ∙ indexed_known sides given n (name_there (by_index sides given) v (forced_low (by_index sides given) sides given v e)))
 
-  -- with all names behind them
+  -- with all names after them
   with_all : (xs : List (List ℕ)) → AmongNames xs (all_names sides given) → AmongNames (xs ++ all_names sides given) (all_names sides given)
   with_all xs h = joined_names xs (all_names sides given) (all_names sides given) h (λ n e. e)
 
@@ -90,27 +90,27 @@ module _ (sides given : List NamedNetlistModel) where
   pub extended_few : (names : List (List ℕ)) → length (extended sides given names) ≤ length (declared sides given)
   extended_few names = whole_few (filter (is_name_in (declared sides given)) names) (known_among names)
 
-  -- their table, before the others are put behind
+  -- their table, before the others are appended
   pub known_made : (empty variables names new : List (List ℕ)) → empty ≡ [] → variables ≡ declared sides given → new ≡ with_names empty (filter (is_name_in variables) names) →
       new ≡ distinct (filter (is_name_in (declared sides given)) names)
   known_made empty variables names new is_empty all grown =
       grown ∙ ap (λ (z : List (List ℕ)). with_names z (filter (is_name_in variables) names)) is_empty ∙ ap (λ (z : List (List ℕ)). with_names [] (filter (is_name_in z) names)) all
 
-  -- the table of the order that FORCE gives, before the others are put behind
+  -- the table of the order by FORCE, before the others are appended
   pub forced_made : (empty names new : List (List ℕ)) (vs : List ℕ) → empty ≡ [] → names ≡ by_index sides given → vs ≡ force_numbers names sides given → new ≡ with_names empty (numbered names vs) →
       new ≡ distinct (numbered (by_index sides given) (force_numbers (by_index sides given) sides given))
   forced_made empty names new vs is_empty all is grown =
       grown ∙ ap (λ (z : List (List ℕ)). with_names z (numbered names vs)) is_empty ∙ ap (λ zs. with_names [] (numbered names zs)) is ∙
       ap (λ (z : List (List ℕ)). with_names [] (numbered z (force_numbers z sides given))) all
 
-  -- the table of interleaved order, before the others are put behind
+  -- the table of interleaved order, before the others are appended
   pub interleaved_names : (empty variables new : List (List ℕ)) (vs : List ℕ) → empty ≡ [] → variables ≡ declared sides given → vs ≡ interleaved_numbers variables sides → new ≡ with_names empty (numbered variables vs) →
       new ≡ distinct (numbered (declared sides given) (interleaved_numbers (declared sides given) sides))
   interleaved_names empty variables new vs is_empty all is grown =
       grown ∙ ap (λ (z : List (List ℕ)). with_names z (numbered variables vs)) is_empty ∙ ap (λ zs. with_names [] (numbered variables zs)) is ∙
       ap (λ (z : List (List ℕ)). with_names [] (numbered z (interleaved_numbers z sides))) all
 
-  -- all names on top of others
+  -- all names after others
   pub all_table : (new : List (List ℕ)) (xs : List (List ℕ)) → new ≡ distinct xs → with_names new (all_names sides given) ≡ distinct (xs ++ all_names sides given)
   all_table new xs e = ap (λ z. with_names z (all_names sides given)) e ∙ joined [] xs (all_names sides given)
 
@@ -161,13 +161,13 @@ listing_few variables names h =
     let fits = fitting variables [] names 1 h in
     no_more names variables (subst (IsDistinct bytes_eq) fits.once (all_different names)) fits.known
 
--- ---- the names in the order that is asked for
+-- ---- the names in this order
 
 module _ (sides given : List NamedNetlistModel) where
   pub listed_different : (names : List (List ℕ)) → HasEachVariableOnce (declared sides given) names → IsDistinct bytes_eq names
   listed_different names h = subst (IsDistinct bytes_eq) (fitting (declared sides given) [] names 1 h).once (all_different names)
 
-  -- no name stands twice
+  -- no name is there twice
   pub ordered_different : (order : Order) → IsFit (declared sides given) order → IsDistinct bytes_eq (ordered sides given order)
   ordered_different Declared fit = all_different (all_names sides given)
   ordered_different Depth fit = all_different (names_of_sides met sides ++ all_names sides given)
@@ -205,7 +205,7 @@ module _ (sides given : List NamedNetlistModel) where
       all_there names (declared sides given) (listed_different names fit) (ordered_known (Listed names) fit) (fitting (declared sides given) [] names 1 fit).many n e
   ordered_all (Extended names) fit n e = has_all sides given (filter (is_name_in (declared sides given)) names) n e
 
-  -- so they are as many
+  -- so they are equally many
   pub ordered_count : (order : Order) → IsFit (declared sides given) order → length (ordered sides given order) ≡ length (declared sides given)
   ordered_count order fit =
       omega (

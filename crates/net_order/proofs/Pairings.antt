@@ -1,10 +1,10 @@
--- The naming of two netlists, and their pairing, from their parts.
+-- The naming of two netlists, and their pairing, made of its parts.
 use Rattle.std.proofs.Common.{Option, Some, None, IfSome, ◌≡◌, ℕ, ◌≤◌, List, [], ◌∷◌, ◌++◌, sym, ap, ◌∙◌, subst, length}
 use Rattle.std.specs.Prelude.{slice_index_or}
 use Rattle.std.specs.List.{AllZip}
 use Rattle.net_bench.specs.Circuit.{Circuit}
-use Rattle.net_order.specs.declared.order.Match.{Match}
-use Rattle.net_order.specs.declared.order.Order.{Order}
+use Rattle.net_names.specs.declared.order.Match.{Match}
+use Rattle.net_names.specs.declared.order.Order.{Order}
 use Rattle.net_order.specs.Order.{HaveEqualCounts, HasLevels, IsFit, IsNaming, NamingModel, NamedNetlistModel, both, correspondence, declared, given_side, names_by, ordered, own, registers_of, variables_in}
 use Rattle.net_order.specs.Tables.{AreLevels}
 
@@ -52,7 +52,7 @@ module _ (how : Match) (a b : Circuit) (given : Option Circuit) where
         registers = registers;
       }
 
-  -- variables that are few are few of the two netlists and the condition
+  -- if the variables are few, so are those of the two netlists and the condition
   pub are_few : (front back : List NamedNetlistModel) (variables : List (List ℕ)) → front ≡ both how a b → back ≡ given_side given → variables ≡ declared front back → length variables ≤ 4096 →
       length (variables_in how a b given) ≤ 4096
   are_few front back variables is_front is_back is_variables few = subst (λ t. length t ≤ 4096) (is_variables ∙ all_of front back is_front is_back) few

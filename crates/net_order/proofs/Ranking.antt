@@ -1,4 +1,4 @@
--- The rank of a signal by its definition is the rank that the netlist has.
+-- The rank of a signal as it is defined is the rank that the netlist has.
 use Rattle.std.proofs.Common.{◌≡◌, ℕ, zero, suc, ◌+◌, ◌<◌, ◌≤◌, List, [], ◌∷◌, true, false, refl, sym, ap, ◌∙◌, subst, length, map, arith, add-one, All}
 use Rattle.std.specs.Prelude.{cond, ◌==◌, find, Option, Some, None, Contains, slice_index, slice_index_or}
 use Rattle.net_bench.specs.declared.netlist.GateLine.{GateLine}

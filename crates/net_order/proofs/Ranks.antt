@@ -1,4 +1,4 @@
--- No rank passes the number of gates.
+-- No rank is greater than the number of gates.
 use Rattle.std.proofs.Common.{◌≡◌, ℕ, zero, suc, ◌+◌, ◌<◌, ◌≤◌, inl, inr, List, [], ◌∷◌, true, false, refl, sym, ap, ◌∙◌, map, length, arith, add-one}
 use Rattle.std.proofs.lemmas.Bool.{cases_lt}
 use Rattle.std.proofs.lemmas.List.{length-map}
@@ -40,7 +40,7 @@ filled xs (suc r) h =
     let more = at_most_more r at.0 xs at.1 (at.2 ∙ sym (add-one r)) in
     rw (← add-one) (omega arith)
 
--- ---- ranks that are passed on the way down
+-- ---- the ranks below a signal
 
 at_gates : (ranks : List ℕ) (gates : List GateLine) (i : ℕ) (g : GateLine) → i < length gates → slice_index_or gates i g ≡ g →
     slice_index (map (λ h. slice_index ranks h.out) gates) i ≡ slice_index ranks g.out
@@ -48,7 +48,7 @@ at_gates ranks [] i g low at = absurd (omega arith)
 at_gates ranks (h ∷ gates) zero g low at = ap (λ x. slice_index ranks x.out) at
 at_gates ranks (h ∷ gates) (suc i) g low at = at_gates ranks gates i g (omega arith) at
 
--- the greatest of the numbers is one of them, where it is not 0
+-- the greatest of the numbers is one of them, if it is not 0
 at_greatest : (f : ℕ → ℕ) (xs : List ℕ) (r : ℕ) → 0 < r → greatest (map f xs) ≡ r → (x : ℕ) × Contains xs x × (f x ≡ r)
 at_greatest f [] r pos e = absurd (omega arith)
 at_greatest f (x ∷ xs) r pos e =
@@ -100,7 +100,7 @@ module _ (n : Net) (sound : IsNet n) where
             reached r operand.0 k operand.2 pos under
       ]
 
-  -- no rank passes the number of gates
+  -- no rank is greater than the number of gates
   pub deep : (s : ℕ) → slice_index n.ranks s ≤ length n.gates
   deep s =
       let gates = filled gate_ranks (slice_index n.ranks s) (λ k pos low. reached (slice_index n.ranks s) s k refl pos low) in

@@ -142,7 +142,7 @@ module _ {X : Type 0} (key : X → ℕ) where
         ]
       ]
 
-  -- ---- what a stable sort by rising key gives
+  -- ---- what a stable sort by rising key yields
 
   abbrev below : X → X → Bool
   below x y = is_lt (nat_cmp (key x) (key y))

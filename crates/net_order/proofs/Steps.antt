@@ -1,4 +1,4 @@
--- Steps of the loops over lists.
+-- One more step of the loops over lists.
 use Rattle.std.proofs.Common.{◌≡◌, ℕ, ◌+◌, ◌<◌, List, [], ◌∷◌, ◌++◌, Bool, true, false, refl, sym, ap, ◌∙◌, suc, length, take, drop, get_or, arith, drop-cons}
 use Rattle.std.specs.Prelude.{cond, not, ◌&&◌, Some, slice_get}
 use Rattle.std.proofs.lemmas.List.{take_more}
@@ -11,7 +11,7 @@ head_of xs i x h at =
     let more : suc i ≡ i + 1 = omega arith in
     drop-cons xs i x h ∙ ap (λ y. y ∷ drop (suc i) xs) (sym at) ∙ ap (λ k. x ∷ drop k xs) more
 
--- the name at a place and those behind it
+-- the name at a place, and those after it
 pub names_from : (list : List (List ℕ)) (i : ℕ) (n : List ℕ) → slice_get list i ≡ Some n → i < length list → drop i list ≡ n ∷ drop (i + 1) list
 names_from list i n named h = head_of list i n h (sym (get_or_from_slice_get list i n n named))
 

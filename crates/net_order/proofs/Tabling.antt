@@ -1,12 +1,12 @@
--- Tables of names and of levels that grow.
+-- Tables of names and of levels, with one more entry.
 use Rattle.std.proofs.Common.{◌≡◌, ℕ, suc, ◌+◌, ◌<◌, List, [], ◌∷◌, ◌++◌, Bool, true, false, sym, ap, ◌∙◌, subst, inl, inr, length, take, drop, arith, get_or, set, All}
 use Rattle.std.specs.Prelude.{cond, ◌||◌, ◌==◌, Some, slice_get}
 use Rattle.std.specs.List.{AllZip}
 use Rattle.std.proofs.lemmas.Bool.{cases_eq}
 use Rattle.std.proofs.lemmas.List.{drop_more, take_more, get_or-set_other, get_or-set_same}
 use Rattle.net_bench.specs.Circuit.{Circuit, Net, circuit, variables_of}
-use Rattle.net_order.specs.declared.order.Match.{Match}
-use Rattle.net_order.specs.declared.order.Match.TheVariants.{Name, Position}
+use Rattle.net_names.specs.declared.order.Match.{Match}
+use Rattle.net_names.specs.declared.order.Match.TheVariants.{Name, Position}
 use Rattle.net_order.specs.Order.{NamedNetlistModel, is_member, name_by, name_of, names_of_sides, names_on, partner}
 use Rattle.net_order.specs.Tables.{AreMatched, ArePartners, IsSide, with_names}
 use Rattle.net_order.proofs.Members.{at_inputs}
@@ -19,7 +19,7 @@ either : (P : ℕ → Type 0) (b m : Bool) (t r : ℕ) → P t → (m ≡ true �
 either P true m t r p f h = p
 either P false m t r p f h = f h
 
--- what holds of all of the second list holds of a partner
+-- what is true of all of the second list is true of a partner
 pub partner_in : (P : ℕ → Type 0) (from to : List ℕ) (s : ℕ) → All P to → length from ≡ length to → is_member s from ≡ true → P (partner from to s)
 partner_in P [] ts s ps e h = no_member (P 0) h
 partner_in P (x ∷ xs) [] s ps e h = absurd (omega (arith, e))

@@ -1,4 +1,4 @@
--- Lists that may not fit: what of them are variables, and the first name for which they do not.
+-- Lists that may be no order: which of their names are variables, and the first name that does not fit.
 use Rattle.std.proofs.Common.{◌≡◌, ℕ, ◌+◌, ◌<◌, ◌≤◌, List, [], ◌∷◌, ◌++◌, Bool, true, false, refl, sym, ap, ◌∙◌, subst, inl, inr, length, drop, arith, append_assoc, filter}
 use Rattle.std.specs.Prelude.{cond, ◌&&◌, not, bytes_eq, nat_lt, Option, Some, None, slice_get}
 use Rattle.std.specs.List.{IsDistinct}
@@ -55,7 +55,7 @@ module _ (variables before list : List (List ℕ)) (i : ℕ) (n : List ℕ) (nam
         ap (λ t. unfit_from variables t (drop (i + 1) list)) grown ∙
         sym (known_here ∙ ap (λ b. cond b (Some (record { why = Repeated; name = n })) (unfit_from variables (before ++ n ∷ []) (drop (i + 1) list))) absent)
 
--- ---- there is none where the list fits
+-- ---- there is none if the list fits
 
 no_unfit : (u : Unfit) → Some u ≡ None → ⊥
 no_unfit u e = cc
@@ -64,7 +64,7 @@ either_missing : (b : Bool) (rest : Option Unfit) (u : Unfit) → cond b rest (S
 either_missing true rest u e = (refl, e)
 either_missing false rest u e = absurd (no_unfit u e)
 
--- where none is missing all are there
+-- if none is missing, all are there
 none_missing : (variables names : List (List ℕ)) → first_missing variables names ≡ None → AmongNames variables names
 none_missing [] names e m k = absurd (no_true k)
 none_missing (v ∷ variables) names e m k =

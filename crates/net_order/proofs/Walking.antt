@@ -1,4 +1,4 @@
--- Steps of the walk.
+-- The steps of a walk.
 use Rattle.std.proofs.Common.{◌≡◌, ℕ, zero, suc, ◌+◌, ◌<◌, ◌⊎◌, inl, inr, List, [], ◌∷◌, ◌++◌, Bool, true, false, refl, sym, ap, ◌∙◌, subst, length, arith, append_assoc, get_or, set, replicate, add-one}
 use Rattle.std.specs.Prelude.{cond, ◌||◌, ◌==◌, fold, flat_map, All}
 use Rattle.std.proofs.lemmas.List.Folds.{list_any-append}
@@ -96,7 +96,7 @@ module _ (leaves : ℕ → List ℕ) where
   entered_well (o ∷ os) todo found w =
       entered_well os todo (found ++ leaves o) (subst (LeftAreFound leaves todo) (sym (append_assoc found (leaves o) (flat_map leaves os))) w)
 
-  -- a gate: its operands, and then the mark
+  -- a gate is opened: its operands come on the stack, above the frame that leaves it
   pub opened_well : (s : ℕ) (os : List ℕ) (todo : List Frame) (found : List ℕ) → leaves s ≡ flat_map leaves os → LeftAreFound leaves (Enter s ∷ todo) found → LeftAreFound leaves (entered os (Leave s ∷ todo)) found
   opened_well s os todo found e w =
       entered_well os (Leave s ∷ todo) found
@@ -122,7 +122,7 @@ module _ (leaves : ℕ → List ℕ) where
     top_inside : (f : Frame) (todo : List Frame) → Inside (f ∷ todo) → signal_of f < count
     top_inside f todo h = h 0 f (omega arith)
 
-    -- a signal is left: it is visited
+    -- a signal is left: now it has been seen
     pub left : (found : List ℕ) (seen : List Bool) (s : ℕ) (todo : List Frame) →
         IsWalkState leaves count goal found seen (Leave s ∷ todo) → IsWalkState leaves count goal found (set seen s true) todo
     left found seen s todo w =
@@ -142,7 +142,7 @@ module _ (leaves : ℕ → List ℕ) where
           in_bounds = rest_inside (Leave s) todo w.in_bounds;
         }
 
-    -- a signal with a mark is passed
+    -- a signal that has been seen is passed
     pub passed : (found : List ℕ) (seen : List Bool) (s : ℕ) (todo : List Frame) → get_or seen s false ≡ true →
         IsWalkState leaves count goal found seen (Enter s ∷ todo) → IsWalkState leaves count goal found seen todo
     passed found seen s todo e w =
@@ -178,7 +178,7 @@ module _ (leaves : ℕ → List ℕ) where
       in_bounds = entered_inside os (Leave s ∷ todo) low (left_inside s todo w.in_bounds);
     }
 
-    -- an input without a mark has not been found
+    -- an input that has not been seen has not been found
     met_rest : (found : List ℕ) (seen : List Bool) (s : ℕ) (todo : List Frame) → leaves s ≡ s ∷ [] → get_or seen s false ≡ false →
         IsWalkState leaves count goal found seen (Enter s ∷ todo) →
         fold with_number (found ++ s ∷ []) (pending leaves todo) ≡ fold with_number found (pending leaves (Enter s ∷ todo))
@@ -189,7 +189,7 @@ module _ (leaves : ℕ → List ℕ) where
         ap (λ b. fold with_number (cond b found (found ++ s ∷ [])) (pending leaves todo)) new
         )
 
-    -- an input without a mark is put at the end of what has been found, and visited
+    -- an input that has not been seen is found, and has now been seen
     pub found_input : (found : List ℕ) (seen : List Bool) (s : ℕ) (todo : List Frame) → leaves s ≡ s ∷ [] → get_or seen s false ≡ false →
         IsWalkState leaves count goal found seen (Enter s ∷ todo) → IsWalkState leaves count goal (found ++ s ∷ []) (set seen s true) todo
     found_input found seen s todo e h w =
@@ -233,7 +233,7 @@ same_visit [] i d e h = absurd (omega (arith, h))
 same_visit (m ∷ ms) zero d e h = refl
 same_visit (m ∷ ms) (suc i) d e h = same_visit ms i d e (omega (arith, h))
 
--- one frame alone
+-- a single frame
 pub top_low : (count s : ℕ) → s < count → All (λ f. signal_of f < count) (Enter s ∷ [])
 top_low count s low zero d h = low
 top_low count s low (suc i) d h = absurd (omega (arith, h))

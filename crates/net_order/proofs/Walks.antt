@@ -61,21 +61,21 @@ module _ (operand_order : OperandOrder) where
   steps_entered c [] todo = omega arith
   steps_entered c (o ∷ os) todo = omega (arith, steps_more c (Enter o) (entered os todo), steps_entered c os todo, sum_by-cons (steps_below operand_order c) o os)
 
-  -- what was to be entered or left is gone
+  -- each step makes fewer steps left
   pub fewer : (c : Circuit) (f : Frame) (todo : List Frame) → steps_left operand_order c todo < steps_left operand_order c (f ∷ todo)
   fewer c (Enter s) todo = omega (arith, steps_more c (Enter s) todo, some_steps operand_order c (length c.gates) s)
   fewer c (Leave s) todo = omega (arith, steps_more c (Leave s) todo)
 
-  -- ---- what is to be found
+  -- ---- what is still to be found
 
-  -- a walk finds what is left to be found
+  -- a walk finds what is still to be found
   pub going : (c : Circuit) (goal found : List ℕ) (seen : List Bool) (todo : List Frame) → IsWalk operand_order c goal found seen todo → IsWalkToOutcome operand_order c found seen todo
   going c goal found seen todo w = subst (λ g. IsWalk operand_order c g found seen todo) (sym w.reaches_goal) w
 
   pub towards : (c : Circuit) (goal old found : List ℕ) (seen was : List Bool) (before todo : List Frame) → IsWalk operand_order c goal old was before → IsWalk operand_order c (outcome operand_order c old before) found seen todo → IsWalk operand_order c goal found seen todo
   towards c goal old found seen was before todo w v = subst (λ g. IsWalk operand_order c g found seen todo) w.reaches_goal v
 
-  -- ---- the three ways to enter a signal
+  -- ---- the three cases in which a signal is entered
 
   visit_is : (c : Circuit) (goal found : List ℕ) (seen : List Bool) (s : ℕ) (todo : List Frame) → IsWalk operand_order c goal found seen (Enter s ∷ todo) →
       (r : Bool) → r ≡ get_or seen s r → r ≡ get_or seen s false
@@ -83,7 +83,7 @@ module _ (operand_order : OperandOrder) where
       let low : s < length c.names = w.in_bounds 0 (Enter s) (omega arith) in
       at ∙ same_visit seen s r false (omega (arith, w.len, low))
 
-  -- a signal with a mark is passed
+  -- a signal that has been seen is passed
   pub enter_visited : (c : Circuit) (goal found : List ℕ) (seen : List Bool) (s : ℕ) (todo : List Frame) → IsWalk operand_order c goal found seen (Enter s ∷ todo) →
       (r : Bool) → r ≡ get_or seen s r → r ≡ true → IsWalk operand_order c goal found seen todo
   enter_visited c goal found seen s todo w r at e = passed (below operand_order c) (length c.names) goal found seen s todo (sym (visit_is c goal found seen s todo w r at) ∙ e) w
@@ -92,7 +92,7 @@ module _ (operand_order : OperandOrder) where
     abbrev c : Circuit
     c = circuit n
 
-    -- an input without a mark is found
+    -- an input that has not been seen is found
     pub enter_input : (r : Bool) → r ≡ get_or seen s r → r ≡ false → find (λ x. x.out == s) n.gates ≡ None → (new : List ℕ) → new ≡ found ++ s ∷ [] →
         IsWalk operand_order c goal new (set seen s true) todo
     enter_input r at e none new grown =
@@ -113,7 +113,7 @@ module _ (operand_order : OperandOrder) where
           subst (IsWalk operand_order c goal found seen) stack_is
           (opened (below operand_order c) (length n.names) goal found seen s (in_walk_order operand_order c steps.gate.operands) todo (gate_leaves n sound operand_order s steps.gate steps.found) (steps_inside n sound operand_order s steps.gate steps.found) w)
 
-      -- a gate stands for more steps than its operands and its end
+      -- a gate takes more steps than its operands and its end
       pub fewer_opened : steps_left operand_order c (reverse new) < steps_left operand_order c (Enter s ∷ todo)
       fewer_opened =
           subst (λ t. steps_left operand_order c t < steps_left operand_order c (Enter s ∷ todo)) stack_is
@@ -136,7 +136,7 @@ module _ (operand_order : OperandOrder) where
         in_bounds = λ i d h. top_low (length c.names) s low i d h;
       })
 
-  -- nothing is to do any more
+  -- the stack is empty
   pub ended : (c : Circuit) (goal found : List ℕ) (seen : List Bool) (stack : List Frame) → stack ≡ [] → IsWalk operand_order c goal found seen (reverse stack) → IsBetweenWalks operand_order c found seen × (found ≡ goal)
   ended c goal found seen stack e w =
       let v = subst (λ t. IsWalk operand_order c goal found seen (reverse t)) e w in
@@ -177,7 +177,7 @@ lists_more f gates i g old new l low at is_l is_new before =
     is_new ∙ ap (λ xs. xs ++ l ∷ []) before ∙ ap (λ x. map f (take i gates) ++ x ∷ []) is_l ∙ sym (map_more f (take i gates) g) ∙
     ap (map f) (sym (take_more gates i g low ∙ ap (λ y. take i gates ++ y ∷ []) (sym at)))
 
--- ---- where walks begin
+-- ---- the roots
 
 pub low_next : (n : Net) → IsNet n → (registers : List GateLine) (i : ℕ) (g : GateLine) (os : List ℕ) → registers ≡ n.registers → i < length registers → g ≡ get_or registers i g → os ≡ g.operands → All (λ s. s < length n.names) os
 low_next n sound registers i g os e low at is_os =

@@ -2,8 +2,6 @@ pub mod Index
 pub mod Force
 pub mod Order
 pub mod Unfit
-pub mod Fault
-pub mod OrderText
 pub mod Tables
 pub mod Walk
 pub mod Examples

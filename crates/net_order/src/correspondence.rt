@@ -1,10 +1,10 @@
-//! Signals that two netlists have, and those that only one has.
+//! Which signals of two netlists correspond to each other, and which only one of them has.
 ghost use Rattle.std.specs.Prelude.{IfOk, ◌≡◌, ℕ, ◌<◌, length, false, All, slice_index, slice_index_or, zip};
 ghost use Rattle.net_bench.specs.Circuit.{circuit};
 ghost use Rattle.net_order.specs.Order.{HaveEqualLength, correspondence, is_member, name_of, pairs_by_name, signal_named, unmatched};
 
-use crate::order::Match;
 use net_bench::netlist::{Netlist, Signal};
+use net_names::order::Match;
 use std::alloc::{AllocError, Global};
 use std::marker::Model;
 
@@ -51,7 +51,7 @@ impl Correspondence {
     }
 }
 
-/// Signals of one netlist that are to be compared, with a mark for each of its signals that is one of them.
+/// Signals of one netlist that are to be compared. `seen` says for each signal of the netlist whether it is one of them.
 #[derive(Drop)]
 struct ComparedSignals<'a> {
     net: &'a Netlist,
@@ -104,7 +104,7 @@ impl<'a> ComparedSignals<'a> {
         self.signals
     }
 
-    /// The name of a signal at this place among them.
+    /// The name of the signal at this place among them.
     fn name_at(&self, place: usize) -> &[u8]
         requires { place < length self.now.signals }
         ensures { result.now ≡ name_of self.now.net (slice_index self.now.signals place) }
@@ -112,7 +112,7 @@ impl<'a> ComparedSignals<'a> {
         self.net.name(self.signals[place])
     }
 
-    /// The signal of this name among them.
+    /// The signal of this name, if it is one of them.
     fn find_named(&self, name: &[u8]) -> Option<Signal>
         ensures { result ≡ signal_named self.now.net self.now.signals name.now }
     {
@@ -127,7 +127,7 @@ impl<'a> ComparedSignals<'a> {
     }
 }
 
-/// Each of the signals with the one of its name among those of the other netlist.
+/// Each of our signals with the one of the same name among theirs, if there is one.
 fn pairs_of(
     alloc: Global,
     ours: &ComparedSignals<'_>,
@@ -146,7 +146,7 @@ fn pairs_of(
     Ok(pairs)
 }
 
-/// The signals whose name none of those of the other netlist has.
+/// Our signals for whose names there is none among theirs.
 fn without_partner(
     alloc: Global,
     ours: &ComparedSignals<'_>,
@@ -165,7 +165,7 @@ fn without_partner(
     Ok(without_partner)
 }
 
-/// Signal i of both.
+/// The pairs by position: signal i of the one with signal i of the other.
 fn paired_by_position(
     alloc: Global,
     left: &[Signal],

@@ -1,20 +1,20 @@
-//! A gate with its operands, as an edge among vertices.
+//! A gate with its operands, as an edge of the hypergraph on which FORCE works.
 ghost use Rattle.std.specs.Prelude.{◌≡◌, length};
 ghost use Rattle.net_order.specs.Force.{share_of};
 
 use std::marker::Model;
 
-/// A share is counted in so many parts.
+/// Shares are fixed-point numbers: so many parts are 1.
 pub const SHARE_UNIT: u64 = 16_777_216;
 
-/// The share that each of so many numbers has in their mean.
+/// The share of one number in the mean of `count` numbers: 1 / count, rounded down, and 0 if there are none.
 pub fn share_of(count: u64) -> u64
     ensures { result ≡ share_of count }
 {
     if count == 0 { 0 } else { SHARE_UNIT / count }
 }
 
-/// The vertices of a gate's operands, and last its own.
+/// The edge of a gate: the vertices of its operands, and last its own.
 #[derive(Drop)]
 pub struct Edge {
     vertices: Vec<usize>,
@@ -41,14 +41,14 @@ impl Edge {
         Edge { vertices, share }
     }
 
-    /// Its vertices.
+    /// The vertices of the edge.
     pub fn vertices(&self) -> &[usize]
         ensures { result.now ≡ self.now }
     {
         self.vertices.as_slice()
     }
 
-    /// The share that each of its vertices has in its centre.
+    /// The share of each vertex in the centre of the edge.
     pub fn share(&self) -> u64
         ensures { result ≡ share_of (length self.now) }
     {

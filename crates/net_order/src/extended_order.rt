@@ -1,17 +1,17 @@
-//! An order that is a list of names, some of which may be no variables and which may lack some.
+//! Orders by a list of names that may lack variables, and may have names that are no variables.
 ghost use Rattle.std.specs.Prelude.{◌≡◌, ◌≤◌, filter, if◌then◌else◌, length, IfErr, IfOk, OnOk};
 ghost use Rattle.net_bench.specs.Circuit.{is_name_in, with_name};
 ghost use Rattle.net_order.specs.Order.{declared, extended};
 ghost use Rattle.net_order.specs.Tables.{with_names};
 
-use crate::names::Names;
-use crate::order::OrderFault;
 use crate::side::NamedNetlist;
 use crate::variables::{MAX_VARIABLES, add_all};
 use net_bench::name_table::NameTable;
+use net_names::names::Names;
+use net_names::order::OrderFault;
 use std::alloc::{AllocError, Global};
 
-/// Puts a name into the table where it is a variable and not there yet.
+/// Appends a name to the table, if it is a variable and not there yet.
 fn add_if_known(
     alloc: Global,
     table: &mut NameTable,
@@ -26,7 +26,7 @@ fn add_if_known(
     Ok(())
 }
 
-/// Puts those names of the list that are variables into the table, each where it is not there yet.
+/// Appends those names of the list to the table that are variables and not there yet.
 fn add_known(
     alloc: Global,
     table: &mut NameTable,
@@ -41,7 +41,7 @@ fn add_known(
     Ok(())
 }
 
-/// The names of the list that are variables, then the others as they are declared.
+/// The names of the list that are variables, then the other variables as they are declared.
 pub fn extended_table(
     alloc: Global,
     sides: &[NamedNetlist<'_>],

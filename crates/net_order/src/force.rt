@@ -1,77 +1,24 @@
-//! Variables moved towards what they are joined with. After Aloul, Markov and Sakallah, "FORCE: a fast and easy-to-implement
-//! variable-ordering heuristic", GLSVLSI 2003.
+//! The variables by FORCE: the vertices, which are variables and gates, are moved again and again to the middle of the
+//! edges that they are on. After Aloul, Markov and Sakallah, "FORCE: a fast and easy-to-implement variable-ordering
+//! heuristic", GLSVLSI 2003. They sort the vertices after each step; here a round sorts them once, after its last step,
+//! which takes a tenth of the work and decides as many of the measured circuits (docs/decisions/orders-and-attempts.md).
 ghost use Rattle.std.specs.Prelude.{◌≡◌, ◌<◌, ◌≤◌, All, length, IfErr, IfOk, OnOk};
-ghost use Rattle.net_order.specs.Force.{initial_order, greatest_at, last_below, last_variables, force_order, variables_reversed};
+ghost use Rattle.net_order.specs.Force.{force_order};
 ghost use Rattle.net_order.specs.Order.{declared, forced, force_numbers, numbered};
 ghost use Rattle.net_order.specs.Tables.{with_names};
 
-use crate::edge::Edge;
-use crate::force_step::{run_round, shares_of, sort_by_table};
-use crate::hypergraph::{Hypergraph, number_at, numbers_below, put};
+use crate::force_start::{initial_order, variables_reversed};
+use crate::force_step::{run_round, shares_of};
+use crate::hypergraph::Hypergraph;
 use crate::index_order::indexed_table;
-use crate::order::OrderFault;
 use crate::side::NamedNetlist;
+use crate::tables::{numbers_below, sort_by_table};
 use crate::variables::{MAX_VARIABLES, add_all};
 use net_bench::name_table::NameTable;
+use net_names::order::OrderFault;
 use std::alloc::{AllocError, Global};
 
-/// The greatest number at these places of a table.
-fn greatest_at(table: &[u64], places: &[usize]) -> u64
-    ensures { result ≡ greatest_at table.now places.now }
-{
-    places
-        .iter()
-        .fold(0, |most, place| most.max(number_at(table, *place)))
-}
-
-/// The last variable below a vertex: a variable is its own.
-fn last_below(variables: usize, edges: &[Edge], table: &[u64], vertex: usize) -> u64
-    ensures { result ≡ last_below variables edges.now table.now vertex }
-{
-    if vertex < variables {
-        return vertex as u64;
-    }
-    match edges.get(vertex - variables) {
-        Some(edge) => greatest_at(table, edge.vertices()),
-        None => 0,
-    }
-}
-
-/// By vertex, the last variable below it. The vertices come by rising rank.
-#[tactic(auto, unfolding(crate::specs::Force::last_variables))]
-fn last_variables(
-    alloc: Global,
-    variables: usize,
-    edges: &[Edge],
-    by_rank: &[usize],
-) -> Result<Vec<u64>, AllocError>
-    ensures { IfOk result (λ v. v.items ≡ last_variables variables edges.now by_rank.now) }
-{
-    let mut table = Vec::from_elem(alloc, 0u64, by_rank.len())?;
-    for vertex in by_rank {
-        let last = last_below(variables, edges, table.as_slice(), *vertex);
-        put(&mut table, *vertex, last);
-    }
-    Ok(table)
-}
-
-/// Each gate right behind the last variable below it, those behind one variable by rising rank.
-#[tactic(auto, unfolding(crate::specs::Force::initial_order))]
-fn initial_order(
-    alloc: Global,
-    variables: usize,
-    edges: &[Edge],
-    by_rank: Vec<usize>,
-) -> Result<Vec<usize>, AllocError>
-    ensures { IfOk result (λ v. v.items ≡ initial_order variables edges.now by_rank.items) }
-{
-    let table = last_variables(alloc, variables, edges, by_rank.as_slice())?;
-    let mut order = by_rank;
-    sort_by_table(&mut order, table.as_slice())?;
-    Ok(order)
-}
-
-/// Where two rounds end, which begin with each gate right behind the last variable below it.
+/// The order of all vertices after two rounds.
 #[tactic(auto, unfolding(crate::specs::Force::force_order))]
 fn force_order(
     alloc: Global,
@@ -91,23 +38,7 @@ fn force_order(
     Ok(order)
 }
 
-/// Those vertices that are variables, from the last one back.
-fn variables_reversed(
-    alloc: Global,
-    variables: usize,
-    order: &[usize],
-) -> Result<Vec<usize>, AllocError>
-    ensures { IfOk result (λ v. v.items ≡ variables_reversed variables order.now) }
-{
-    order
-        .iter()
-        .rev()
-        .copied()
-        .filter(|vertex| *vertex < variables)
-        .collect(alloc)
-}
-
-/// The numbers of the variables as FORCE leaves them, from the last one back.
+/// The numbers of the variables in the order of FORCE, from the last to the first.
 #[tactic(auto, unfolding(crate::specs::Order::force_numbers))]
 fn force_numbers(
     alloc: Global,
@@ -123,7 +54,7 @@ fn force_numbers(
     Ok(back)
 }
 
-/// Puts the names of these numbers into the table, each where it is not there yet.
+/// Appends the names of these numbers to the table, if they are not there yet.
 fn add_numbered(
     alloc: Global,
     table: &mut NameTable,
@@ -139,7 +70,8 @@ fn add_numbered(
     Ok(())
 }
 
-/// The variables as FORCE leaves them when they begin by rising number at the end of their names, the last one first.
+/// The variables in the order of FORCE, from the last to the first. It begins with the variables by the number at the
+/// end of their names.
 pub fn forced_table(
     alloc: Global,
     sides: &[NamedNetlist<'_>],

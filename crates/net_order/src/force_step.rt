@@ -1,25 +1,16 @@
-//! Steps in which vertices are drawn to the middle of their edges, and rounds of such steps.
-ghost use Rattle.std.specs.Prelude.{◌≡◌, slice_index, IfOk, OnOk};
-ghost use Rattle.net_order.specs.Index.{rising};
+//! The steps of FORCE, in which each vertex is moved to the middle of its edges, and rounds of such steps.
+ghost use Rattle.std.specs.Prelude.{◌≡◌, IfOk, OnOk};
 ghost use Rattle.net_order.specs.Force.{centre_of, degrees_of, new_place, mean_of, places_of, round, shares_of, step, steps_for, steps_of};
 ghost use Rattle.net_order.specs.Force.{totals_of, with_added};
 
 use crate::edge::{Edge, SHARE_UNIT, share_of};
-use crate::hypergraph::{count_from, number_at, put};
+use crate::tables::{count_from, number_at, put, sort_by_table};
 use std::alloc::{AllocError, Global};
 
-/// Places are counted in so many parts of a place.
+/// Places are fixed-point numbers: so many parts are the distance of two neighbours.
 const PLACE_UNIT: u64 = 65_536;
 
-/// Sorts vertices by rising number in a table, equal numbers as they stand.
-pub fn sort_by_table(order: &mut Vec<usize>, table: &[u64]) -> Result<(), AllocError>
-    ensures { OnOk result (order.new.items ≡ rising (slice_index table.now) order.old.items) }
-{
-    order.sort_by_key(|vertex| number_at(table, *vertex))?;
-    Ok(())
-}
-
-/// By vertex, its place in the order.
+/// For each vertex its place in the order, as a fixed-point number.
 #[tactic(auto, unfolding(crate::specs::Force::places_of))]
 fn places_of(alloc: Global, order: &[usize]) -> Result<Vec<u64>, AllocError>
     ensures { IfOk result (λ v. v.items ≡ places_of order.now) }
@@ -32,14 +23,14 @@ fn places_of(alloc: Global, order: &[usize]) -> Result<Vec<u64>, AllocError>
         .collect(alloc)
 }
 
-/// The mean of numbers that have this sum, each with this share in it.
+/// The mean of numbers that have this sum, if each has this share in it.
 fn mean_of(sum: u64, share: u64) -> u64
     ensures { result ≡ mean_of sum share }
 {
     sum.saturating_mul(share) / SHARE_UNIT
 }
 
-/// The centre of an edge: the mean of its vertices' places.
+/// The centre of an edge: the mean of the places of its vertices.
 #[tactic(auto, unfolding(crate::specs::Force::centre_of))]
 fn centre_of(places: &[u64], edge: &Edge) -> u64
     ensures { result ≡ centre_of places.now edge.now }
@@ -50,7 +41,7 @@ fn centre_of(places: &[u64], edge: &Edge) -> u64
     mean_of(sum, edge.share())
 }
 
-/// Adds so much at the places of an edge.
+/// Adds an amount to the table's number of each vertex of an edge.
 fn add_at(table: &mut Vec<u64>, edge: &[usize], amount: u64)
     ensures { table.new.items ≡ with_added amount table.old.items edge.now }
 {
@@ -60,7 +51,7 @@ fn add_at(table: &mut Vec<u64>, edge: &[usize], amount: u64)
     }
 }
 
-/// By vertex, the sum of the centres of its edges.
+/// For each vertex the sum of the centres of its edges.
 #[tactic(auto, unfolding(crate::specs::Force::totals_of))]
 fn totals_of(alloc: Global, places: &[u64], edges: &[Edge]) -> Result<Vec<u64>, AllocError>
     ensures { IfOk result (λ v. v.items ≡ totals_of places.now edges.now) }
@@ -73,7 +64,7 @@ fn totals_of(alloc: Global, places: &[u64], edges: &[Edge]) -> Result<Vec<u64>, 
     Ok(totals)
 }
 
-/// By vertex, how many edges it has.
+/// For each vertex the number of its edges.
 #[tactic(auto, unfolding(crate::specs::Force::degrees_of))]
 fn degrees_of(alloc: Global, count: usize, edges: &[Edge]) -> Result<Vec<u64>, AllocError>
     ensures { IfOk result (λ v. v.items ≡ degrees_of count edges.now) }
@@ -85,7 +76,7 @@ fn degrees_of(alloc: Global, count: usize, edges: &[Edge]) -> Result<Vec<u64>, A
     Ok(degrees)
 }
 
-/// By vertex, the share that each of its edges has in its place.
+/// For each vertex the share of one of its edges in the mean of all of them.
 #[tactic(auto, unfolding(crate::specs::Force::shares_of))]
 pub fn shares_of(alloc: Global, count: usize, edges: &[Edge]) -> Result<Vec<u64>, AllocError>
     ensures { IfOk result (λ v. v.items ≡ shares_of count edges.now) }
@@ -97,7 +88,7 @@ pub fn shares_of(alloc: Global, count: usize, edges: &[Edge]) -> Result<Vec<u64>
         .collect(alloc)
 }
 
-/// Where a vertex is drawn to: the mean of its edges' centres, and its own place where it has no edges.
+/// The place to which a vertex is moved: the mean of the centres of its edges, or its own place if it has none.
 fn new_place(total: u64, share: u64, place: u64) -> u64
     ensures { result ≡ new_place total share place }
 {
@@ -108,7 +99,8 @@ fn new_place(total: u64, share: u64, place: u64) -> u64
     }
 }
 
-/// Each vertex is drawn to its edges.
+/// One step: the places of all vertices after each was moved to its edges. All centres are computed before any vertex
+/// moves.
 #[tactic(auto, unfolding(crate::specs::Force::step))]
 fn step(
     alloc: Global,
@@ -129,7 +121,7 @@ fn step(
     Ok(new_places)
 }
 
-/// By vertex, where so many steps draw it to.
+/// The places after this number of steps.
 #[tactic(auto, unfolding(crate::specs::Force::steps_of))]
 fn run_steps(
     alloc: Global,
@@ -146,7 +138,8 @@ fn run_steps(
     Ok(())
 }
 
-/// How many steps a round has: 40, for more vertices than 13,100 fewer, and from 47,700 on 10.
+/// The number of steps of a round: 40, fewer for more than 13,100 vertices, and 10 from 47,700 on. Fewer steps take less
+/// time, and leave none of the measured pairs undecided (docs/decisions/orders-and-attempts.md).
 #[tactic(auto, unfolding(crate::specs::Force::steps_for))]
 fn steps_for(count: usize) -> usize
     ensures { result ≡ steps_for count }
@@ -154,7 +147,7 @@ fn steps_for(count: usize) -> usize
     (524_288 / count.saturating_add(1)).clamp(10, 40)
 }
 
-/// One round: the vertices by rising place behind its steps, those at one place as they stood.
+/// One round: the order by the places after its steps. Vertices at the same place keep their order.
 #[tactic(auto, unfolding(crate::specs::Force::round))]
 pub fn run_round(
     alloc: Global,

@@ -1,61 +1,23 @@
-//! Variables and gates as vertices, and gates with their operands as edges.
-ghost use Rattle.std.specs.Prelude.{◌≡◌, ◌+◌, ◌^◌, ◌<◌, ◌≤◌, ◌++◌, ◌∷◌, [], ℕ, fold, length, map, slice_index, slice_set, IfOk, OnOk};
+//! The hypergraph on which FORCE works: variables and gates are vertices, and each gate with its operands is an edge.
+ghost use Rattle.std.specs.Prelude.{◌≡◌, ◌+◌, ◌<◌, ◌++◌, fold, map, slice_set, IfOk, OnOk};
 ghost use Rattle.net_bench.specs.Circuit.{circuit, variables_of};
-ghost use Rattle.net_order.specs.Force.{counted_from, edge_of, numbers_below, vertices};
+ghost use Rattle.net_order.specs.Force.{edge_of, vertices};
 ghost use Rattle.net_order.specs.Order.{graph_of, level_of, named, rank_of, with_side};
 
 use crate::edge::Edge;
 use crate::falling_rank::rank_at;
 use crate::side::NamedNetlist;
+use crate::tables::{count_from, number_at, put};
 use net_bench::name_table::NameTable;
-use net_bench::netlist::{GateLine, Netlist, Signal};
+use net_bench::netlist::{GateLine, Netlist};
 use std::alloc::{AllocError, Global};
 use std::marker::Model;
 
-/// A graph of more vertices has no memory.
+/// A graph of more vertices is refused, as if there were no memory for it: so the numbers of vertices are far from any
+/// overflow.
 const MAX_VERTICES: usize = 4_294_967_296;
 
-/// The number at this place of a table, 0 past its end.
-pub fn number_at(table: &[u64], place: usize) -> u64
-    ensures { result ≡ slice_index table.now place }
-{
-    table.get(place).copied().unwrap_or(0)
-}
-
-/// Puts a number at this place of a table, and nowhere past its end.
-pub fn put(table: &mut Vec<u64>, place: usize, number: u64)
-    ensures { table.new.items ≡ slice_set table.old.items place number }
-{
-    if place < table.len() {
-        table[place] = number;
-    }
-}
-
-/// Puts consecutive numbers at these places.
-pub fn count_from(table: &mut Vec<u64>, first: u64, places: &[usize])
-    requires { first + length places.now < 2 ^ 64 }
-    ensures { table.new.items ≡ counted_from first table.old.items places.now }
-{
-    let mut number = first;
-    for place in places {
-        put(table, *place, number);
-        number += 1;
-    }
-}
-
-/// The numbers below this one.
-#[tactic(auto, unfolding(crate::specs::Force::numbers_below))]
-pub fn numbers_below(alloc: Global, count: usize) -> Result<Vec<usize>, AllocError>
-    ensures { IfOk result (λ v. v.items ≡ numbers_below count) }
-{
-    let mut numbers = Vec::new(alloc);
-    for number in 0..count {
-        numbers.push(number)?;
-    }
-    Ok(numbers)
-}
-
-/// The signals of the gates, as they are written.
+/// The signals of the gates, in the order of the text.
 fn outs_of(alloc: Global, net: &Netlist) -> Result<Vec<usize>, AllocError>
     ensures { IfOk result (λ v. v.items ≡ map (λ g. g.out) net.now.gates) }
 {
@@ -66,7 +28,7 @@ fn outs_of(alloc: Global, net: &Netlist) -> Result<Vec<usize>, AllocError>
         .collect(alloc)
 }
 
-/// Puts the levels of a side's variables at their places.
+/// Writes the level of each variable of a side at the place of its signal.
 fn put_levels(table: &mut Vec<u64>, names: &NameTable, side: &NamedNetlist<'_>)
     ensures { table.new.items ≡ fold (λ t s. slice_set t s (level_of names.now (named side.now s))) table.old.items
         (variables_of side.now.net) }
@@ -78,7 +40,8 @@ fn put_levels(table: &mut Vec<u64>, names: &NameTable, side: &NamedNetlist<'_>)
     }
 }
 
-/// By signal of a side, its vertex: a variable is its level in these names, and the gates are numbered from `first` on.
+/// For each signal of a side its vertex: that of a variable is its level in these names, and the gates are numbered
+/// from `first` on.
 #[tactic(auto, unfolding(crate::specs::Force::vertices))]
 fn vertices_on(
     alloc: Global,
@@ -97,7 +60,7 @@ fn vertices_on(
     Ok(table)
 }
 
-/// The vertices of a gate's operands, and last its own.
+/// The edge of a gate: the vertices of its operands, and last its own.
 fn edge_of(alloc: Global, vertices: &[u64], gate: &GateLine) -> Result<Edge, AllocError>
     ensures { IfOk result (λ e. e ≡ edge_of vertices.now gate.now) }
 {
@@ -109,12 +72,12 @@ fn edge_of(alloc: Global, vertices: &[u64], gate: &GateLine) -> Result<Edge, All
     Ok(Edge::of(edge))
 }
 
-/// Variables and gates as vertices.
+/// Variables and gates as vertices, and gates as edges.
 #[derive(Drop)]
 pub struct Hypergraph {
-    /// For each gate the vertices of its operands, and its own.
+    /// The edge of each gate.
     edges: Vec<Edge>,
-    /// By vertex.
+    /// The rank of each vertex.
     ranks: Vec<u64>,
 }
 
@@ -126,7 +89,7 @@ impl Model for Hypergraph {
     ghost view = { λ g. record { edges = g.edges.items; ranks = g.ranks.items } };
 }
 
-/// Puts an edge for each gate of the netlist at the end.
+/// Appends an edge for each gate of the netlist.
 fn add_edges(
     alloc: Global,
     edges: &mut Vec<Edge>,
@@ -143,7 +106,7 @@ fn add_edges(
     Ok(())
 }
 
-/// Puts the rank of each gate of the netlist at the end.
+/// Appends the rank of each gate of the netlist.
 fn add_ranks(ranks: &mut Vec<u64>, net: &Netlist) -> Result<(), AllocError>
     ensures { OnOk result (ranks.new.items ≡ ranks.old.items ++ map (λ g. rank_of (circuit net.now) g.out) net.now.gates) }
 {
@@ -154,7 +117,7 @@ fn add_ranks(ranks: &mut Vec<u64>, net: &Netlist) -> Result<(), AllocError>
     Ok(())
 }
 
-/// Puts the gates of one more side into a graph, given by its edges and ranks.
+/// Adds the gates of one more side to a graph, which is given as its edges and ranks.
 fn add_side(
     alloc: Global,
     edges: &mut Vec<Edge>,
@@ -175,7 +138,7 @@ fn add_side(
     Ok(())
 }
 
-/// The same of several.
+/// Adds the gates of several sides, one after the other.
 fn add_sides(
     alloc: Global,
     edges: &mut Vec<Edge>,
@@ -194,7 +157,7 @@ fn add_sides(
 }
 
 impl Hypergraph {
-    /// The graph of all sides, whose first vertices are the variables of these names.
+    /// The graph of all sides. Its first vertices are the variables of these names, by number.
     #[tactic(auto, unfolding(crate::specs::Order::graph_of))]
     pub fn new(
         alloc: Global,
@@ -211,14 +174,14 @@ impl Hypergraph {
         Ok(Hypergraph { edges, ranks })
     }
 
-    /// For each gate the vertices of its operands, and its own.
+    /// The edge of each gate: the vertices of its operands, and last its own.
     pub fn edges(&self) -> &[Edge]
         ensures { result.now ≡ self.now.edges }
     {
         self.edges.as_slice()
     }
 
-    /// By vertex, its rank.
+    /// The rank of each vertex.
     pub fn ranks(&self) -> &[u64]
         ensures { result.now ≡ self.now.ranks }
     {

@@ -8,7 +8,7 @@ use crate::trailing_number::index_key;
 use net_bench::name_table::NameTable;
 use std::alloc::{AllocError, Global};
 
-/// The names by rising number at their end, those without one first, equal numbers as they stand.
+/// The names by rising number at their end. Those without a number come first, and equal numbers keep their order.
 fn sorted_names(alloc: Global, names: &NameTable) -> Result<Vec<Vec<u8>>, AllocError>
     ensures { IfOk result (λ v. map (λ w. w.items) v.items ≡ rising index_key names.now) }
 {
@@ -28,7 +28,7 @@ fn table_of(alloc: Global, names: &[Vec<u8>]) -> Result<NameTable, AllocError>
     Ok(table)
 }
 
-/// The names by rising number at their end, those without one first, equal numbers as they stand.
+/// The names by rising number at their end. Those without a number come first, and equal numbers keep their order.
 pub fn indexed_table(alloc: Global, names: &NameTable) -> Result<NameTable, AllocError>
     requires { IsDistinct bytes_eq names.now }
     ensures { IfOk result (λ t. t ≡ rising index_key names.now) }

@@ -1,22 +1,24 @@
-//! Variables interleaved: what a walk meets for the first time goes right behind what it met last. After Fujii, Ootomo and Hori,
-//! "Interleaving based variable ordering methods for ordered binary decision diagrams", ICCAD 1993.
-ghost use Rattle.std.specs.Prelude.{◌≡◌, ℕ, ◌<◌, ◌≤◌, [], length, map, All, OnOk, IfOk, IfErr, Some, None, insert, slice_index};
+//! Interleaved orders: a variable that a walk meets for the first time goes right after the one that it met before.
+//! After Fujii, Ootomo and Hori, "Interleaving based variable ordering methods for ordered binary decision diagrams",
+//! ICCAD 1993. Each walk enters the gates of earlier walks again: without that, the order of c2670 takes five times as
+//! many nodes (docs/decisions/orders-and-attempts.md).
+ghost use Rattle.std.specs.Prelude.{◌≡◌, ℕ, ◌<◌, ◌≤◌, length, map, All, OnOk, IfOk, IfErr, Some, None, insert, slice_index};
 ghost use Rattle.net_bench.specs.Circuit.{circuit, variables_of};
 ghost use Rattle.net_order.specs.Order.{declared, interleaved, numbered, put_after, interleave_walk, interleave_netlist, with_variable, interleaved_numbers};
 ghost use Rattle.net_order.specs.Tables.{AreKnown, AreMembershipFlags, with_names};
 
 use crate::falling_rank::by_rank;
 use crate::levels::{Levels, levels_on};
-use crate::order::OrderFault;
 use crate::roots::roots_of;
 use crate::side::NamedNetlist;
 use crate::variables::{MAX_VARIABLES, add_all};
 use crate::walk::{OperandOrder, met_below, none_seen, ordered_netlist, walk_below};
 use net_bench::name_table::NameTable;
 use net_bench::netlist::{Netlist, Signal};
+use net_names::order::OrderFault;
 use std::alloc::{AllocError, Global};
 
-/// The place right behind a variable, or the end where it is not there.
+/// The place right after a variable; the end if the order does not have it.
 fn place_after(order: &[u32], last: u32) -> usize
     ensures in_bounds { result ≤ length order.now }
     ensures inserts_after { (v : ℕ) → insert order.now result v ≡ put_after (Some last) v order.now }
@@ -29,7 +31,7 @@ fn place_after(order: &[u32], last: u32) -> usize
     order.len()
 }
 
-/// Puts a variable right behind another, or to the front where there is none.
+/// Inserts a variable right after another, or at the front if there is no other.
 fn put_after(order: &mut Vec<u32>, last: Option<u32>, variable: u32) -> Result<(), AllocError>
     ensures { OnOk result (order.new.items ≡ put_after last variable order.old.items) }
 {
@@ -43,7 +45,7 @@ fn put_after(order: &mut Vec<u32>, last: Option<u32>, variable: u32) -> Result<(
     }
 }
 
-/// Puts a variable into the order, unless it is there: right behind the other one. The seen say which variables are there.
+/// Inserts a variable right after the other one, unless the order has it. `seen` says which variables the order has.
 fn add(
     order: &mut Vec<u32>,
     seen: &mut Vec<bool>,
@@ -64,7 +66,7 @@ fn add(
     Ok(())
 }
 
-/// Puts the variables of one walk into the order. The seen say which variables are there.
+/// Inserts the variables that one walk has met. `seen` says which variables the order has.
 fn interleave_walk(
     order: &mut Vec<u32>,
     seen: &mut Vec<bool>,
@@ -86,8 +88,8 @@ fn interleave_walk(
     Ok(())
 }
 
-/// Weaves a netlist into the order. Only a walk that meets a variable that no walk before it has met is put in: any other
-/// would change nothing.
+/// Interleaves a netlist with the order. Only the walks that meet a variable which no walk before them has met are made
+/// again and inserted: any other would change nothing.
 fn interleave_netlist(
     alloc: Global,
     order: &mut Vec<u32>,
@@ -118,7 +120,7 @@ fn interleave_netlist(
     Ok(())
 }
 
-/// Puts the names of variables into the table, each where it is not there yet.
+/// Appends the names of these variables to the table, if they are not there yet.
 fn add_variables(
     alloc: Global,
     table: &mut NameTable,
@@ -134,7 +136,7 @@ fn add_variables(
     Ok(())
 }
 
-/// The numbers of the variables that walks meet, in interleaved order.
+/// The numbers of the variables that walks meet, in interleaved order: the first netlist's walks, then the second's.
 fn interleaved_numbers(
     alloc: Global,
     sides: &[NamedNetlist<'_>],
@@ -154,7 +156,7 @@ fn interleaved_numbers(
     Ok(order)
 }
 
-/// The variables in interleaved order.
+/// The variables in interleaved order, then those that no walk meets, as they are declared.
 pub fn interleaved_table(
     alloc: Global,
     sides: &[NamedNetlist<'_>],

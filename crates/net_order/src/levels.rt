@@ -1,5 +1,5 @@
-//! The levels of variables.
-ghost use Rattle.std.specs.Prelude.{◌≡◌, ◌++◌, IfOk, OnOk, slice_index, slice_index_or, []};
+//! The level of each variable of a netlist, by the variable's signal.
+ghost use Rattle.std.specs.Prelude.{◌≡◌, IfOk, slice_index, slice_index_or, []};
 ghost use Rattle.std.specs.List.{AllZip};
 ghost use Rattle.net_order.specs.Order.{HasLevels};
 
@@ -9,7 +9,7 @@ use net_bench::netlist::Signal;
 use std::alloc::{AllocError, Global};
 use std::marker::Model;
 
-/// By signal, the levels of one netlist's variables.
+/// The levels of one netlist's variables, by signal.
 #[derive(Drop)]
 pub struct Levels {
     list: Vec<u32>,
@@ -24,7 +24,7 @@ impl Model for Levels {
 }
 
 impl Levels {
-    /// The level of a variable.
+    /// The level of a variable; 0 for a signal that is none.
     pub fn at(&self, variable: Signal) -> u32
         ensures { result ≡ slice_index self.now variable }
     {
@@ -35,7 +35,7 @@ impl Levels {
     }
 }
 
-/// The level of a variable of the side at this place, 0 where there is no such side.
+/// The level of a variable of the side at this place; 0 if there is no such side.
 pub fn level_at(sides: &[Levels], place: usize, variable: Signal) -> u32
     ensures { result ≡ slice_index (slice_index_or sides.now place []) variable }
 {
@@ -45,7 +45,7 @@ pub fn level_at(sides: &[Levels], place: usize, variable: Signal) -> u32
     }
 }
 
-/// The levels of one side's variables.
+/// The levels of the variables of one side.
 pub fn levels_on(
     alloc: Global,
     table: &NameTable,

@@ -1,13 +1,13 @@
-//! An order that is a list of names.
+//! Orders by a list of names that has to be complete.
 ghost use Rattle.std.specs.Prelude.{◌≡◌, ℕ, ◌≤◌, ◌⊎◌, [], length, IfOk, IfErr, Some, None};
 ghost use Rattle.net_order.specs.Order.{bad_place};
 
-use crate::names::Names;
-use crate::order::OrderFault;
 use net_bench::name_table::NameTable;
-use std::alloc::{AllocError, Global};
+use net_names::names::Names;
+use net_names::order::OrderFault;
+use std::alloc::Global;
 
-/// The names of the list by level, where it has each variable once.
+/// The names of the list by level, if it has each variable exactly once; otherwise the first place that is wrong.
 pub fn listed_table(
     alloc: Global,
     variables: &NameTable,

@@ -1,27 +1,29 @@
-//! What two netlists are told and compared over: their naming, which may have any number of variables.
-ghost use Rattle.std.specs.Prelude.{◌≡◌, ◌⊎◌, ◌↔◌, length, IfOk, IfErr, IsTrue, slice_index};
+//! The naming of two netlists: over which variables they are compared, and which outputs and registers. It may have any
+//! number of variables, unlike a pairing.
+ghost use Rattle.std.specs.Prelude.{◌≡◌, ◌⊎◌, ◌↔◌, IfOk, IfErr, IsTrue, slice_index};
 ghost use Rattle.net_bench.specs.Circuit.{circuit};
-ghost use Rattle.net_order.specs.declared.order.Order.TheVariants.{Declared};
-ghost use Rattle.net_order.specs.Order.{HaveEqualLength, HaveEqualCounts, IsNaming, condition, correspondence, registers_of};
+ghost use Rattle.net_names.specs.declared.order.Order.TheVariants.{Declared};
+ghost use Rattle.net_order.specs.Order.{HaveEqualLength, HaveEqualCounts, IsNaming, condition, correspondence, level_in, registers_of};
 ghost use Rattle.net_order.specs.Tables.{AreLevels};
 
 use crate::correspondence::{Correspondence, correspond};
 use crate::levels::{Levels, all_levels, level_at};
-use crate::names::{MAX_NAMES, Names};
-use crate::order::{Match, OrderFault};
+use crate::netlist_role::NetlistRole;
 use crate::side::{NamedNetlist, sides_of};
 use crate::variable_groups::registers_of;
 use crate::variables::all_variables;
 use net_bench::name_table::NameTable;
 use net_bench::netlist::{Netlist, Signal};
+use net_names::names::{MAX_NAMES, Names};
+use net_names::order::{Match, OrderFault};
 use std::alloc::{AllocError, Global};
 use std::marker::Model;
 
-/// Which variables two netlists and a condition have, at which levels, and which of the two's outputs and registers are compared.
+/// The variables of two netlists and a condition, with their levels, and which outputs and registers of the two are compared.
 #[derive(Drop)]
 pub struct Naming {
     names: Names,
-    /// Side by side: the first netlist's, the second's, and the condition's where there is one.
+    /// For each side the levels of its variables: the first netlist, the second, and the condition if there is one.
     levels: Vec<Levels>,
     outputs: Correspondence,
     registers: Correspondence,
@@ -72,6 +74,17 @@ impl Naming {
         level_at(self.levels.as_slice(), 2, input)
     }
 
+    /// Returns the level of an input or register of one of the netlists.
+    pub fn level(&self, of: NetlistRole, input: Signal) -> u32
+        ensures { result ≡ level_in self.now of input }
+    {
+        match of {
+            NetlistRole::First => self.first_level(input),
+            NetlistRole::Second => self.second_level(input),
+            NetlistRole::Given => self.given_level(input),
+        }
+    }
+
     /// The outputs that are compared, the first netlist's signal first.
     pub fn output_pairs(&self) -> &[(Signal, Signal)]
         ensures { result.now ≡ self.now.outputs.pairs }
@@ -115,7 +128,7 @@ impl Naming {
     }
 }
 
-/// By position, whether there are as many of the one as of the other.
+/// Whether signals that are paired by position are as many in both netlists. By name any numbers will do.
 fn have_equal_length(how: Match, signals: &[Signal], others: &[Signal]) -> bool
     ensures { IsTrue result ↔ HaveEqualLength how signals.now others.now }
 {
@@ -125,7 +138,7 @@ fn have_equal_length(how: Match, signals: &[Signal], others: &[Signal]) -> bool
     }
 }
 
-/// By position, whether the numbers of inputs, of outputs and of registers agree.
+/// Whether both netlists have equally many inputs, outputs and registers, if they are paired by position.
 pub(crate) fn have_equal_counts(first: &Netlist, second: &Netlist, how: Match) -> bool
     ensures { IsTrue result ↔ HaveEqualCounts how (circuit first.now) (circuit second.now) }
 {
@@ -134,7 +147,7 @@ pub(crate) fn have_equal_counts(first: &Netlist, second: &Netlist, how: Match) -
         && have_equal_length(how, registers_of(first), registers_of(second))
 }
 
-/// The naming whose names by level are these. No list of names is longer than an order file has any.
+/// The naming whose variables have these names by level. A longer list than an order file can have is refused as if memory ran out.
 pub(crate) fn naming_of_table(
     alloc: Global,
     first: &Netlist,
@@ -173,8 +186,8 @@ pub(crate) fn naming_of_table(
     })
 }
 
-/// The naming of two netlists, their variables as they are declared, of whatever number. A condition's variables go by their names; those
-/// that neither netlist has stand behind all others.
+/// The naming of two netlists, with their variables as they are declared. The variables of a condition are those of the
+/// same names; those that neither netlist has come after all others.
 pub fn naming_of(
     alloc: Global,
     first: &Netlist,
@@ -182,9 +195,9 @@ pub fn naming_of(
     given: Option<&Netlist>,
     how: Match,
 ) -> Result<Naming, OrderFault>
-    // What is answered is the naming.
+    // The answer is the naming.
     ensures named { IfOk result (λ p. IsNaming how (circuit first.now) (circuit second.now) (condition given.entry) Declared p) }
-    // There is none where the netlists are not counted, or memory ran out.
+    // It is refused only if the netlists have different counts, or memory ran out.
     ensures refused { IfErr result (λ f. (f ≡ OrderFault.OutOfMemory)
         ⊎ ((f ≡ OrderFault.CountsDiffer) × (HaveEqualCounts how (circuit first.now) (circuit second.now) → ⊥))) }
 {

@@ -1,4 +1,4 @@
-//! The pairing of two netlists: a naming of few variables, in the order that is asked for.
+//! The pairing of two netlists: a naming with at most 4,096 variables, in the order that is asked for.
 ghost use Rattle.std.specs.Prelude.{◌≡◌, ◌<◌, ◌≤◌, ◌⊎◌, length, IfOk, IfErr};
 ghost use Rattle.net_bench.specs.Circuit.{circuit};
 ghost use Rattle.net_order.specs.Order.{IsFit, IsPairing, IsRefused, max_variables, condition, declared, ordered};
@@ -9,17 +9,17 @@ use crate::force::forced_table;
 use crate::index_order::indexed_table;
 use crate::interleave::interleaved_table;
 use crate::listed_order::listed_table;
-use crate::names::Names;
 use crate::naming::{Naming, have_equal_counts, naming_of_table};
-use crate::order::{Match, Order, OrderFault};
 use crate::side::{NamedNetlist, sides_of};
 use crate::variables::{MAX_VARIABLES, declared_table, depth_table};
 use net_bench::name_table::NameTable;
 use net_bench::netlist::Netlist;
+use net_names::names::Names;
+use net_names::order::{Match, Order, OrderFault};
 use std::alloc::Global;
 use std::marker::Model;
 
-/// A naming of two netlists and a condition whose variables are few enough to be levels.
+/// A naming of two netlists and a condition with at most 4,096 variables, so that each of them can be a level of a diagram.
 #[derive(Drop)]
 pub struct Pairing {
     naming: Naming,
@@ -37,7 +37,7 @@ impl Model for Pairing {
 }
 
 impl Pairing {
-    /// The pairing that a naming is, where its variables are few; else the naming.
+    /// The pairing of this naming, if its variables are few enough; otherwise the naming comes back as the error.
     pub fn of(naming: Naming) -> Result<Pairing, Naming>
         ensures same { IfOk result (λ p. p ≡ naming) }
         ensures few { IfOk result (λ p. length naming.names ≤ max_variables) }
@@ -50,7 +50,7 @@ impl Pairing {
         Ok(Pairing { naming })
     }
 
-    /// The variables by level. There are at most 4,096.
+    /// The variables by level, at most 4,096.
     pub fn names(&self) -> &Names
         ensures value { result.now ≡ self.now.names }
         ensures few { length self.now.names ≤ max_variables }
@@ -65,7 +65,7 @@ impl Pairing {
         &self.naming
     }
 
-    /// The naming alone.
+    /// The naming of this pairing.
     pub fn into_naming(self) -> Naming
         ensures { result ≡ self }
     {
@@ -73,7 +73,7 @@ impl Pairing {
     }
 }
 
-/// The names by level, in the order that is asked for.
+/// The names of the variables by level, in the order that is asked for.
 fn ordered_table(
     alloc: Global,
     sides: &[NamedNetlist<'_>],
@@ -102,8 +102,9 @@ fn ordered_table(
     }
 }
 
-/// Pairs two netlists, their variables in the order that is asked for. A condition's variables go by their names; those that neither
-/// netlist has stand behind all others, unless a list of names says otherwise.
+/// Pairs two netlists, with their variables in the order that is asked for. The variables of a condition are those of
+/// the same names; those that neither netlist has come after all others, unless the order is a list of names that puts
+/// them elsewhere.
 pub fn pair(
     alloc: Global,
     first: &Netlist,
@@ -112,9 +113,9 @@ pub fn pair(
     how: Match,
     order: &Order,
 ) -> Result<Pairing, OrderFault>
-    // What is answered is the pairing.
+    // The answer is the pairing.
     ensures paired { IfOk result (λ p. IsPairing how (circuit first.now) (circuit second.now) (condition given.entry) order.now p) }
-    // What is refused has its cause, and none that comes before it, unless memory ran out.
+    // If it is refused, the cause is the first in the order of the checks, unless memory ran out.
     ensures refused { IfErr result (λ f. (f ≡ OrderFault.OutOfMemory)
         ⊎ IsRefused how (circuit first.now) (circuit second.now) (condition given.entry) order.now f) }
 {

@@ -1,4 +1,4 @@
-//! Where walks over a netlist begin.
+//! The roots of a netlist: what walks begin at.
 ghost use Rattle.std.specs.Prelude.{◌≡◌, ◌<◌, length, All, IfOk};
 ghost use Rattle.net_bench.specs.Circuit.{circuit};
 ghost use Rattle.net_order.specs.Order.{roots};
@@ -6,7 +6,7 @@ ghost use Rattle.net_order.specs.Order.{roots};
 use net_bench::netlist::{Netlist, Signal};
 use std::alloc::{AllocError, Global};
 
-/// Where walks begin: at the outputs, then at the next states of the registers.
+/// The roots of a netlist: its outputs, then the next states of its registers.
 pub fn roots_of(alloc: Global, net: &Netlist) -> Result<Vec<Signal>, AllocError>
     ensures value { IfOk result (λ v. v.items ≡ roots (circuit net.now)) }
     ensures known { IfOk result (λ v. All (λ s. s < length net.now.names) v.items) }

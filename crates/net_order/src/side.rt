@@ -1,21 +1,21 @@
-//! The netlists of a pairing, each with the names of its variables.
+//! The sides of a pairing: its netlists, each with the names that its variables have in the pairing.
 ghost use Rattle.std.specs.Prelude.{◌≡◌, ◌++◌, ℕ, ◌<◌, length, All, IfOk, IsTrue, slice_index};
 ghost use Rattle.net_bench.specs.Circuit.{circuit, variables_of};
 ghost use Rattle.net_order.specs.Order.{HaveEqualCounts, NamedNetlistModel, both, condition, given_side, is_member, named, partner};
 ghost use Rattle.net_order.specs.Tables.{AreMatched};
 
-use crate::order::Match;
 use net_bench::netlist::{Netlist, Signal};
+use net_names::order::Match;
 use std::alloc::{AllocError, Global};
 use std::marker::Model;
 
-/// A netlist of a pairing. By position another one names its variables: that of the same place.
+/// A netlist of a pairing. By position its variables have the names of those at the same places of another netlist, `name_source`.
 #[derive(Drop)]
 pub struct NamedNetlist<'a> {
     net: &'a Netlist,
     name_source: &'a Netlist,
     how: Match,
-    /// By position: by signal, for a variable, the one of `name_source` that names it.
+    /// By position: for the signal of each variable, the number of the one of `name_source` that names it. By name it is empty.
     partners: Vec<u32>,
 }
 
@@ -31,7 +31,8 @@ impl<'a> Model for NamedNetlist<'a> {
     ghost invariant = { λ s. IsSide s.how s.name_source.now s.net.now s.partners.items };
 }
 
-/// By signal below `count`, the number of its partner: the number in the one list at its first place in the other.
+/// For each signal below `count` its partner by position: of the place at which it is first in
+/// `from`, the number at the same place of `to`.
 fn partner_table(
     alloc: Global,
     count: usize,
@@ -53,7 +54,7 @@ fn partner_table(
 }
 
 impl<'a> NamedNetlist<'a> {
-    /// A netlist whose variables are matched with those of the one that names them.
+    /// A netlist whose variables are matched with those of `name_source`.
     fn new(
         alloc: Global,
         net: &'a Netlist,
@@ -84,7 +85,7 @@ impl<'a> NamedNetlist<'a> {
         self.net
     }
 
-    /// The name of a variable.
+    /// The name of a variable in the pairing.
     pub fn name(&self, variable: Signal) -> &[u8]
         requires { IsTrue (is_member variable (variables_of self.now.net)) }
         ensures { result.now ≡ named self.now variable }
@@ -99,7 +100,7 @@ impl<'a> NamedNetlist<'a> {
     }
 }
 
-/// The netlists of a pairing: the first, the second, and the condition where there is one.
+/// The sides of a pairing: the first netlist, the second, and the condition if there is one.
 pub fn sides_of<'a>(
     alloc: Global,
     first: &'a Netlist,

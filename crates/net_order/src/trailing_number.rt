@@ -1,20 +1,20 @@
-//! The number at the end of a name.
+//! The number at the end of a name, as the 12 of `a12` or `a[12]`.
 ghost use Rattle.std.specs.Prelude.{◌≡◌};
 ghost use Rattle.net_order.specs.Index.{index_key, with_appended_digit, key_of_end, trailing, with_byte, with_digit, with_other_byte};
 
-/// What a name has at its end, as far as it has been read.
+/// What a name has at its end, as far as its bytes have been read.
 #[derive(Clone, Copy, Drop, Debug, PartialEq, Eq)]
 pub enum TrailingNumber {
-    /// No number.
+    /// No number: nothing, or a letter after which no digit came.
     Nothing,
-    /// A number.
+    /// A number, whose last digit is the last byte.
     Digits(u64),
-    /// A number, and behind it marks, as brackets, that are neither letters nor digits.
+    /// A number, and after it bytes that are neither letters nor digits, such as brackets.
     DigitsThenOther(u64),
 }
 
-/// A greater number counts as this one.
-const MAX_NUMBER: u64 = 1_000_000_000_000_000_000;
+/// A greater number counts as this one, so that no name is refused for its number.
+pub const MAX_NUMBER: u64 = 1_000_000_000_000_000_000;
 
 /// The number with one more digit.
 fn with_appended_digit(number: u64, digit: u8) -> u64
@@ -26,7 +26,7 @@ fn with_appended_digit(number: u64, digit: u8) -> u64
         .min(MAX_NUMBER)
 }
 
-/// A digit behind a digit lengthens the number, any other begins one.
+/// A digit right after a digit lengthens the number; any other digit begins a new one.
 fn with_digit(trailing: TrailingNumber, digit: u8) -> TrailingNumber
     ensures { result ≡ with_digit trailing digit }
 {
@@ -39,7 +39,7 @@ fn with_digit(trailing: TrailingNumber, digit: u8) -> TrailingNumber
     }
 }
 
-/// A mark leaves the number where it is.
+/// A byte that is neither a letter nor a digit ends the number, but does not remove it.
 fn with_other_byte(trailing: TrailingNumber) -> TrailingNumber
     ensures { result ≡ with_other_byte trailing }
 {
@@ -50,7 +50,7 @@ fn with_other_byte(trailing: TrailingNumber) -> TrailingNumber
     }
 }
 
-/// What the name has at its end when one more byte of it has been read: a letter leaves no number.
+/// What the name has at its end after one more byte of it. A letter removes the number.
 fn with_byte(trailing: TrailingNumber, byte: u8) -> TrailingNumber
     ensures { result ≡ with_byte trailing byte }
 {
@@ -64,7 +64,7 @@ fn with_byte(trailing: TrailingNumber, byte: u8) -> TrailingNumber
 }
 
 /// What a name has at its end.
-fn trailing_of(name: &[u8]) -> TrailingNumber
+pub fn trailing_of(name: &[u8]) -> TrailingNumber
     ensures { result ≡ trailing name.now }
 {
     name.iter().fold(TrailingNumber::Nothing, |trailing, byte| {
@@ -72,7 +72,7 @@ fn trailing_of(name: &[u8]) -> TrailingNumber
     })
 }
 
-/// No number comes before each number.
+/// The key of an end: no number is less than every number.
 fn key_of_end(trailing: TrailingNumber) -> u128
     ensures { result ≡ key_of_end trailing }
 {
@@ -83,7 +83,7 @@ fn key_of_end(trailing: TrailingNumber) -> u128
     }
 }
 
-/// The key of a name: 0 where no number is at its end, else one more than the number.
+/// The key of a name in order `index`: 0 if it has no number at its end, otherwise 1 more than the number.
 pub fn index_key(name: &[u8]) -> u128
     ensures { result ≡ index_key name.now }
 {

@@ -1,16 +1,16 @@
-//! The name for which a list is no order of the variables of two netlists.
+//! The first name for which a list is no order of the variables of two netlists. It is what a refusal prints.
 ghost use Rattle.std.specs.Prelude.{◌≡◌, ◌⊎◌, ◌↔◌, [], IfErr, IfOk, None};
 ghost use Rattle.net_bench.specs.Circuit.{circuit};
 ghost use Rattle.net_order.specs.Order.{HasEachVariableOnce, IsRefused, condition, variables_in};
 ghost use Rattle.net_order.specs.Unfit.{first_missing, unfit_from};
 
-use crate::names::Names;
 use crate::naming::have_equal_counts;
-use crate::order::{Match, Order, OrderFault};
 use crate::side::sides_of;
 use crate::variables::declared_table;
 use net_bench::name_table::NameTable;
 use net_bench::netlist::Netlist;
+use net_names::names::Names;
+use net_names::order::{Match, Order, OrderFault};
 use std::alloc::{AllocError, Global};
 use std::marker::Model;
 
@@ -19,13 +19,13 @@ use std::marker::Model;
 pub enum Misfit {
     /// The name is no variable.
     Foreign,
-    /// The name stood before.
+    /// The name came before.
     Repeated,
     /// The list lacks this variable.
     Missing,
 }
 
-/// A name for which a list does not fit, and why.
+/// A name for which a list is no order, and why.
 #[derive(Drop)]
 pub struct Unfit {
     why: Misfit,
@@ -64,7 +64,7 @@ impl Unfit {
     }
 }
 
-/// The first of the variables that is not among the names.
+/// The first of the variables that is not among the names; None if all are.
 fn first_missing(
     alloc: Global,
     variables: &NameTable,
@@ -82,7 +82,7 @@ fn first_missing(
     Ok(None)
 }
 
-/// The first name for which the list does not have each of the variables once.
+/// The first name for which the list does not have each of the variables exactly once; None if it has.
 fn unfit_among(
     alloc: Global,
     variables: &NameTable,
@@ -106,8 +106,9 @@ fn unfit_among(
     first_missing(alloc, variables, &before)
 }
 
-/// The first name for which the list is no order of the variables that `pair` has for the same netlists: one that is no variable or
-/// stood before, and where there is none, the first variable as they are declared that the list lacks. None where the list fits.
+/// The first name for which the list is no order of the variables that `pair` has for the same netlists: a name that is
+/// no variable or came before; if there is none, the first variable in declared order that the list lacks. None if the
+/// list is an order.
 pub fn unfit_name(
     alloc: Global,
     first: &Netlist,
@@ -118,10 +119,10 @@ pub fn unfit_name(
 ) -> Result<Option<Unfit>, OrderFault>
     ensures first_misfit { IfOk result (λ u. u ≡ unfit_from (variables_in how (circuit first.now) (circuit second.now)
         (condition given.entry)) [] list.now) }
-    // There is none where `pair` accepts the list, and nowhere else.
+    // The answer is None exactly for the lists that `pair` accepts.
     ensures none { IfOk result (λ u. (u ≡ None) ↔ HasEachVariableOnce
         (variables_in how (circuit first.now) (circuit second.now) (condition given.entry)) list.now) }
-    // What is refused has the cause that `pair` tells for any other order.
+    // If it is refused, the cause is the one that `pair` has in any other order.
     ensures refused { IfErr result (λ f. (f ≡ OrderFault.OutOfMemory)
         ⊎ IsRefused how (circuit first.now) (circuit second.now) (condition given.entry) Order.Declared f) }
 {

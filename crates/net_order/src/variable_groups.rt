@@ -1,7 +1,7 @@
-//! The signals of a netlist by what they are.
+//! Groups of a netlist's variables that orders take together.
 ghost use Rattle.std.specs.Prelude.{◌≡◌, ◌<◌, length, All, IfOk, IsTrue};
 ghost use Rattle.net_bench.specs.Circuit.{circuit, variables_of};
-ghost use Rattle.net_order.specs.Order.{is_member, registers_of, roots};
+ghost use Rattle.net_order.specs.Order.{is_member, registers_of};
 ghost use Rattle.net_order.specs.Tables.{group_variables};
 
 use crate::walk::met;
@@ -13,11 +13,11 @@ use std::alloc::{AllocError, Global};
 pub enum VariableGroup {
     Inputs,
     Registers,
-    /// Those below outputs and next states, each where it is met first.
+    /// Those below outputs and next states, in the order in which a walk meets them.
     BelowOutputs,
 }
 
-/// The registers' signals, in their order.
+/// The signals of the registers, in their order.
 pub fn registers_of(net: &Netlist) -> &[Signal]
     ensures value { result.now ≡ registers_of (circuit net.now) }
     ensures known { All (λ s. s < length net.now.names) result.now }
@@ -26,7 +26,7 @@ pub fn registers_of(net: &Netlist) -> &[Signal]
     net.variables().split_at(net.inputs().len()).1
 }
 
-/// The variables that a listing has, in its order.
+/// The variables of a group, in its order.
 pub fn group_variables(
     alloc: Global,
     net: &Netlist,

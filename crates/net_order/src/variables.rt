@@ -1,20 +1,20 @@
-//! The variables of the netlists of a pairing, as they are declared and as they are met below outputs and next states.
+//! The variables of a pairing, in declared order and in the order of walks below outputs and next states.
 ghost use Rattle.std.specs.Prelude.{◌≡◌, ◌≤◌, length, All, IsTrue, OnOk, IfOk, IfErr};
 ghost use Rattle.net_bench.specs.Circuit.{variables_of};
-ghost use Rattle.net_order.specs.Order.{NamedNetlistModel, all_names, by_depth, declared, is_member, names_in, names_of_sides, names_on};
+ghost use Rattle.net_order.specs.Order.{all_names, by_depth, declared, is_member, names_in, names_of_sides, names_on};
 ghost use Rattle.net_order.specs.Tables.{IsOverflow, group_variables, with_names};
 
-use crate::order::OrderFault;
 use crate::side::NamedNetlist;
 use crate::variable_groups::{VariableGroup, group_variables};
 use net_bench::name_table::NameTable;
 use net_bench::netlist::Signal;
+use net_names::order::OrderFault;
 use std::alloc::{AllocError, Global};
 
-/// The most variables of a pairing.
+/// The most variables of a pairing, which is the most levels of a store.
 pub const MAX_VARIABLES: usize = 4_096;
 
-/// Puts the names of these variables of one side into the table, each where it is not there yet.
+/// Appends the names of these variables of one side to the table, if they are not there yet.
 fn add_names(
     alloc: Global,
     table: &mut NameTable,
@@ -30,7 +30,7 @@ fn add_names(
     Ok(())
 }
 
-/// Puts what a listing has of one side into the table.
+/// Appends the names of a group of one side's variables to the table.
 fn add_side(
     alloc: Global,
     table: &mut NameTable,
@@ -43,7 +43,7 @@ fn add_side(
     add_names(alloc, table, side, variables.as_slice())
 }
 
-/// Puts what a listing has of each side into the table, side after side.
+/// Appends the names of this group of each side to the table, side after side.
 fn add_sides(
     alloc: Global,
     table: &mut NameTable,
@@ -59,7 +59,7 @@ fn add_sides(
     Ok(())
 }
 
-/// Puts all variables of sides into the table, as they are declared.
+/// Appends all variables of these sides to the table in declared order: the inputs of each, then the registers of each.
 fn add_declared(
     alloc: Global,
     table: &mut NameTable,
@@ -71,7 +71,7 @@ fn add_declared(
     add_sides(alloc, table, sides, VariableGroup::Registers)
 }
 
-/// Puts all variables into the table, as they are declared: those of a condition last.
+/// Appends all variables to the table in declared order, those of the condition last.
 pub fn add_all(
     alloc: Global,
     table: &mut NameTable,
@@ -84,7 +84,7 @@ pub fn add_all(
     add_declared(alloc, table, given)
 }
 
-/// The variables in declared order, of whatever number.
+/// The variables in declared order, however many they are.
 pub fn all_variables(
     alloc: Global,
     sides: &[NamedNetlist<'_>],
@@ -97,7 +97,7 @@ pub fn all_variables(
     Ok(table)
 }
 
-/// The variables in declared order, where a pairing may have as many.
+/// The variables in declared order; refused if a pairing cannot have as many.
 pub fn declared_table(
     alloc: Global,
     sides: &[NamedNetlist<'_>],

@@ -1,4 +1,4 @@
-//! The variables as they are met below signals: a walk down with a stack of its own, which opens each gate once.
+//! The variables below signals, as depth-first walks with a stack of their own meet them. A walk opens each gate once.
 ghost use Rattle.std.specs.Prelude.{◌≡◌, ◌<◌, ◌==◌, ◌∷◌, ◌++◌, [], length, map, fold, find, reverse, OnOk, IfOk, MatchOption, All, IsTrue};
 ghost use Rattle.std.specs.Prelude.{None};
 ghost use Rattle.net_bench.specs.Circuit.{IsNet, circuit, variables_of};
@@ -10,32 +10,32 @@ use crate::roots::roots_of;
 use net_bench::netlist::{Netlist, Role, Signal};
 use std::alloc::{AllocError, Global};
 
-/// How a walk takes the operands of a gate.
+/// In which order a walk takes the operands of a gate.
 #[derive(Clone, Copy, Debug, PartialEq, Eq)]
 pub enum OperandOrder {
     /// From left to right.
     Written,
-    /// By falling rank, equal ranks from left to right.
+    /// By falling rank, those of equal rank from left to right.
     ByRank,
 }
 
-/// What is left to do: a signal to enter, or a gate whose operands have been walked.
+/// An item of the stack: a signal that is still to be entered, or a gate whose operands have been walked when its turn comes.
 #[derive(Clone, Copy, Debug)]
 pub enum Frame {
     Enter(u32),
     Leave(u32),
 }
 
-/// A netlist as walks take it.
+/// A netlist with the order in which walks take operands.
 #[derive(Drop)]
 pub struct OrderedNetlist<'a> {
     pub net: &'a Netlist,
     pub operand_order: OperandOrder,
-    /// By gate, its operands in the order in which walks take them.
+    /// For each gate its operands in the order in which walks take them.
     pub steps: Vec<Vec<Signal>>,
 }
 
-/// The operands of a gate as walks take them.
+/// The operands of a gate in the order in which walks take them.
 fn in_walk_order(
     alloc: Global,
     net: &Netlist,
@@ -51,7 +51,7 @@ fn in_walk_order(
     }
 }
 
-/// Puts a list at the end.
+/// Appends a list.
 fn push_list(lists: &mut Vec<Vec<Signal>>, list: Vec<Signal>) -> Result<(), AllocError>
     ensures { OnOk result (map (λ l. l.items) lists.new.items ≡ map (λ l. l.items) lists.old.items ++ list.items ∷ []) }
 {
@@ -59,7 +59,7 @@ fn push_list(lists: &mut Vec<Vec<Signal>>, list: Vec<Signal>) -> Result<(), Allo
     Ok(())
 }
 
-/// By gate, its operands in the order in which walks take them.
+/// For each gate its operands in the order in which walks take them.
 fn all_in_walk_order(
     alloc: Global,
     net: &Netlist,
@@ -77,7 +77,7 @@ fn all_in_walk_order(
     Ok(steps)
 }
 
-/// The netlist as walks of this way take it.
+/// The netlist, for walks that take operands in this order.
 pub fn ordered_netlist<'a>(
     alloc: Global,
     net: &'a Netlist,
@@ -95,7 +95,7 @@ pub fn ordered_netlist<'a>(
     })
 }
 
-/// Puts the operands on the stack, the first on top.
+/// Puts the operands on the stack, so that the first is on top.
 fn push_operands(stack: &mut Vec<Frame>, operands: &[Signal]) -> Result<(), AllocError>
     ensures { OnOk result (reverse stack.new.items ≡ entered operands.now (reverse stack.old.items)) }
 {
@@ -107,7 +107,7 @@ fn push_operands(stack: &mut Vec<Frame>, operands: &[Signal]) -> Result<(), Allo
     Ok(())
 }
 
-/// The operands of the signal's gate as walks take them, none for a variable.
+/// The operands of the signal's gate in the order in which walks take them; None for a variable.
 fn walk_operands<'a>(ordered_net: &'a OrderedNetlist<'_>, signal: u32) -> Option<&'a [Signal]>
     requires in_bounds { signal < length ordered_net.now.net.now.names }
     requires ordered_net { AreOrderedOperands ordered_net.now.operand_order ordered_net.now.net.now (map (λ l. l.items) ordered_net.now.steps.items) }
@@ -123,7 +123,7 @@ fn walk_operands<'a>(ordered_net: &'a OrderedNetlist<'_>, signal: u32) -> Option
     }
 }
 
-/// Enters a signal: passes it where it has been walked, and else puts a variable among those found, or opens a gate.
+/// Enters a signal. If it was seen before, nothing is to be done; a new variable is found; a gate is opened.
 fn enter(
     ordered_net: &OrderedNetlist<'_>,
     found: &mut Vec<Signal>,
@@ -157,7 +157,7 @@ fn enter(
     }
 }
 
-/// Walks below a signal: puts the variables that are met for the first time behind those that were found before.
+/// Walks below a signal, and appends the variables to `found` that no walk before has met. `seen` has the signals that are done.
 pub fn walk_below(
     alloc: Global,
     ordered_net: &OrderedNetlist<'_>,
@@ -185,14 +185,14 @@ pub fn walk_below(
     Ok(())
 }
 
-/// What was visited by a walk that has not begun.
+/// Which signals have been seen when no walk has begun: none.
 pub fn none_seen(alloc: Global, ordered_net: &OrderedNetlist<'_>) -> Result<Vec<bool>, AllocError>
     ensures { IfOk result (λ v. IsBetweenWalks ordered_net.now.operand_order (circuit ordered_net.now.net.now) [] v.items) }
 {
     Vec::from_elem(alloc, false, ordered_net.net.count())
 }
 
-/// The variables below one signal, each where a walk meets it first.
+/// The variables below one signal, in the order in which a walk meets them.
 pub fn met_below(
     alloc: Global,
     ordered_net: &OrderedNetlist<'_>,
@@ -208,7 +208,7 @@ pub fn met_below(
     Ok(found)
 }
 
-/// The variables below the outputs and next states, each where it is met first, operands from left to right.
+/// The variables below all outputs and next states, in the order in which walks meet them, with operands from left to right.
 pub fn met(alloc: Global, net: &Netlist) -> Result<Vec<Signal>, AllocError>
     ensures met { IfOk result (λ v. v.items ≡ met (circuit net.now)) }
     ensures known { IfOk result (λ v. All (λ s. s < length net.now.names) v.items) }

@@ -1,4 +1,4 @@
--- What values in a bit say of the functions of a pair.
+-- What the values in a bit say of the functions of a pair.
 use Rattle.std.proofs.Common.{◌≡◌, ◌≢◌, ℕ, ◌<◌, Bool, true, false, not, List, Option, Some, None, refl, sym, ap, ◌∙◌, subst, map, length}
 use Rattle.std.specs.Prelude.{◌↔◌, IfSome, slice_index}
 use Rattle.std.proofs.lemmas.List.{length-map}
@@ -48,7 +48,7 @@ kept_all a b given p old new kept of = record {
   condition = kept_condition given (given_level p) old.given new.given kept.condition of.condition;
 }
 
--- ---- what is kept twice
+-- ---- what is unchanged twice is unchanged
 
 kept_twice : (one two three : SimulatorModel) → IsKept one two → IsKept two three → IsKept one three
 kept_twice one two three first second = record { net = second.net ∙ first.net; levels = second.levels ∙ first.levels }
@@ -179,7 +179,7 @@ pub first_shown : (a b : Circuit) (given : Option Circuit) (p : NamingModel) (ol
 first_shown a b given p old new at of firsts pair i low =
     (column bit_in_block i new.first.values, labelled a (first_level p) old.first new.first at of.first firsts i low, refl)
 
--- the condition's block says where it holds
+-- the condition's block has a 1 exactly for the assignments at which it holds
 pub condition_shown : (given : Option Circuit) (p : NamingModel) (old new : SimulatorModel) (at : List (List ℕ)) (holds : List ℕ) → IsOfCondition given (given_level p) (Some old) → IsKept old new → IsNet new.net →
     0 < length new.net.outputs → ((l : ℕ → ℕ) → map l (variables_of (circuit old.net)) ≡ old.levels → AreLabellings bit_in_block 512 old.net l at new.values) →
     ((i : ℕ) → i < 512 → bit_in_block i holds ≡ bit_of (column bit_in_block i new.values) (slice_index new.net.outputs 0)) →

@@ -1,4 +1,4 @@
--- What one block more shows of pairs.
+-- What one more block shows of pairs.
 use Rattle.std.proofs.Common.{◌≡◌, inl, inr, ℕ, zero, suc, ◌+◌, ◌*◌, ◌<◌, List, ◌++◌, Option, Some, None, refl, sym, ap, ◌∙◌, subst, length, get_or, replicate, take, arith}
 use Rattle.std.specs.Prelude.{◌↔◌, All, IfSome, MatchOption}
 use Rattle.std.proofs.lemmas.List.{length-replicate, take-append-le, take_all}
@@ -17,7 +17,7 @@ use Rattle.net_patterns.specs.Simulated.{AreApart, first_bit}
 use Rattle.net_patterns.proofs.Firsts.{next_first}
 use Rattle.net_patterns.proofs.Ordering.{not_after}
 
--- what a slice of a list is written back to
+-- a slice of a list that is written back is what was written
 pub written_back : {X : Type 0} (new rest : List X) (n : ℕ) → length new ≡ n → take n (new ++ rest) ≡ new
 written_back new rest n is = take-append-le n new rest (omega arith) ∙ take_all n new (omega arith)
 

@@ -1,4 +1,4 @@
--- The words in which one variable alone differs from all others.
+-- The words of the patterns in which one variable differs from all others.
 use Rattle.std.proofs.Common.{◌≡◌, ◌≢◌, inl, inr, ℕ, zero, suc, ◌+◌, ◌*◌, ◌/◌, ◌%◌, ◌^◌, ◌<◌, ◌==◌, Bool, true, false, not, cond, ◌&&◌, refl, sym, ap, ◌∙◌, subst, eq-eqb, arith}
 use Rattle.std.specs.Prelude.{bit_xor}
 use Rattle.std.specs.Int.{bit_at}
@@ -8,7 +8,7 @@ use Rattle.net_simulate.proofs.Bits.{in_xor}
 use Rattle.net_simulate.proofs.Lists.{same_or}
 use Rattle.net_patterns.specs.Drawing.{single_bit}
 
--- a test of each number below n
+-- a test for each number below n
 abbrev all_below : ℕ → (ℕ → Bool) → Bool
 all_below zero test = true
 all_below (suc n) test = test n && all_below n test

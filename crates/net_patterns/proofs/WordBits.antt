@@ -1,4 +1,4 @@
--- Bits of blocks and of patterns, one word more.
+-- Bits of blocks and of patterns, after one more word.
 use Rattle.std.proofs.Common.{◌≡◌, inl, inr, ℕ, ◌+◌, ◌*◌, ◌/◌, ◌%◌, ◌<◌, ◌≤◌, Bool, true, false, List, [], sym, ap, ◌∙◌, subst, length, get_or, set, cond, arith}
 use Rattle.std.specs.Prelude.{nat_lt}
 use Rattle.std.proofs.lemmas.Bool.{cases_lt}
@@ -10,7 +10,7 @@ use Rattle.net_patterns.specs.declared.patterns.Patterns.{Patterns}
 use Rattle.net_patterns.specs.Drawing.{drawn_word, single_bit}
 use Rattle.net_patterns.specs.Patterns.{pattern, pattern_bit, single_words}
 
--- one word of a block more
+-- one more word of a block
 pub words_more : (F : ℕ → Bool) (words : List ℕ) (place w : ℕ) → place < length words → ((i : ℕ) → i < 64 * place → bit_in_block i words ≡ F i) →
     ((r : ℕ) → r < 64 → bit_in r w ≡ F (64 * place + r)) → (i : ℕ) → i < 64 * (place + 1) → bit_in_block i (set words place w) ≡ F i
 words_more F words place w low before here i less = elim (cases_lt i (64 * place)) [
@@ -21,7 +21,7 @@ words_more F words place w low before here i less = elim (cases_lt i (64 * place
       ap (λ j. bit_in (i % 64) (get_or (set words place w) j 0)) e ∙ ap (bit_in (i % 64)) (get_or-set_same words place w 0 low) ∙ here (i % 64) (omega arith) ∙ ap F at
 ]
 
--- one level more
+-- one more level
 pub levels_more : (F : ℕ → Bool) (i : ℕ) (at : List (List ℕ)) (level : ℕ) (words : List ℕ) → level < length at → ((k : ℕ) → k < level → bit_in_block i (get_or at k []) ≡ F k) →
     bit_in_block i words ≡ F level → (k : ℕ) → k < level + 1 → bit_in_block i (get_or (set at level words) k []) ≡ F k
 levels_more F i at level words low before here k less = elim (cases_lt k level) [
@@ -38,7 +38,7 @@ level_bits p number i at each bits =
     fill_by_all (pattern_bit p number) (column bit_in_block i at) p.variables false (length-map at (bit_in_block i) ∙ each)
     (λ k low. get_or-map (bit_in_block i) at k [] false (omega arith) ∙ bits k low)
 
--- the bits of a word of the first numbers, and of one that is drawn
+-- the bits of a word of the first patterns, and of a pseudo-random one
 pub in_first : (p : Patterns) (word level i : ℕ) → i < 64 → word < single_words p → single_bit (64 * word + i) level ≡ pattern_bit p (64 * word + i) level
 in_first p word level i low less =
     let before : nat_lt (64 * word + i) (64 * single_words p) ≡ true = grind (arith, nat_tests) in

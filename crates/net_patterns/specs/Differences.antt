@@ -10,12 +10,12 @@ use Rattle.net_patterns.specs.declared.patterns.Patterns.{Patterns}
 use Rattle.net_patterns.specs.Choices.{IsFirstWith}
 use Rattle.net_patterns.specs.Patterns.{pattern}
 
--- the condition holds at an assignment: its output is 1 there. No condition holds everywhere.
+-- the condition holds at an assignment: its output is 1 there. If there is no condition, it holds everywhere.
 abbrev pub HoldsAt : Option Circuit → NamingModel → List Bool → Type 0
 HoldsAt None p x = ⊤
 HoldsAt (Some c) p x = Computes c (given_level p) (slice_index c.outputs 0) x true
 
--- An assignment of a naming's variables at which the condition holds and the functions of two signals, one of each netlist, differ.
+-- The assignment is a difference of the pair: the condition holds, and the functions of the two signals, one of each netlist, differ.
 pub record IsDifferenceAt (a b : Circuit) (given : Option Circuit) (p : NamingModel) (pair : ℕ × ℕ) (x : List Bool) : Type 0 where
   pub bits : length x ≡ length p.names
   pub holds : HoldsAt given p x
@@ -23,7 +23,7 @@ pub record IsDifferenceAt (a b : Circuit) (given : Option Circuit) (p : NamingMo
   pub first : Computes a (first_level p) pair.0 x value
   pub second : Computes b (second_level p) pair.1 x (not value)
 
--- the same with the value that the first signal's function has there; the second's has the other value
+-- the same with the value of the first signal's function there; the second's is the complement
 abbrev pub IsDifferenceWith : Circuit → Circuit → Option Circuit → NamingModel → ℕ × ℕ → List Bool → (first : Bool) → Type 0
 IsDifferenceWith a b given p pair x first = IsDifferenceAt a b given p pair x × Computes a (first_level p) pair.0 x first
 
@@ -47,15 +47,15 @@ IsShownBy a b given p patterns pair n = IsDifferenceAt a b given p pair (pattern
 abbrev pub HasFirstValue : Circuit → NamingModel → Patterns → ℕ × ℕ → ℕ → Bool → Type 0
 HasFirstValue a p patterns pair n first = Computes a (first_level p) pair.0 (pattern patterns n) first
 
--- For each pair the first of so many patterns that is a difference of it, with the value of its first signal there, and None only if none
--- of them is.
+-- For each pair, the first of so many patterns that is a difference of it, with the value of its first signal there;
+-- None only if none of them is.
 pub record AreFirst (a b : Circuit) (given : Option Circuit) (p : NamingModel) (patterns : Patterns) (count : ℕ) (pairs : List (ℕ × ℕ))
     (found : List (Option ShownPattern)) : Type 0 where
   pub each : length found ≡ length pairs
   pub first : (k : ℕ) (d : ℕ × ℕ) → k < length pairs →
       IsFirstWith (IsShownBy a b given p patterns (slice_index_or pairs k d)) (HasFirstValue a p patterns (slice_index_or pairs k d)) count (slice_index_or found k None)
 
--- y is x, or comes before it in the order in which the least difference is the first
+-- y is x, or comes before it if levels are read from the top, 0 before 1; the least difference is the first in this order
 abbrev pub IsNotAfter : List Bool → List Bool → Type 0
 IsNotAfter y x = (y ≡ x) ⊎ Before y x
 

@@ -1,4 +1,4 @@
--- A netlist that is ready to be evaluated at blocks of assignments.
+-- A netlist that is prepared for evaluation at blocks of assignments.
 use Rattle.std.specs.Prelude.{◌≡◌, ℕ, List, length}
 use Rattle.net_bench.specs.Circuit.{Net, circuit, variables_of}
 use Rattle.net_simulate.specs.Schedules.{Equation, IsSchedule}
@@ -9,7 +9,7 @@ pub record SimulatorModel : Type 0 where
   pub levels : List ℕ
   pub values : List (List ℕ)
 
--- the gates are those of the netlist; there is a level for each variable and a value for each signal
+-- the gates are those of the netlist, and there is a level for each variable and a value for each signal
 pub record IsPrepared (n : Net) (gates : List Equation) (levels : List ℕ) (values : List (List ℕ)) : Type 0 where
   pub schedule : IsSchedule n gates
   pub each_variable : length levels ≡ length (variables_of (circuit n))

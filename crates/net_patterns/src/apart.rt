@@ -1,4 +1,4 @@
-//! Where blocks differ.
+//! The first assignment of a block at which the values of a pair differ.
 ghost use Rattle.std.specs.Prelude.{◌≡◌, ◌≢◌, ◌<◌, true};
 ghost use Rattle.net_simulate.specs.Columns.{bit_in, bit_in_block};
 ghost use Rattle.net_patterns.specs.Choices.{IsFirst, IsNext};
@@ -10,7 +10,7 @@ use crate::sides::Sides;
 use net_bench::netlist::Signal;
 use net_simulate::Block;
 
-/// The first bit that is 1.
+/// The number of the lowest bit that is 1; None if there is none.
 fn first_one(word: u64) -> Option<usize>
     ensures { IsFirst (λ i. bit_in i word ≡ true) 64 result }
 {
@@ -21,14 +21,14 @@ fn first_one(word: u64) -> Option<usize>
     }
 }
 
-/// The first bit at which two words differ and the condition's word has a 1.
+/// The first bit at which two words differ, of those in which the condition's word is 1.
 fn first_in_word(first: u64, second: u64, holds: u64) -> Option<usize>
     ensures { IsFirst (λ i. (bit_in i holds ≡ true) × (bit_in i first ≢ bit_in i second)) 64 result }
 {
     first_one((first ^ second) & holds)
 }
 
-/// The first bit at which two blocks differ and the condition's block has a 1.
+/// The first bit at which two blocks differ, of those in which the condition's block is 1.
 fn first_in_block(first: &Block, second: &Block, holds: &Block) -> Option<usize>
     ensures { IsFirst (λ i. (bit_in_block i holds.now ≡ true) × (bit_in_block i first.now ≢ bit_in_block i second.now)) 512 result }
 {
@@ -40,7 +40,7 @@ fn first_in_block(first: &Block, second: &Block, holds: &Block) -> Option<usize>
     None
 }
 
-/// The first bit of the block that was evaluated last at which the values of a pair differ and the condition's block has a 1.
+/// The first assignment of the block evaluated last at which the values of a pair differ, of those at which the condition holds.
 pub(crate) fn first_apart(
     sides: &Sides<'_>,
     pair: &(Signal, Signal),
@@ -55,7 +55,7 @@ pub(crate) fn first_apart(
     first_in_block(&first, &second, holds)
 }
 
-/// The value of a pair's first signal in a bit of the block that was evaluated last.
+/// The value of a pair's first signal at an assignment of the block evaluated last.
 pub(crate) fn first_value(sides: &Sides<'_>, pair: &(Signal, Signal), bit: usize) -> bool
     requires pair { IsPairIn sides.now pair.now }
     requires bit { bit < 512 }
@@ -66,7 +66,7 @@ pub(crate) fn first_value(sides: &Sides<'_>, pair: &(Signal, Signal), bit: usize
     has_bit(block[bit / 64], bit % 64)
 }
 
-/// What was found earlier, else the first pattern of this block at which the values of a pair differ.
+/// What was found earlier; if nothing was, the first pattern of this block at which the values of a pair differ.
 pub(crate) fn next_apart(
     earlier: Option<ShownPattern>,
     sides: &Sides<'_>,

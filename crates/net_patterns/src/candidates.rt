@@ -1,14 +1,15 @@
-//! Assignments that differ from one in a window of levels.
+//! Candidates for a smaller difference: assignments that differ from one only in a window of levels.
 ghost use Rattle.std.specs.Prelude.{◌≡◌, ◌<◌, ◌≤◌, length, IfSome};
 
 use net_simulate::{Block, all_bits, no_bits};
 
-/// How many groups of levels a window has: a block has a candidate for each of their 512 combinations.
+/// How many groups of levels a window has. Each group has two choices, so a block has one candidate for each of the 512 combinations.
 const GROUPS: usize = 9;
 
-/// Levels that lie side by side, in groups of so many. Only the first windows are tried.
+/// A window: neighbouring levels in 9 groups of `size` levels, from the level `from` on. Of the windows of this size
+/// the first `tried` are tried, which follow one another from level 0 on.
 #[derive(Clone, Copy, Drop, Debug)]
-pub(crate) struct Window {
+pub(crate) struct LevelWindow {
     pub(crate) from: usize,
     pub(crate) size: usize,
     pub(crate) tried: usize,
@@ -16,8 +17,8 @@ pub(crate) struct Window {
     ghost few: { size ≤ 1000 },
 }
 
-impl Window {
-    /// The group of a level, if the level is in the window.
+impl LevelWindow {
+    /// The group of a level; None if the level is outside the window.
     fn group(&self, level: usize) -> Option<usize>
         ensures { IfSome result (λ group. group < 9) }
     {
@@ -28,7 +29,7 @@ impl Window {
         if group < GROUPS { Some(group) } else { None }
     }
 
-    /// Whether the window is one of the first, side by side from level 0 on, and an assignment has a 1 in it.
+    /// Whether the window is one of those that are tried, and the assignment has a 1 in it.
     pub(crate) fn is_tried(&self, small: &[bool]) -> bool
         requires { self.now.from ≤ length small.now }
     {
@@ -39,7 +40,7 @@ impl Window {
             && small[self.from..end].iter().any(|bit| *bit)
     }
 
-    /// The bits of a level, which has this bit in the assignment, in all candidates.
+    /// The bits of a level in all candidates, if its bit in the assignment is `bit`.
     fn bits(&self, level: usize, bit: bool) -> Block {
         match self.group(level) {
             Some(group) => {
@@ -53,9 +54,9 @@ impl Window {
         }
     }
 
-    /// Sets the bits of each level in all candidates. In candidate i a group stays as it is in the assignment if its bit of i is 1, and is
-    /// all 0 else, where the first group has the highest bit; groups of one level take their bit of i. So they come in the order in which
-    /// the least difference is the first.
+    /// Sets the bits of each level in all candidates. The first group belongs to the highest bit of a candidate's
+    /// number. If the bit is 1, the group has the bits of the assignment, otherwise it is all 0; a group of one level
+    /// has the bit itself. So the first candidate that is a difference is the least of them.
     pub(crate) fn set_candidates(&self, small: &[bool], at: &mut [Block])
         requires { length small.now ≡ length at.old }
     {
@@ -66,7 +67,7 @@ impl Window {
     }
 }
 
-/// The bits of the numbers below 512 at this place, the lowest at place 0.
+/// For the 512 numbers below 512 their bit at this place, of which the lowest is place 0.
 fn bits_of_numbers(place: usize) -> Block {
     match place {
         0 => [0xaaaa_aaaa_aaaa_aaaa; 8],

@@ -1,5 +1,5 @@
-//! Which of several patterns shows a difference.
-ghost use Rattle.std.specs.Prelude.{◌≡◌, ◌<◌, ◌+◌, ℕ, Option, None, length, replicate, slice_index_or, All, IfOk, IfSome};
+//! The first pattern at which each of several pairs differs.
+ghost use Rattle.std.specs.Prelude.{◌≡◌, ◌<◌, ℕ, Option, None, length, replicate, slice_index_or, All, IfOk, IfSome};
 ghost use Rattle.net_bench.specs.Circuit.{circuit};
 ghost use Rattle.net_order.specs.Order.{condition};
 ghost use Rattle.net_patterns.specs.Choices.{IsNext};
@@ -15,7 +15,7 @@ use net_bench::netlist::Signal;
 use net_simulate::{Block, no_bits};
 use std::alloc::{AllocError, Global};
 
-/// No pattern yet for so many pairs.
+/// For each of so many pairs nothing found yet.
 fn none_found(alloc: Global, count: usize) -> Result<Vec<Option<ShownPattern>>, AllocError>
     ensures { IfOk result (λ v. v.items ≡ replicate count None) }
 {
@@ -26,7 +26,7 @@ fn none_found(alloc: Global, count: usize) -> Result<Vec<Option<ShownPattern>>, 
     Ok(found)
 }
 
-/// Adds what the block that was evaluated last shows of pairs of which nothing was found yet.
+/// Notes what the block evaluated last shows of the pairs of which nothing was found before.
 fn add_block(
     sides: &Sides<'_>,
     pairs: &[(Signal, Signal)],
@@ -47,9 +47,10 @@ fn add_block(
     }
 }
 
-/// For each pair of a signal of the first netlist and one of the second, the first pattern at which the condition holds and the functions
-/// of the two differ, over the variables of the naming, and the first signal's value there. Time is linear in the gates for each block of patterns, and no
-/// evaluation allocates.
+/// For each pair of a signal of the first netlist and one of the second, the first pattern at which the condition holds
+/// and the two functions differ, over the variables of the naming, and the first function's value there; None if there
+/// is no such pattern. For each block of patterns time is linear in the gates; memory is allocated only at the
+/// beginning.
 pub fn first_differences(
     alloc: Global,
     netlists: &Netlists<'_, '_>,

@@ -1,4 +1,4 @@
-//! The words of patterns.
+//! The words of patterns: the bits of one level in 64 patterns.
 ghost use Rattle.std.specs.Prelude.{◌≡◌, ◌<◌, ◌+◌, ◌*◌, ◌^◌, ℕ};
 ghost use Rattle.net_simulate.specs.Columns.{bit_in};
 ghost use Rattle.net_patterns.specs.Drawing.{combined, drawn_word, single_bit};
@@ -6,10 +6,10 @@ ghost use Rattle.net_patterns.specs.Drawing.{combined, drawn_word, single_bit};
 use rand_core::{Rng, SeedableRng};
 use rand_xoshiro::SplitMix64;
 
-/// A 1 in each bit of an odd number.
+/// A word whose bits of odd numbers are 1.
 const ODD_BITS: u64 = 0xaaaa_aaaa_aaaa_aaaa;
 
-/// A word of the first numbers, which have one variable alone that differs from all others: bit i is that of number 64 * word + i.
+/// A word of the first patterns, in which one variable differs from all others: bit i is that of pattern 64 * word + i.
 pub(crate) fn single_word(word: usize, level: usize) -> u64
     requires { level + 1 < 2 ^ 64 }
     ensures { (i : ℕ) → i < 64 → bit_in i result ≡ single_bit (64 * word + i) level }
@@ -22,7 +22,7 @@ pub(crate) fn single_word(word: usize, level: usize) -> u64
     }
 }
 
-/// One of two words or both combined, by the number of the word, so that some words have fewer 1s and some more.
+/// One of two words, or both combined, by the number of the word, so that some words have fewer 1s and some more.
 fn combined(word: usize, one: u64, two: u64) -> u64
     ensures { result ≡ combined word one two }
 {
@@ -36,7 +36,8 @@ fn combined(word: usize, one: u64, two: u64) -> u64
     }
 }
 
-/// A word that SplitMix64 draws (Steele, Lea and Flood 2014), from a seed that is the number of the word and the level.
+/// A word of pseudo-random bits by the generator SplitMix64 (Steele, Lea and Flood 2014). The seed is made of the
+/// word's number and the level, so that each word is the same in every run.
 pub(crate) fn drawn_word(word: usize, level: usize) -> u64
     ensures { result ≡ drawn_word word level }
 {
@@ -46,7 +47,7 @@ pub(crate) fn drawn_word(word: usize, level: usize) -> u64
     combined(word, one, two)
 }
 
-/// Whether this bit of a word is 1.
+/// Whether the bit of this number is 1.
 pub(crate) fn has_bit(word: u64, number: usize) -> bool
     requires { number < 64 }
     ensures { result ≡ bit_in number word }

@@ -1,11 +1,11 @@
-//! What a difference says of functions.
+//! Laws: what a difference says of functions, as functions that are called by proofs only.
 ghost use Rattle.std.specs.Prelude.{◌≡◌, ◌≢◌, ◌<◌, ℕ, Bool, true, List, Option, Some, length, slice_index};
 ghost use Rattle.net_bench.specs.Circuit.{Circuit, IsNet, Net, circuit};
 ghost use Rattle.net_bench.specs.Labels.{IsFunctionOf};
 ghost use Rattle.net_order.specs.Order.{NamingModel, first_level, given_level, second_level};
 ghost use Rattle.net_patterns.specs.Differences.{IsDifferenceAt, IsPairOf};
 
-/// At a difference of two signals their functions differ.
+/// At a difference of two signals their functions have different values.
 pub fn functions()
     ensures { (n m : Net) → IsNet n → IsNet m → (given : Option Circuit) (p : NamingModel) (pair : ℕ × ℕ) (x : List Bool)
         → IsPairOf (circuit n) (circuit m) pair → IsDifferenceAt (circuit n) (circuit m) given p pair x

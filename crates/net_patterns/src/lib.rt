@@ -1,16 +1,16 @@
-//! Assignments at which two netlists differ, without a diagram: patterns that are tried in all bits of blocks at once.
+//! Assignments at which two netlists differ, found without diagrams: patterns, which are tried 512 at a time.
 //!
-//! **Promises.** `Patterns` are assignments by number, a function of how many variables and gates there are (`pattern`).
-//! `first_differences` answers for each pair the first pattern at which the condition holds and the two functions
-//! differ, with the first function's value there, and `None` only if there is none (`AreFirst`). `make_small` answers a
-//! counterexample again, and none that comes after the one that it is given (`MakesSmaller`). What a difference says of
+//! **Promises.** `Patterns` are numbered assignments, which follow from the numbers of variables and of gates
+//! (`pattern`). `first_differences` answers for each pair the first pattern at which the condition holds and the two
+//! functions differ, with the first function's value there, and `None` only if there is none (`AreFirst`). `make_small`
+//! answers a counterexample that does not come after the given one (`MakesSmaller`). What a difference says of
 //! functions are the laws `functions` and `condition`.
 //!
-//! **Only tests show** that ample memory suffices, and that a difference becomes smaller where it can. That time is linear
-//! in the netlists for each block no clause says.
+//! **Only tests show** that ample memory suffices, and that a difference becomes smaller if it can. No clause says that
+//! time is linear in the netlists for each block.
 //!
-//! **Begin** with `specs/Patterns` and `Differences`; then `differences`, over `sides` (what is compared) and `simulator`
-//! (one netlist), and `small`.
+//! **Begin** with `specs/Patterns` and `Differences`; then read `differences`, with `sides` (what is compared) and
+//! `simulator` (one netlist), and `small`.
 #![tactic(auto)]
 
 mod apart;

@@ -1,4 +1,4 @@
-//! Assignments that the number of variables and the number of gates determine.
+//! Patterns: assignments that follow from the numbers of variables and of gates.
 ghost use Rattle.std.specs.Prelude.{◌≡◌, ◌<◌, ◌≤◌, ◌+◌, ◌*◌, ◌^◌, ℕ, length, IfOk};
 ghost use Rattle.net_simulate.specs.Columns.{bit_in, bit_in_block, column};
 
@@ -6,10 +6,11 @@ use crate::drawing::{drawn_word, has_bit, single_word};
 use net_simulate::Block;
 use std::alloc::{AllocError, Global};
 
-/// The gates of a netlist that are evaluated for all blocks together, between 8 blocks and 64.
+/// The most gates times blocks that are evaluated, which bounds the time. But there are at least 8 blocks, and at most
+/// 64.
 const GATE_BLOCKS: usize = 4_000_000;
 
-/// So many assignments of so many variables, 512 in a block, numbered from 0. They depend on nothing else.
+/// 512 assignments of so many variables in each of so many blocks, numbered from 0. They follow from these two numbers.
 #[derive(Clone, Copy, Drop, Debug, PartialEq, Eq)]
 pub struct Patterns {
     pub variables: usize,
@@ -20,7 +21,7 @@ pub struct Patterns {
 impl Patterns {
     ghost use Rattle.net_patterns.specs.Patterns.{blocks_for, pattern, pattern_bit, pattern_count};
 
-    /// The assignments for netlists of so many variables and gates: 4,096 for a million gates, up to 32,768 for few.
+    /// The patterns for netlists of so many variables and gates: 4,096 for a million gates, up to 32,768 for few.
     pub fn of(variables: usize, gates: usize) -> Patterns
         ensures variables { result.variables ≡ variables }
         ensures blocks { result.blocks ≡ blocks_for gates }
@@ -31,14 +32,14 @@ impl Patterns {
         }
     }
 
-    /// The number of assignments.
+    /// The number of patterns.
     pub fn count(&self) -> usize
         ensures { result ≡ pattern_count self.now }
     {
         512 * self.blocks
     }
 
-    /// The bits of a level in the assignments from number 64 * word on.
+    /// The bits of a level in the 64 patterns from number 64 * word on.
     fn word(&self, word: usize, level: usize) -> u64
         requires word { word < 2 ^ 32 }
         requires level { level < self.now.variables }
@@ -52,7 +53,7 @@ impl Patterns {
         }
     }
 
-    /// The bits of a level in the assignments of a block.
+    /// The bits of a level in the patterns of a block.
     fn level_block(&self, block: usize, level: usize) -> Block
         requires block { block < self.now.blocks }
         requires level { level < self.now.variables }
@@ -65,7 +66,7 @@ impl Patterns {
         words
     }
 
-    /// Sets each level to its bits in the assignments of a block: bit i of all levels is number 512 * block + i.
+    /// Sets each level to its bits in the patterns of a block: bit i of all levels is pattern number 512 * block + i.
     pub fn set_block(&self, block: usize, at: &mut [Block])
         requires block { block < self.now.blocks }
         requires each { length at.old ≡ self.now.variables }
@@ -77,7 +78,7 @@ impl Patterns {
         }
     }
 
-    /// The assignment of this number, by level.
+    /// The pattern of this number, by level.
     pub fn assignment(&self, alloc: Global, number: usize) -> Result<Vec<bool>, AllocError>
         requires { number < pattern_count self.now }
         ensures { IfOk result (λ v. v.items ≡ pattern self.now number) }

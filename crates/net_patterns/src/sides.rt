@@ -1,5 +1,5 @@
-//! What is compared, ready to be evaluated.
-ghost use Rattle.std.specs.Prelude.{◌≡◌, ◌<◌, ◌↔◌, ℕ, true, Option, length, IfOk, IfSome};
+//! The netlists that are compared, and their evaluation at a block of assignments.
+ghost use Rattle.std.specs.Prelude.{◌≡◌, ◌<◌, ◌↔◌, ℕ, true, Option, length, IfOk};
 ghost use Rattle.net_bench.specs.Circuit.{Circuit, circuit};
 ghost use Rattle.net_bench.specs.Labels.{Computes};
 ghost use Rattle.net_order.specs.Order.{NamingModel, condition, first_level, given_level};
@@ -7,13 +7,14 @@ ghost use Rattle.net_simulate.specs.Columns.{bit_in_block, column};
 ghost use Rattle.net_patterns.specs.Differences.{HoldsAt, IsDifferenceAt, IsPairOf};
 ghost use Rattle.net_patterns.specs.Simulated.{AreApart, AreKept, AreOf, HaveOutput, IsKeptCondition, IsOfCondition, first_bit};
 
-use crate::simulator::{Part, Simulator};
+use crate::simulator::Simulator;
 use net_bench::netlist::Netlist;
 use net_order::naming::Naming;
+use net_order::netlist_role::NetlistRole;
 use net_simulate::{Block, all_bits};
 use std::alloc::{AllocError, Global};
 
-/// Two netlists and a condition, if there is one, under a naming.
+/// Two netlists, a condition if there is one, and the naming that pairs their variables.
 #[derive(Clone, Copy, Drop)]
 pub struct Netlists<'a, 'n> {
     pub first: &'a Netlist,
@@ -22,7 +23,7 @@ pub struct Netlists<'a, 'n> {
     pub naming: &'n Naming,
 }
 
-/// The same, ready to be evaluated.
+/// The same, prepared for evaluation.
 #[derive(Drop)]
 pub(crate) struct Sides<'a> {
     pub(crate) first: Simulator<'a>,
@@ -30,7 +31,7 @@ pub(crate) struct Sides<'a> {
     pub(crate) given: Option<Simulator<'a>>,
 }
 
-/// The condition, if there is one.
+/// The condition, prepared for evaluation, if there is one.
 fn condition_of<'a>(
     alloc: Global,
     given: Option<&'a Netlist>,
@@ -40,11 +41,11 @@ fn condition_of<'a>(
 {
     match given {
         None => Ok(None),
-        Some(net) => Ok(Some(Simulator::new(alloc, net, naming, Part::Condition)?)),
+        Some(net) => Ok(Some(Simulator::new(alloc, net, naming, NetlistRole::Given)?)),
     }
 }
 
-/// The netlists and the condition. Time and memory are linear in them.
+/// The netlists and the condition, prepared for evaluation. Time and memory are linear in them.
 pub(crate) fn sides_of<'a>(
     alloc: Global,
     netlists: &Netlists<'a, '_>,
@@ -52,8 +53,8 @@ pub(crate) fn sides_of<'a>(
     ensures { IfOk result (λ s. AreOf (circuit netlists.now.first.now) (circuit netlists.now.second.now)
         (condition netlists.now.given) netlists.now.naming.now s) }
 {
-    let first = Simulator::new(alloc, netlists.first, netlists.naming, Part::First)?;
-    let second = Simulator::new(alloc, netlists.second, netlists.naming, Part::Second)?;
+    let first = Simulator::new(alloc, netlists.first, netlists.naming, NetlistRole::First)?;
+    let second = Simulator::new(alloc, netlists.second, netlists.naming, NetlistRole::Second)?;
     let given = condition_of(alloc, netlists.given, netlists.naming)?;
     Ok(Sides {
         first,
@@ -62,7 +63,7 @@ pub(crate) fn sides_of<'a>(
     })
 }
 
-/// Evaluates the condition at the assignments of a block, and answers where it holds.
+/// Evaluates the condition at the assignments of a block. The result has a 1 for each assignment at which it holds.
 fn evaluate_condition(given: &mut Option<Simulator<'_>>, at: &[Block]) -> Block
     requires { HaveOutput given.old }
     ensures kept { IsKeptCondition given.old given.new }
@@ -78,7 +79,8 @@ fn evaluate_condition(given: &mut Option<Simulator<'_>>, at: &[Block]) -> Block
     }
 }
 
-/// Evaluates all at the assignments of a block, whose bits are given by level, and answers where the condition holds.
+/// Evaluates all netlists at the assignments of a block, whose bits are given by level. The result has a 1 for each
+/// assignment at which the condition holds.
 pub(crate) fn evaluate(sides: &mut Sides<'_>, at: &[Block]) -> Block
     requires { HaveOutput sides.old.given }
     ensures kept { AreKept sides.old sides.new }

@@ -1,5 +1,5 @@
-//! A difference made small.
-ghost use Rattle.std.specs.Prelude.{◌≡◌, ◌<◌, ◌≤◌, ℕ, Option, length, vec_len, IfOk, IfSome, IsTrue, MatchOption};
+//! How a difference is made smaller: closer to the least, which comes first if levels are read from the top, 0 before 1.
+ghost use Rattle.std.specs.Prelude.{◌≡◌, ◌<◌, ◌≤◌, Option, length, vec_len, IfOk, IfSome, IsTrue, MatchOption};
 ghost use Rattle.dd_store.specs.Functions.{Before};
 ghost use Rattle.net_bench.specs.Circuit.{Circuit, circuit};
 ghost use Rattle.net_order.specs.Order.{NamingModel, condition};
@@ -8,7 +8,7 @@ ghost use Rattle.net_patterns.specs.Differences.{HasOutput, IsCounterexample, Is
 ghost use Rattle.net_patterns.specs.Simulated.{AreKept, AreOf, HaveOutput, IsPairIn};
 
 use crate::apart::{first_apart, first_value};
-use crate::candidates::Window;
+use crate::candidates::LevelWindow;
 use crate::counterexample::Counterexample;
 use crate::drawing::has_bit;
 use crate::sides::{Netlists, Sides, evaluate, sides_of};
@@ -29,7 +29,7 @@ fn is_before(one: &[bool], two: &[bool]) -> bool
     false
 }
 
-/// The assignment of a bit.
+/// The assignment whose bits are bit `bit` of each level's block.
 fn column_at(alloc: Global, at: &[Block], bit: usize) -> Result<Vec<bool>, AllocError>
     requires { bit < 512 }
     ensures { IfOk result (λ v. v.items ≡ column bit_in_block bit at.now) }
@@ -42,7 +42,7 @@ fn column_at(alloc: Global, at: &[Block], bit: usize) -> Result<Vec<bool>, Alloc
     Ok(bits)
 }
 
-/// The first of 512 candidates that is a difference of the pair.
+/// The first of 512 candidates that is a difference of the pair; None if none is.
 fn first_candidate(
     alloc: Global,
     sides: &mut Sides<'_>,
@@ -67,7 +67,7 @@ fn first_candidate(
     }
 }
 
-/// The candidate if its assignment comes before the other one, else that one.
+/// The candidate, if its assignment comes before that of `small`; otherwise `small`.
 fn lesser(small: Counterexample, candidate: Option<Counterexample>) -> Counterexample
     ensures each { vec_len result.at ≡ vec_len small.at }
     ensures lesser { MatchOption candidate (result ≡ small) (λ c. IsLesser small c result) }
@@ -82,12 +82,12 @@ fn lesser(small: Counterexample, candidate: Option<Counterexample>) -> Counterex
     }
 }
 
-/// The least of the candidates of a window that is a difference of the pair, if it comes before the counterexample.
+/// The first candidate of a window that is a difference of the pair, if it comes before the counterexample; otherwise the counterexample.
 fn try_window(
     alloc: Global,
     sides: &mut Sides<'_>,
     pair: &(Signal, Signal),
-    window: &Window,
+    window: &LevelWindow,
     candidates: &mut [Block],
     small: Counterexample,
 ) -> Result<Counterexample, AllocError>
@@ -108,7 +108,7 @@ fn try_window(
     Ok(lesser(small, candidate))
 }
 
-/// The counterexample made small by the first of the windows whose groups have so many levels.
+/// The counterexample after all windows of this size that are tried.
 fn by_windows(
     alloc: Global,
     sides: &mut Sides<'_>,
@@ -128,7 +128,7 @@ fn by_windows(
     let mut candidates = Vec::from_elem(alloc, no_bits(), small.at.len())?;
     let mut small = small;
     for from in 0..candidates.len() {
-        let window = Window { from, size, tried };
+        let window = LevelWindow { from, size, tried };
         small = try_window(
             alloc,
             sides,
@@ -141,10 +141,11 @@ fn by_windows(
     Ok(small)
 }
 
-/// Another counterexample of a pair, if one is found that comes before this one in the order in which the least difference is the first. In
-/// windows of nine groups, from the first level on, those groups become 0 without which the pair still differs and the condition holds;
-/// groups have 729 levels, then 81, 9 and 1, and single levels take the least of all their combinations. One block of candidates is
-/// evaluated for each window in which there is a 1, and only the first windows of each size are tried, of which the caller says how many.
+/// A counterexample of the pair that does not come after the given one, and before it if one is found: nearer to the
+/// least difference. In windows of nine groups, from level 0 on, those groups become 0 without which the pair still
+/// differs and the condition holds. Groups have 729 levels, then 81, 9 and 1; windows of single levels take the least
+/// of all combinations. For each window that has a 1, one block of candidates is evaluated. `windows` bounds how many
+/// windows of each size are tried.
 pub fn make_small(
     alloc: Global,
     netlists: &Netlists<'_, '_>,

@@ -1,4 +1,4 @@
--- A schedule, one gate more.
+-- A schedule with one more gate.
 use Rattle.std.proofs.Common.{◌≡◌, ◌≢◌, ◌⊎◌, inl, inr, ℕ, ◌+◌, ◌<◌, ◌≤◌, List, [], ◌∷◌, ◌++◌, refl, sym, ap, ◌∙◌, subst, Some, length, get_or, take, arith, length-append}
 use Rattle.std.specs.Prelude.{Contains, All, MatchOption}
 use Rattle.std.proofs.Math.ListN.{get_or-append}
@@ -15,7 +15,7 @@ use Rattle.net_simulate.specs.Schedules.{AreRising, Equation, IsOfGate, IsSchedu
 use Rattle.net_simulate.proofs.Lists.{all_of, in_last, same_or, taken_more}
 use Rattle.net_simulate.proofs.Rows.{in_row, rank_low, rank_top, row_gate}
 
--- what holds of each item and of one more
+-- what is true of each item and of one more
 pub all_more : {X : Type 0} (P : X → Type 0) (xs : List X) (x : X) → All P xs → P x → All P (xs ++ x ∷ [])
 all_more P xs x all here = all_of P (xs ++ x ∷ []) (λ y among. elim (in_last xs x y among) [
   | inl there ↦ at_contained P xs y all there
@@ -62,7 +62,7 @@ module _ (n : Net) (sound : IsNet n) where
         | inr e ↦ absurd (ne (sym e))
       ]
 
-  -- one signal of a row more
+  -- one more signal of a row
   pub row_step : (old new : List Equation) (place i s : ℕ) (row : List ℕ) → row ≡ rank_row n (place + 1) → i < length row → s ≡ get_or row i s →
       MatchOption (gate_of n.gates s) (new ≡ old) (λ g. new ≡ old ++ equation_of g ∷ []) →
       IsScheduledTo n old place (place + 1) (take i row) → IsScheduledTo n new place (place + 1) (take (i + 1) row)
@@ -89,7 +89,7 @@ module _ (n : Net) (sound : IsNet n) where
     low = done.low;
   }
 
-  -- none are of rank 0
+  -- no gate has rank 0
   pub none_scheduled : IsScheduledTo n [] 0 0 []
   none_scheduled = record {
     gates = λ i d low. absurd (omega arith);

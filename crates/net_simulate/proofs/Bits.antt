@@ -64,7 +64,7 @@ in_not i n fits low = ap (λ n. n == 1) (bit_at_not w64 n i fits low) ∙ rest_o
 pub in_column : {V : Type 0} (bit : ℕ → V → Bool) (i : ℕ) (vs : List V) (s : ℕ) (v : V) → s < length vs → v ≡ get_or vs s v → bit i v ≡ bit_of (column bit i vs) s
 in_column bit i vs s v low is = ap (bit i) is ∙ sym (get_or-map (bit i) vs s v false low)
 
--- after the last there is no value
+-- beyond the end a value is all 0
 pub out_column : {V : Type 0} (bit : ℕ → V → Bool) (i : ℕ) (vs : List V) (s : ℕ) → length vs ≤ s → false ≡ bit_of (column bit i vs) s
 out_column bit i [] zero high = refl
 out_column bit i [] (suc s) high = refl

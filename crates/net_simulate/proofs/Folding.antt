@@ -1,4 +1,4 @@
--- The folds of operands, one operand more.
+-- The folds of operands, with one more operand.
 use Rattle.std.proofs.Common.{◌≡◌, ℕ, ◌+◌, ◌<◌, Bool, true, false, not, cond, ◌&&◌, ◌||◌, List, ◌∷◌, refl, sym, ap, ◌∙◌, map, length, get_or, drop}
 use Rattle.net_bench.specs.Labels.{all_ones, odd, some_one}
 use Rattle.net_simulate.proofs.Lists.{drop_here}

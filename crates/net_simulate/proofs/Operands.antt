@@ -1,4 +1,4 @@
--- The folds of the values of operands, one operand more, in each bit.
+-- The folds of the values of operands, with one more operand, in each bit.
 use Rattle.std.proofs.Common.{◌≡◌, ℕ, ◌+◌, ◌<◌, Bool, not, cond, ◌&&◌, ◌||◌, List, sym, subst, ap, ◌∙◌, map, length, get_or, drop}
 use Rattle.std.specs.Prelude.{All}
 use Rattle.net_bench.specs.Labels.{all_ones, bit_of, odd, some_one}

@@ -4,11 +4,11 @@ use Rattle.std.specs.Prelude.{All, slice_range}
 use Rattle.std.proofs.lemmas.List.{map-append, take-append-le}
 use Rattle.net_bench.proofs.OneLabelling.{at_contained}
 use Rattle.net_cone.proofs.Lists.{map_alike}
-use Rattle.net_simulate.specs.declared.schedule.Step.{Step}
+use Rattle.net_simulate.specs.declared.schedule.GateStep.{GateStep}
 use Rattle.net_simulate.specs.Schedules.{Equation, IsInRange, equation_at}
 use Rattle.net_simulate.proofs.Lists.{all_of}
 
--- what is behind a range does not matter to it
+-- what comes after a range does not matter to it
 front_range : (ops more : List ℕ) (from to : ℕ) → from ≤ to → to ≤ length ops → slice_range (ops ++ more) from to ≡ slice_range ops from to
 front_range ops more from to low high =
     let size : length (drop from ops) ≡ length ops - from = length-drop from ops in
@@ -20,7 +20,7 @@ front_range ops more from to low high =
     drop-append (x ∷ xs) ys zero low = refl
     drop-append (x ∷ xs) ys (suc k) low = drop-append xs ys k (omega arith)
 
--- the range of what was added is that
+-- the range that was appended is what was appended
 end_range : (ops more : List ℕ) (from to : ℕ) → from ≡ length ops → to ≡ length (ops ++ more) → slice_range (ops ++ more) from to ≡ more
 end_range ops more from to low high =
     let size : length (ops ++ more) ≡ length ops + length more = length-append ops more in
@@ -35,10 +35,10 @@ end_range ops more from to low high =
     take_whole [] = refl
     take_whole (x ∷ xs) = ap (λ ys. x ∷ ys) (take_whole xs)
 
-same_equation : (ops more : List ℕ) (t : Step) → IsInRange ops t → equation_at (ops ++ more) t ≡ equation_at ops t
+same_equation : (ops more : List ℕ) (t : GateStep) → IsInRange ops t → equation_at (ops ++ more) t ≡ equation_at ops t
 same_equation ops more t inside = ap (λ xs. let e : Equation = record { out = t.out; kind = t.kind; operands = xs } in e) (front_range ops more t.from t.to inside.0 inside.1)
 
-pub pushed : (ops more : List ℕ) (steps : List Step) (t : Step) → All (IsInRange ops) steps → t.from ≡ length ops → t.to ≡ length (ops ++ more) →
+pub pushed : (ops more : List ℕ) (steps : List GateStep) (t : GateStep) → All (IsInRange ops) steps → t.from ≡ length ops → t.to ≡ length (ops ++ more) →
     map (equation_at (ops ++ more)) (steps ++ t ∷ []) ≡ map (equation_at ops) steps ++ (let e : Equation = record { out = t.out; kind = t.kind; operands = more } in e) ∷ []
 pushed ops more steps t inside from to =
     map-append (equation_at (ops ++ more)) steps (t ∷ []) ∙

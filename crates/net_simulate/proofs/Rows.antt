@@ -18,7 +18,7 @@ long f [] i lt = absurd (omega arith)
 long f (y ∷ ys) zero lt = omega arith
 long f (y ∷ ys) (suc i) lt = let k : i < length (map f ys) = long f ys i (omega arith) in omega arith
 
--- no item's number is above the greatest
+-- no item's number is greater than the greatest
 below_greatest : {X : Type 0} (f : X → ℕ) (xs : List X) (x : X) → Contains xs x → f x ≤ greatest (map f xs)
 below_greatest f xs x among =
     subst (λ z. z ≤ greatest (map f xs)) (get_or-map f xs among.0 x 0 among.1 ∙ ap f among.2) (greatest_above (map f xs) among.0 (long f xs among.0 among.1))
@@ -36,7 +36,7 @@ module _ (n : Net) (sound : IsNet n) where
   pub operand_lower : (g : GateLine) (t : ℕ) → Contains n.gates g → Contains g.operands t → slice_index n.ranks t < rank_of n g
   operand_lower g t among operand = lower (circuit n) n.ranks sound.ranks t g.out (g, among, refl, operand)
 
--- the rows of one gate more
+-- the rows with one more gate
 row_more : (n : Net) (gs : List GateLine) (g : GateLine) (r : ℕ) →
     map (λ h. h.out) (filter (λ h. rank_of n h == r) (gs ++ g ∷ [])) ≡ map (λ h. h.out) (filter (λ h. rank_of n h == r) gs) ++ cond (rank_of n g == r) (g.out ∷ []) []
 row_more n gs g r =
@@ -78,7 +78,7 @@ no_rows n count rows e r low = ap (λ rs. get_or rs r []) e ∙ empty count r
     empty (suc k) zero = refl
     empty (suc k) (suc i) = empty k i
 
--- a gate of a rank stands in its row, and what stands there is of this rank
+-- a gate is in the row of its rank, and the gates in a row have its rank
 pub in_row : (n : Net) (r : ℕ) (g : GateLine) → Contains n.gates g → rank_of n g ≡ r → Contains (rank_row n r) g.out
 in_row n r g among e = in_map (λ h. h.out) (filter (λ h. rank_of n h == r) n.gates) g (in_filter (λ h. rank_of n h == r) n.gates g among (eq-eqb (rank_of n g) r e))
 

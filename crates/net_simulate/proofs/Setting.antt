@@ -1,4 +1,4 @@
--- Signals of gates are set, in the order of a schedule.
+-- The signals of gates are set in the order of a schedule.
 use Rattle.std.proofs.Common.{◌≡◌, ◌≢◌, inl, inr, ℕ, ◌+◌, ◌<◌, ◌≤◌, Bool, false, List, [], ◌∷◌, ◌++◌, refl, sym, ap, ◌∙◌, subst, Some, map, length, get_or, set, take, arith}
 use Rattle.std.specs.Prelude.{Contains, All, slice_get, slice_index}
 use Rattle.std.proofs.lemmas.Option.{get_or_from_slice_get}
@@ -17,7 +17,7 @@ use Rattle.net_simulate.proofs.Bits.{set_column}
 use Rattle.net_simulate.proofs.Lists.{all_of, in_take, same_or, taken_more}
 use Rattle.net_simulate.proofs.Rows.{operand_lower}
 
--- the bits with a gate's value at its signal
+-- the bits after a gate's signal was set to its value
 abbrev pub with_value : List Bool → Equation → List Bool
 with_value bits e = set bits e.out (value_of e.kind (map (bit_of bits) e.operands))
 
@@ -30,7 +30,7 @@ module _ (n : Net) (sound : IsNet n) where
   kept_with bits g among = all_of (λ s. bit_of (with_value bits (equation_of g)) s ≡ bit_of bits s) (variables_of (circuit n))
       (λ s variable. get_or-set_other bits g.out s (value_of g.kind (map (bit_of bits) g.operands)) false (variable_apart s g variable among))
 
-  -- a gate's operands stay as they are, since they are of lower rank
+  -- a gate's operands are unchanged, since they are of lower rank
   operands_kept : (bits : List Bool) (g h : GateLine) → Contains n.gates h → rank_of n h ≤ rank_of n g →
       map (bit_of (with_value bits (equation_of g))) h.operands ≡ map (bit_of bits) h.operands
   operands_kept bits g h among low = map_same (bit_of (with_value bits (equation_of g))) (bit_of bits) h.operands
@@ -72,7 +72,7 @@ module _ (n : Net) (sound : IsNet n) where
       (before bits g h among there fewer each (subst (HasValue bits) (sym is) (at_contained (HasValue bits) es a have within)))))
       (here bits g among each)
 
-  -- one gate of a schedule more
+  -- one more gate of a schedule
   pub step : (es : List Equation) (place : ℕ) (e : Equation) (bits : List Bool) → IsSchedule n es → place < length es → e ≡ get_or es place e → length bits ≡ length n.names →
       All (HasValue bits) (take place es) → All (HasValue (with_value bits e)) (take (place + 1) es) × KeepsVariables n bits (with_value bits e)
   step es place e bits is low at each have =
@@ -119,7 +119,7 @@ pub by_level : {V : Type 0} (bit : ℕ → V → Bool) (count : ℕ) (n : Net) (
 by_level bit count n levels level at values have is i low k d less =
     have i low k d less ∙ ap (λ ls. bit_of (column bit i at) (get_or ls k 0)) (sym is) ∙ ap (bit_of (column bit i at)) (get_or-map level (variables_of (circuit n)) k d 0 less)
 
--- one variable more
+-- one more variable
 pub variables_more : {V : Type 0} (bit : ℕ → V → Bool) (i : ℕ) (vars levels : List ℕ) (at values : List V) (place s t : ℕ) (v : V) → HaveNoRepeats vars → All (λ s. s < length values) vars → place < length vars →
     s ≡ get_or vars place t → bit i v ≡ bit_of (column bit i at) (get_or levels place 0) →
     ((k d : ℕ) → k < place → bit_of (column bit i values) (get_or vars k d) ≡ bit_of (column bit i at) (get_or levels k 0)) →
@@ -140,11 +140,11 @@ variables_more bit i vars levels at values place s t v once inside low is here b
           get_or-set_other (column bit i values) s (get_or vars k d) (bit i v) false (λ e. once k place early low (sym one ∙ e ∙ two)) ∙ before k d early
     ]
 
--- no gate stands behind the last
+-- a gate for a place beyond the end
 pub no_gate : Equation
 no_gate = record { out = 0; kind = And; operands = [] }
 
--- a gate's signal is set, where the gate is read
+-- a gate's signal is set, if the gate is the one that was read
 pub gate_set : {V : Type 0} (bit : ℕ → V → Bool) (i : ℕ) (es : List Equation) (place : ℕ) (e d : Equation) (values : List V) (v : V) → slice_get es place ≡ Some e →
     bit i v ≡ value_of e.kind (map (bit_of (column bit i values)) e.operands) → column bit i (set values e.out v) ≡ with_value (column bit i values) (get_or es place d)
 gate_set bit i es place e d values v at is =

@@ -1,4 +1,4 @@
-// What a gate computes, in each bit.
+// What a gate computes, in each bit of its operands' values.
 ghost use Rattle.std.specs.Prelude.{◌≡◌, ◌<◌, ℕ, length, map, All};
 ghost use Rattle.net_bench.specs.Labels.{all_ones, bit_of, folded, is_complemented, odd, some_one, value_of};
 ghost use Rattle.net_simulate.specs.Columns.{column};
@@ -6,7 +6,7 @@ ghost use Rattle.net_simulate.specs.Columns.{column};
 use crate::packing::Packed;
 use net_bench::netlist::{Kind, Signal};
 
-/// Where all operands are 1.
+/// In each bit 1 if all operands are 1.
 fn all_ones<V: Packed>(operands: &[Signal], values: &[V]) -> V
     requires { All (λ s. s < length values.now) operands.now }
     ensures { (i : ℕ) → i < V.count → V.bit i result ≡ all_ones (map (bit_of (column V.bit i values.now)) operands.now) }
@@ -19,7 +19,7 @@ fn all_ones<V: Packed>(operands: &[Signal], values: &[V]) -> V
     all
 }
 
-/// Where an operand is 1.
+/// In each bit 1 if an operand is 1.
 fn some_one<V: Packed>(operands: &[Signal], values: &[V]) -> V
     requires { All (λ s. s < length values.now) operands.now }
     ensures { (i : ℕ) → i < V.count → V.bit i result ≡ some_one (map (bit_of (column V.bit i values.now)) operands.now) }
@@ -32,7 +32,7 @@ fn some_one<V: Packed>(operands: &[Signal], values: &[V]) -> V
     some
 }
 
-/// Where an odd number of operands is 1.
+/// In each bit 1 if an odd number of operands are 1.
 fn odd<V: Packed>(operands: &[Signal], values: &[V]) -> V
     requires { All (λ s. s < length values.now) operands.now }
     ensures { (i : ℕ) → i < V.count → V.bit i result ≡ odd (map (bit_of (column V.bit i values.now)) operands.now) }
@@ -45,7 +45,7 @@ fn odd<V: Packed>(operands: &[Signal], values: &[V]) -> V
     odd
 }
 
-/// The value of what a gate of this kind folds with.
+/// The value of the operation that folds the operands of a gate of this kind: And, Or or Xor.
 fn folded<V: Packed>(kind: Kind, operands: &[Signal], values: &[V]) -> V
     requires { All (λ s. s < length values.now) operands.now }
     ensures { (i : ℕ) → i < V.count → V.bit i result ≡ folded kind (map (bit_of (column V.bit i values.now)) operands.now) }
@@ -57,14 +57,14 @@ fn folded<V: Packed>(kind: Kind, operands: &[Signal], values: &[V]) -> V
     }
 }
 
-/// Whether a gate's value is the complement of what it folds.
+/// Whether a gate's value is the complement of the folded one.
 fn is_complemented(kind: Kind) -> bool
     ensures { result ≡ is_complemented kind }
 {
     matches!(kind, Kind::Nand | Kind::Nor | Kind::Xnor | Kind::Not)
 }
 
-/// The value of a gate of this kind, by the values of its operands.
+/// The value of a gate of this kind, from the values of its operands.
 pub fn value_of<V: Packed>(kind: Kind, operands: &[Signal], values: &[V]) -> V
     requires { All (λ s. s < length values.now) operands.now }
     ensures { (i : ℕ) → i < V.count → V.bit i result ≡ value_of kind (map (bit_of (column V.bit i values.now)) operands.now) }

@@ -1,13 +1,13 @@
 //! Netlists evaluated at many assignments at once (bit-parallel simulation).
 //!
-//! **Promises.** `simulate` sets the values of all signals to a labelling in each bit (`labelling`), so each bit of a
-//! signal's value is its function's value at the assignment of that bit (`functions`), whatever the order of the
-//! variables. A value holds one bit (`bool`), 64 (`u64`) or 512 (`Block`). `schedule_of` answers all gates of a netlist by
-//! rising rank (`schedule`), `gates_by_rank` the signals of the gates of each rank (`rows`).
+//! **Promises.** `simulate` sets the values of all signals such that each bit is a labelling (`labelling`). So each bit
+//! of a signal's value is its function's value at the assignment of that bit (`functions`), whatever the order of the
+//! variables. A value holds one bit (`bool`), 64 (`u64`) or 512 (`Block`). `schedule_of` answers all gates of a netlist
+//! by rising rank (`schedule`), `gates_by_rank` the signals of the gates of each rank (`rows`).
 //!
-//! **Only tests show** that ample memory suffices. That time is linear in the netlist no clause says.
+//! **Only tests show** that ample memory suffices. No clause says that time is linear in the netlist.
 //!
-//! **Begin** with `specs/Columns` and `Schedules`; then `simulate`, by `gates` and `schedule`.
+//! **Begin** with `specs/Columns` and `Schedules`; then read `simulation`, `gates` and `schedule`.
 #![tactic(auto)]
 
 mod blocks;

@@ -4,10 +4,12 @@ ghost use Rattle.net_simulate.specs.Columns.{bit_in, bit_in_block};
 
 use crate::blocks::{Block, all_bits, and_blocks, no_bits, or_blocks, xor_blocks};
 
-/// What holds a bit for each of several assignments, which are numbered from 0.
+/// A value that holds a bit for each of several assignments, which are numbered from 0.
 pub trait Packed: Copy + Drop {
+    // For how many assignments a value has bits.
     ghost count: { ℕ };
 
+    // The bit of a value for the assignment of this number.
     ghost bit: { ℕ → Self → Bool };
 
     /// 0 at each assignment.
@@ -18,20 +20,20 @@ pub trait Packed: Copy + Drop {
     fn ones() -> Self
         ensures { (i : ℕ) → i < count → bit i result ≡ true };
 
-    /// 1 where both are 1.
+    /// In each bit, the And of both.
     fn and_with(&mut self, other: &Self)
         ensures { (i : ℕ) → i < count → bit i self.new ≡ (bit i self.old && bit i other.now) };
 
-    /// 1 where one of both is 1.
+    /// In each bit, the Or of both.
     fn or_with(&mut self, other: &Self)
         ensures { (i : ℕ) → i < count → bit i self.new ≡ (bit i self.old || bit i other.now) };
 
-    /// The complement where the other is 1.
+    /// In each bit, the exclusive or of both.
     fn xor_with(&mut self, other: &Self)
         ensures { (i : ℕ) → i < count → bit i self.new ≡ cond (bit i other.now) (not (bit i self.old)) (bit i self.old) };
 }
 
-/// One assignment.
+/// A bit for one assignment.
 impl Packed for bool {
     ghost count = { 1 };
 
@@ -58,7 +60,7 @@ impl Packed for bool {
     }
 }
 
-/// 64 assignments.
+/// Bits for 64 assignments.
 impl Packed for u64 {
     ghost count = { 64 };
 
@@ -90,7 +92,7 @@ impl Packed for u64 {
     }
 }
 
-/// 512 assignments.
+/// Bits for 512 assignments.
 impl Packed for Block {
     ghost count = { 512 };
 

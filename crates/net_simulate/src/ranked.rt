@@ -1,12 +1,12 @@
 // The gates of a netlist by rank.
-ghost use Rattle.std.specs.Prelude.{◌≡◌, ◌<◌, [], length, map, replicate, IfOk};
+ghost use Rattle.std.specs.Prelude.{◌≡◌, ◌<◌, [], map, replicate, IfOk};
 ghost use Rattle.net_bench.specs.Circuit.{IsNet, highest_rank};
 ghost use Rattle.net_simulate.specs.RankRows.{AreRows};
 
 use net_bench::netlist::{Netlist, Signal};
 use std::alloc::{AllocError, Global};
 
-/// So many rows without signals.
+/// `count` rows without signals.
 fn empty_rows(alloc: Global, count: usize) -> Result<Vec<Vec<Signal>>, AllocError>
     ensures { IfOk result (λ v. map (λ w. w.items) v.items ≡ replicate count []) }
 {
@@ -17,7 +17,8 @@ fn empty_rows(alloc: Global, count: usize) -> Result<Vec<Vec<Signal>>, AllocErro
     Ok(rows)
 }
 
-/// The signals of the gates by rank, rank 1 first, those of one rank in text order. Time and memory are linear in the netlist.
+/// The signals of the gates by rank: a row for each rank, rank 1 first, each in the order of the text. Time and memory
+/// are linear.
 pub fn gates_by_rank(alloc: Global, net: &Netlist) -> Result<Vec<Vec<Signal>>, AllocError>
     ensures rows { IfOk result (λ v. AreRows net.now (map (λ w. w.items) v.items)) }
     ensures sound { IsNet net.now }

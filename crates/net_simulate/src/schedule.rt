@@ -1,20 +1,20 @@
-//! The gates of a netlist by rising rank, side by side.
+//! The gates of a netlist in the order in which they are evaluated.
 ghost use Rattle.std.specs.Prelude.{◌≡◌, ◌==◌, ◌<◌, ◌∷◌, ◌++◌, [], length, slice_get, Some, OnOk};
 
 use net_bench::netlist::{GateLine, Kind, Signal};
 use std::alloc::{AllocError, Global};
 use std::marker::Model;
 
-/// A gate, with the range of its operands among those of all gates.
+/// A gate, with the range of its operands in the list of the operands of all gates.
 #[derive(Clone, Copy, Drop)]
-pub(crate) struct Step {
+pub(crate) struct GateStep {
     out: Signal,
     kind: Kind,
     from: usize,
     to: usize,
 }
 
-/// A gate as it is evaluated.
+/// A gate without its line, as it is evaluated.
 #[derive(Clone, Copy, Drop)]
 pub struct Gate<'a> {
     pub out: Signal,
@@ -22,10 +22,10 @@ pub struct Gate<'a> {
     pub operands: &'a [Signal],
 }
 
-/// Gates without their lines, in an order, in two lists: whoever evaluates them reads on and on, and looks nothing up.
+/// Gates in an order, with all operands in one list. An evaluation reads both lists from front to end, without look-ups.
 #[derive(Drop)]
 pub struct Schedule {
-    steps: Vec<Step>,
+    steps: Vec<GateStep>,
     operands: Vec<Signal>,
 }
 
@@ -43,7 +43,7 @@ impl Model for Schedule {
 impl Schedule {
     ghost use Rattle.net_simulate.specs.Schedules.{equation_of};
 
-    /// No gates.
+    /// A schedule without gates.
     pub(crate) fn new(alloc: Global) -> Schedule
         ensures { result ≡ [] }
     {
@@ -53,14 +53,14 @@ impl Schedule {
         }
     }
 
-    /// Adds a gate at the end.
+    /// Appends a gate.
     pub(crate) fn push(&mut self, gate: &GateLine) -> Result<(), AllocError>
         ensures { OnOk result (self.new ≡ self.old ++ equation_of gate.now ∷ []) }
     {
         let from = self.operands.len();
         self.operands.extend_from_slice(gate.operands.as_slice())?;
         let to = self.operands.len();
-        self.steps.push(Step {
+        self.steps.push(GateStep {
             out: gate.out,
             kind: gate.kind,
             from,

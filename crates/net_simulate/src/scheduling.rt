@@ -1,4 +1,4 @@
-//! The making of a schedule.
+//! How a schedule is made of the gates of each rank.
 ghost use Rattle.std.specs.Prelude.{◌≡◌, ◌<◌, ◌+◌, ◌∷◌, ◌++◌, [], length, map, IfOk, OnOk, MatchOption};
 ghost use Rattle.net_bench.specs.Circuit.{IsNet, gate_of};
 ghost use Rattle.net_simulate.specs.RankRows.{AreRows};
@@ -9,7 +9,7 @@ use crate::schedule::Schedule;
 use net_bench::netlist::{Netlist, Role, Signal};
 use std::alloc::{AllocError, Global};
 
-/// Adds the gate of a signal, if it has one.
+/// Appends the gate of a signal, if it has one.
 fn add_gate(schedule: &mut Schedule, net: &Netlist, signal: Signal) -> Result<(), AllocError>
     requires { signal < length net.now.names }
     ensures { OnOk result (MatchOption (gate_of net.now.gates signal) (schedule.new ≡ schedule.old)
@@ -23,7 +23,7 @@ fn add_gate(schedule: &mut Schedule, net: &Netlist, signal: Signal) -> Result<()
     Ok(())
 }
 
-/// Adds the gates of one rank after those of lower ranks.
+/// Appends the gates of one rank, after those of lower ranks.
 fn add_row(
     schedule: &mut Schedule,
     net: &Netlist,
@@ -43,7 +43,8 @@ fn add_row(
     Ok(())
 }
 
-/// The gates of a netlist by rising rank, those of one rank in text order. Time and memory are linear in the netlist.
+/// The gates of a netlist by rising rank, those of one rank in the order of the text. Time and memory are linear in the
+/// netlist.
 pub fn schedule_of(alloc: Global, net: &Netlist) -> Result<Schedule, AllocError>
     ensures schedule { IfOk result (IsSchedule net.now) }
     ensures sound { IsNet net.now }

@@ -1,10 +1,10 @@
-// Devices that drip, fail or never end.
+// Devices that give one byte a read, fail, or never end.
 ghost use Rattle.std.specs.Prelude.{None, false};
 
-use net_bench::device::{Failed, Source};
 use std::io;
+use text_device::{Failed, Source};
 
-/// A device that gives one byte a read, and fails when so many are left.
+/// A device that gives one byte a read, and fails when `fails_at` bytes are left.
 #[derive(Drop)]
 pub struct OneByte<'a> {
     pub left: &'a [u8],
@@ -30,7 +30,8 @@ impl<'a> Source for OneByte<'a> {
     }
 }
 
-/// A device that gives blanks without end, and notes the most bytes that were asked for, those that it gave among them.
+/// A device that gives blanks without end. It notes how many bytes it gave, and the most that were asked for, those
+/// that it gave included.
 #[derive(Drop)]
 pub struct Endless {
     pub given: usize,
@@ -50,7 +51,7 @@ impl Source for Endless {
     }
 }
 
-/// A reader and writer of std each call of which fails.
+/// A reader and writer of std whose calls all fail.
 #[derive(Drop)]
 pub struct AlwaysFailing;
 

@@ -1,9 +1,10 @@
-// Explanations of a difference, and the values as a VCD: texts for a few netlists, with ample memory.
+// Explanations of a difference, and the values as a VCD, for a few netlists and with ample memory.
 use net_bench::netlist::{Netlist, Signal};
 use net_bench::reader::parse_bench;
-use net_explain::{WhichNetlist, explain, explanation_of, values, vcd_of};
+use net_explain::{explain, explanation_of, values, vcd_of};
+use net_names::order::Match;
 use net_order::naming::{Naming, naming_of};
-use net_order::order::Match;
+use net_order::netlist_role::NetlistRole;
 use std::alloc::Global;
 use std::test::Fail;
 
@@ -11,7 +12,7 @@ use std::test::Fail;
 static ADDER: &str =
     "INPUT(a)\nINPUT(b)\nINPUT(c)\nOUTPUT(s)\nx = XOR(a, b)\nn = AND(a, b)\nm = AND(x, c)\ns = XOR(x, c)\nOUTPUT(k)\nk = OR(n, m)\n";
 
-/// The same with an OR in place of the first XOR, the inputs in another order, and a gate of another name.
+/// The same with an OR instead of the first XOR, with the inputs in another order, and with a gate of another name.
 static BROKEN: &str =
     "OUTPUT(k)\nOUTPUT(s)\nINPUT(c)\nINPUT(b)\nINPUT(a)\nn = AND(b, a)\nx = OR(b, a)\nmm = AND(c, x)\ns = XOR(c, x)\nk = OR(mm, n)\n";
 
@@ -43,7 +44,7 @@ fn nets_of(alloc: Global, first: &str, second: &str) -> Result<Both, Fail> {
     })
 }
 
-/// The signal of this name, the first one where there is none.
+/// The signal of this name; the first one if there is none.
 fn signal(net: &Netlist, name: &str) -> Signal {
     net.find(name.as_bytes()).unwrap_or(Signal::of(0))
 }
@@ -68,7 +69,7 @@ fn explained(alloc: Global, both: &Both, name: &str, at: &[bool]) -> Result<Vec<
     Ok(explanation_of(alloc, name.as_bytes(), &both.first, &explanation)?)
 }
 
-// At a = b = 1 the XOR is 0 and the OR is 1. The carry's gates of one name are n, which is the same, and x.
+// At a = b = 1 the XOR is 0 and the OR is 1. Below the carry, n and x have the same names in both netlists: n is equal, x differs.
 #[test]
 fn adders_explained(rt: HostRuntime) -> Result<(), Fail> {
     let adders = nets_of(rt.alloc(), ADDER, BROKEN)?;
@@ -87,7 +88,7 @@ fn adders_explained(rt: HostRuntime) -> Result<(), Fail> {
     Ok(())
 }
 
-// The outputs are registers, with no gate below; the next states are a pair and no inner signals of it.
+// The outputs are registers, with no gate below them. The next states are the pair itself, so they are no inner signals of it.
 #[test]
 fn registers_explained(rt: HostRuntime) -> Result<(), Fail> {
     let nets = nets_of(rt.alloc(), TOGGLED, HELD)?;
@@ -110,7 +111,7 @@ fn kinds_of_gates(rt: HostRuntime) -> Result<(), Fail> {
         rt.alloc(),
         &nets.first,
         &nets.naming,
-        WhichNetlist::First,
+        NetlistRole::First,
         &[true, false, true],
     )?;
     let names = ["g1", "g2", "g3", "g4", "g5", "g6", "g7", "g8"];
@@ -122,7 +123,7 @@ fn kinds_of_gates(rt: HostRuntime) -> Result<(), Fail> {
     Ok(())
 }
 
-// tests/vcd.py reads the expected text as it stands here.
+// tests/vcd.py reads the expected text from this file.
 #[test]
 fn values_as_vcd(rt: HostRuntime) -> Result<(), Fail> {
     let nets = nets_of(rt.alloc(), TOGGLED, HELD)?;
@@ -131,14 +132,14 @@ fn values_as_vcd(rt: HostRuntime) -> Result<(), Fail> {
         rt.alloc(),
         &nets.first,
         &nets.naming,
-        WhichNetlist::First,
+        NetlistRole::First,
         &at,
     )?;
     let second = values(
         rt.alloc(),
         &nets.second,
         &nets.naming,
-        WhichNetlist::Second,
+        NetlistRole::Second,
         &at,
     )?;
     if first.len() != nets.first.count() || second.len() != nets.second.count() {

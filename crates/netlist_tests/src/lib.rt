@@ -1,9 +1,9 @@
-//! Tests of the reader, of the orders, of cones and of explanations, by their public calls. They stand apart, since a
-//! crate with tests is proved twice.
+//! Tests of the reader, the orders, cones, explanations and renaming, by their public calls. They are a crate of their
+//! own, since a crate with tests is proved twice.
 //!
-//! They show what no contract of `net_bench`, `net_order`, `net_cone` and `net_explain` can: that calls with ample
-//! memory succeed, what devices do that fail at each byte or never end, and a chain of 999,999 gates. **Begin** with
-//! `devices` and `netlists`.
+//! They show what no contract of `net_bench`, `net_order`, `net_cone`, `net_explain` and `net_rename` can: that calls
+//! succeed if memory is ample, what happens with devices that fail at each byte or never end, and that a chain of
+//! 999,999 gates is read. **Begin** with `devices` and `netlists`.
 #![tactic(auto)]
 
 #[cfg(test)]
@@ -18,3 +18,5 @@ mod netlists;
 mod orders_by_names;
 #[cfg(test)]
 mod pairings;
+#[cfg(test)]
+mod renamings;

@@ -1,24 +1,25 @@
-// Of the reader, what no contract says: that each call succeeds with ample memory, and what devices that drip, fail or never end come to.
+// What no contract says of the reader: that each call succeeds if memory is ample, and what happens with devices that
+// give one byte a read, fail, or never end.
 use crate::devices::{AlwaysFailing, Endless, OneByte};
-use net_bench::device::{Failed, InMemory, Sink, StdDevice, TextFault, read_text};
 use net_bench::fault::BenchFault;
 use net_bench::name_table::NameTable;
 use net_bench::netlist::{Netlist, Signal};
 use net_bench::reader::{parse_bench, read_bench};
 use std::alloc::{AllocError, Global};
 use std::test::Fail;
+use text_device::{Failed, InMemory, Sink, StdDevice, TextFault, read_text};
 
 /// The smallest circuit of ISCAS-85: six NAND gates.
 pub(crate) static C17: &str =
     "INPUT(1)\nINPUT(2)\nINPUT(3)\nINPUT(6)\nINPUT(7)\nOUTPUT(22)\nOUTPUT(23)\n10 = NAND(1, 3)\n11 = NAND(3, 6)\n16 = NAND(2, 11)\n19 = NAND(11, 7)\n22 = NAND(10, 16)\n23 = NAND(16, 19)\n";
 
-/// A gate on a cycle, behind an input.
+/// A gate on a cycle, and an input.
 static LOOP: &str = "INPUT(c)\nOUTPUT(a)\na = AND(b, c)\nb = NOT(a)\n";
 
 /// The same with an output that has no definition.
 static LOOP_AND_MORE: &str = "INPUT(c)\nOUTPUT(a)\na = AND(b, c)\nb = NOT(a)\nOUTPUT(z)\n";
 
-/// The fault of a text, or none where it is a netlist.
+/// The fault of a text; None if it is a netlist.
 fn fault_of(alloc: Global, text: &str) -> Option<BenchFault> {
     parse_bench(alloc, text.as_bytes()).err()
 }
@@ -44,7 +45,7 @@ fn rank_of(net: &Netlist, name: &str) -> Option<u32> {
     None
 }
 
-// Signals are numbered by first counting, outputs before the gates that define them.
+// Signals are numbered as the text first mentions them: here the outputs before the gates that define them.
 #[test]
 fn c17_read(rt: HostRuntime) -> Result<(), Fail> {
     let net = parse_bench(rt.alloc(), C17.as_bytes())?;
@@ -55,7 +56,7 @@ fn c17_read(rt: HostRuntime) -> Result<(), Fail> {
     Ok(())
 }
 
-/// The fault of a text that drips from a device, which fails where so many bytes are left.
+/// The fault of a text from a device that gives one byte a read, and fails when so many bytes are left.
 fn fault_when_failing_at(alloc: Global, text: &str, fails_at: usize) -> Option<BenchFault> {
     let mut device = OneByte {
         left: text.as_bytes(),
@@ -121,7 +122,7 @@ fn name_tables(rt: HostRuntime) -> Result<(), Fail> {
     Ok(())
 }
 
-/// An input and behind it a chain of so many gates, each the complement of the signal before.
+/// An input, and after it a chain of so many gates, each the complement of the signal before it.
 fn chain(alloc: Global, gates: u32) -> Result<String, AllocError> {
     let mut text = String::from_str(alloc, "INPUT(s0)\n")?;
     for before in 0..gates {

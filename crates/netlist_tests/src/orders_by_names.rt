@@ -1,8 +1,8 @@
-// Orders by the numbers at the end of names, and FORCE, which begins by them. The expected orders of FORCE are those that another program
-// finds by its definition.
+// Orders by the numbers at the end of names, and FORCE, which begins with them. Another program has found the expected
+// orders of FORCE from its definition.
 use net_bench::netlist::Netlist;
 use net_bench::reader::parse_bench;
-use net_order::order::{Match, Order};
+use net_names::order::{Match, Order};
 use net_order::pairing::pair;
 use std::alloc::Global;
 use std::test::Fail;
@@ -10,23 +10,23 @@ use std::test::Fail;
 const C17: &str =
     "INPUT(1) INPUT(2) INPUT(3) INPUT(6) INPUT(7) OUTPUT(22) OUTPUT(23) 10 = NAND(1, 3) 11 = NAND(3, 6) 16 = NAND(2, 11) 19 = NAND(11, 7) 22 = NAND(10, 16) 23 = NAND(16, 19)";
 
-/// The numbers are behind letters, brackets and dashes, or there are none.
+/// The numbers come after letters, brackets and dashes, or there are none.
 const MIXED: &str =
     "INPUT(a[10]) INPUT(b[2]) INPUT(clk) INPUT(a[2]) INPUT(x_3) INPUT(b10) INPUT(n7z) INPUT(5) INPUT(a007) OUTPUT(clk)";
 
-/// Numbers of 18 digits and of more, which are all alike.
+/// Numbers of 18 digits, and longer ones, which all count the same.
 const LONG: &str =
     "INPUT(z99999999999999999999999) INPUT(y1000000000000000000) INPUT(x999999999999999999) INPUT(w18446744073709551616) OUTPUT(x999999999999999999)";
 
-/// Words that declare the bits of one bus behind those of the other.
+/// The bits of one bus are declared after those of the other.
 const WORDS: &str =
     "INPUT(a[0]) INPUT(a[1]) INPUT(a[2]) INPUT(b[0]) INPUT(b[1]) INPUT(b[2]) OUTPUT(s) h0 = AND(a[0], b[0]) h1 = OR(a[1], b[1], h0) s = AND(a[2], b[2], h1)";
 
-/// Three pairs that stand apart by their numbers.
+/// Three pairs whose numbers are far apart.
 const APART: &str =
     "INPUT(x1) INPUT(x3) INPUT(x5) INPUT(x2) INPUT(x4) INPUT(x6) OUTPUT(o) a = AND(x1, x4) b = AND(x2, x5) c = AND(x3, x6) o = OR(a, b, c)";
 
-/// An order that changes with how means are rounded.
+/// An order that depends on how means are rounded.
 const CLOSE: &str =
     "INPUT(a) INPUT(b) INPUT(c) OUTPUT(w) u = AND(a, b, c) v = AND(u, a) w = AND(a, c)";
 

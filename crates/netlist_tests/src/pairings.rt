@@ -1,15 +1,15 @@
-// Pairs and order files: that each call succeeds with ample memory, and what devices that fail or never end come to.
+// Pairings and order files: that each call succeeds if memory is ample, and what happens with devices that fail or never end.
 use crate::devices::{Endless, OneByte};
 use crate::netlists::C17;
-use net_bench::device::StdDevice;
 use net_bench::netlist::{Netlist, Signal};
 use net_bench::reader::parse_bench;
-use net_order::order::{Match, Order, OrderFault};
-use net_order::order_file::{order_text, read_order};
+use net_names::order::{Match, Order, OrderFault};
+use net_names::order_file::{order_text, read_order};
 use net_order::pairing::{Pairing, pair};
 use net_order::unfit::{Misfit, Unfit, unfit_name};
 use std::alloc::Global;
 use std::test::Fail;
+use text_device::StdDevice;
 
 static C17C: &str =
     "INPUT(1)\nINPUT(2)\nINPUT(3)\nINPUT(6)\nINPUT(7)\nOUTPUT(22)\nOUTPUT(24)\n10 = NAND(1, 3)\n11 = NAND(3, 6)\n16 = NAND(2, 11)\n19 = NAND(11, 7)\n22 = NAND(10, 16)\n24 = NAND(16, 19)\n";
@@ -41,7 +41,7 @@ fn pair_texts(
     pair(alloc, &first, &second, None, how, order)
 }
 
-/// The names of the variables of a text against itself, in the order of the file, a line each.
+/// The names of the variables of a text against itself, in the order of the file, each on a line.
 fn listed(alloc: Global, file: &str) -> Result<Vec<u8>, OrderFault> {
     let names = read_order(alloc, &mut StdDevice::new(file.as_bytes()))?;
     let pairing = pair_texts(alloc, PAIRS, PAIRS, Match::Name, &Order::Listed(names))?;
@@ -57,7 +57,7 @@ fn listed_orders(rt: HostRuntime) -> Result<(), Fail> {
     Ok(())
 }
 
-/// The names of the variables of a text against itself, in the order that the file gives as far as it goes, a line each.
+/// The names of the variables of a text against itself, in the extended order of the file, each on a line.
 fn extended(alloc: Global, file: &str) -> Result<Vec<u8>, OrderFault> {
     let names = read_order(alloc, &mut StdDevice::new(file.as_bytes()))?;
     let pairing = pair_texts(alloc, PAIRS, PAIRS, Match::Name, &Order::Extended(names))?;
@@ -106,7 +106,7 @@ fn unfit_names(rt: HostRuntime) -> Result<(), Fail> {
     Ok(())
 }
 
-/// Whether this signal stands there alone.
+/// Whether this is the only signal of the list.
 fn is_only(signals: &[Signal], number: u32) -> bool {
     signals.len() == 1 && signals[0].number() == number
 }
@@ -126,7 +126,7 @@ fn counts_differ(rt: HostRuntime) {
     assert!(rt; short.err() == Some(OrderFault::CountsDiffer));
 }
 
-/// The fault of an order file that drips from a device, which fails where so many bytes are left.
+/// The fault of an order file from a device that gives one byte a read, and fails when so many bytes are left.
 fn fault_when_failing_at(alloc: Global, file: &str, fails_at: usize) -> Option<OrderFault> {
     let mut device = OneByte {
         left: file.as_bytes(),

@@ -4,3 +4,4 @@ pub mod Rounds
 pub mod Budgets
 pub mod Namings
 pub mod Searching
+pub mod AheadRuns

@@ -2,20 +2,20 @@
 use Rattle.std.proofs.Common.{◌≡◌, ◌⊎◌, ◌∙◌, inl, inr, refl, sym, subst, [], Option, Some, None, Result, Ok, Err}
 use Rattle.std.specs.Prelude.{IfOk, IfSome}
 use Rattle.net_bench.specs.Circuit.{Circuit, IsNet, circuit}
-use Rattle.net_order.specs.declared.order.Match.{Match}
-use Rattle.net_order.specs.declared.order.Order.{Order}
-use Rattle.net_order.specs.declared.order.Order.TheVariants as orders
-use Rattle.net_order.specs.declared.order.OrderFault.{OrderFault}
-use Rattle.net_order.specs.declared.order.OrderFault.TheVariants.{CountsDiffer, NotAPermutation, TooManyInputs, OutOfMemory, BadName, TooLong, Read}
+use Rattle.net_names.specs.declared.order.Match.{Match}
+use Rattle.net_names.specs.declared.order.Order.{Order}
+use Rattle.net_names.specs.declared.order.Order.TheVariants as orders
+use Rattle.net_names.specs.declared.order.OrderFault.{OrderFault}
+use Rattle.net_names.specs.declared.order.OrderFault.TheVariants.{CountsDiffer, NotAPermutation, TooManyInputs, OutOfMemory, BadName, TooLong, Read}
 use Rattle.net_order.specs.Order.{IsFit, IsPairing, IsRefused, NamingModel, bad_place, condition, variables_in}
 use Rattle.group_order.specs.Orders.{IsOrderBy}
 use Rattle.compare_built.specs.declared.strategy.AttemptOrder.{AttemptOrder}
 use Rattle.compare_built.specs.declared.strategy.AttemptOrder.TheVariants.{Computed, Declared}
 use Rattle.compare_built.specs.declared.strategy.Candidate.{Candidate}
 use Rattle.compare_built.specs.declared.task.Task.{Task}
-use Rattle.compare_built.specs.Candidates.{IsMadeBy, IsOrderOf, IsPairingBy, rule_of}
+use Rattle.compare_built.specs.Candidates.{IsOrderOf, IsPairingBy, rule_of}
 
--- an order that its rule makes of a task's netlists is the candidate's
+-- an order that a candidate's rule makes from a task's netlists is that of the candidate
 pub made_order : {H : Type 0} (task : Task H) (c : Candidate) (r : Result Order OrderFault) → IsNet task.first.now → IsNet task.second.now → IfSome task.given (λ n. IsNet n.now) →
     IfOk r (IsOrderBy (rule_of c) task.settings.now.matching task.first.now task.second.now task.given) →
     IfOk r (IsOrderOf task.settings.now.matching (circuit task.first.now) (circuit task.second.now) (condition task.given) (Computed c))
@@ -34,7 +34,7 @@ made_order task c (Ok order) one two three by_rule = record {
 made_order task c (Err fault) one two three by_rule = tt
 
 module _ (how : Match) (a b : Circuit) (given : Option Circuit) where
-  -- a pairing in a list that fits is refused as one in declared order is
+  -- a pairing in a list of names that fits is refused as one in declared order is
   pub refused_as_declared : (f : OrderFault) (order : Order) → IsFit (variables_in how a b given) order → (f ≡ OutOfMemory) ⊎ IsRefused how a b given order f → (f ≡ OutOfMemory) ⊎ IsRefused how a b given orders.Declared f
   refused_as_declared f order fit (inl memory) = inl memory
   refused_as_declared CountsDiffer order fit (inr apart) = inr apart
@@ -47,7 +47,7 @@ module _ (how : Match) (a b : Circuit) (given : Option Circuit) where
   refused_as_declared TooLong order fit (inr never) = absurd never
   refused_as_declared Read order fit (inr never) = absurd never
 
-  -- where there is a pairing in the order of an attempt, there is one in declared order
+  -- if there is a pairing in the order of an attempt, there is one in declared order
   pub declared_pairing : (o : AttemptOrder) (p : NamingModel) → IsPairingBy how a b given o p → (q : NamingModel) × IsPairing how a b given orders.Declared q
   declared_pairing (Computed c) p (order, made, is) = (
     made.by_rule.0,

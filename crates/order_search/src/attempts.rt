@@ -1,14 +1,16 @@
-//! The attempts of a comparison: an order, and the nodes within which it is to stay.
+//! Attempts: comparisons in one order within a budget of nodes; and rounds, which are the attempts within one budget.
 ghost use Rattle.std.specs.Prelude.{◌≡◌, ◌<◌, ◌^◌, [], All, IfOk, IfErr};
+ghost use Rattle.order_search.specs.Ahead.{IsRunOf};
 ghost use Rattle.order_search.specs.Trials.{AreTrials, EndsAtOnce, IsCandidateFault, IsDecided, IsEnded, IsFirstAttempt, IsFirstRound};
 ghost use Rattle.order_search.specs.Trials.{IsReportedIn, IsRound, IsTrial, IsTrialFault};
 
+use crate::ahead::{next_run, runs_ahead};
 use crate::attempt_end::{end_of, give_up_reason};
 use crate::bounded_monitor::BoundedMonitor;
 use crate::trials::{Trial, is_tried, keep, paired_by, put_furthest_first};
 use compare_built::comparison::{compare, compare_as_declared};
 use compare_built::fault::CheckFault;
-use compare_built::strategy::{AttemptOrder, Candidate};
+use compare_built::strategy::{AttemptOrder, Candidate, REQUESTS_PER_NODE};
 use compare_built::task::Task;
 use expand_work::{AttemptEnd, Monitor};
 use net_order::pairing::Pairing;
@@ -17,17 +19,14 @@ use std::sync::Wait;
 use std::sync::atomic::AtomicU32;
 use std::thread::Threads;
 
-/// A wave may have so many requests for each node of the budget.
-const REQUESTS: u64 = 8;
-
-/// The candidates, in the order in which they are tried within the first budget.
+/// The candidates, in the sequence in which they are tried within the first budget.
 const CANDIDATES: [Candidate; 3] = [
     Candidate::MsbFirst,
     Candidate::Weights,
     Candidate::ForceGroups,
 ];
 
-/// The attempt that decides a comparison: its trial, its verdicts, and the nodes that it was to need.
+/// The attempt that decides a comparison: the trial with its order, the verdicts, and its budget in nodes.
 #[derive(Drop)]
 pub struct Decided {
     pub trial: Trial,
@@ -35,25 +34,28 @@ pub struct Decided {
     pub budget: u64,
 }
 
-/// What an attempt comes to.
+/// The result of an attempt.
 #[derive(Drop)]
-enum Ended {
+pub(crate) enum Ended {
+    /// The attempt has decided, with these verdicts.
     Decided(Vec<Verdict>),
-    /// Given up, for its nodes or for a wave's requests.
+    /// The attempt was given up. `full` says whether it needs more nodes than its budget.
     GivenUp { full: bool },
 }
 
-/// What the attempts within a budget come to.
+/// The result of a round.
 #[derive(Drop)]
 pub enum Round {
+    /// One of the attempts has decided.
     Decided(Decided),
-    /// All were given up, each for its nodes or not.
+    /// All attempts were given up. `full` says that each of them needs more nodes than its budget. It is false if one
+    /// of them was given up for the requests of a wave, or because the run was stopped.
     GivenUp { full: bool },
 }
 
-/// The verdicts of a comparison in the order of a trial within so many nodes, reported over its variables, or over those of a pairing
-/// that is given.
-fn verdicts_by<H: Threads + Wait + Sync, G: Monitor>(
+/// Compares in the order of a trial within a budget of nodes. The verdicts are reported over the variables of the
+/// trial's pairing, or over those of `declared` if it is given. Fails as `compare` does.
+pub(crate) fn verdicts_by<H: Threads + Wait + Sync, G: Monitor>(
     task: &Task<'_, H>,
     declared: Option<&Pairing>,
     trial: &Trial,
@@ -72,7 +74,8 @@ fn verdicts_by<H: Threads + Wait + Sync, G: Monitor>(
     }
 }
 
-/// Compares in the order of a trial within so many nodes, and notifies the monitor how that has ended.
+/// Compares in the order of a trial within a budget of nodes, and notifies the monitor how that has ended. If the run
+/// has stopped already, the attempt is given up at once, and the monitor is not notified.
 fn attempt<H: Threads + Wait + Sync, G: Monitor>(
     task: &Task<'_, H>,
     declared: Option<&Pairing>,
@@ -87,9 +90,12 @@ fn attempt<H: Threads + Wait + Sync, G: Monitor>(
     ensures fault { IfErr result (IsCandidateFault task.now) }
     ensures ends { IfErr result EndsAtOnce }
 {
+    if monitor.has_stopped() {
+        return Ok(Ended::GivenUp { full: false });
+    }
     let bounded = BoundedMonitor {
         monitor,
-        most: (budget * REQUESTS) as usize,
+        most: (budget * REQUESTS_PER_NODE) as usize,
         reached: &trial.reached,
     };
     match verdicts_by(task, declared, trial, budget, &bounded) {
@@ -99,14 +105,58 @@ fn attempt<H: Threads + Wait + Sync, G: Monitor>(
             Ok(Ended::Decided(verdicts))
         }
         Err(fault) => {
-            let full = give_up_reason(fault)?;
-            monitor.at_attempt(budget, end_of(trial.order, full));
+            let reason = give_up_reason(fault)?;
+            monitor.at_attempt(budget, end_of(trial.order, reason));
+            let full = reason.is_for_nodes();
             Ok(Ended::GivenUp { full })
         }
     }
 }
 
-/// The first attempt in an order. One that is the order of a trial before is that trial's.
+/// Returns what the monitor is notified of when an attempt that was made side by side with others has ended. It has no
+/// result if it was stopped, so that case is missing.
+fn end_of_run(order: AttemptOrder, ended: &Ended) -> AttemptEnd {
+    let order = order.name();
+    match ended {
+        Ended::Decided(_) => AttemptEnd::Decided { order },
+        Ended::GivenUp { full } => {
+            if *full {
+                AttemptEnd::MoreNodes { order }
+            } else {
+                AttemptEnd::TooManyRequests { order }
+            }
+        }
+    }
+}
+
+/// Returns the result of the attempt in the order of a trial. If it was made ahead, `run` is its result, of which the
+/// monitor is notified now. Otherwise the attempt is made now.
+fn attempt_unless_made<H: Threads + Wait + Sync, G: Monitor>(
+    task: &Task<'_, H>,
+    declared: Option<&Pairing>,
+    trial: &Trial,
+    run: Option<Ended>,
+    budget: u64,
+    monitor: &G,
+) -> Result<Ended, CheckFault>
+    requires small { budget < 2 ^ 32 }
+    requires verdict_order { IsReportedIn task.now declared }
+    requires trial { IsTrial task.now trial.now }
+    requires run { IsRunOf task.now declared budget (G.bound monitor.now) trial.now run }
+    ensures ended { IfOk result (IsEnded task.now declared.entry budget (G.bound monitor.now) trial.now) }
+    ensures fault { IfErr result (IsCandidateFault task.now) }
+    ensures ends { IfErr result EndsAtOnce }
+{
+    let Some(ended) = run else {
+        return attempt(task, declared, trial, budget, monitor);
+    };
+    monitor.at_attempt(budget, end_of_run(trial.order, &ended));
+    Ok(ended)
+}
+
+/// Makes the first attempt in an order, and keeps its trial if it is given up. If a trial before has the same order, no
+/// attempt is made, as it would end in the same way. The result has `full` set then, since no other cause is added to
+/// that of the earlier trial.
 pub(crate) fn try_candidate<H: Threads + Wait + Sync, G: Monitor>(
     task: &Task<'_, H>,
     declared: Option<&Pairing>,
@@ -144,7 +194,8 @@ pub(crate) fn try_candidate<H: Threads + Wait + Sync, G: Monitor>(
     }
 }
 
-/// Tries the candidates in turn within the first budget, and keeps a trial of each order that was given up.
+/// Tries the candidates in turn within the first budget, until one decides, and keeps the trials of those that were
+/// given up. Fails if an order or memory is refused.
 pub fn try_first<H: Threads + Wait + Sync, G: Monitor>(
     task: &Task<'_, H>,
     declared: Option<&Pairing>,
@@ -171,7 +222,9 @@ pub fn try_first<H: Threads + Wait + Sync, G: Monitor>(
     Ok(Round::GivenUp { full: all_full })
 }
 
-/// Tries the orders again within a larger budget, those first that came furthest.
+/// Tries the orders of the trials again within a larger budget, until one decides; the order whose last attempt reached
+/// the highest rank is first. A trial that decides is taken from the list. Several attempts may be made side by side
+/// before the first result is looked at, which does not change which of them decides. Fails if memory is refused.
 pub fn try_again<H: Threads + Wait + Sync, G: Monitor>(
     task: &Task<'_, H>,
     declared: Option<&Pairing>,
@@ -187,9 +240,11 @@ pub fn try_again<H: Threads + Wait + Sync, G: Monitor>(
     ensures ends { IfErr result EndsAtOnce }
 {
     put_furthest_first(trials);
+    let mut runs = runs_ahead(task, declared, trials.as_slice(), budget, monitor);
     let mut all_full = true;
     for place in 0..trials.len() {
-        match attempt(task, declared, &trials[place], budget, monitor)? {
+        let run = next_run(&mut runs);
+        match attempt_unless_made(task, declared, &trials[place], run, budget, monitor)? {
             Ended::Decided(verdicts) => {
                 let trial = trials.remove(place);
                 return Ok(Round::Decided(Decided {

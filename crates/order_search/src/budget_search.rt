@@ -1,4 +1,4 @@
-//! The search for the attempt that decides: within budgets of nodes that grow up to the limit.
+//! The search for the attempt that decides, within budgets of nodes that grow up to the limit.
 ghost use Rattle.std.specs.Prelude.{◌≡◌, ◌<◌, ◌^◌, [], IfOk, IfErr};
 ghost use Rattle.compare_built.specs.declared.strategy.Candidate.{Candidate as CandidateValue};
 ghost use Rattle.order_search.specs.Trials.{AreTrials, IsCandidateGivenUp, IsFoundWithin, IsGivingUp, IsReportedIn, IsSearchFault};
@@ -13,13 +13,13 @@ use net_order::pairing::Pairing;
 use std::sync::Wait;
 use std::thread::Threads;
 
-/// The nodes of the first budget.
+/// The first budget, in nodes. The choice of the budgets is explained in docs/decisions/orders-and-attempts.md.
 pub const FIRST_BUDGET: u64 = 16_384;
 
-/// Each budget has so many times the nodes of the one before it.
+/// The ratio of each budget to the one before it.
 pub const GROWTH: u64 = 16;
 
-/// Goes on within the budgets after the first one, up to the limit.
+/// Goes on with the search within the budgets after the first one, up to the limit.
 fn find_later<H: Threads + Wait + Sync, G: Monitor>(
     task: &Task<'_, H>,
     declared: Option<&Pairing>,
@@ -46,13 +46,17 @@ fn find_later<H: Threads + Wait + Sync, G: Monitor>(
     }
     match try_again(task, declared, trials, limit, monitor)? {
         Round::Decided(decided) => Ok(decided),
-        Round::GivenUp { full } => Err(fault_of(full)),
+        Round::GivenUp { full } => Err(fault_of(full, monitor)),
     }
 }
 
-/// Tries the candidates within budgets that grow up to the limit, and leaves a trial of each order that was given up in an empty list: if
-/// each attempt was given up, of all orders, so that a caller can go on within a larger budget. The verdicts are reported over the variables
-/// of the order that decides, or over those of a pairing that is given.
+/// Searches for the order in which two netlists can be compared: it tries all candidates within one budget before it
+/// goes on with the next, which is 16 times as large, until one decides or all were given up within the limit. The
+/// verdicts are reported over the variables of the order that decides, or over those of `declared` if it is given.
+///
+/// The list of trials is empty at first. If each attempt was given up, it has a trial of each order, with which a
+/// caller can go on within a larger budget (`attempts::try_again`). The fault is then Full, Stopped or GivenUp
+/// (`fault_of`). Also fails if an order or memory is refused.
 pub fn search<H: Threads + Wait + Sync, G: Monitor>(
     task: &Task<'_, H>,
     declared: Option<&Pairing>,
@@ -70,7 +74,7 @@ pub fn search<H: Threads + Wait + Sync, G: Monitor>(
     let budget = FIRST_BUDGET.min(limit);
     match try_first(task, declared, trials, budget, monitor)? {
         Round::Decided(decided) => Ok(decided),
-        Round::GivenUp { full } if limit <= FIRST_BUDGET => Err(fault_of(full)),
+        Round::GivenUp { full } if limit <= FIRST_BUDGET => Err(fault_of(full, monitor)),
         Round::GivenUp { .. } => find_later(task, declared, trials, limit, monitor),
     }
 }

@@ -1,4 +1,5 @@
-//! The last attempts: after a search has given up and its pairs were tried by their cones, the whole within the limit.
+//! The last attempts, on the whole netlists within the limit. They are made after a search has given up and the pairs
+//! were judged by their cones.
 ghost use Rattle.std.specs.Prelude.{◌<◌, ◌^◌, IfOk, IfErr};
 ghost use Rattle.order_search.specs.Trials.{EndsAtOnce, IsCandidateFault, IsLastRound, IsReportedIn};
 
@@ -13,7 +14,8 @@ use std::sync::Wait;
 use std::sync::atomic::Ordering;
 use std::thread::Threads;
 
-/// The order whose last attempt came furthest, by the rank that it reached; declared order, if there was no attempt.
+/// Returns the order whose last attempt reached the highest rank, the first of several; declared order if no attempt
+/// has begun a rank.
 pub fn furthest_of(trials: &[Trial]) -> AttemptOrder {
     let mut furthest = AttemptOrder::Declared;
     let mut most = 0;
@@ -27,8 +29,8 @@ pub fn furthest_of(trials: &[Trial]) -> AttemptOrder {
     furthest
 }
 
-/// Compares within so many nodes in the order that came furthest in a search that has given up, and if that is given up
-/// too, in declared order.
+/// Compares within a budget of nodes in the order that came furthest in the search and, if that attempt is given up, in
+/// declared order. Fails if an order or memory is refused.
 pub fn try_last<H: Threads + Wait + Sync, G: Monitor>(
     task: &Task<'_, H>,
     declared: Option<&Pairing>,

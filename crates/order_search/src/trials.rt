@@ -1,10 +1,10 @@
-//! The orders that are tried: how each is made, and a pairing for each that differs from the others.
-ghost use Rattle.std.specs.Prelude.{◌≡◌, ◌≢◌, ◌↔◌, bytes_eq, true, false, [], ◌∷◌, ◌++◌, All, Contains, Err, IfOk, IfErr, IfSome, OnOk, IsTrue};
+//! Trials: the orders that are tried, each with its pairing.
+ghost use Rattle.std.specs.Prelude.{◌≡◌, ◌≢◌, ◌↔◌, true, false, [], ◌∷◌, ◌++◌, All, Contains, Err, IfOk, IfErr, OnOk, IsTrue};
 ghost use Rattle.std.specs.List.Sorted.{IsPermutation};
-ghost use Rattle.net_bench.specs.Circuit.{IsNet, circuit};
+ghost use Rattle.net_bench.specs.Circuit.{circuit};
 ghost use Rattle.net_order.specs.Order.{IsFit, IsPairing, condition, variables_in};
-ghost use Rattle.net_order.specs.declared.order.OrderFault.{OrderFault as OrderFaultValue};
-ghost use Rattle.net_order.specs.declared.order.Order.TheVariants.{Declared};
+ghost use Rattle.net_names.specs.declared.order.OrderFault.{OrderFault as OrderFaultValue};
+ghost use Rattle.net_names.specs.declared.order.Order.TheVariants.{Declared};
 ghost use Rattle.group_order.specs.Orders.{IsOrderBy, IsOrderFault};
 ghost use Rattle.compare_built.specs.declared.strategy.AttemptOrder.TheVariants.{Computed};
 ghost use Rattle.compare_built.specs.Candidates.{IsOrderOf, rule_of};
@@ -18,24 +18,25 @@ use compare_built::named_signals::is_same;
 use compare_built::strategy::{AttemptOrder, Candidate};
 use compare_built::task::Task;
 use group_order::{force_groups, msb_first, weights};
-use net_order::names::Names;
+use net_names::names::Names;
+use net_names::order::{Order, OrderFault};
 use net_order::naming::{Naming, naming_of};
-use net_order::order::{Order, OrderFault};
 use net_order::pairing::{Pairing, pair};
 use std::alloc::AllocError;
 use std::cmp::Reverse;
 use std::sync::atomic::{AtomicU32, Ordering};
 
-/// The order of attempts with its pairing, and how far its last attempt came.
+/// An order that is tried, with the pairing in this order, and how far its last attempt came.
 #[derive(Drop)]
 pub struct Trial {
     pub order: AttemptOrder,
     pub pairing: Pairing,
-    /// The number of the last rank that was to be built.
+    /// The last rank whose build its last attempt has begun; 0 if it has begun none.
     pub reached: AtomicU32,
 }
 
-/// The pairing of a task's netlists in this order.
+/// Returns the pairing of a task's netlists in the given order. Fails if netlists that are matched by position have
+/// different counts, if the order does not fit them, if there are more than 4,096 variables, or if memory is refused.
 pub fn paired<H>(task: &Task<'_, H>, order: &Order) -> Result<Pairing, CheckFault>
     ensures paired { IfOk result (IsPairing task.now.settings.now.matching (circuit task.now.first.now) (circuit task.now.second.now)
         (condition task.now.given) order.now) }
@@ -53,7 +54,7 @@ pub fn paired<H>(task: &Task<'_, H>, order: &Order) -> Result<Pairing, CheckFaul
     )?)
 }
 
-/// The order of a candidate, by its rule.
+/// Returns the order of a candidate, by its rule.
 fn order_by_rule<H>(task: &Task<'_, H>, candidate: Candidate) -> Result<Order, OrderFault>
     ensures rule { IfOk result (IsOrderBy (rule_of candidate) task.now.settings.now.matching task.now.first.now task.now.second.now task.now.given) }
     ensures each_once { IfOk result (IsFit (variables_in task.now.settings.now.matching (circuit task.now.first.now)
@@ -69,7 +70,8 @@ fn order_by_rule<H>(task: &Task<'_, H>, candidate: Candidate) -> Result<Order, O
     }
 }
 
-/// The order of a candidate, which is made from a task's netlists.
+/// Returns the order of a candidate, which is computed from a task's netlists. Fails as a pairing in declared order
+/// does.
 pub fn candidate_order<H>(task: &Task<'_, H>, candidate: Candidate) -> Result<Order, OrderFault>
     ensures order { IfOk result (IsOrderOf task.now.settings.now.matching (circuit task.now.first.now) (circuit task.now.second.now)
         (condition task.now.given) (Computed candidate)) }
@@ -77,18 +79,18 @@ pub fn candidate_order<H>(task: &Task<'_, H>, candidate: Candidate) -> Result<Or
         (circuit task.now.second.now) (condition task.now.given))) }
     ensures refused { IfErr result (IsOrderFault task.now.settings.now.matching task.now.first.now task.now.second.now task.now.given) }
 {
-    let _ = task.first.inputs();
-    let _ = task.second.inputs();
+    let _ = task.first.inputs(); // For the proof.
+    let _ = task.second.inputs(); // For the proof.
     match task.given {
         None => order_by_rule(task, candidate),
         Some(given) => {
-            let _ = given.inputs();
+            let _ = given.inputs(); // For the proof.
             order_by_rule(task, candidate)
         }
     }
 }
 
-/// The order of an attempt.
+/// Returns the order of an attempt.
 fn attempt_order<H>(task: &Task<'_, H>, order: AttemptOrder) -> Result<Order, OrderFault>
     ensures order { IfOk result (IsOrderOf task.now.settings.now.matching (circuit task.now.first.now) (circuit task.now.second.now)
         (condition task.now.given) order) }
@@ -102,7 +104,7 @@ fn attempt_order<H>(task: &Task<'_, H>, order: AttemptOrder) -> Result<Order, Or
     }
 }
 
-/// The pairing of a task's netlists in the order of an attempt.
+/// Returns the pairing of a task's netlists in the order of an attempt. Fails as a pairing in declared order does.
 pub fn paired_by<H>(task: &Task<'_, H>, order: AttemptOrder) -> Result<Pairing, CheckFault>
     ensures paired { IfOk result (IsPairedBy task.now order) }
     ensures fault { OfTask task.now (λ input s. IfErr result (IsCheckFault input ⊥ ⊥ ⊥ s.order s.matching Declared)) }
@@ -119,7 +121,8 @@ pub fn paired_by<H>(task: &Task<'_, H>, order: AttemptOrder) -> Result<Pairing, 
     )?)
 }
 
-/// The naming of a task's netlists as their variables are declared, of whatever number.
+/// Returns the naming of a task's netlists in declared order. Unlike a pairing, it may have any number of variables.
+/// Fails if netlists that are matched by position have different counts, or if memory is refused.
 pub fn named<H>(task: &Task<'_, H>) -> Result<Naming, CheckFault>
     ensures named { IfOk result (IsNamingIn task.now Declared) }
     ensures fault { OfTask task.now (λ input s. IfErr result (IsCheckFault input ⊥ ⊥ ⊥ s.order s.matching Declared)) }
@@ -135,7 +138,7 @@ pub fn named<H>(task: &Task<'_, H>) -> Result<Naming, CheckFault>
     )?)
 }
 
-/// Whether two lists of names are the same.
+/// Whether two lists have the same names in the same order.
 fn are_same(names: &Names, others: &Names) -> bool
     ensures { IsTrue result ↔ (names.now ≡ others.now) }
 {
@@ -150,7 +153,7 @@ fn are_same(names: &Names, others: &Names) -> bool
     true
 }
 
-/// Whether one of the trials has these names, in this order.
+/// Whether one of the trials has these names in this order.
 pub(crate) fn is_tried(trials: &[Trial], names: &Names) -> bool
     ensures tried { result ≡ true → (trial : TrialValue) × Contains trials.now trial × (trial.pairing.names ≡ names.now) }
     ensures new { result ≡ false → All (λ trial. trial.pairing.names ≢ names.now) trials.now }
@@ -163,7 +166,7 @@ pub(crate) fn is_tried(trials: &[Trial], names: &Names) -> bool
     false
 }
 
-/// Puts a trial after the others.
+/// Appends a trial. Fails if memory is refused.
 pub(crate) fn keep(trials: &mut Vec<Trial>, trial: Trial) -> Result<(), AllocError>
     ensures { OnOk result (trials.new.items ≡ trials.old.items ++ trial ∷ []) }
 {
@@ -171,8 +174,8 @@ pub(crate) fn keep(trials: &mut Vec<Trial>, trial: Trial) -> Result<(), AllocErr
     Ok(())
 }
 
-/// Puts the trials in falling order of how far they came, those that came as far in the order that they had. Three are sorted without
-/// more memory; if it were needed and refused, they would stay in place.
+/// Sorts the trials by falling rank that their last attempts have reached; those with the same rank stay in their
+/// order. Three trials are sorted without more memory. If more were needed and refused, the list would be as before.
 pub(crate) fn put_furthest_first(trials: &mut Vec<Trial>)
     ensures { IsPermutation trials.old.items trials.new.items }
 {

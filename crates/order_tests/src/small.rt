@@ -2,8 +2,8 @@
 use group_order::{force_groups, msb_first, weights};
 use net_bench::netlist::Netlist;
 use net_bench::reader::parse_bench;
-use net_order::names::Names;
-use net_order::order::{Match, Order, OrderFault};
+use net_names::names::Names;
+use net_names::order::{Match, Order, OrderFault};
 use net_order::pairing::pair;
 use std::alloc::Global;
 use std::test::Fail;
@@ -11,11 +11,11 @@ use std::test::Fail;
 const C17: &str =
     "INPUT(1) INPUT(2) INPUT(3) INPUT(6) INPUT(7) OUTPUT(22) OUTPUT(23) 10 = NAND(1, 3) 11 = NAND(3, 6) 16 = NAND(2, 11) 19 = NAND(11, 7) 22 = NAND(10, 16) 23 = NAND(16, 19)";
 
-/// The numbers are after letters, brackets and dashes, or there are none.
+/// The numbers come after letters, brackets and dashes, or there are none.
 const MIXED: &str =
     "INPUT(a[10]) INPUT(b[2]) INPUT(clk) INPUT(a[2]) INPUT(x_3) INPUT(b10) INPUT(n7z) INPUT(5) INPUT(a007) OUTPUT(clk)";
 
-/// Numbers of 18 digits, and longer ones, which are all alike.
+/// Numbers of 18 digits, and longer ones, which all count the same.
 const LONG: &str =
     "INPUT(z9999999999999999999999999999999999999999) INPUT(y1000000000000000000) INPUT(x999999999999999999) INPUT(w18446744073709551616) OUTPUT(x999999999999999999)";
 
@@ -28,7 +28,7 @@ const THROUGH: &str = "INPUT(a) OUTPUT(a)";
 const JOINED: &str =
     "INPUT(a0) INPUT(a1) INPUT(b0) INPUT(b1) OUTPUT(o) p = NAND(a1, b0) q = NAND(a1, p) r = NAND(b0, p) x = NAND(q, r) o = AND(x, a0, b1)";
 
-/// A variable that an XOR joins with each other one is in no group.
+/// A variable that exclusive ors join with each other one is in no group.
 const HUB: &str =
     "INPUT(x0) INPUT(x1) INPUT(x2) INPUT(s3) OUTPUT(o) p = XOR(s3, x0) q = XOR(x1, s3) r = XNOR(s3, x2) o = AND(p, q, r)";
 
@@ -87,7 +87,7 @@ fn text_of(alloc: Global, names: &Names) -> Result<Vec<u8>, Fail> {
     Ok(text)
 }
 
-/// The order of two netlists by a rule, as a pairing by it has it.
+/// The order of two netlists by a rule, as a pairing in this order has it.
 fn ordered(
     alloc: Global,
     rule: Rule,
@@ -184,7 +184,7 @@ fn with_condition(rt: HostRuntime) -> Result<(), Fail> {
     Ok(())
 }
 
-// Netlists that are not counted have no order.
+// Netlists with different numbers of inputs have no pairing by position, and so no order.
 #[test]
 fn refused(rt: HostRuntime) -> Result<(), Fail> {
     let alloc = rt.alloc();

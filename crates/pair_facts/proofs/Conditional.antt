@@ -1,4 +1,4 @@
--- A condition of a netlist holds where some function says.
+-- A condition that is the circuit of a netlist has a function, which says where it holds.
 use Rattle.std.proofs.Common.{Bool, List, length, Option, Some, None, refl, subst}
 use Rattle.std.specs.Prelude.{IfSome, slice_index}
 use Rattle.gate_plan.proofs.Signals.{function, some_function}

@@ -1,4 +1,4 @@
--- Pairs that are dealt to shares, those of the largest cones first.
+-- Pairs that are given to shares, those with the largest cones first.
 use Rattle.std.proofs.Common.{◌≡◌, inl, inr, ℕ, zero, suc, ◌+◌, ◌<◌, ◌≤◌, List, [], ◌∷◌, ◌++◌, true, false, refl, sym, ap, ◌∙◌, subst, map, length, get_or, arith, All}
 use Rattle.std.specs.Prelude.{cond, nat_le, slice_index}
 use Rattle.std.specs.List.{AllZip}
@@ -42,7 +42,7 @@ numbers_inside n i d low =
     let at : get_or (numbers_below n) i d ≡ i = number_at n i d (omega arith) in
     omega arith
 
--- each number is below those behind it
+-- each number is less than those after it
 abbrev pub Rises : List ℕ → Type 0
 Rises [] = Unit {0}
 Rises (x ∷ xs) = All (λ y. x < y) xs × Rises xs
@@ -64,7 +64,7 @@ numbers_rise n =
 
 -- ---- by falling weight
 
--- each comes before those behind it
+-- each place comes before those after it
 abbrev pub Descends : List ℕ → List ℕ → Type 0
 Descends w [] = Unit {0}
 Descends w (x ∷ xs) = All (ComesBefore w x) xs × Descends w xs

@@ -1,4 +1,4 @@
--- What a pattern says of a pair.
+-- What follows for a pair from a pattern that shows that it differs.
 use Rattle.std.proofs.Common.{◌≡◌, ◌≢◌, ◌∙◌, ◌≤◌, ap, sym, refl, subst, arith, ℕ, zero, suc, ◌<◌, Bool, true, false, not, List, [], ◌∷◌, map, length, get_or, All, Option, Some, None}
 use Rattle.std.specs.Prelude.{IfSome, IsTrue}
 use Rattle.std.specs.List.{AllZip}
@@ -40,7 +40,7 @@ made variables blocks few = record { variables = variables; blocks = blocks; few
 as_few : (b c : ℕ) → b ≡ c → (v : ℕ) (h : b ≤ 64) (k : c ≤ 64) → made v b h ≡ made v c k
 as_few b c same v = subst (λ c. (h : b ≤ 64) (k : c ≤ 64) → made v b h ≡ made v c k) same (λ h k. ap (made v b) (le_prop h k))
 
--- patterns are the same if there are as many variables and blocks
+-- patterns of the same numbers of variables and blocks are the same
 pub same_patterns : (q r : Patterns) → q.variables ≡ r.variables → q.blocks ≡ r.blocks → q ≡ r
 same_patterns q r one two = subst (λ v. q ≡ made v r.blocks r.few) one (as_few q.blocks r.blocks two q.variables q.few r.few)
 
@@ -49,7 +49,7 @@ same_patterns q r one two = subst (λ v. q ≡ made v r.blocks r.few) one (as_fe
 pub pairs_inside : (a b : Circuit) (ss : List Subject) → All (IsInside a b) ss → All (IsPairOf a b) (map signals_of ss)
 pairs_inside a b ss h = All-map (IsPairOf a b) signals_of ss (λ i d low. let k = h i d low in (k.1, k.2))
 
--- the named signals are the first netlist's
+-- the signals whose names pairs have are signals of the first netlist
 pub all_named : (a b : Circuit) (ss : List Subject) → All (IsInside a b) ss → All (λ (s : Subject). s.named < length a.names) ss
 all_named a b ss h = λ i d low. (h i d low).0
 
@@ -83,7 +83,7 @@ other_value true false ne = refl
 other_value false true ne = refl
 other_value false false ne = absurd (ne refl)
 
--- a condition holds at a difference
+-- the condition holds at a difference
 holds_at : (a b : Circuit) (given : Option Circuit) (p : NamingModel) (pair : ℕ × ℕ) (x : List Bool) → IfSome given IsOfNet → IfSome given HasOutput → IsDifferenceAt a b given p pair x →
     (holds : List Bool → Bool) → HoldsWhere given p holds → IsTrue (holds x)
 holds_at a b None p pair x net some d holds is = ap (λ h. h x) is

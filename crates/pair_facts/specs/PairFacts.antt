@@ -13,19 +13,19 @@ use Rattle.compare_built.specs.declared.subject.Subject.{Subject}
 use Rattle.compare_built.specs.Facts.{IsShownAt, patterns_of, signals_of}
 use Rattle.compare_built.specs.PairSelection.{ComesBefore, HasWeight}
 
--- These are the places of pairs by falling weight.
+-- These are the places of the pairs by falling weight.
 pub record IsWeightOrder (a b : Circuit) (pairs : List Subject) (order : List ℕ) : Type 0 where
   pub weights : List ℕ
   pub weighed : AllZip (HasWeight a b) pairs weights
   pub places : IsPermutation (numbers_below (length weights)) order
   pub falls : (t u : ℕ) → t < u → u < length order → ComesBefore weights (slice_index order t) (slice_index order u)
 
--- A pattern shows that a pair differs, and the pair's first signal has the value there.
+-- The pattern shows that a pair differs, and the pair's first signal has this value there.
 abbrev pub IsShownWith : Circuit → Circuit → Option Circuit → NamingModel → Subject → ShownPattern → Type 0
 IsShownWith a b given p s shown = IsDifferenceWith a b given p (signals_of s) (pattern (patterns_of a b p) shown.number) shown.first
 
--- This is the first pattern that shows that a pair differs, with the value of its first signal there; there is none only if no pattern
--- shows it.
+-- This is the first pattern that shows that a pair differs, with the value of the pair's first signal there. There is
+-- none only if no pattern shows that the pair differs.
 abbrev pub IsFirstShown : Circuit → Circuit → Option Circuit → NamingModel → Subject → Option ShownPattern → Type 0
 IsFirstShown a b given p s shown =
     IsFirstWith (IsShownAt a b given p s) (HasFirstValue a p (patterns_of a b p) (signals_of s)) (pattern_count (patterns_of a b p)) shown

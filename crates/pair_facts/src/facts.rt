@@ -1,4 +1,4 @@
-//! What patterns show of the pairs that are picked.
+//! The pairs that are picked, with what patterns show of them.
 ghost use Rattle.std.specs.Prelude.{◌≡◌, ◌⊎◌, ◌<◌, All, Err, IfErr, IfOk, length, map};
 ghost use Rattle.std.specs.List.{AllZip};
 ghost use Rattle.net_bench.specs.Circuit.{circuit};
@@ -22,15 +22,15 @@ use std::alloc::{AllocError, Global};
 /// What is known of the pairs that are picked before an attempt is made.
 #[derive(Drop)]
 pub struct PairFacts {
-    /// The pairs, in the order of the report.
+    /// The pairs that are picked, in the order of the report.
     pub subjects: Vec<Subject>,
-    /// The lines of what has no partner.
+    /// The verdicts of the outputs and registers without a partner that are picked, in the order of the report.
     pub unmatched_lines: Vec<Verdict>,
-    /// For each pair the first pattern that shows that it differs.
+    /// For each pair the first pattern at which it differs, or none if no pattern shows that it differs.
     pub shown: Vec<Option<ShownPattern>>,
 }
 
-/// The patterns of two netlists.
+/// Returns the patterns at which two netlists are evaluated. They depend only on the numbers of variables and of gates.
 pub(crate) fn patterns_of(first: &Netlist, second: &Netlist, naming: &Naming) -> Patterns
     ensures { result ≡ patterns_of (circuit first.now) (circuit second.now) naming.now }
 {
@@ -40,7 +40,7 @@ pub(crate) fn patterns_of(first: &Netlist, second: &Netlist, naming: &Naming) ->
     )
 }
 
-/// The signals of the pairs.
+/// Returns the two signals of each pair.
 fn signals_of(alloc: Global, subjects: &[Subject]) -> Result<Vec<(Signal, Signal)>, AllocError>
     ensures { IfOk result (λ v. v.items ≡ map signals_of subjects.now) }
 {
@@ -50,7 +50,8 @@ fn signals_of(alloc: Global, subjects: &[Subject]) -> Result<Vec<(Signal, Signal
         .collect(alloc)
 }
 
-/// For each of these pairs the first pattern that shows that it differs.
+/// Returns, for each of these pairs, the first pattern at which the condition holds and the pair differs; none if no
+/// pattern shows that it differs.
 fn first_shown<H>(
     task: &Task<'_, H>,
     naming: &Naming,
@@ -72,7 +73,7 @@ fn first_shown<H>(
     Ok(shown)
 }
 
-/// The name of the first pair that a pattern shows to differ, empty if there is none.
+/// Returns the name of the first pair that a pattern shows to differ, or the empty name if there is none.
 fn first_name<'a>(
     first: &'a Netlist,
     subjects: &[Subject],
@@ -88,7 +89,7 @@ fn first_name<'a>(
     b""
 }
 
-/// Notifies the monitor how many pairs are known to differ.
+/// Notifies the monitor how many of the pairs are shown to differ, and the name of the first of them.
 fn notify_shown<G: Monitor>(
     first: &Netlist,
     subjects: &[Subject],
@@ -102,8 +103,9 @@ fn notify_shown<G: Monitor>(
     monitor.at_patterns(different, subjects.len(), name);
 }
 
-/// What is known of the pairs that are picked. A name that the first netlist does not have is a fault. The monitor is notified how many
-/// pairs are known to differ.
+/// Picks the pairs of a task by its settings, and evaluates both netlists at patterns, 512 at a time, to find pairs
+/// that differ. No diagram is built for that. The monitor is notified how many pairs are shown to differ. Fails with
+/// Only if a name pattern picks nothing of the first netlist, and with OutOfMemory.
 pub fn facts_of<H, G: Monitor>(
     task: &Task<'_, H>,
     naming: &Naming,

@@ -1,112 +1,121 @@
-//! Which pairs of outputs and of next states are compared, and which lines there are of what has no partner.
-ghost use Rattle.std.specs.Prelude.{◌≡◌, ◌⊎◌, ◌↔◌, ℕ, ◌<◌, List, [], true, false, if◌then◌else◌, ◌==◌, All, Contains, Err, IfErr, IfOk};
-ghost use Rattle.std.specs.Prelude.{IsTrue, filter, length, map, zip};
+//! The pairs of outputs and of next states that are picked, and the outputs and registers without a partner that are.
+ghost use Rattle.std.specs.Prelude.{◌≡◌, ◌⊎◌, ◌<◌, [], true, false, if◌then◌else◌, ◌==◌, All, Contains, Err, IfErr, IfOk};
+ghost use Rattle.std.specs.Prelude.{filter, length, zip};
 ghost use Rattle.net_bench.specs.Circuit.{circuit};
-ghost use Rattle.net_order.specs.Order.{name_of, registers_of};
 ghost use Rattle.compare_built.specs.declared.pair_filter.PairFilter.TheVariants.{All as AllPairs, Only as OnlyNamed, Share as InShare};
+ghost use Rattle.report_text.specs.declared.cause.PairName.{PairName as NameOfPair};
 ghost use Rattle.compare_built.specs.Comparing.{AreSignals};
-ghost use Rattle.compare_built.specs.PairSelection.{ArePicked, HasUnknown, IsNamedIn, is_among, is_unmatched_of, is_one_of, is_pair_of, of_share};
+ghost use Rattle.compare_built.specs.PairSelection.{ArePicked, HasPicked, HasUnknown, is_picked, is_unmatched_of, is_one_of, is_pair_of, of_share};
 ghost use Rattle.compare_built.specs.Report.{unmatched_of_side, unmatched_verdicts, subjects};
 
 use crate::shares::shares_of;
 use compare_built::compared_pairs::subjects_of;
 use compare_built::fault::CheckFault;
-use compare_built::named_signals::{is_named, is_same};
+use compare_built::named_signals::{has_picked, is_picked_by};
 use compare_built::pair_filter::PairFilter;
 use compare_built::subject::Subject;
 use compare_built::task::Task;
 use compare_built::unmatched::{add_first_unmatched, add_second_unmatched, add_unmatched};
 use net_bench::netlist::{Netlist, Signal};
 use net_order::naming::Naming;
-use report_text::{Name, PairKind, Share, Side, Verdict};
+use report_text::{PairKind, PairName, Share, Side, Verdict};
 use std::alloc::{AllocError, Global};
 
-/// What is compared, in the order of the report, and the lines of what has no partner.
+/// The pairs that are picked, and the verdicts of the outputs and registers without a partner that are picked, both in
+/// the order of the report.
 #[derive(Drop)]
 pub struct Selection {
     pub subjects: Vec<Subject>,
     pub unmatched_lines: Vec<Verdict>,
 }
 
-/// Whether a name is one of these.
-fn is_among(names: &[Name], name: &[u8]) -> bool
-    ensures { result ≡ is_among names.now name.now }
+/// Whether one of the patterns picks a pair of this kind and name.
+fn is_picked(patterns: &[PairName], kind: PairKind, name: &[u8]) -> bool
+    ensures { result ≡ is_picked patterns.now kind name.now }
 {
-    for other in names {
-        if is_same(name, other.as_slice()) {
+    for pattern in patterns {
+        if is_picked_by(kind, name, pattern) {
             return true;
         }
     }
     false
 }
 
-/// Whether the netlist has an output or a register of each of these names.
-fn are_named(net: &Netlist, names: &[Name]) -> bool
-    ensures named { result ≡ true → (n : List ℕ) → Contains names.now n → IsNamedIn (circuit net.now) n }
-    ensures unknown { result ≡ false → (n : List ℕ) × Contains names.now n × (IsNamedIn (circuit net.now) n → ⊥) }
+/// Whether each of the patterns picks an output or a register of the netlist.
+fn are_known(net: &Netlist, patterns: &[PairName]) -> bool
+    ensures known { result ≡ true → (p : NameOfPair) → Contains patterns.now p → HasPicked (circuit net.now) p }
+    ensures unknown { result ≡ false → (p : NameOfPair) × Contains patterns.now p × (HasPicked (circuit net.now) p → ⊥) }
 {
-    for name in names {
-        if !is_named(net, name.as_slice()) {
+    for pattern in patterns {
+        if !has_picked(net, pattern) {
             return false;
         }
     }
     true
 }
 
-/// Those that have one of these names.
+/// Returns the pairs that one of the patterns picks.
 fn named_subjects(
     alloc: Global,
     net: &Netlist,
-    names: &[Name],
+    patterns: &[PairName],
     subjects: &[Subject],
 ) -> Result<Vec<Subject>, AllocError>
     requires { All (λ subject. subject.named < length net.now.names) subjects.now }
-    ensures { IfOk result (λ v. v.items ≡ filter (is_pair_of (circuit net.now) names.now) subjects.now) }
+    ensures { IfOk result (λ v. v.items ≡ filter (is_pair_of (circuit net.now) patterns.now) subjects.now) }
 {
     let mut picked = Vec::new(alloc);
     for place in 0..subjects.len() {
         let subject = subjects[place];
-        if is_among(names, net.name(subject.named)) {
+        if is_picked(patterns, subject.role, net.name(subject.named)) {
             picked.push(subject)?;
         }
     }
     Ok(picked)
 }
 
-/// Those of the signals that have one of these names.
+/// Returns the signals that one of the patterns picks, taken as pairs of this kind.
 fn named_signals(
     alloc: Global,
     net: &Netlist,
-    names: &[Name],
+    patterns: &[PairName],
+    kind: PairKind,
     signals: &[Signal],
 ) -> Result<Vec<Signal>, AllocError>
     requires { All (λ s. s < length net.now.names) signals.now }
-    ensures { IfOk result (λ v. v.items ≡ filter (is_one_of (circuit net.now) names.now) signals.now) }
+    ensures { IfOk result (λ v. v.items ≡ filter (is_one_of (circuit net.now) patterns.now kind) signals.now) }
 {
     let mut picked = Vec::new(alloc);
     for place in 0..signals.len() {
         let signal = signals[place];
-        if is_among(names, net.name(signal)) {
+        if is_picked(patterns, kind, net.name(signal)) {
             picked.push(signal)?;
         }
     }
     Ok(picked)
 }
 
-/// The lines of those of the first netlist's outputs and registers without a partner that have one of these names.
+/// Returns the verdicts of the first netlist's outputs and registers without a partner that one of the patterns picks.
+/// Patterns pick nothing of the second netlist, as pairs have the first netlist's names.
 fn named_unmatched(
     alloc: Global,
     net: &Netlist,
-    names: &[Name],
+    patterns: &[PairName],
     naming: &Naming,
 ) -> Result<Vec<Verdict>, AllocError>
     requires outputs { All (λ s. s < length net.now.names) naming.now.outputs.only_first }
     requires registers { All (λ s. s < length net.now.names) naming.now.registers.only_first }
-    ensures { IfOk result (λ v. v.items ≡ filter (is_unmatched_of names.now)
+    ensures { IfOk result (λ v. v.items ≡ filter (is_unmatched_of patterns.now)
         (unmatched_of_side Side.First (circuit net.now) naming.now.outputs.only_first naming.now.registers.only_first)) }
 {
-    let outputs = named_signals(alloc, net, names, naming.only_first())?;
-    let registers = named_signals(alloc, net, names, naming.only_first_next())?;
+    let outputs = named_signals(alloc, net, patterns, PairKind::Output, naming.only_first())?;
+    let registers = named_signals(
+        alloc,
+        net,
+        patterns,
+        PairKind::NextState,
+        naming.only_first_next(),
+    )?;
     let mut unmatched_lines = Vec::new(alloc);
     add_unmatched(
         alloc,
@@ -127,7 +136,7 @@ fn named_unmatched(
     Ok(unmatched_lines)
 }
 
-/// The lines of all that has no partner.
+/// Returns the verdicts of all outputs and registers without a partner.
 fn all_unmatched(
     alloc: Global,
     first: &Netlist,
@@ -143,7 +152,7 @@ fn all_unmatched(
     Ok(unmatched_lines)
 }
 
-/// The pairs of a share, by the share of each.
+/// Returns the pairs whose share is `share`; `shares` has the share of each pair.
 fn pairs_in(
     alloc: Global,
     share: u32,
@@ -162,7 +171,8 @@ fn pairs_in(
     Ok(pairs)
 }
 
-/// The lines of all that has no partner, where it is the first share.
+/// Returns the verdicts of all outputs and registers without a partner for the first share, and none for any other
+/// share. So together the shares have each of them once.
 fn unmatched_in(
     alloc: Global,
     first: &Netlist,
@@ -181,7 +191,7 @@ fn unmatched_in(
     }
 }
 
-/// The pairs of a share, and with the first share all that has no partner.
+/// Returns the pairs of a share and, with the first share, all outputs and registers without a partner.
 fn shared<H>(
     task: &Task<'_, H>,
     naming: &Naming,
@@ -203,28 +213,34 @@ fn shared<H>(
     })
 }
 
-/// The pairs of these names, and the first netlist's outputs and registers of these names that have no partner.
+/// Returns the pairs that the patterns pick, and the first netlist's outputs and registers without a partner that they
+/// pick.
 fn named<H>(
     task: &Task<'_, H>,
     naming: &Naming,
     pairs: Vec<Subject>,
-    names: &Vec<Name>,
+    patterns: &Vec<PairName>,
 ) -> Result<Selection, AllocError>
     requires signals { AreSignals (circuit task.now.first.now) (circuit task.now.second.now) naming.now }
     requires all { pairs.items ≡ subjects (circuit task.now.first.now) (circuit task.now.second.now) naming.now }
-    requires named { (n : List ℕ) → Contains names.now.items n → IsNamedIn (circuit task.now.first.now) n }
+    requires known { (p : NameOfPair) → Contains patterns.now.items p → HasPicked (circuit task.now.first.now) p }
     ensures { IfOk result (λ r. ArePicked (circuit task.now.first.now) (circuit task.now.second.now) naming.now
-        (OnlyNamed names.now) r.subjects.items r.unmatched_lines.items) }
+        (OnlyNamed patterns.now) r.subjects.items r.unmatched_lines.items) }
 {
-    let subjects = named_subjects(task.alloc, task.first, names.as_slice(), pairs.as_slice())?;
-    let unmatched_lines = named_unmatched(task.alloc, task.first, names.as_slice(), naming)?;
+    let subjects = named_subjects(
+        task.alloc,
+        task.first,
+        patterns.as_slice(),
+        pairs.as_slice(),
+    )?;
+    let unmatched_lines = named_unmatched(task.alloc, task.first, patterns.as_slice(), naming)?;
     Ok(Selection {
         subjects,
         unmatched_lines,
     })
 }
 
-/// All pairs, and all that has no partner.
+/// Returns all pairs, and all outputs and registers without a partner.
 fn all_pairs<H>(
     task: &Task<'_, H>,
     naming: &Naming,
@@ -242,7 +258,8 @@ fn all_pairs<H>(
     })
 }
 
-/// What is picked of a task's pairs and of what has no partner. A name that the first netlist does not have is a fault.
+/// Returns the pairs of a task's netlists, and the outputs and registers without a partner, that the task's settings
+/// pick. Fails with Only if a name pattern picks no output and no register of the first netlist, and with OutOfMemory.
 pub fn select_pairs<H>(task: &Task<'_, H>, naming: &Naming) -> Result<Selection, CheckFault>
     requires { AreSignals (circuit task.now.first.now) (circuit task.now.second.now) naming.now }
     ensures picked { IfOk result (λ r. ArePicked (circuit task.now.first.now)
@@ -253,11 +270,11 @@ pub fn select_pairs<H>(task: &Task<'_, H>, naming: &Naming) -> Result<Selection,
     let pairs = subjects_of(task.alloc, task.first, task.second, naming)?;
     match &task.settings.picked {
         PairFilter::All => Ok(all_pairs(task, naming, pairs)?),
-        PairFilter::Only(names) => {
-            if !are_named(task.first, names.as_slice()) {
+        PairFilter::Only(patterns) => {
+            if !are_known(task.first, patterns.as_slice()) {
                 return Err(CheckFault::Only);
             }
-            Ok(named(task, naming, pairs, names)?)
+            Ok(named(task, naming, pairs, patterns)?)
         }
         PairFilter::Share(share) => Ok(shared(task, naming, pairs, *share)?),
     }

@@ -1,5 +1,5 @@
-//! Pairs by the size of their cones, and the share of each, where all are dealt to some shares: those of the largest cones first, in
-//! serpentine order.
+//! The pairs by falling size of their cones, and the share of each pair if several machines divide them. The pairs with
+//! the largest cones are given to the shares first, in serpentine order.
 ghost use Rattle.std.specs.Prelude.{◌≡◌, ℕ, ◌+◌, ◌≤◌, ◌<◌, All, IfOk, length, map, slice_index};
 ghost use Rattle.std.specs.List.{AllZip};
 ghost use Rattle.std.specs.List.Sorted.{IsPermutation};
@@ -15,21 +15,21 @@ use net_cone::gates_below;
 use std::alloc::{AllocError, Global};
 use std::cmp::Reverse;
 
-/// The first netlist's signals of what is compared.
+/// Returns the first netlist's signal of each pair.
 fn first_roots(alloc: Global, subjects: &[Subject]) -> Result<Vec<Signal>, AllocError>
     ensures { IfOk result (λ v. v.items ≡ map (λ subject. subject.first) subjects.now) }
 {
     subjects.iter().map(|subject| subject.first).collect(alloc)
 }
 
-/// The second netlist's signals of what is compared.
+/// Returns the second netlist's signal of each pair.
 fn second_roots(alloc: Global, subjects: &[Subject]) -> Result<Vec<Signal>, AllocError>
     ensures { IfOk result (λ v. v.items ≡ map (λ subject. subject.second) subjects.now) }
 {
     subjects.iter().map(|subject| subject.second).collect(alloc)
 }
 
-/// The sums of the numbers at each place. A sum that is no number of 64 bits is refused like memory.
+/// Returns the sum of the two numbers at each place. A sum of more than 64 bits is refused as if memory ran out.
 fn sums_of(alloc: Global, ones: &[u64], others: &[u64]) -> Result<Vec<u64>, AllocError>
     requires { length others.now ≡ length ones.now }
     ensures one_for_each { IfOk result (λ v. length v.items ≡ length ones.now) }
@@ -46,7 +46,7 @@ fn sums_of(alloc: Global, ones: &[u64], others: &[u64]) -> Result<Vec<u64>, Allo
     Ok(sums)
 }
 
-/// How many gates are in the two cones of each pair.
+/// Returns the weight of each pair: the number of gates in its two cones together.
 fn weights_of(
     alloc: Global,
     first: &Netlist,
@@ -64,7 +64,7 @@ fn weights_of(
     Ok(sums)
 }
 
-/// The weight at a place, 0 where there is none.
+/// Returns the weight at a place, or 0 if there is none.
 fn weight_at(weights: &[u64], place: usize) -> u64
     ensures { result ≡ slice_index weights.now place }
 {
@@ -75,7 +75,7 @@ fn weight_at(weights: &[u64], place: usize) -> u64
     }
 }
 
-/// The places of all weights.
+/// Returns the places of all weights, in rising order.
 #[tactic(auto, unfolding(net_order::specs::Force::numbers_below))]
 fn places_of(alloc: Global, weights: &[u64]) -> Result<Vec<usize>, AllocError>
     ensures { IfOk result (λ v. v.items ≡ numbers_below (length weights.now)) }
@@ -87,7 +87,7 @@ fn places_of(alloc: Global, weights: &[u64]) -> Result<Vec<usize>, AllocError>
     Ok(places)
 }
 
-/// The places by falling weight, those of equal weights as they stand.
+/// Returns the places by falling weight; those of equal weights stay in their order.
 fn order_of(alloc: Global, weights: &[u64]) -> Result<Vec<usize>, AllocError>
     ensures places { IfOk result (λ v. IsPermutation (numbers_below (length weights.now)) v.items) }
     ensures falls { IfOk result (λ v. (t u : ℕ) → t < u → u < length v.items
@@ -98,7 +98,9 @@ fn order_of(alloc: Global, weights: &[u64]) -> Result<Vec<usize>, AllocError>
     Ok(order)
 }
 
-/// The places of the pairs by falling weight: those with the most gates in their cones first, those of equal weights as they stand.
+/// Returns the places of the pairs by falling weight, which is the number of gates in a pair's two cones. Pairs of
+/// equal weight stay in the order of the report. Takes the time of a walk over the two cones of each pair, and that of
+/// sorting the pairs. Fails if memory is refused.
 pub fn weight_order(
     alloc: Global,
     first: &Netlist,
@@ -113,7 +115,8 @@ pub fn weight_order(
     Ok(order)
 }
 
-/// The share of the pair that so many come before.
+/// Returns the share, from 1 to `of`, of the pair at this position of the order by falling weight, counted from 0. In
+/// serpentine order the shares are 1, 2 .. n, n .. 2, 1, 1, 2 .. and so on, so that all get about equally many gates.
 pub fn serpentine_share(of: u32, position: usize) -> u32
     requires { 1 ≤ of }
     ensures value { result ≡ serpentine_share of position }
@@ -129,7 +132,7 @@ pub fn serpentine_share(of: u32, position: usize) -> u32
     }
 }
 
-/// By place, the shares that are dealt in this order.
+/// Returns, for each place, the share that it has if places are given to shares in this order.
 fn shares_by(alloc: Global, of: u32, order: &[usize]) -> Result<Vec<u32>, AllocError>
     requires some { 1 ≤ of }
     requires in_range { All (λ place. place < length order.now) order.now }
@@ -144,7 +147,7 @@ fn shares_by(alloc: Global, of: u32, order: &[usize]) -> Result<Vec<u32>, AllocE
     Ok(shares)
 }
 
-/// By pair, its share.
+/// Returns the share of each pair, among `of` shares. Fails as `weight_order` does.
 pub fn shares_of(
     alloc: Global,
     first: &Netlist,

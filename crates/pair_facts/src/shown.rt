@@ -1,11 +1,11 @@
 //! The verdict of a pair that a pattern shows to differ.
-ghost use Rattle.std.specs.Prelude.{◌≡◌, ◌<◌, IfOk, IfSome};
+ghost use Rattle.std.specs.Prelude.{◌<◌, IfOk, IfSome};
 ghost use Rattle.net_bench.specs.Circuit.{circuit};
 ghost use Rattle.net_order.specs.Order.{condition};
 ghost use Rattle.net_patterns.specs.Differences.{HasOutput, IsCounterexample, IsPairOf};
 ghost use Rattle.net_patterns.specs.Patterns.{pattern_count};
 ghost use Rattle.compare_built.specs.Comparing.{IsInside};
-ghost use Rattle.compare_built.specs.Facts.{IsShownVerdict, patterns_of, signals_of};
+ghost use Rattle.compare_built.specs.Facts.{IsShownVerdict, patterns_of};
 ghost use Rattle.compare_built.specs.Scatter.{IsOfNet};
 ghost use Rattle.pair_facts.specs.PairFacts.{IsShownWith};
 
@@ -18,16 +18,17 @@ use net_patterns::{Counterexample, Netlists, ShownPattern, make_small};
 use report_text::{Bits, Extras, Name, Verdict};
 use std::alloc::{AllocError, Global};
 
-/// The gates of both netlists that are evaluated for the windows of one size, for all pairs together. This is a choice: the assignments
-/// of all pairs are made small in less than a second.
+/// The most gates that are evaluated for the windows of one size, for all pairs together. With this number the
+/// assignments of all pairs are made small in less than a second.
 const GATE_WINDOWS: usize = 2_000_000;
 
-/// How many windows of each size are tried for a pair of two netlists with so many gates and pairs.
+/// Returns how many windows of each size are tried for each pair of two netlists with so many gates and pairs.
 fn windows_for(gates: usize, pairs: usize) -> usize {
     GATE_WINDOWS / gates.max(1) / pairs.max(1)
 }
 
-/// The same for the pairs of a naming.
+/// Returns the same for two netlists and the pairs of their naming. The larger netlist counts, and the more numerous
+/// kind of pairs.
 fn windows_of(netlists: &Netlists<'_, '_>) -> usize {
     let naming = netlists.naming;
     let gates = netlists
@@ -39,7 +40,8 @@ fn windows_of(netlists: &Netlists<'_, '_>) -> usize {
     windows_for(gates, pairs)
 }
 
-/// Another counterexample of a pair, or the same one, made small as far as that is cheap.
+/// Returns a counterexample of the pair that is nearer to the least, or the given one if no window may be tried or none
+/// shows another.
 fn made_small(
     alloc: Global,
     netlists: &Netlists<'_, '_>,
@@ -61,18 +63,19 @@ fn made_small(
     Ok(small)
 }
 
-/// Says that a condition is a netlist.
+/// For the proof: a condition that is given is the circuit of a netlist.
 fn note_condition(given: Option<&Netlist>)
     ensures { IfSome (condition given.entry) IsOfNet }
 {
     let Some(net) = given else {
         return;
     };
-    let _ = net.outputs();
+    let _ = net.outputs(); // For the proof.
 }
 
-/// The verdict of a pair that a pattern shows to differ: an assignment at which it differs, made small as far as that is cheap. It may not
-/// be the least. The pattern's value is not computed again.
+/// Returns the verdict of a pair that a pattern shows to differ. Its assignment is the pattern, made smaller as far as
+/// `GATE_WINDOWS` allows, so it may not be the least. The values of the functions at the pattern are known from
+/// `shown`, and are not computed again. Fails if memory is refused.
 pub fn shown_verdict<H>(
     task: &Task<'_, H>,
     naming: &Naming,
@@ -86,9 +89,9 @@ pub fn shown_verdict<H>(
         naming.now subject.now) }
 {
     let alloc = task.alloc;
-    let _ = task.first.inputs();
-    let _ = task.second.inputs();
-    note_condition(task.given);
+    let _ = task.first.inputs(); // For the proof.
+    let _ = task.second.inputs(); // For the proof.
+    note_condition(task.given); // For the proof.
     let netlists = Netlists {
         first: task.first,
         second: task.second,

@@ -73,7 +73,7 @@ module _ (old new : List Node) (was : IsGraph old) (sound : IsGraph new) (keeps 
       exclusive_or-complements a.complemented b.complemented (node_value new x a.node) (node_value new x b.node) ∙
       (let s = kept a low_a in let t = kept b low_b in λ i. exclusive_or (s i) (t i))
 
--- a complemented And
+-- a literal that is the complement of an And
 pub value-nand : (g : List Node) → IsGraph g → (x : List Bool) (l a b : Parts) (n : ℕ) → n ≡ l.node → l.complemented ≡ true
     → slice_get g n ≡ Some (And a b) → value g x l ≡ not (value g x a && value g x b)
 value-nand g sound x l a b n is complemented e =

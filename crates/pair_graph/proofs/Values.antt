@@ -6,7 +6,7 @@ use Rattle.pair_graph.specs.declared.node.Node.TheVariants.{Constant, Variable, 
 use Rattle.pair_graph.specs.Literals.{Parts, false_literal, negated, true_literal}
 use Rattle.pair_graph.specs.Graphs.{AreBelow, HasNode, KeepsNodes, IsGraph, exclusive_or, node_value, operation, operation_at, inverted_if, value, value_within}
 
--- an operation has one value if its operands have the same values
+-- an operation has the same value if its operands have
 pub operation-same : (f h : ℕ → Bool) (x : List Bool) (n : ℕ) (m : Node) → AreBelow n m → ((i : ℕ) → i < n → f i ≡ h i)
     → operation f x m ≡ operation h x m
 operation-same f h x n Constant low same = refl
@@ -57,7 +57,7 @@ module _ (g : List Node) (ordered : (n : ℕ) (m : Node) → slice_get g n ≡ S
   unfolding node_value
   node_value-keeps h keeps n low = value_within-keeps h keeps (suc n) n low
 
-  -- and so do its literals
+  -- literals of nodes that are kept keep their values
   pub value-keeps : (h : List Node) → KeepsNodes g h → (l : Parts) → HasNode g l → value h x l ≡ value g x l
   value-keeps h keeps l low = ap (inverted_if l.complemented) (node_value-keeps h keeps l.node low)
 
@@ -67,7 +67,7 @@ inverted_if-not true true = refl
 inverted_if-not true false = refl
 inverted_if-not false v = refl
 
--- a complement has the complement's value
+-- a complement has the complemented value
 pub value-negated : (g : List Node) (x : List Bool) (l : Parts) → value g x (negated l) ≡ not (value g x l)
 value-negated g x l = inverted_if-not l.complemented (node_value g x l.node)
 

@@ -1,4 +1,4 @@
--- Literals, and nodes, for which the derived `==` answers true are equal.
+-- The derived `==` of literals, and of nodes, holds of equal ones only.
 use Rattle.std.proofs.Common.{◌≡◌, true, refl, sym, arith, true≢false}
 use Rattle.std.proofs.lemmas.Bool.Decides.{nat_tests}
 use Rattle.pair_graph.specs.Literals.{Parts}

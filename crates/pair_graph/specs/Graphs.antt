@@ -16,22 +16,22 @@ inverted_if b v = cond b (not v) v
 abbrev pub exclusive_or : Bool → Bool → Bool
 exclusive_or a b = cond a (not b) b
 
--- the bit of a variable
+-- the bit of a variable, 0 if the assignment has none
 abbrev pub bit : List Bool → ℕ → Bool
 bit x v = slice_index_or x v false
 
--- the value of a literal, where f gives the values of nodes
+-- the value of a literal, if f gives the values of nodes
 abbrev pub literal_value : (ℕ → Bool) → Parts → Bool
 literal_value f l = inverted_if l.complemented (f l.node)
 
--- the value of a node, where f gives those of its operands
+-- the value of a node, if f gives those of its operands
 abbrev pub operation : (ℕ → Bool) → List Bool → Node → Bool
 operation f x Constant = false
 operation f x (Variable v) = bit x v
 operation f x (And a b) = literal_value f a && literal_value f b
 operation f x (Xor a b) = exclusive_or (literal_value f a) (literal_value f b)
 
--- the same if there is a node, otherwise 0
+-- the value of a node, or 0 if there is none
 abbrev pub operation_at : (ℕ → Bool) → List Bool → Option Node → Bool
 operation_at f x None = false
 operation_at f x (Some m) = operation f x m
@@ -56,7 +56,7 @@ AreBelow n (Variable v) = Unit {0}
 AreBelow n (And a b) = (a.node < n) × (b.node < n)
 AreBelow n (Xor a b) = (a.node < n) × (b.node < n)
 
--- what is true of every graph
+-- the invariant of every graph
 pub record IsGraph (g : List Node) : Type 0 where
   pub constant : slice_get g 0 ≡ Some Constant
   pub ordered : (n : ℕ) (m : Node) → slice_get g n ≡ Some m → AreBelow n m

@@ -1,4 +1,4 @@
--- Literals: a node of a graph, or its complement. What clauses see of a literal are its two parts.
+-- Literals: a node of a graph, or its complement. Contracts see a literal as these two parts.
 use Rattle.std.specs.Prelude.{ℕ, ◌+◌, ◌*◌, ◌/◌, ◌%◌, ◌==◌, Bool, true, false, not, if◌then◌else◌}
 
 -- the number of a node, and whether the literal is its complement

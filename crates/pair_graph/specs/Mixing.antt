@@ -1,4 +1,4 @@
--- Two numbers that spread a node over the slots of a table. No proof knows more of them than that equal nodes have equal ones.
+-- The two words of which a node's hash is made. Proofs know of them only that equal nodes have equal ones.
 use Rattle.std.specs.Prelude.{ℕ, ◌+◌, ◌^◌}
 use Rattle.slot_table.specs.Mixing.{mix_of}
 use Rattle.pair_graph.specs.declared.node.Node.{Node}

@@ -1,5 +1,5 @@
 //! The graph, and the operations that add to it.
-ghost use Rattle.std.specs.Prelude.{◌≡◌, ◌<◌, ◌≤◌, ◌^◌, ◌&&◌, [], ◌∷◌, Bool, List, not, Some, Err, IfOk, IfSome, OnErr, length, slice_get};
+ghost use Rattle.std.specs.Prelude.{◌≡◌, ◌<◌, ◌^◌, ◌&&◌, [], ◌∷◌, Bool, List, not, Some, Err, IfOk, IfSome, OnErr, length, slice_get};
 ghost use Rattle.pair_graph.specs.Graphs.{AreBelow, HasNode, KeepsNodes, IsGraph, bit, exclusive_or, value};
 ghost use Rattle.slot_table.specs.Lists.{IsOnce};
 
@@ -10,10 +10,11 @@ use slot_table::{Admission, Refusal, SlotTable};
 use std::alloc::{AllocError, Global};
 use std::marker::Model;
 
-/// The most nodes of a graph: a literal has 31 bits for a node's number.
+/// The most nodes of a graph, since a literal has 31 bits for the number of a node.
 const MAX_NODES: u64 = 1 << 31;
 
-/// An And-Xor graph with structural hashing (Kuehlmann and Krohm 1997): nodes by number, each operation on two literals at most once.
+/// An And-Xor graph with structural hashing (Kuehlmann and Krohm 1997): a list of nodes by number, in which each
+/// operation on the same two literals is once.
 #[derive(Drop)]
 pub struct Graph {
     nodes: SlotTable<Node>,
@@ -31,7 +32,7 @@ impl Model for Graph {
     ghost invariant = { λ g. IsGraph g.nodes };
 }
 
-/// Why a graph did not make a node.
+/// Why a graph has not made a node. The graph is as before.
 #[derive(Clone, Copy, Debug, PartialEq, Eq)]
 pub enum GraphFault {
     /// The graph has as many nodes as literals can name.
@@ -52,7 +53,7 @@ impl From<AllocError> for GraphFault {
 }
 
 impl Graph {
-    /// A graph that has only the constant.
+    /// Returns a graph that has only the constant.
     pub fn new(alloc: Global) -> Result<Graph, GraphFault>
         ensures constant { IfOk result (λ g. g ≡ Node.Constant ∷ []) }
         ensures memory { OnErr result (result ≡ Err GraphFault.OutOfMemory) }
@@ -64,7 +65,7 @@ impl Graph {
         }
     }
 
-    /// How many nodes there are. Its contract also says what is true of every graph.
+    /// Returns the number of nodes. The clause `sound` is true of every graph; a caller gets it by this call.
     pub fn len(&self) -> usize
         ensures value { result ≡ length self.now }
         ensures sound { IsGraph self.now }
@@ -72,7 +73,7 @@ impl Graph {
         self.nodes.len()
     }
 
-    /// The node that has this number.
+    /// Returns the node that has this number.
     pub fn node(&self, number: u32) -> Node
         requires { number < length self.now }
         ensures value { slice_get self.now number ≡ Some result }
@@ -82,7 +83,7 @@ impl Graph {
         self.nodes.at(number as usize)
     }
 
-    /// The nodes, by number.
+    /// Returns the nodes, by number.
     pub fn as_slice(&self) -> &[Node]
         ensures all { result.now ≡ self.now }
         ensures once { IsOnce self.now }
@@ -90,7 +91,7 @@ impl Graph {
         self.nodes.as_slice()
     }
 
-    /// The number of a node. It is added at the end if the graph does not have it yet.
+    /// Returns the number of a node, which is added at the end if the graph does not have it.
     fn add(&mut self, node: Node) -> Result<u32, GraphFault>
         requires { AreBelow (length self.old) node }
         ensures place { IfOk result (λ n. slice_get self.new n ≡ Some node) }
@@ -110,7 +111,7 @@ impl Graph {
         }
     }
 
-    /// The literal whose value is the bit of this variable.
+    /// Returns the literal whose value is the bit of this variable.
     pub fn variable(&mut self, number: u32) -> Result<Literal, GraphFault>
         ensures value { IfOk result (λ l. (x : List Bool) → value self.new x l ≡ bit x number) }
         ensures has { IfOk result (HasNode self.new) }
@@ -123,7 +124,7 @@ impl Graph {
         Ok(Literal::new(place, false))
     }
 
-    /// The operands p and q if a literal is NOT (p AND q).
+    /// Returns the operands p and q if a literal is NOT (p AND q), and otherwise none.
     fn nand_operands(&self, literal: Literal) -> Option<(Literal, Literal)>
         requires { HasNode self.now literal }
         ensures first { IfSome result (λ p. HasNode self.now p.0) }
@@ -131,7 +132,7 @@ impl Graph {
         ensures value { IfSome result (λ p. (x : List Bool) →
             value self.now x literal ≡ not (value self.now x p.0 && value self.now x p.1)) }
     {
-        let _ = self.len();
+        let _ = self.len(); // For the proof.
         if !literal.is_complemented() {
             return None;
         }
@@ -141,7 +142,8 @@ impl Graph {
         }
     }
 
-    /// p and q if the two literals are NOT (p AND q) and NOT (NOT p AND NOT q), whose And is the Xor of p and q.
+    /// Returns p and q if the two literals are NOT (p AND q) and NOT (NOT p AND NOT q), whose And is the Xor of p and
+    /// q; otherwise none.
     fn xor_operands(&self, first: Literal, second: Literal) -> Option<(Literal, Literal)>
         requires first { HasNode self.now first }
         requires second { HasNode self.now second }
@@ -159,8 +161,8 @@ impl Graph {
         }
     }
 
-    /// The literal whose value is the And of two. A trivial case answers one of the operands or a constant, and needs no node; an Xor
-    /// that is built of three Ands becomes a node for the Xor.
+    /// Returns the literal whose value is the And of two. In a trivial case it is one of the operands or a constant,
+    /// and needs no node. An Xor that is built of three Ands becomes one node of Xor.
     pub fn and_of(&mut self, first: Literal, second: Literal) -> Result<Literal, GraphFault>
         requires first { HasNode self.old first }
         requires second { HasNode self.old second }
@@ -171,7 +173,7 @@ impl Graph {
         ensures refused { OnErr result (self.new ≡ self.old) }
         ensures full { result ≡ Err GraphFault.Full → length self.old ≡ 2 ^ 31 }
     {
-        let _ = self.len();
+        let _ = self.len(); // For the proof.
         if let Some(answer) = trivial_and(first, second) {
             return Ok(answer);
         }
@@ -183,7 +185,8 @@ impl Graph {
         Ok(Literal::new(place, false))
     }
 
-    /// The literal whose value is the Xor of two. The operands of its node are never complemented: the answer is, if exactly one of the two is.
+    /// Returns the literal whose value is the Xor of two. The operands of its node are never complemented; the returned
+    /// literal is, if exactly one of the two is. In a trivial case no node is needed.
     pub fn xor_of(&mut self, first: Literal, second: Literal) -> Result<Literal, GraphFault>
         requires first { HasNode self.old first }
         requires second { HasNode self.old second }
@@ -195,7 +198,7 @@ impl Graph {
         ensures refused { OnErr result (self.new ≡ self.old) }
         ensures full { result ≡ Err GraphFault.Full → length self.old ≡ 2 ^ 31 }
     {
-        let _ = self.len();
+        let _ = self.len(); // For the proof.
         if let Some(answer) = trivial_xor(first, second) {
             return Ok(answer);
         }

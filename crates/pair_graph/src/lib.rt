@@ -1,13 +1,16 @@
-//! One graph of And and Xor gates with complement edges, in which each gate is found by its structure. Several netlists over the same
-//! variables can be put into one graph; what they share is then there once.
+//! One graph of And and Xor gates with complement edges, in which each gate is found by its
+//! structure. If several netlists over the same variables are put into one graph, what they share
+//! is in it once.
 //!
-//! **Promises.** Every graph has its constant first and operands of lower numbers (`Graph::len`: `sound`). `variable`, `and_of` and
-//! `xor_of` answer a literal whose value at every assignment is the operation's (`value`), keep every node (`keeps`), so the values
-//! of all older literals, and fail only for want of memory or if the graph has 2^31 nodes, with nothing changed (`refused`, `full`).
+//! **Promises.** In every graph node 0 is the constant, and operands have lower numbers
+//! (`Graph::len`: `sound`). `variable`, `and_of` and `xor_of` return a literal whose value at every
+//! assignment is that of the operation (`value`). They keep every node, and so the values of all
+//! older literals (`keeps`). They fail only if memory is refused or the graph has 2^31 nodes, and
+//! then change nothing (`refused`, `full`).
 //!
-//! **Only tests show** that ample memory suffices (`merge_tests`).
+//! **Only tests show** that nothing is refused if there is ample memory (`merge_tests`).
 //!
-//! **Begin** with `specs/Graphs`, which defines the value of a literal; then `graph`.
+//! **Begin** with `specs/Graphs`, which defines the value of a literal; then read `graph`.
 #![tactic(auto)]
 
 mod graph;

@@ -6,10 +6,10 @@ ghost use Rattle.pair_graph.specs.Literals.{complemented_if, negated, positive_o
 
 use std::marker::Model;
 
-/// A node of a graph or its complement, in four bytes.
+/// A node of a graph, or its complement, in four bytes.
 #[derive(Clone, Copy, Debug, PartialEq, Eq)]
 pub struct Literal {
-    /// Bit 0 says whether it is the complement, the others are the node's number.
+    /// Bit 0 is set for the complement; the other bits are the node's number.
     word: u32,
 }
 
@@ -34,7 +34,7 @@ impl Literal {
     /// The constant 1.
     pub const TRUE: Literal = Literal { word: 1 };
 
-    /// The literal of a node, or of its complement.
+    /// Returns the literal of a node, or of its complement if `complemented` is set.
     pub fn new(node: u32, complemented: bool) -> Literal
         requires { node < 2 ^ 31 }
         ensures { result ≡ record { node = node; complemented = complemented } }
@@ -44,7 +44,7 @@ impl Literal {
         }
     }
 
-    /// The number of its node.
+    /// Returns the number of the literal's node.
     pub fn node(self) -> u32
         ensures value { result ≡ self.node }
         ensures small { result < 2 ^ 31 }
@@ -52,21 +52,21 @@ impl Literal {
         self.word / 2
     }
 
-    /// Whether it is the complement of its node.
+    /// Whether the literal is the complement of its node.
     pub fn is_complemented(self) -> bool
         ensures { result ≡ self.complemented }
     {
         self.word % 2 == 1
     }
 
-    /// Whether it is one of the constants.
+    /// Whether the literal is one of the two constants.
     pub fn is_constant(self) -> bool
         ensures { IsTrue result ↔ (self.node ≡ 0) }
     {
         self.word < 2
     }
 
-    /// Its complement if `complemented` is true, else itself.
+    /// Returns the complement if `complemented` is set, and otherwise the literal itself.
     pub fn complement_if(self, complemented: bool) -> Literal
         ensures { result ≡ complemented_if complemented self }
     {
@@ -75,14 +75,14 @@ impl Literal {
         }
     }
 
-    /// The literal of its node that is not complemented.
+    /// Returns the literal of the same node that is not complemented.
     pub fn positive(self) -> Literal
         ensures { result ≡ positive_of self }
     {
         Literal::new(self.node(), false)
     }
 
-    /// Its complement.
+    /// Returns the complement.
     pub fn negate(self) -> Literal
         ensures value { result ≡ negated self }
         ensures meaning { (g : List NodeValue) (x : List Bool) → value g x result ≡ not (value g x self) }
@@ -90,7 +90,7 @@ impl Literal {
         self.complement_if(true)
     }
 
-    /// Its four bytes as a number; different literals have different words.
+    /// Returns the literal as a number, its word. Different literals have different words.
     pub fn word(self) -> u32
         ensures { result ≡ word_of self }
     {

@@ -2,7 +2,8 @@
 use crate::literal::Literal;
 use slot_table::{SlotHash, mix};
 
-/// A node of a graph: the constant 0, the variable of this number, or an operation on two literals of nodes with lower numbers.
+/// A node of a graph: the constant 0, the variable with this number, or an operation on two literals of nodes with
+/// lower numbers.
 #[derive(Clone, Copy, Debug, PartialEq, Eq)]
 pub enum Node {
     Constant,
@@ -11,7 +12,7 @@ pub enum Node {
     Xor(Literal, Literal),
 }
 
-/// Keeps the hash of an And and that of an Xor of the same operands apart.
+/// Bits above those of a literal's word, by which the hashes of an And and an Xor of the same operands differ.
 const AND_BIT: u64 = 1 << 32;
 
 const XOR_BIT: u64 = 1 << 33;

@@ -1,11 +1,11 @@
-//! Trivial cases, which need no node, and the order of operands.
+//! Trivial cases of operations, which need no node, and the order of operands.
 ghost use Rattle.std.specs.Prelude.{◌≡◌, ◌⊎◌, IfSome};
 ghost use Rattle.pair_graph.specs.Trivial.{IsTrivial, conjunction};
 ghost use Rattle.pair_graph.specs.Graphs.{exclusive_or};
 
 use crate::literal::Literal;
 
-/// The And of two literals if it needs no node: one of them is a constant, or they are equal or complements.
+/// Returns the And of two literals if it needs no node: one of them is a constant, or they are equal or complements.
 pub(crate) fn trivial_and(first: Literal, second: Literal) -> Option<Literal>
     ensures { IfSome result (IsTrivial conjunction first second) }
 {
@@ -32,7 +32,7 @@ pub(crate) fn trivial_and(first: Literal, second: Literal) -> Option<Literal>
     Some(Literal::FALSE)
 }
 
-/// The Xor of two literals if it needs no node.
+/// Returns the Xor of two literals if it needs no node, in the same cases.
 pub(crate) fn trivial_xor(first: Literal, second: Literal) -> Option<Literal>
     ensures { IfSome result (IsTrivial exclusive_or first second) }
 {
@@ -55,7 +55,7 @@ pub(crate) fn one_complemented(first: Literal, second: Literal) -> bool
     first.is_complemented() != second.is_complemented()
 }
 
-/// Two literals, that of the lower word first, so that both orders of two operands have one node.
+/// Returns two literals, the one of the lower word first, so that both orders of two operands have one node.
 pub(crate) fn in_order(first: Literal, second: Literal) -> (Literal, Literal)
     ensures { (result ≡ (first, second)) ⊎ (result ≡ (second, first)) }
 {

@@ -1,5 +1,5 @@
--- Lists that hold a relation place by place.
-use Rattle.std.proofs.Common.{◌+◌, ◌<◌, ℕ, zero, suc, List, [], ◌∷◌, arith, get_or, length}
+-- Lists of which each two items at the same place are in a relation.
+use Rattle.std.proofs.Common.{◌<◌, ℕ, zero, suc, List, [], ◌∷◌, arith, get_or, length}
 use Rattle.std.specs.List.{AllZip}
 
 pub zip_at : {A B : Type 0} (R : A → B → Type 0) (xs : List A) (ys : List B) (i : ℕ) (d : A) (e : B) → AllZip R xs ys → i < length xs → R (get_or xs i d) (get_or ys i e)

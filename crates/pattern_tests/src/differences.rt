@@ -1,5 +1,6 @@
-// Differences that patterns show, and how small they become. The expected numbers are counted by hand: the first patterns are all 0, all 1,
-// one 1 among 0s and one 0 among 1s, for each variable as it is declared.
+// Differences that patterns show, and how small they become. The expected numbers are counted by hand: the first
+// patterns are all 0, all 1, and then for each variable, as declared, one with only this variable at 1, and one with
+// only this variable at 0.
 ghost use Rattle.std.specs.Prelude.{IfSome, IsTrue};
 ghost use Rattle.net_bench.specs.Circuit.{circuit};
 ghost use Rattle.net_order.specs.Order.{condition};
@@ -7,8 +8,8 @@ ghost use Rattle.net_patterns.specs.Differences.{HasOutput, IsPairOf};
 
 use net_bench::netlist::{Netlist, Signal};
 use net_bench::reader::parse_bench;
+use net_names::order::Match;
 use net_order::naming::{Naming, naming_of};
-use net_order::order::Match;
 use net_patterns::{
     Counterexample, Netlists, Patterns, ShownPattern, first_differences, make_small,
 };
@@ -62,7 +63,7 @@ fn texts_of(alloc: Global, first: &str, second: &str, given: Option<&str>) -> Re
     })
 }
 
-/// The signal of this name, the first one if there is none.
+/// The signal of this name; the first one if there is none.
 fn signal(net: &Netlist, name: &str) -> Signal {
     net.find(name.as_bytes()).unwrap_or(Signal::of(0))
 }
@@ -115,7 +116,7 @@ fn shown(
     Ok(Some((pattern, small)))
 }
 
-/// Whether a difference is shown by this pattern, and becomes this assignment, at which the first signal has this value.
+/// Whether this pattern shows the difference, and it becomes this assignment, at which the first signal has this value.
 fn is_shown(
     found: &Option<(ShownPattern, Counterexample)>,
     shown: ShownPattern,

@@ -1,36 +1,37 @@
-// What is known of pairs before an attempt, by the public calls of pair_facts. The expected numbers are counted by hand: the first patterns
-// are all 0, all 1, one 1 among 0s and one 0 among 1s, for each variable as it is declared.
+// What is known of pairs before any attempt, by the public calls of `pair_facts`. The expected numbers are counted by
+// hand: the first patterns are all 0, all 1, and then for each variable, as declared, one with only this variable at 1,
+// and one with only it at 0.
 ghost use Rattle.std.specs.Prelude.{◌≡◌, All, None};
 ghost use Rattle.std.specs.List.{AllZip};
 ghost use Rattle.net_bench.specs.Circuit.{circuit};
-ghost use Rattle.net_order.specs.declared.order.Match.TheVariants.{Name};
-ghost use Rattle.net_order.specs.declared.order.Order.TheVariants.{Declared};
+ghost use Rattle.net_names.specs.declared.order.Match.TheVariants.{Name};
+ghost use Rattle.net_names.specs.declared.order.Order.TheVariants.{Declared};
 ghost use Rattle.net_order.specs.Order.{IsNaming, condition};
 ghost use Rattle.compare_built.specs.Comparing.{AreSignals, IsInside};
 ghost use Rattle.pair_facts.specs.PairFacts.{IsFirstShown};
 
 use compare_built::pair_filter::PairFilter;
-use compare_built::settings::{Difference, Settings};
+use compare_built::settings::Settings;
 use compare_built::strategy::Strategy;
 use compare_built::task::Task;
 use expand_work::NoMonitor;
 use net_bench::netlist::Netlist;
 use net_bench::reader::parse_bench;
+use net_names::order::Match;
 use net_order::naming::{Naming, naming_of};
-use net_order::order::Match;
 use net_patterns::ShownPattern;
 use pair_facts::{PairFacts, facts_of, shown_verdict};
-use report_text::Verdict;
+use report_text::{Difference, Verdict};
 use std::alloc::{AllocError, Global};
 use std::test::Fail;
 
-/// The first output differs if a and b differ, the second never.
+/// The first outputs differ if a and b differ, the second outputs never.
 static BOTH: &str = "INPUT(a)\nINPUT(b)\nOUTPUT(y)\nOUTPUT(z)\ny = AND(a, b)\nz = XOR(a, b)\n";
 
 static EITHER: &str =
     "INPUT(a)\nINPUT(b)\nOUTPUT(y)\nOUTPUT(z)\ny = OR(a, b)\nnz = XNOR(a, b)\nz = NOT(nz)\n";
 
-/// How pairs are compared by their cones.
+/// The settings of a comparison by cones.
 fn settings_of(alloc: Global) -> Settings {
     Settings {
         matching: Match::Name,
@@ -94,17 +95,17 @@ fn task_of<'a, R>(
     }
 }
 
-/// Says that what a naming compares are signals of the netlists.
+/// For contracts only: what a naming compares are signals of the netlists.
 fn note_signals<R>(task: &Task<'_, R>, naming: &Naming)
     requires { IsNaming Name (circuit task.now.first.now) (circuit task.now.second.now) None Declared naming.now }
     ensures { AreSignals (circuit task.now.first.now) (circuit task.now.second.now) naming.now }
 {
-    let _ = task.first.inputs();
-    let _ = task.second.inputs();
-    let _ = naming;
+    let _ = task.first.inputs(); // For the proof.
+    let _ = task.second.inputs(); // For the proof.
+    let _ = naming; // For the proof.
 }
 
-/// What patterns show of the pairs of two netlists that are read, and the verdict of the first pair.
+/// What patterns show of the pairs of two netlists, and the verdict of the first pair.
 fn judged_nets<R: AllocGlobal>(
     rt: &R,
     alloc: Global,
@@ -114,7 +115,7 @@ fn judged_nets<R: AllocGlobal>(
     let settings = settings_of(alloc);
     let task = task_of(rt, alloc, first, second, &settings);
     let naming = naming_of(alloc, task.first, task.second, None, Match::Name)?;
-    note_signals(&task, &naming);
+    note_signals(&task, &naming); // For the proof.
     let facts = facts_of(&task, &naming, &NoMonitor)?;
     let verdict = verdict_at(&task, &naming, &facts, 0)?;
     let PairFacts { shown, .. } = facts;
@@ -133,8 +134,8 @@ fn judged<R: AllocGlobal>(
     judged_nets(rt, alloc, &first, &second)
 }
 
-/// Whether a verdict has this assignment, at which the first function has this value and the second the other one, and which may not be
-/// the least.
+/// Whether a verdict is a difference at this assignment that may not be the least, the first function has this value
+/// there, and the second the complement.
 fn is_difference(verdict: &Option<Verdict>, at: &[bool], value: bool) -> bool {
     match verdict {
         Some(

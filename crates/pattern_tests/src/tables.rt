@@ -1,4 +1,4 @@
-// Truth tables: each bit of the words of a, b and c is a row.
+// Truth tables: bit i of the words of a, b and c is row i.
 use net_bench::netlist::Netlist;
 use net_bench::reader::parse_bench;
 use net_simulate::{Block, Packed, gates_by_rank, schedule_of, simulate};
@@ -12,7 +12,7 @@ static KINDS: &str =
 /// A register whose next state is a gate.
 static TOGGLED: &str = "INPUT(e)\nOUTPUT(q)\nq = DFF(d)\nd = XOR(e, q)\n";
 
-/// A gate whose text comes before those of its operands.
+/// A netlist whose gates come before the gates of their operands.
 static BACKWARDS: &str = "OUTPUT(z)\nz = NOT(y)\ny = NOT(x)\nx = NOT(a)\nINPUT(a)\n";
 
 const A: u64 = 0xaaaa_aaaa_aaaa_aaaa;
@@ -21,7 +21,7 @@ const B: u64 = 0xcccc_cccc_cccc_cccc;
 
 const C: u64 = 0xf0f0_f0f0_f0f0_f0f0;
 
-/// The values of all signals, the first variable at level 0 and so on.
+/// The values of all signals, if the first variable has level 0, the second level 1, and so on.
 fn values_of<V: Packed>(alloc: Global, net: &Netlist, at: &[V]) -> Result<Vec<V>, AllocError> {
     let schedule = schedule_of(alloc, net)?;
     let mut levels = Vec::new(alloc);
@@ -38,7 +38,7 @@ fn values_of<V: Packed>(alloc: Global, net: &Netlist, at: &[V]) -> Result<Vec<V>
     Ok(values)
 }
 
-/// The place of the signal of this name.
+/// The number of the signal of this name.
 fn place_of(net: &Netlist, name: &str) -> usize {
     match net.find(name.as_bytes()) {
         Some(signal) => signal.number() as usize,

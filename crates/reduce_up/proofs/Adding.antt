@@ -1,4 +1,4 @@
--- What a store adds, described in other words, and on what was added before.
+-- The nodes that were added, by another description, and after others were added.
 use Rattle.std.proofs.Common.{ℕ, inl, inr, Bool, List, subst, ◌∙◌}
 use Rattle.dd_store.specs.Functions.{DependsOn, OfEither}
 use Rattle.dd_store.specs.Nodes.{Nodes, IsSound, den}
@@ -7,7 +7,7 @@ use Rattle.reduce_up.specs.Reducing.{AddsDescribed}
 use Rattle.reduce_up.proofs.Below.{node_reads}
 use Rattle.reduce_up.proofs.Opposite.{either_more, either_either, either_reads, either_kept}
 
--- what is described in one way, or its complement, is described in another
+-- what is described in one way, or its complement, is described in another way
 pub adds_either : (S T : Nodes) (D E : ℕ → (List Bool → Bool) → Type 0) → ((v : ℕ) (f : List Bool → Bool) → D v f → OfEither (E v) f) → AddsDescribed S T D → AddsDescribed S T E
 adds_either S T D E h a = record {
   keeps = a.keeps;
@@ -17,7 +17,8 @@ adds_either S T D E h a = record {
   ];
 }
 
--- this is so where a function depends on the bit of its level, as those of nodes do
+-- what is described in one way, or its complement, is described in another way if it depends on the bit of its level,
+-- as the functions of nodes do
 pub adds_reads : (S T : Nodes) → IsSound T → (D E : ℕ → (List Bool → Bool) → Type 0) → ((v : ℕ) (f : List Bool → Bool) → DependsOn S.levels v f → D v f → OfEither (E v) f) → AddsDescribed S T D → AddsDescribed S T E
 adds_reads S T u D E h a = record {
   keeps = a.keeps;
@@ -29,7 +30,7 @@ adds_reads S T u D E h a = record {
   ];
 }
 
--- one store after another
+-- additions to a store, one after the other
 pub adds_then : (S s u : Nodes) → IsSound s → (D : ℕ → (List Bool → Bool) → Type 0) → AddsDescribed S s D → AddsDescribed s u D → AddsDescribed S u D
 adds_then S s u sound D i j = record {
   keeps = keeps-trans S s u i.keeps j.keeps;

@@ -1,4 +1,4 @@
--- What the answers of a wave by place come to: the roots' answers are those of the entries.
+-- The answers of a wave by place: those of the roots are those of the entries.
 use Rattle.std.proofs.Common.{◌≡◌, ℕ, suc, ◌<◌, ◌≤◌, inl, inr, Bool, List, [], ◌∷◌, length, refl, sym, ◌∙◌, ap, subst, arith, Contains, All}
 use Rattle.std.specs.List.{AllZip}
 use Rattle.std.proofs.lemmas.Option.{slice_get_within}
@@ -23,15 +23,15 @@ use Rattle.reduce_up.specs.ByPlace.{AreAdmitted}
 use Rattle.reduce_up.specs.ReductionPhase.{ResolvesTo, IsWithinBelow}
 use Rattle.req_table.proofs.AtPlace.{at_place_some}
 
--- an entry's root
+-- the root of an entry
 pub root_for : (S : Nodes) (T : List (List Key)) (es : List Entry) (ps : List PackedChild) → AllZip (λ e p. IsPlaced T p (child_at S e.0 e.1 e.2)) es ps → (e : Entry) → Contains es e → (p : PackedChild) × IsPlaced T p (child_at S e.0 e.1 e.2)
 root_for S T [] ps z e m = absurd (nothing {X = Entry} e m)
 root_for S T (d ∷ es) [] z e m = absurd z
 root_for S T (d ∷ es) (p ∷ ps) z e m = elim (in_cases {X = Entry} d e es m) [ inl x ↦ (p, subst (λ (y : Entry). IsPlaced T p (child_at S y.0 y.1 y.2)) x z.0) | inr i ↦ root_for S T es ps z.1 e i ]
 
--- Of a wave over the store S.
+-- A wave over the store S.
 module _ (S : Nodes) (w : IsSound S) (entries : List Entry) (good : All (IsEntry S) entries) where
-  -- what a root comes to is its entry's diagram
+  -- the diagram of a root is that of its entry
   root_diagram : (T : List (List Key)) (A : List (List Ref)) (s : Nodes) → AreAdmitted S entries T → Keeps S s → ((v q : ℕ) (k : Key) (r : Ref) → IsAtPlace T v q k → IsAtPlace A v q r → IsAnswer s k r) →
       (e : Entry) → IsEntry S e → (p : PackedChild) → IsPlaced T p (child_at S e.0 e.1 e.2) → (r : Ref) → ResolvesTo A p r → IsDiagram s r (entry_value S e)
   root_diagram T A s adm K answered e i (Done d) h r c =
@@ -57,7 +57,7 @@ module _ (S : Nodes) (w : IsSound S) (entries : List Entry) (good : All (IsEntry
   roots_answered T A s adm K answered (e ∷ es) g (p ∷ ps) z (r ∷ rs) y =
       (root_diagram T A s adm K answered e (g 0 e (omega arith)) p z.0 r y.0, roots_answered T A s adm K answered es (λ k b lt. g (suc k) b (omega arith)) ps z.1 rs y.1)
 
-  -- each root's request has its answer
+  -- the request of each root has its answer
   root_comes : (T : List (List Key)) (A : List (List Ref)) → ((v q : ℕ) (k : Key) → IsAtPlace T v q k → length (row A v) ≡ length (row T v)) → (p : PackedChild) (c : Child) → IsPlaced T p c → (r : Ref) × ResolvesTo A p r
   root_comes T A counts (Done d) c h = (d, refl)
   root_comes T A counts (Ask l q m) c h =
@@ -80,7 +80,7 @@ module _ (S : Nodes) (w : IsSound S) (entries : List Entry) (good : All (IsEntry
       by (Done d) e = cc
       by (Ask l q m) e = none l q e.0 e.1
 
-  -- within the limit, or nothing was asked
+  -- the store is within its limit, or nothing was asked for
   pub within_both : (T : List (List Key)) (ps : List PackedChild) → AllZip (λ e p. IsPlaced T p (child_at S e.0 e.1 e.2)) entries ps → (from : ℕ) (U s : Nodes) → IsWithinBelow S T from U → IsWithinBelow U T 0 s → IsWithinLimit S entries s
   within_both T ps z from U s a (inl le) = inl le
   within_both T ps z from U s (inl le) (inr n) = inl (subst (λ x. count_of x ≤ x.limit) (sym n.1) le)

@@ -1,4 +1,4 @@
--- One level after the other, from the last: what is reduced, where the children stand in several parts.
+-- Level by level, from the last: what is reduced, if the children are in several parts.
 use Rattle.std.proofs.Common.{◌≡◌, ◌≢◌, ◌∙◌, ℕ, ◌+◌, ◌<◌, ◌≤◌, List, length, Option, Some, None, sym, subst, arith}
 use Rattle.dd_store.specs.declared.reference.Ref.{Ref}
 use Rattle.dd_store.specs.Nodes.{Nodes, IsSound, count_of}
@@ -16,8 +16,8 @@ use Rattle.reduce_up.proofs.Raising.{none_split, last_left, level_ready, level_n
 use Rattle.reduce_up.proofs.Reduced.{level_reduced, reduced_passed}
 use Rattle.reduce_up.proofs.Wanted.{level_adds}
 
--- A wave over the store S whose levels before `from` have children in parts that begin as `first`, on the way up: the parts are left to
--- `parts`, and the levels from `end` on are reduced.
+-- A wave over the store S on its way up, whose levels before `from` had children in parts that began as `first`: the
+-- parts are now `parts`, and the levels from `end` on are reduced.
 pub record OnTheWay : Type 0 where
   pub S : Nodes
   pub sound : IsSound S
@@ -61,7 +61,7 @@ module _ (o : OnTheWay) where
   pub all_counted : IsLastLevel (over_parts o.S.levels o.parts) o.end None → (before after : ℕ) → AreCounted o.tables o.end o.from before after → AreCounted o.tables 0 o.from before after
   all_counted h before after c = reduced_passed o.tables 0 o.end o.from before after c (omega arith) (none_from 0 (last None h))
 
-  -- level v is the last that is left
+  -- level v is the last one that is left
   module _ (v : ℕ) (h : IsLastLevel (over_parts o.S.levels o.parts) o.end (Some v)) where
     lt : v < o.from
     lt = let x : v < o.end = h.0 in let a = o.bound in omega (arith, x, a)
@@ -78,7 +78,7 @@ module _ (o : OnTheWay) where
     read : row rows v ≡ level_over o.parts v
     read = over_at o.S.levels o.first v fit ∙ sym (o.left v h.0)
 
-    -- it has requests, and can be reduced
+    -- the level has requests, and can be reduced
     pub some_over : 0 < length (level_over o.parts v)
     some_over = subst (λ (z : List (PackedChild × PackedChild)). 0 < length z) read (last (Some v) h).1
 
@@ -86,7 +86,7 @@ module _ (o : OnTheWay) where
     ready_over = subst (λ (z : List (PackedChild × PackedChild)). IsReadyAt o.s o.tables z o.answers v) read
         (level_ready _ o.sound _ o.may.operands _ _ _ _ o.may.ready.expanded v o.s o.answers lt fit below)
 
-    -- what it adds, and why it is refused
+    -- what it adds, and the cause of its fault
     pub adds_over : (u : Nodes) → IsSound u → AddsDescribed o.s u (AskedAt o.s o.tables v) → AddsDescribed o.S u (IsWanted o.S o.entries)
     adds_over u su a = level_adds o.S o.sound o.entries o.may.operands o.tables v o.s u o.may.ready.expanded.admitted below.held su below.adds a
 
@@ -95,7 +95,7 @@ module _ (o : OnTheWay) where
         level_refused _ o.sound _ o.may.operands _ _ _ _ o.may.ready.expanded v u
         (keeps-trans o.S o.s u below.adds.keeps a.keeps) f x
 
-    -- one level more is reduced
+    -- one more level is reduced
     pub next_over : (u : Nodes) (B : List (List Ref)) → IsLevelReduced o.s o.tables v (length (row o.tables v)) u (row B v) → count_of u ≤ u.limit
         → length B ≡ length o.answers → ((w : ℕ) → w ≢ v → row B w ≡ row o.answers w) → AreReducedBelow o.S o.entries o.tables v u B
     next_over u B so within long others =

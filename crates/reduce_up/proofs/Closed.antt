@@ -1,4 +1,4 @@
--- The closure of a wave's requests is what reduction takes: each record is right, and what it asks for is recorded.
+-- The closure of a wave's requests may be reduced: each record is right, and what it asks for is recorded.
 use Rattle.std.proofs.Common.{◌≡◌, ℕ, ◌<◌, Bool, true, false, List, ◌∷◌, ◌++◌, length, map, refl, sym, subst, Contains, All}
 use Rattle.std.proofs.lemmas.List.Elements.{All-contains}
 use Rattle.dd_store.specs.Nodes.{Nodes, IsSound}
@@ -24,7 +24,7 @@ module _ (S : Nodes) (w : IsSound S) (workers : ℕ) (roots : List Key) (good : 
   pub key_at : (k : Key) → IsKey S k → IsKeyAt S (level_of S k) k
   key_at k i = record { first = i.first; second = i.second; level = refl; bounded = bounded S w k i }
 
-  -- a child is the same function with one bit more fixed
+  -- a child has the same function with one more bit fixed
   pub right : (k : Key) (b : Bool) (c : Child) → IsKey S k → child_of S k b ≡ c → IsChild S (level_of S k) k b c
   right k b (Done r) i e = record {
     has = (done_low S w k b r i e).0;
@@ -71,7 +71,7 @@ module _ (S : Nodes) (w : IsSound S) (workers : ℕ) (roots : List Key) (good : 
           high = right r.key true r.high k (sym s.1);
         })
 
-    -- the closure by level meets the condition of `reduce`
+    -- the closure by level satisfies what `reduce` requires
     pub records_of_closure : length rows ≡ S.levels → AreRecords S rows
     records_of_closure len = record {
       levels = len;

@@ -14,7 +14,7 @@ use Rattle.dd_store.proofs.View.{same_ref}
 use Rattle.reduce_up.specs.Sharing.{IsListed, AreDivided}
 
 module _ (old new : ℕ → List Pair) (p : Pair) (l : IsListed old p new) where
-  -- what is in a list stays there
+  -- what is in a list stays in it
   stays : (s : ℕ) (q : Pair) → IsIn (old s) q → IsIn (new s) q
   stays s q w = elim (same_ref p.0 p.1) [
     | yes e ↦ subst (λ (ps : List Pair). IsIn ps q) (sym (l.equal e s)) w
@@ -24,7 +24,7 @@ module _ (old new : ℕ → List Pair) (p : Pair) (l : IsListed old p new) where
     ]
   ]
 
-  -- what a list has was there or is the pair, whose list it is
+  -- what a list has was in it before, or is the pair, if it is this shard's
   pub came : (s : ℕ) (q : Pair) → IsIn (new s) q → IsIn (old s) q ⊎ ((p.0 ≢ p.1) × (shard_of_pair p.0 p.1 ≡ s) × (p ≡ q))
   came s q w = elim (same_ref p.0 p.1) [
     | yes e ↦ inl (subst (λ (ps : List Pair). IsIn ps q) (l.equal e s) w)
@@ -39,7 +39,7 @@ module _ (old new : ℕ → List Pair) (p : Pair) (l : IsListed old p new) where
   put : p.0 ≢ p.1 → IsIn (new (shard_of_pair p.0 p.1)) p
   put n = subst (λ (ps : List Pair). IsIn ps p) (sym (l.own n)) (length (old (shard_of_pair p.0 p.1)), slice_get-push (old (shard_of_pair p.0 p.1)) p)
 
-  -- one pair more
+  -- one more pair
   pub listed_more : (pairs : List Pair) → AreDivided pairs old → AreDivided (pairs ++ p ∷ []) new
   listed_more pairs d = record {
     all = λ q c n. elim (Contains-push_cases pairs p q c) [
@@ -52,7 +52,7 @@ module _ (old new : ℕ → List Pair) (p : Pair) (l : IsListed old p new) where
     ];
   }
 
--- what a push to the list of its shard leaves
+-- a push to the list of its shard
 pub listed : (lists : List (Vec Pair Global)) (p : Pair) (v : Vec Pair Global) → length lists ≡ 16 → p.0 ≢ p.1 → v.items ≡ list_at lists (shard_of_pair p.0 p.1) ++ p ∷ [] →
     IsListed (list_at lists) p (list_at (set lists (shard_of_pair p.0 p.1) v))
 listed lists p v sixteen n e = record {
@@ -67,14 +67,14 @@ listed lists p v sixteen n e = record {
     moved : map (λ (v : Vec Pair Global). v.items) (set lists s v) ≡ set (map (λ (v : Vec Pair Global). v.items) lists) s v.items
     moved = map-set (λ (v : Vec Pair Global). v.items) lists s v
 
--- an empty list more
+-- one more empty list
 pub empty_more : (lists : List (Vec Pair Global)) (v : Vec Pair Global) → ((s : ℕ) → length (list_at lists s) ≡ 0) → length v.items ≡ 0 → (s : ℕ) → length (list_at (lists ++ v ∷ []) s) ≡ 0
 empty_more [] v h e zero = e
 empty_more [] v h e (suc s) = refl
 empty_more (w ∷ ws) v h e zero = h 0
 empty_more (w ∷ ws) v h e (suc s) = empty_more ws v (λ t. h (suc t)) e s
 
--- lists of which each is empty
+-- lists that are all empty
 pub all_emptied : (lists : List (Vec Pair Global)) (i n : ℕ) → (length lists ≡ n) × ((k : ℕ) → k < i → list_at lists k ≡ []) → n ≤ i → (s : ℕ) → length (list_at lists s) ≡ 0
 all_emptied lists i n h over s = elim (cases_lt s n) [
   | inl l ↦ ap (λ (z : List Pair). length z) (h.1 s (omega (arith, l, over)))

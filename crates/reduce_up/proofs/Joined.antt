@@ -1,4 +1,4 @@
--- A level in parts, divided by shard, of which the diagrams are picked.
+-- A level in parts, divided by shard, whose diagrams are picked.
 use Rattle.std.proofs.Common.{◌≡◌, ◌≢◌, ℕ, zero, suc, ◌+◌, ◌<◌, ◌≤◌, inl, inr, cond, List, [], ◌∷◌, ◌++◌, length, map, take, drop, get_or, slice_get, Some, Contains, refl, sym, ap, ◌∙◌, subst, arith, append_assoc, append-nil, ne_eqb, length-append}
 use Rattle.std.specs.List.{AllZip}
 use Rattle.std.specs.Prelude.{Result, Ok, Err, OnOk}
@@ -81,7 +81,7 @@ own_list parts k p l all is s sb v v-is =
     let sixteen : length p.items ≡ 16 = subst (λ (z : Vec (Vec Pair Global) Global). length z.items ≡ 16) (sym is) (all k p l) in
     ap (λ (z : Vec (Vec Pair Global) Global). length (list_at z.items s)) (sym is) ∙ ap (λ (z : List Pair). length z) (sym (list_read p.items s v (omega (arith, sixteen, sb)) v-is))
 
--- there are sixteen lists
+-- there are no more than sixteen lists
 pub no_more : (lists : List (Vec Pair Global)) (s : ℕ) → length lists ≡ 16 → 16 ≤ s → list_at lists s ≡ []
 no_more lists s e l = get_or-eq_default (map (λ (v : Vec Pair Global). v.items) lists) [] (let a = length-map lists (λ (v : Vec Pair Global). v.items) in omega (arith, a, e, l))
 
@@ -101,7 +101,7 @@ over_in (p ∷ ps) (suc k) v j x l e =
     let w = over_in ps k v j x (omega (arith, l)) e in
     (length (row p v) + w.0, slice_get-behind (row p v) (level_over ps v) w.0 ∙ w.1)
 
--- what is said of each part's items holds of the level's
+-- what holds of the items of each part holds of those of the level
 over_all : {X : Type 0} (R : X → Ref → Type 0) (rows : List (List (List X))) (v : ℕ) (answers : List (List Ref)) → length answers ≡ length rows → ((k : ℕ) → k < length rows → AllZip R (row (row rows k) v) (get_or answers k [])) → AllZip R (level_over rows v) (joined answers)
 over_all R [] v [] e f = tt
 over_all R [] v (a ∷ answers) e f = absurd (omega (arith, e))
@@ -109,14 +109,14 @@ over_all R (p ∷ ps) v [] e f = absurd (omega (arith, e))
 over_all R (p ∷ ps) v (a ∷ answers) e f =
     zip_append R (row p v) (level_over ps v) a (joined answers) (f zero (omega arith)) (over_all R ps v answers (omega (arith, e)) (λ k l. f (suc k) (omega (arith, l))))
 
--- ---- what is in the lists
+-- ---- the pairs in the lists
 abbrev pub AreListed : List (List Ref) → List (PackedChild × PackedChild) → (ℕ → List Pair) → Type 0
 AreListed A children lists = (s : ℕ) (q : Pair) → IsIn (lists s) q → (i : ℕ) × (d : PackedChild × PackedChild) × (slice_get children i ≡ Some d) × BothResolveTo A d q × (q.0 ≢ q.1) × (shard_of_pair q.0 q.1 ≡ s)
 
 pub in_list : {X : Type 0} (xs : List X) (i : ℕ) (x : X) → slice_get xs i ≡ Some x → Contains xs x
 in_list xs i x e = (i, slice_get_within xs i x e, get_or_from_slice_get xs i x x e)
 
--- pairs that are both of a diagram, which is there
+-- pairs of each diagram with itself have it as their reference
 zip_twice : (T : Nodes) (v : ℕ) (rs : List Ref) → AllZip (λ (q : Pair) r. IsThere T v q.0 q.1 r) (twice rs) rs
 zip_twice T v [] = tt
 zip_twice T v (r ∷ rs) = (inl (refl, refl), zip_twice T v rs)
@@ -215,7 +215,7 @@ module _ (L : LevelToReduce) (parts : List (Vec (Vec Pair Global) Global)) (orig
         let h = get_or origins k (first_of origins (omega (arith, lh))) in
         part_made k l h (λ e. get_or_default origins k e (first_of origins (omega (arith, lh))) lh) (get_or answers k []) (q.each k [] (first_of origins (omega (arith, lh))) lh)))
 
--- one list more behind
+-- one more list at the end
 pub turn_more : (lists : List (List Ref)) (xs : List Ref) → joined (lists ++ xs ∷ []) ≡ joined lists ++ xs
 turn_more [] xs = append-nil xs
 turn_more (y ∷ lists) xs = ap (λ z. y ++ z) (turn_more lists xs) ∙ sym (append_assoc y (joined lists) xs)
@@ -262,7 +262,7 @@ reads_more L m parts origins o d r parts' origins' x y = record {
       subst (λ (u : Origins × Vec (Vec Pair Global) Global). IsPartRead L.answers.now (row (row L.parts.now s) L.number) u.1 u.0) (λ i. (sym (at_left origins origins' d.origins h m s o.many_origins lt y) i, sym (at_left parts parts' d.lists e m s o.many_lists lt x) i)) (o.each s e h lt));
 }
 
--- what holds of the items of a list holds of one that stands behind so many
+-- what holds of the items of a list holds of one after so many others
 pub each_here : {X : Type 0} (P : ℕ → X → Type 0) (xs done rest : List X) (t : X) → ((k : ℕ) (d : X) → k < length xs → P k (get_or xs k d)) → (done ++ t ∷ []) ++ rest ≡ xs → P (length done) t
 each_here {X} P xs done rest t f whole =
     let at : xs ≡ done ++ t ∷ rest = sym whole ∙ append_assoc done (t ∷ []) rest in

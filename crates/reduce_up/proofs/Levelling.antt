@@ -1,4 +1,4 @@
--- One level after the other, from the last.
+-- Level by level, from the last.
 use Rattle.std.proofs.Common.{◌≡◌, ℕ, ◌+◌, ◌<◌, ◌≤◌, ◌⊎◌, inl, inr, Bool, List, [], length, ap, sym, ◌∙◌, subst, arith, Contains}
 use Rattle.std.proofs.Math.Nat.{eq-or-lt_of_le}
 use Rattle.std.proofs.Math.ListN.{get_or-eq_default}
@@ -65,7 +65,7 @@ level_next start rows v s pairs u pairs' S R lt d so within = record {
         subst (λ z. HasAnswer pairs' z.key) c'.2 (so.done c'.0 r c'.1)
     by w r (inr l) fit c = so.more r.key (d.done w r (omega arith) fit c)
 
--- no row is past the levels
+-- there is no row after the last level
 pub past_rows : (rows : List (List Record)) (w : ℕ) (r : Record) → length rows ≤ w → Contains (row_at rows w) r → ⊥
 past_rows rows w r le c = nothing r (subst (λ z. Contains z r) (get_or-eq_default rows [] le) c)
 

@@ -12,12 +12,10 @@ pub mod Below
 pub mod Adding
 pub mod Rooted
 pub mod Waving
-pub mod Probing
 pub mod OverParts
 pub mod Parting
 pub mod Parted
 pub mod Picked
-pub mod Forking
 pub mod Wanted
 pub mod Answering
 pub mod Raising

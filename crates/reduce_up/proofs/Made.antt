@@ -1,4 +1,4 @@
--- A level by place whose pairs' nodes are made.
+-- A level by place, of whose pairs the nodes are made.
 use Rattle.std.proofs.Common.{◌≡◌, ◌≢◌, ℕ, ◌<◌, ◌⊎◌, inl, inr, true, false, Bool, List, [], ◌∷◌, ◌+◌, ◌*◌, ◌≤◌, zero, suc, length, get_or, slice_get, Some, All, refl, sym, ◌∙◌, subst, arith}
 use Rattle.std.specs.Prelude.{Err}
 use Rattle.std.specs.List.{AllZip}
@@ -40,7 +40,7 @@ use Rattle.reduce_up.proofs.Missing.{record_fault}
 use Rattle.reduce_up.proofs.Raising.{rec, one_answer}
 use Rattle.reduce_up.proofs.Joined.{AreListed, listed_level, over_in}
 
--- the item beside one at a place
+-- the partner of an item at a place
 zip_beside : {X Y : Type 0} (R : X → Y → Type 0) (xs : List X) (ys : List Y) (i : ℕ) (y : Y) → AllZip R xs ys → slice_get ys i ≡ Some y → (x : X) × (slice_get xs i ≡ Some x) × R x y
 zip_beside R [] [] i y h e = absurd (let l = slice_get_within [] i y e in omega (arith, l))
 zip_beside R [] (z ∷ ys) i y h e = absurd h
@@ -48,7 +48,7 @@ zip_beside R (x ∷ xs) [] i y h e = absurd h
 zip_beside R (x ∷ xs) (z ∷ ys) zero y h e = (x, refl, subst (R x) (some_same (slice_get (z ∷ ys) zero) z y refl e) h.0)
 zip_beside R (x ∷ xs) (z ∷ ys) (suc i) y h e = zip_beside R xs ys i y h.1 e
 
--- Of a level that is ready.
+-- The level is ready.
 module _ (S : Nodes) (T : List (List Key)) (L : LevelToReduce) (R : IsReadyAt S T (children_of L) L.answers.now L.number) where
   abbrev A : List (List Ref)
   A = L.answers.now
@@ -63,7 +63,7 @@ module _ (S : Nodes) (T : List (List Key)) (L : LevelToReduce) (R : IsReadyAt S 
   key_at : (i : ℕ) (d : PackedChild × PackedChild) → slice_get children i ≡ Some d → (k : Key) × IsAtPlace T v i k
   key_at i d at = at_place_some (row T v) i (let e = R.counts in let l = slice_get_within children i d at in omega (arith, e, l))
 
-  -- what its children come to makes a record of it
+  -- the diagrams of its children make it a record
   record_at : (i : ℕ) (d : PackedChild × PackedChild) (q : Pair) (k : Key) → slice_get children i ≡ Some d → IsAtPlace T v i k → BothResolveTo A d q → IsRecordAt S v (rec k q.0 q.1)
   record_at i d q k at st of =
       let low = R.low i k d st at in
@@ -89,7 +89,7 @@ module _ (S : Nodes) (T : List (List Key)) (L : LevelToReduce) (R : IsReadyAt S 
     are : AreListed A children lists
     are = listed_level L parts origins D
 
-    -- a listed pair makes a record of a request
+    -- a pair in a list is that of a request
     of_list : (s : ℕ) (p : Pair) → IsIn (lists s) p → (i : ℕ) × (k : Key) × IsAtPlace T v i k × IsRecordAt S v (rec k p.0 p.1)
     of_list s p w =
         let o = are s p w in
@@ -106,12 +106,12 @@ module _ (S : Nodes) (T : List (List Key)) (L : LevelToReduce) (R : IsReadyAt S 
       sharded = λ s p l w. (are s p w).5;
     }
 
-    -- nodes of listed pairs are made
+    -- the nodes of the pairs in the lists were made
     module _ (U : Nodes) (held : IsSound S) (sound : IsSound U) (grows : GrowsLevel S U v (regular_lists lists)) where
       kept : Keeps S U
       kept = keeps S U (Extends-grown S U v (regular_lists lists) grows)
 
-      -- what stands for a record's children is its answer
+      -- the reference for a record's children is its answer
       answered : (k : Key) (p : Pair) (m : Ref) → IsRecordAt S v (rec k p.0 p.1) → Has U m → ((p.0 ≡ p.1) × (m ≡ p.0)) ⊎ ((p.0 ≢ p.1) × (part U m ≡ node v p.0 p.1)) → IsAnswer U k m
       answered k p m i h is = made_answer S U v k p.0 p.1 m held sound i.key i.low i.high kept h is
 
@@ -134,7 +134,7 @@ module _ (S : Nodes) (T : List (List Key)) (L : LevelToReduce) (R : IsReadyAt S 
         described = λ m h. elim (grown_of_pair S U v lists grows m h) [ inl old ↦ inl old | inr new ↦ inr (described m h new.0 new.1 new.2 new.3) ];
       }
 
-      -- or why some are missing
+      -- if the nodes were not made, the fault has its cause
       pub refused_all : (own : List Ref) (f : StoreFault) → IsMakeFault U v (regular_lists lists) f → ReducesLevel S T v (Err (wave_fault f)) U own
       refused_all own f h = record { adds = adds_all; whole = tt; fault = by f h }
         where
@@ -151,7 +151,7 @@ module _ (S : Nodes) (T : List (List Key)) (L : LevelToReduce) (R : IsReadyAt S 
               let x = record_fault U U v k m.0.0 m.0.1 (Err Full) sound i.key i.low i.high refl (omega (arith, full, enough), (are s m.0 m.1).4, absent U v m.0.0 m.0.1 m.2) in
               (o.0, k, o.2, elim (eq-or-lt_of_le x.0) [ inl e ↦ inr (sym e, x.1) | inr lt ↦ inl lt ])
 
-      -- all have their answers
+      -- all requests have their answers
       pub whole_all : (own : List Ref) → AllZip (IsMadeOf A U v) children own → IsLevelReduced S T v (length (row T v)) U own
       whole_all own made = record {
         held = sound;

@@ -1,4 +1,4 @@
--- Where no node has a record's two answers as children, no reference denotes the record's function.
+-- If no node has the two answers of a record as children, no reference denotes the record's function.
 use Rattle.std.proofs.Common.{List, Bool, true, false, ◌≡◌, ◌≢◌, ℕ, ◌+◌, ◌<◌, ◌++◌, length, sym, ◌∙◌, ap, subst, arith}
 use Rattle.std.specs.Prelude.{min, Result, Ok, Err, OnErr, IfErr}
 use Rattle.dd_store.specs.declared.reference.Ref.{Ref}
@@ -39,7 +39,7 @@ missing_depends s v k lo hi S key zero_side one_side differ =
     depends Ref same_ref s.levels (part s) (Has s) (den s) (parts s S) (denotes s S) v key.bounded lo hi zero_side.has one_side.has
     (below s v lo zero_side.has zero_side.below) (below s v hi one_side.has one_side.below) differ (meaning s k) zero_side.denotes one_side.denotes
 
--- the cause of a record's refusal
+-- the cause of a record's fault
 pub record_fault : (old new : Nodes) (v : ℕ) (k : Key) (lo hi : Ref) (result : Result Ref StoreFault) → IsSound old → IsKeyAt old v k → IsAnswerAt old v k false lo → IsAnswerAt old v k true hi →
     OnErr result (new ≡ old) → IfErr result (λ e. IsFull old v lo hi e) → IfErr result (λ e. IsRecordFault new v k e)
 record_fault old new v k lo hi (Ok r) S key z o e f = f

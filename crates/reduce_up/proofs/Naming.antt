@@ -1,4 +1,4 @@
--- Nodes of a store by their names: what stands behind a reference that has two children, and the nodes that a level gets.
+-- Nodes of a store by their names: the reference that has two children, and the new nodes of a level.
 use Rattle.std.proofs.Common.{◌≡◌, ◌≢◌, ℕ, ◌⊎◌, inl, inr, List, Some, sym, ap, ◌∙◌, subst}
 use Rattle.dd_store.specs.declared.reference.Ref.{Ref}
 use Rattle.dd_store.specs.declared.reference.Reference.TheVariants.{False, True, Node}
@@ -16,12 +16,13 @@ use Rattle.dd_store.proofs.Storing.{children-of, IsRef-node}
 use Rattle.dd_store.proofs.View.{part-children, same_node}
 use Rattle.reduce_up.specs.Sharing.{IsOfPair}
 
--- what stands for two children is in the store, with its part
+-- the reference for two children is in the store, and refers to a node that has them
 pub there_part : (S : Nodes) (v : ℕ) (lo hi r : Ref) → Has S lo → IsThere S v lo hi r → Has S r × (((lo ≡ hi) × (r ≡ lo)) ⊎ ((lo ≢ hi) × (part S r ≡ node v lo hi)))
 there_part S v lo hi r h (inl e) = (subst (Has S) (sym e.1) h, inl e)
 there_part S v lo hi r h (inr n) = (IsRef-node S v lo hi r n.1, inr (n.0, part-children S v lo hi r n.1))
 
--- where nodes have the children of listed pairs, each reference is an old one, or of the node of such a pair
+-- if all new nodes have the children of pairs in the lists, each reference is an old one, or is of the node of such a
+-- pair
 pub grown_of_pair : (S T : Nodes) (v : ℕ) (lists : ℕ → List Pair) → GrowsLevel S T v (regular_lists lists) → (r : Ref) → Has T r
     → Has S r ⊎ ((s : ℕ) × (p : Pair) × IsIn (lists s) p × IsOfPair T v p r)
 grown_of_pair S T v lists g False h = inl tt

@@ -17,7 +17,7 @@ pub in_cases : {X : Type 0} (x y : X) (xs : List X) → Contains (x ∷ xs) y �
 in_cases x y xs (zero, lt, e) = inl e
 in_cases x y xs (suc i, lt, e) = inr (i, omega arith, e)
 
--- what holds of each answer that is no error holds of this one
+-- if a result is no error, what holds of it if it is none holds
 pub on_ok : {T E P : Type 0} (r : Result T E) → is_err r ≡ false → OnOk r P → P
 on_ok (Ok x) none h = h
 on_ok (Err e) none h = absurd (true≢false none)

@@ -1,4 +1,4 @@
--- The shares in which the workers' children are numbered.
+-- The tasks in which the workers' children are numbered.
 use Rattle.std.proofs.Common.{◌≡◌, ◌≢◌, ℕ, zero, suc, ◌+◌, ◌-◌, ◌%◌, ◌<◌, false, cond, List, [], ◌∷◌, ◌++◌, length, map, filter, take, drop, get_or, set, Ok, refl, sym, ap, ◌∙◌, subst, arith, append_assoc, append-nil, eq-eqb, ne_eqb, get_or-set_same, get_or-set_other, length-append}
 use denote.Ref.{Bor}
 use Rattle.std.specs.List.{AllZip}
@@ -30,7 +30,7 @@ use Rattle.reduce_up.specs.Numbers.{keys_in, starts_below, AreFew, IsNumberingIn
 use Rattle.reduce_up.proofs.Joined.{each_here}
 use Rattle.reduce_up.proofs.Numbering.{rows_have_levels}
 
--- ---- what is asked for, told from the first level on
+-- ---- what is asked, from the first level on
 asked_whole : (m v : ℕ) (rows : ℕ → List Record) → asked_below v rows ++ asked_up m v rows ≡ asked_below (v + m) rows
 asked_whole zero v rows = append-nil (asked_below v rows) ∙ (let e : v ≡ v + 0 = omega arith in ap (λ z. asked_below z rows) e)
 asked_whole (suc m) v rows =
@@ -75,13 +75,13 @@ module _ (f : NumberingInput) (roots : List Key) (parts : AreParts f.store.now f
             record { same = at.same ∙ own; spare_row = at.spare_row; places = none_asked s sb (get_or tasks s d).left.items at.noted };
       }
 
--- one item more, behind those of which something holds at each place
+-- one more item, after those of which something holds at each place
 pub each_more : {X : Type 0} (P : ℕ → X → Type 0) (xs : List X) (y : X) → ((k : ℕ) (d : X) → k < length xs → P k (get_or xs k d)) → P (length xs) y → (k : ℕ) (d : X) → k < length xs + 1 → P k (get_or (xs ++ y ∷ []) k d)
 each_more P xs y h own k d l = dite (ℕ_discrete k (length xs))
     (λ e. subst (λ z. P z (get_or (xs ++ y ∷ []) z d)) (sym e) (subst (P (length xs)) (sym (get_or-append_seam xs y [] d)) own))
     (λ o. let lt : k < length xs = grind (arith, l, o) in subst (P k) (sym (get_or_append_left xs (y ∷ []) d k lt)) (h k d lt))
 
--- one share more is made
+-- one more task is made
 pub new_more : (f : NumberingInput) (done : List (List (List (PackedChild × PackedChild)))) (rows : List (List (PackedChild × PackedChild))) (tasks tasks' : List NumberingTask) (task : NumberingTask) → AreNew f (length done) done tasks → IsNew f (length done) rows task → tasks' ≡ tasks ++ task ∷ [] → AreNew f (length (done ++ rows ∷ [])) (done ++ rows ∷ []) tasks'
 new_more f done rows tasks tasks' task a h e = subst (AreNew f (length (done ++ rows ∷ [])) (done ++ rows ∷ [])) (sym e) (record {
   long = length-append tasks (task ∷ []) ∙ ap (λ z. z + 1) a.long ∙ sym (length-append done (rows ∷ []));
@@ -134,12 +134,12 @@ module _ (f : NumberingInput) (some : 0 < f.workers) (roots : List Key) (i : ℕ
   pub root_placed : (l : ℕ) (d : PackedChild) → l ≡ level_of f.store.now x → IsPlaced (keys_in f) d (Ask l x false) → (y : Key) → IsRootPlaced f (get_or roots i y) d
   root_placed l d l-is h y = subst (λ z. IsRootPlaced f z d) (x-is ∙ get_or_default roots i x y ib) (subst (λ z. IsPlaced (keys_in f) d (Ask z x false)) l-is h)
 
--- one root more is placed
+-- one more root gets its place
 pub next_placed : {A B : Type 0} (R : A → B → Type 0) (xs : List A) (i : ℕ) (ys new : List B) (y : B) → i < length xs → new ≡ ys ++ y ∷ [] → AllZip R (take i xs) ys → ((d : A) → R (get_or xs i d) y) → AllZip R (take (i + 1) xs) new
 next_placed R [] i ys new y l is z h = absurd (omega (arith, l))
 next_placed R (x ∷ xs) i ys new y l is z h = zip_grown R (take i (x ∷ xs)) (take (i + 1) (x ∷ xs)) ys new (get_or (x ∷ xs) i x) y (take_more (x ∷ xs) i x l) is z (h x)
 
--- ---- all roots are asked for
+-- ---- all roots were asked for
 module _ (f : NumberingInput) (F : IsNumberingInput f) (roots : List Key) where
   pub ready : (s : ℕ) → s < f.workers → (task : NumberingTask) → IsTask f s (asked_after f roots s (length roots)) task → IsNumberedTo f s 0 task
   ready s sb task h = record {
@@ -154,7 +154,7 @@ module _ (f : NumberingInput) (F : IsNumberingInput f) (roots : List Key) where
   pub all_ready : (tasks : List NumberingTask) → AreTasks f roots (length roots) tasks → MayNumberAll f tasks
   all_ready tasks h = record { long = h.long; each = λ s d sb. ready s sb (get_or tasks s d) (h.each s d sb) }
 
--- ---- rows out of the shares
+-- ---- the rows of the tasks
 pub rows_more : (f : NumberingInput) (m : ℕ) (rows rows' : List (List (List (PackedChild × PackedChild)))) (own : List (List (PackedChild × PackedChild))) → AreRowsNumbered f m rows → AreLevelsNumbered f m own → rows' ≡ rows ++ own ∷ [] → AreRowsNumbered f (m + 1) rows'
 rows_more f m rows rows' own a h e =
     subst (AreRowsNumbered f (m + 1)) (sym e)
@@ -163,11 +163,11 @@ rows_more f m rows rows' own a h e =
       each = λ k d l. each_more (AreLevelsNumbered f) rows own (λ j b lt. a.each j b (subst (λ z. j < z) a.many lt)) (subst (λ z. AreLevelsNumbered f z own) (sym a.many) h) k d (subst (λ z. k < z + 1) (sym a.many) l);
     })
 
--- the rows of a share that was worked
+-- the rows of a task that was done
 pub task_rows : (f : NumberingInput) (k : ℕ) (task : NumberingTask) → IsNumberedTo f k f.store.now.levels task → AreLevelsNumbered f k task.rows
 task_rows f k task h = (h.levels, h.done)
 
--- the rows that a loop has got of a share
+-- the rows that a loop has got from a task
 pub task_at : (f : NumberingInput) (tasks done rest : List NumberingTask) (task : NumberingTask) (rows : List (List (PackedChild × PackedChild))) → AreAllNumbered f tasks → (done ++ task ∷ []) ++ rest ≡ tasks → (rows ≡ task.rows) × IsOk task.done → AreLevelsNumbered f (length done) rows
 task_at f tasks done rest task rows a e got =
     let h = each_here (IsTaskNumbered f) tasks done rest task (λ k d l. a.each k d (subst (λ z. k < z) a.long l)) e in

@@ -1,4 +1,4 @@
--- Children by their places: what a worker asks of another next stands where that one noted.
+-- Children by their places: what a worker asks of another one next is at the next place that the other has noted.
 use Rattle.std.proofs.Common.{◌≡◌, ℕ, zero, suc, ◌+◌, ◌-◌, ◌*◌, ◌^◌, ◌<◌, ◌≤◌, Bool, true, false, cond, List, [], ◌∷◌, ◌++◌, length, map, filter, take, drop, get_or, set, slice_get, Some, Contains, All, refl, sym, ap, ◌∙◌, subst, arith, append_assoc, append-nil, eq-eqb, ne_eqb, get_or-set_same, get_or-set_other, length-append}
 use denote.Ref.{Bor}
 use Rattle.std.specs.Prelude.{AllPairs}
@@ -52,7 +52,7 @@ in_team n p v k r l c =
     let w = level_split (row_of p.rows) v n k l in
     subst (λ z. Contains z r) (sym w.1) (in_left (level_of_rows k (row_of p.rows) v ++ row_of p.rows k v) w.0 r (in_right (level_of_rows k (row_of p.rows) v) (row_of p.rows k v) r c))
 
--- records by level that are the same level by level
+-- records that are the same, level by level
 module _ (w : Wave) (rows records : ℕ → List Record) (same : (v : ℕ) → v < w.levels → records v ≡ rows v) where
   pub closure_same : (roots : List Key) → IsClosure w roots rows → IsClosure w roots records
   closure_same roots c = record {
@@ -63,7 +63,7 @@ module _ (w : Wave) (rows records : ℕ → List Record) (same : (v : ℕ) → v
     once = λ v vb. subst (AllPairs (λ (a b : Record). ¬ (a.key ≡ b.key))) (sym (same v vb)) (c.once v vb);
   }
 
--- ---- children are levels_match with the levels of their requests
+-- ---- a child has the level of its request
 child_level_matches : (S : Nodes) → IsSound S → (k : Key) (b : Bool) (c : Child) → c ≡ child_of S k b → HasItsLevel S c
 child_level_matches S w k b (Done r) e = tt
 child_level_matches S w k b (Ask l x m) e = waved.child_level S w k x b l m (sym e)
@@ -76,7 +76,7 @@ rows_have_levels S n roots p sound a k v kb vb =
     (child_level_matches S sound r.key false r.low split.0, child_level_matches S sound r.key true r.high split.1))
 
 -- ---- places of a level
--- where a worker's request stands among those of its level
+-- the place of a worker's request among all of its level
 pub stands_in_level : (n : ℕ) (p : PartsView) (v k place : ℕ) (x : Key) → k < n → slice_get (map key_of (row_of p.rows k v)) place ≡ Some x
     → slice_get (keys_at n p v) (length (level_of_rows k (row_of p.rows) v) + place) ≡ Some x
 stands_in_level n p v k place x l e =
@@ -119,7 +119,7 @@ starts_below-long (suc m) n rows =
     let c = starts_at-long n rows m in
     grind (arith, a, b, c)
 
--- the place of a worker's start of a level
+-- the place of a worker's number of a level
 row_within : (m n v k : ℕ) → v < m → k < n → v * n + k < m * n
 row_within m n v k vb kb =
     let a : suc v * n ≤ m * n = mul-le-mul_right n (omega (arith, vb)) in
@@ -139,7 +139,7 @@ starts_below_at (suc m) n rows v k vb kb = dite (ℕ_discrete v m)
     (λ o. let lt : v < m = grind (arith, vb, o) in
     get_or_append_left (starts_below m n rows) (starts_at n rows m) 0 (v * n + k) (starts_within m n rows v k lt kb) ∙ starts_below_at m n rows v k lt kb)
 
--- one worker more
+-- one more worker
 pub starts_more : (rows : ℕ → ℕ → List Record) (v k : ℕ) (before starts starts' : List ℕ) (start : ℕ) → starts ≡ before ++ starts_at k rows v → start ≡ length (level_of_rows k rows v) → starts' ≡ starts ++ start ∷ [] → starts' ≡ before ++ starts_at (k + 1) rows v
 starts_more rows v k before starts starts' start is start-is more =
     let up : suc k ≡ k + 1 = omega arith in
@@ -154,14 +154,14 @@ start_more rows v k start count n own start-is own-is count-is =
     let here : start + count ≡ length (level_of_rows (suc k) rows v) = omega (arith, start-is, many, both) in
     here ∙ ap (λ z. length (level_of_rows z rows v)) up
 
--- a worker's lean row of a level
+-- a worker's row of a level, with owners
 pub by_owner_at : (records : List (List (List Record))) (rows : List (List (List (PackedChild × PackedChild)))) → AreRowsByOwner records rows → (k v : ℕ) (own : List (List (PackedChild × PackedChild))) → k < length rows → own ≡ get_or rows k own → row own v ≡ row_by_owner (length records) (row_of records k v)
 by_owner_at records rows by_owner k v own kb is =
     let n = length records in
     ap (λ (z : List (List (PackedChild × PackedChild))). row z v) (is ∙ get_or_default rows k own [] kb ∙ ap (λ (z : List (List (List (PackedChild × PackedChild)))). get_or z k []) by_owner ∙ listn.get_or-map (map (row_by_owner n)) records k [])
     ∙ listn.get_or-map (row_by_owner n) (get_or records k []) v []
 
--- each worker has as many rows as it has levels
+-- each worker has a row for each level
 pub by_owner_levels : (records : List (List (List Record))) (rows : List (List (List (PackedChild × PackedChild)))) → AreRowsByOwner records rows → (m : ℕ) → ((k : ℕ) → k < length records → length (get_or records k []) ≡ m) → All (λ (own : List (List (PackedChild × PackedChild))). length own ≡ m) rows
 by_owner_levels records rows by_owner m each k d kb =
     let n = length records in
@@ -169,7 +169,7 @@ by_owner_levels records rows by_owner m each k d kb =
     ap (λ (z : List (List (PackedChild × PackedChild))). length z) (get_or_default rows k d [] kb ∙ ap (λ (z : List (List (List (PackedChild × PackedChild)))). get_or z k []) by_owner ∙ listn.get_or-map (map (row_by_owner n)) records k [])
     ∙ length-map (get_or records k []) (row_by_owner n) ∙ each k (omega (arith, kb, long))
 
--- ---- what is asked for next
+-- ---- what is asked next
 zip_next : {A B : Type 0} (R : A → B → Type 0) (x : A) (xs : List A) (ys : List B) → AllZip R (x ∷ xs) ys → (y : B) × (slice_get ys 0 ≡ Some y) × R x y × AllZip R xs (drop 1 ys)
 zip_next R x xs [] h = absurd h
 zip_next R x xs (y ∷ ys) h = (y, refl, h.0, h.1)
@@ -192,7 +192,7 @@ asked_child n e (Ask l x b) level k m is f =
     let at : level ≡ l = cc in let own : k ≡ owner n x = cc in let complement : m ≡ b = cc in
     (x, (λ i. Ask (sym at i) x (sym complement i)), own)
 
--- a child that asks worker k at level l, which noted these places of what is left to ask
+-- a child that asks worker k at level l, which has noted these places for what is left to ask
 module _ (f : NumberingInput) (F : IsNumberingInput f) (left : List (Bor (List ℕ))) (child : PackedChild) (c : Child) (rest : List Key) (i : IsNext f left child c rest)
     (l k : ℕ) (m : Bool) (is : child ≡ by_number.Ask l k m) (noted : Bor (List ℕ)) (noted-is : noted ≡ get_or left k noted) where
   abbrev place : ℕ
@@ -270,14 +270,14 @@ module _ (f : NumberingInput) (F : IsNumberingInput f) (left : List (Bor (List �
 
 -- ---- records and their pairs
 
--- the list goes on with what stands at the place
+-- a list from a place on begins with the element at this place
 goes_on : {X : Type 0} (xs : List X) (i : ℕ) (x : X) → slice_get xs i ≡ Some x → drop i xs ≡ x ∷ drop (i + 1) xs
 goes_on xs i x e = drop_more xs i x (slice_get_within xs i x e) ∙ ap (λ z. z ∷ drop (i + 1) xs) (get_or_from_slice_get xs i x x e)
 
 ends_with : {X : Type 0} (xs : List X) (i : ℕ) (x : X) → slice_get xs i ≡ Some x → take (i + 1) xs ≡ take i xs ++ x ∷ []
 ends_with xs i x e = take_more xs i x (slice_get_within xs i x e) ∙ ap (λ z. take i xs ++ z ∷ []) (get_or_from_slice_get xs i x x e)
 
--- what a level asks for is asked for before what is below it
+-- what a level asks for is asked before what the levels below it ask for
 pub asked_first : (f : NumberingInput) (s v : ℕ) → v < f.store.now.levels → asked_from f s v ≡ asked_by (row_of f.notes.now.rows s v) ++ asked_from f s (v + 1)
 asked_first f s v l =
     let rows : ℕ → List Record = row_of f.notes.now.rows s in
@@ -285,11 +285,11 @@ asked_first f s v l =
     let up : suc v ≡ v + 1 = omega arith in
     ap (λ z. asked_up z v rows) one ∙ ap (λ z. asked_by (rows v) ++ asked_up (f.store.now.levels - (v + 1)) z rows) up
 
--- from a record on the worker asks for the record's children first
+-- the children of a record are asked for first
 record_first : (low high : List Key) (by later : List Key) → ((low ++ high) ++ by) ++ later ≡ low ++ (high ++ (by ++ later))
 record_first low high by later = append_assoc (low ++ high) by later ∙ append_assoc low high (by ++ later)
 
--- a record of worker s of level v, of which the pair e tells the owners
+-- a record of worker s and level v, for whose children the pair e has the owners
 module _ (f : NumberingInput) (s : ℕ) (sender : IsSender f s) (v : ℕ) (vb : v < f.store.now.levels) (pairs : List (PackedChild × PackedChild)) (pairs-are : pairs ≡ row_by_owner f.workers (row_of f.notes.now.rows s v))
     (later : List Key) (i : ℕ) (e : PackedChild × PackedChild) (e-is : slice_get pairs i ≡ Some e) (next : List (Bor (List ℕ))) (a : AreNext f (asked_by (drop i (row_of f.notes.now.rows s v)) ++ later) next) where
   abbrev records : List Record
@@ -304,7 +304,7 @@ module _ (f : NumberingInput) (s : ℕ) (sender : IsSender f s) (v : ℕ) (vb : 
   record_has_levels : HaveTheirLevels f.store.now the_record
   record_has_levels = subst (HaveTheirLevels f.store.now) (get_or_from_slice_get records i the_record the_record read.1) (sender.input.levels_match s v sender.within vb i the_record (slice_get_within records i the_record read.1))
 
-  -- what is asked for behind the record, and behind its low child
+  -- what is asked after the record, and after its low child
   abbrev pub behind : List Key
   behind = asked_by (drop (i + 1) records) ++ later
 
@@ -325,7 +325,7 @@ module _ (f : NumberingInput) (s : ℕ) (sender : IsSender f s) (v : ℕ) (vb : 
       → new ≡ old ++ (low, high) ∷ [] → AllZip (IsNumbered (keys_in f)) (take (i + 1) records) new
   pair_more old new low high z l h is = zip_grown (IsNumbered (keys_in f)) (take i records) (take (i + 1) records) old new the_record (low, high) (ends_with records i the_record read.1) is z (l, h)
 
--- all records of a level are gone over
+-- all records of a level were numbered
 module _ (f : NumberingInput) (s v : ℕ) (by_owner-pairs : List (PackedChild × PackedChild)) (by_owner-are : by_owner-pairs ≡ row_by_owner f.workers (row_of f.notes.now.rows s v)) (i : ℕ) (all : i ≡ length by_owner-pairs) where
   i-is : i ≡ length (row_of f.notes.now.rows s v)
   i-is = all ∙ ap length by_owner-are ∙ length-map (row_of f.notes.now.rows s v) (λ (r : Record). (by_owner f.workers r.low, by_owner f.workers r.high))
@@ -336,9 +336,9 @@ module _ (f : NumberingInput) (s v : ℕ) (by_owner-pairs : List (PackedChild ×
   pub asked_all : (later : List Key) (next : List (Bor (List ℕ))) → AreNext f (asked_by (drop i (row_of f.notes.now.rows s v)) ++ later) next → AreNext f later next
   asked_all later next a = subst (λ z. AreNext f (asked_by z ++ later) next) (ap (λ z. drop z (row_of f.notes.now.rows s v)) i-is ∙ drop-length (row_of f.notes.now.rows s v)) a
 
--- a level is numbered
+-- a level was numbered
 module _ (f : NumberingInput) (s v : ℕ) (vb : v < f.store.now.levels) (old : NumberingTask) (a : IsNumberedTo f s v old) where
-  -- it had no requests
+  -- the level had no requests
   pub level_none : length (row old.rows v) ≡ 0 → IsNumberedTo f s (v + 1) old
   level_none e =
       let none : row_of f.notes.now.rows s v ≡ [] = no_records (row_of f.notes.now.rows s v) (sym (length-map (row_of f.notes.now.rows s v) (λ (r : Record). (by_owner f.workers r.low, by_owner f.workers r.high))) ∙ ap length (sym (a.left v (omega arith) vb)) ∙ e) in

@@ -1,4 +1,4 @@
--- A function or its complement, and references that one node stands for.
+-- A function or its complement, and references of one node.
 use Rattle.std.proofs.Common.{◌≡◌, ℕ, ◌<◌, inl, inr, Bool, true, false, List, ◌++◌, refl, sym, ◌∙◌, ap, subst, arith}
 use Rattle.std.specs.Prelude.{not}
 use Rattle.std.proofs.Math.Bool.{not-not}
@@ -32,7 +32,7 @@ fixed_complemented n v true f g (p, long, same) = inr (p, long, λ q r hq hr. ap
 pub depends_not : (n v : ℕ) (f : List Bool → Bool) → DependsOn n v f → DependsOn n v (λ x. not (f x))
 depends_not n v f (q, r, hq, hr, differ) = (q, r, hq, hr, λ e. differ (sym (not-not _) ∙ ap not e ∙ not-not _))
 
--- the same of a function that reads a bit
+-- what follows for a function that reads a bit follows for it or its complement
 pub either_reads : (n v : ℕ) (P Q : (List Bool → Bool) → Type 0) → ((f : List Bool → Bool) → DependsOn n v f → P f → Q f) → (f : List Bool → Bool) → DependsOn n v f → OfEither P f → OfEither Q f
 either_reads n v P Q h f d (inl p) = inl (h f d p)
 either_reads n v P Q h f d (inr p) = inr (h (λ x. not (f x)) (depends_not n v f d) p)
@@ -46,7 +46,7 @@ either_kept S T w k P m h i = subst (OfEither P) (same_function (den S m) (den T
 
 -- ---- two references of one node
 
--- one of them denotes what the other does, or the complement
+-- one of them denotes what the other does, or the complement of it
 pub one_node_either : (S : Nodes) (m r : Ref) (P : (List Bool → Bool) → Type 0) → ((f g : List Bool → Bool) → Agree S.levels f g → P g → P f) → IsOneNode S m r → P (den S r) → OfEither P (den S m)
 one_node_either S m r P agrees (inl e) p = inl (subst (λ z. P (den S z)) (sym e) p)
 one_node_either S m r P agrees (inr o) p = inr (agrees (λ x. not (den S m x)) (den S r) (λ x hx. ap not (o.1 x hx) ∙ not-not (den S r x)) p)

@@ -1,4 +1,4 @@
--- Lists by level that stand in several parts.
+-- Lists by level in several parts.
 use Rattle.std.proofs.Common.{◌≡◌, ℕ, zero, suc, ◌+◌, ◌<◌, ◌≤◌, max, ◌⊎◌, inl, inr, List, [], ◌∷◌, ◌++◌, length, map, set, take, get_or, slice_get, Option, Some, None, refl, sym, ◌∙◌, ap, subst, arith, append_assoc, append-nil, All}
 use Rattle.std.proofs.Math.Seq.{get_or-append_seam}
 use Rattle.std.proofs.lemmas.List.{length-append, take_more, take_more_set, get_or_append_left, get_or-map, length-map}
@@ -18,7 +18,7 @@ over_push (q ∷ ps) p v = ap (λ z. row q v ++ z) (over_push ps p v) ∙ sym (a
 pub over_more : {X : Type 0} (ps : List (List (List X))) (i : ℕ) (p : List (List X)) (v : ℕ) → i < length ps → p ≡ get_or ps i p → level_over (take (i + 1) ps) v ≡ level_over (take i ps) v ++ row p v
 over_more ps i p v lt is = ap (λ z. level_over z v) (take_more ps i p lt) ∙ over_push (take i ps) (get_or ps i p) v ∙ ap (λ z. level_over (take i ps) v ++ row z v) (sym is)
 
--- what stands in a part stands behind the parts before it
+-- what is in a part is after what the parts before it have
 pub slice_get-behind : {X : Type 0} (xs ys : List X) (i : ℕ) → slice_get (xs ++ ys) (length xs + i) ≡ slice_get ys i
 slice_get-behind [] ys i = let e : 0 + i ≡ i = omega arith in ap (λ z. slice_get ys z) e
 slice_get-behind (x ∷ xs) ys i = let e : length (x ∷ xs) + i ≡ suc (length xs + i) = omega arith in ap (λ z. slice_get (x ∷ xs ++ ys) z) e ∙ slice_get-behind xs ys i
@@ -32,7 +32,7 @@ stands_over (r ∷ ps) v (suc i) p lt is q x h =
     let e : length (row r v ++ level_over (take i ps) v) + q ≡ length (row r v) + (length (level_over (take i ps) v) + q) = (let l = length-append (row r v) (level_over (take i ps) v) in omega (arith, l)) in
     subst (λ z. slice_get (row r v ++ level_over ps v) z ≡ Some x) (sym e) (slice_get-behind (row r v) (level_over ps v) (length (level_over (take i ps) v) + q) ∙ stands_over ps v i p (omega (arith, lt)) is q x h)
 
--- by level
+-- ---- lists of all parts, by level
 pub over-long : {X : Type 0} (n : ℕ) (ps : List (List (List X))) → length (over_parts n ps) ≡ n
 over-long zero ps = refl
 over-long (suc n) ps = length-append (over_parts n ps) (level_over ps n ∷ []) ∙ (let e = over-long n ps in omega (arith, e))
@@ -53,14 +53,14 @@ over_one n p e = same (over_parts n (p ∷ [])) p (over-long n (p ∷ []) ∙ sy
     same (x ∷ xs) [] l h = absurd (omega (arith, l))
     same (x ∷ xs) (y ∷ ys) l h = λ i. h 0 (omega arith) i ∷ same xs ys (omega (arith, l)) (λ v b. h (suc v) (omega (arith, b))) i
 
--- ---- the last level that has something
+-- ---- the last level that is not empty
 module _ {X : Type 0} (n end : ℕ) (ps : List (List (List X))) (p : List (List X)) (le : end ≤ n) where
   pushed : (w : ℕ) → w < end → row (over_parts n (ps ++ p ∷ [])) w ≡ row (over_parts n ps) w ++ row p w
   pushed w lt =
       let l : w < n = omega (arith, lt, le) in
       over_at n (ps ++ p ∷ []) w l ∙ over_push ps p w ∙ ap (λ z. z ++ row p w) (sym (over_at n ps w l))
 
-  -- what stands in none stands not in both
+  -- a level that is empty in these parts and in one more is empty in all
   none_more : (v : ℕ) → AreNone (over_parts n ps) v end → AreNone p v end → AreNone (over_parts n (ps ++ p ∷ [])) v end
   none_more v a b w q x ge lt h = elim (in_either (row (over_parts n ps) w) (row p w) q x (subst (λ (z : List X). slice_get z q ≡ Some x) (pushed w lt) h)) [
     | inl o ↦ a w o.0 x ge lt o.1
@@ -91,7 +91,7 @@ module _ {X : Type 0} (n end : ℕ) (ps : List (List (List X))) (p : List (List 
 pub last_none : {X : Type 0} (n end : ℕ) → end ≤ n → IsLastLevel (over_parts {X = X} n []) end None
 last_none {X} n end le w q x ge lt h = at_place_none (row (over_parts {X = X} n []) w) q x (over_at n [] w (omega (arith, lt, le))) h
 
--- ---- a level that all parts leave
+-- ---- a level that is cleared in all parts
 pub left_more : {X : Type 0} (ps : List (List (List X))) (i : ℕ) (new : List (List X)) (w : ℕ) → i < length ps → row new w ≡ row (get_or ps i []) w → level_over (set ps i new) w ≡ level_over ps w
 left_more [] i new w lt e = absurd (omega (arith, lt))
 left_more (p ∷ ps) zero new w lt e = ap (λ z. z ++ level_over ps w) e
@@ -100,7 +100,7 @@ left_more (p ∷ ps) (suc i) new w lt e = ap (λ z. row p w ++ z) (left_more ps 
 pub left_first : {X : Type 0} (ps : List (List (List X))) (i : ℕ) (new : List (List X)) (v : ℕ) → i < length ps → level_over (take i ps) v ≡ [] → row new v ≡ [] → level_over (take (i + 1) (set ps i new)) v ≡ []
 left_first ps i new v lt before e = ap (λ z. level_over z v) (take_more_set ps i new lt) ∙ over_push (take i ps) new v ∙ ap (λ z. z ++ row new v) before ∙ e
 
--- what is said of the lengths of parts holds of others that are as long
+-- what holds of the lengths of parts holds of others that are as long
 pub all_long : {X : Type 0} (P : ℕ → Type 0) (ps qs : List (List (List X))) → map (λ (r : List (List X)). length r) ps ≡ map (λ (r : List (List X)). length r) qs → All (λ (r : List (List X)). P (length r)) qs → All (λ (r : List (List X)). P (length r)) ps
 all_long {X} P ps qs e a k d lt =
     let f : List (List X) → ℕ = λ r. length r in

@@ -1,4 +1,4 @@
--- What is read of a part of a level, divided by shard.
+-- A part of a level that is read and divided by shard.
 use Rattle.std.proofs.Common.{◌≡◌, ◌≢◌, ℕ, ◌+◌, ◌≤◌, inl, inr, List, [], ◌∷◌, ◌++◌, length, take, slice_get, Some, All, refl, sym, ap, ◌∙◌, subst, arith, length-append}
 use Rattle.std.specs.List.{AllZip}
 use Rattle.std.specs.declared.vec.Vec.{Vec}
@@ -28,7 +28,7 @@ no_items : (xs : List Pair) → length xs ≡ 0 → xs ≡ []
 no_items [] e = refl
 no_items (x ∷ xs) e = absurd (omega (arith, e))
 
--- nothing is read
+-- nothing was read
 divided_none : (origins : Origins) (lists : ℕ → List Pair) → origins.numbers.items ≡ [] → origins.equal.items ≡ [] → ((s : ℕ) → length (lists s) ≡ 0) → IsDivided [] origins lists
 divided_none origins lists a b e = record {
   long = ap (λ z. length z) a;
@@ -38,7 +38,7 @@ divided_none origins lists a b e = record {
   own = λ s p w. absurd (let lt = slice_get_within (lists s) w.0 p w.1 in let z = e s in omega (arith, lt, z));
 }
 
--- one pair more
+-- one more pair
 module _ (pairs : List Pair) (p : Pair) (old new : PairsByShard) (o : IsDivided pairs old.origins (list_at old.lists.items)) (put : IsPut old p new) where
   abbrev hs : List ℕ
   hs = old.origins.numbers.items
@@ -112,7 +112,7 @@ read_more A children i x p old new at of o sixteen put = record {
 pub read_whole : (A : List (List Ref)) (children : List (PackedChild × PackedChild)) (i : ℕ) (lists : Vec (Vec Pair Global) Global) (origins : Origins) → length children ≤ i → IsPartRead A (take i children) lists origins → IsPartRead A children lists origins
 read_whole A children i lists origins l r = subst (λ z. IsPartRead A z lists origins) (take_all i children l) r
 
--- how many there are of each home
+-- how many there are of each origin
 pub origins_of : (pairs : List Pair) (origins : Origins) (lists : ℕ → List Pair) → IsDivided pairs origins lists → AreOrigins origins lists
 origins_of pairs origins lists d = record {
   within = d.within;

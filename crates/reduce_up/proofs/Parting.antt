@@ -1,4 +1,4 @@
--- Lists that are divided by a number for each item, and put together again.
+-- Lists that are divided by a number for each item, and joined again.
 use Rattle.std.proofs.Common.{◌≡◌, ◌≢◌, ℕ, zero, suc, ◌+◌, ◌≤◌, inl, inr, true, false, cond, eqb, List, [], ◌∷◌, ◌++◌, length, take, drop, get_or, slice_get, Some, Contains, All, refl, ap, ◌∙◌, subst, arith, append-nil, eq-eqb, ne_eqb}
 use Rattle.std.specs.List.{AllZip}
 use Rattle.std.proofs.lemmas.List.{take_more, get_or-drop, length-drop}
@@ -19,14 +19,14 @@ chosen-push s (g ∷ hs) (y ∷ xs) h x e =
       | false ↦ more
     ]
 
--- one item more of its own number, and none of another
+-- one more item is chosen by its own number, and by no other
 pub chosen-own : {X : Type 0} (hs : List ℕ) (xs : List X) (h : ℕ) (x : X) → length hs ≡ length xs → chosen h (hs ++ h ∷ []) (xs ++ x ∷ []) ≡ chosen h hs xs ++ x ∷ []
 chosen-own hs xs h x e = chosen-push h hs xs h x e ∙ ap (λ b. chosen h hs xs ++ cond b (x ∷ []) []) (eq-eqb h h refl)
 
 pub chosen-other : {X : Type 0} (s : ℕ) (hs : List ℕ) (xs : List X) (h : ℕ) (x : X) → length hs ≡ length xs → h ≢ s → chosen s (hs ++ h ∷ []) (xs ++ x ∷ []) ≡ chosen s hs xs
 chosen-other s hs xs h x e n = chosen-push s hs xs h x e ∙ ap (λ b. chosen s hs xs ++ cond b (x ∷ []) []) (ne_eqb h s n) ∙ append-nil (chosen s hs xs)
 
--- how many there are depends on the numbers alone
+-- how many are chosen depends only on the numbers
 pub chosen-many : {X Y : Type 0} (s : ℕ) (hs : List ℕ) (xs : List X) (ys : List Y) → length xs ≡ length hs → length ys ≡ length hs → length (chosen s hs xs) ≡ length (chosen s hs ys)
 chosen-many s [] [] [] a b = refl
 chosen-many s [] [] (y ∷ ys) a b = absurd (omega (arith, b))
@@ -40,7 +40,7 @@ chosen-many s (h ∷ hs) (x ∷ xs) (y ∷ ys) a b =
       | false ↦ more
     ]
 
--- the first numbers name no more than all
+-- fewer are chosen of the first items than of all
 pub chosen-fewer : (s : ℕ) (hs : List ℕ) (i : ℕ) → length (chosen s (take i hs) (take i hs)) ≤ length (chosen s hs hs)
 chosen-fewer s [] zero = omega arith
 chosen-fewer s [] (suc i) = omega arith
@@ -62,7 +62,7 @@ chosen-in s (h ∷ hs) (y ∷ xs) x c =
       | false ↦ λ d. tail_in y x xs (chosen-in s hs xs x d)
     ] c
 
--- Two lists whose items stand beside each other wherever they have the same number do so as wholes.
+-- Two lists are related place by place if, for each number, the items of this number are.
 pub zip_chosen : {A B : Type 0} (R : A → B → Type 0) (hs : List ℕ) (xs : List A) (ys : List B) → length xs ≡ length hs → length ys ≡ length hs → All (λ h. h ≤ 16) hs → ((s : ℕ) → s ≤ 16 → AllZip R (chosen s hs xs) (chosen s hs ys)) → AllZip R xs ys
 zip_chosen R [] [] [] a b w f = tt
 zip_chosen R [] [] (y ∷ ys) a b w f = absurd (omega (arith, b))
@@ -78,7 +78,7 @@ zip_chosen R (h ∷ hs) (x ∷ xs) (y ∷ ys) a b w f =
           (λ n. subst (λ c. AllZip R (cond c (x ∷ chosen s hs xs) (chosen s hs xs)) (cond c (y ∷ chosen s hs ys) (chosen s hs ys))) (ne_eqb h s n) (f s l))),
     )
 
--- a span with one item more
+-- a span that is longer by an item
 pub span_more : {X : Type 0} (start n : ℕ) (xs : List X) (x : X) → slice_get xs (start + n) ≡ Some x → span start (n + 1) xs ≡ span start n xs ++ x ∷ []
 span_more start n xs x e =
     let l = slice_get_within xs (start + n) x e in

@@ -1,4 +1,4 @@
--- A diagram for each home: the next of its diagrams.
+-- A diagram for each origin: its next one.
 use Rattle.std.proofs.Common.{◌≡◌, ◌≢◌, ℕ, ◌+◌, ◌<◌, ◌≤◌, List, [], ◌∷◌, ◌++◌, length, take, get_or, set, slice_get, Some, All, refl, sym, ap, ◌∙◌, subst, arith, length-append, get_or-set_same, get_or-set_other}
 use Rattle.std.proofs.lemmas.List.{length-set, take_more}
 use mathlib.Core.Logic.{dite}
@@ -7,7 +7,7 @@ use Rattle.dd_store.specs.declared.reference.Ref.{Ref}
 use Rattle.reduce_up.specs.Division.{chosen, span}
 use Rattle.reduce_up.proofs.Parting.{chosen-own, chosen-other, chosen-many, chosen-fewer, span_more}
 
--- of so many homes the diagrams are picked, and each home's next stands at its place
+-- the diagrams of the first origins were picked, and the next of each origin is at its place
 pub record ArePicking (done : List ℕ) (starts : ℕ → ℕ) (sources : ℕ → List Ref) (places : List ℕ) (answers : List Ref) : Type 0 where
   pub long : length answers ≡ length done
   pub seventeen : length places ≡ 17
@@ -30,7 +30,7 @@ module _ (origins : List ℕ) (i h : ℕ) (ib : i < length origins) (h-is : h �
   next_origin : take (i + 1) origins ≡ take i origins ++ h ∷ []
   next_origin = take_more origins i h ib ∙ ap (λ z. take i origins ++ z ∷ []) (sym h-is)
 
-  -- one more than were picked
+  -- of each origin there is at least one more than was picked
   named : length (chosen h (take (i + 1) origins) (take (i + 1) origins)) ≡ length (chosen h (take i origins) answers) + 1
   named =
       ap (λ z. length (chosen h z z)) next_origin ∙ ap (λ z. length z) (chosen-own (take i origins) (take i origins) h h refl) ∙ length-append (chosen h (take i origins) (take i origins)) (h ∷ [])

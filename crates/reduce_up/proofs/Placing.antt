@@ -1,4 +1,4 @@
--- Diagrams by level: what the levels hold together, and what is found by place.
+-- Diagrams by level: what all levels have together, and what is found by place.
 use Rattle.std.proofs.Common.{◌≡◌, ℕ, zero, suc, ◌<◌, ◌≤◌, ◌⊎◌, inl, inr, true, false, eqb, List, [], ◌∷◌, ◌++◌, length, map, get_or, set, slice_get, Some, refl, sym, ◌∙◌, ap, subst, arith, Contains, eqb-true, eq-eqb, get_or-set_same, get_or-set_other}
 use Rattle.std.specs.Prelude.{All}
 use Rattle.std.proofs.lemmas.List.{length-map}
@@ -70,7 +70,7 @@ module _ (rows : List (List (Key × Ref))) (i : ℕ) (new : List (Key × Ref)) (
         | false ↦ λ t. inr (other_set j p (λ e. (let z = sym t ∙ eq-eqb j i e in cc)) d)
       ] refl
 
-  -- what a row notes, all note
+  -- an answer noted in one row is noted in all together
   pub notes_row : (k : Key) (r : Ref) → NotesAnswer (get_or rows i []) k r new → NotesAnswer (joined rows) k r (joined (set rows i new))
   notes_row k r n = record {
     noted = (n.noted.0, before_set (k, n.noted.0) n.noted.1);
@@ -94,7 +94,7 @@ paired_at (l ∷ ks) [] i k d e f = absurd (omega (arith, e))
 paired_at (l ∷ ks) (s ∷ rs) zero k d e f = (omega arith, (let same : l ≡ k = cc in subst (λ z. Contains {X = Key × Ref} ((l, s) ∷ paired ks rs) (z, s)) same (head_in {X = Key × Ref} (l, s) (paired ks rs))))
 paired_at (l ∷ ks) (s ∷ rs) (suc i) k d e f = let m = paired_at ks rs i k d (omega (arith, e)) f in let a = m.0 in (omega (arith, a), tail_in {X = Key × Ref} (l, s) (k, get_or rs i d) (paired ks rs) m.1)
 
--- a pair is a key with what stands at its place
+-- a pair is a key with the reference at its place
 pub paired_place : (ks : List Key) (rs : List Ref) (k : Key) (r : Ref) → Contains {X = Key × Ref} (paired ks rs) (k, r) → (i : ℕ) × (i < length ks) × (slice_get ks i ≡ Some k) × (get_or rs i r ≡ r)
 paired_place [] rs k r c = absurd (nothing {X = Key × Ref} (k, r) c)
 paired_place (l ∷ ks) [] k r c = absurd (nothing {X = Key × Ref} (k, r) c)
@@ -103,7 +103,7 @@ paired_place (l ∷ ks) (s ∷ rs) k r c = elim (in_cases {X = Key × Ref} (l, s
   | inr d ↦ let (i, lt, f, g) = paired_place ks rs k r d in (suc i, omega (arith, lt), f, g)
 ]
 
--- ---- a row of records takes an empty place
+-- ---- the answers of a row of records are put into an empty list
 module _ (rows : List (List (Key × Ref))) (i : ℕ) (row : List Record) (answers : List Ref) (keys : List Key) (lt : i < length rows) (empty : get_or rows i [] ≡ []) (long : length answers ≡ length row) (index : keys ≡ map key_of row) where
   key_place : (j : ℕ) (k : Key) (d : Record) → slice_get (map key_of row) j ≡ Some k → (get_or row j d).key ≡ k
   key_place j k d e = by row j e

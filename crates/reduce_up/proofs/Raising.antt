@@ -1,4 +1,4 @@
--- Reduction by place: one request, one level, and one level after the other.
+-- Reduction by place: one request, one level, and level by level.
 use Rattle.std.proofs.Common.{◌≡◌, ◌≢◌, ℕ, ◌+◌, ◌<◌, ◌≤◌, ◌⊎◌, inl, inr, true, false, Bool, List, [], ◌∷◌, ◌++◌, length, Option, Some, None, slice_get, refl, sym, ◌∙◌, ap, subst, arith, Contains, All}
 use Rattle.std.specs.Prelude.{Ok, Err}
 use Rattle.std.proofs.Math.Nat.{eq-or-lt_of_le}
@@ -40,12 +40,12 @@ use Rattle.reduce_up.proofs.Wanted.{level_adds, has_request_of, lacks_wanted}
 abbrev pub rec : Key → Ref → Ref → Record
 rec k lo hi = record { key = k; low = child.Done lo; high = child.Done hi }
 
--- what a child comes to is one reference
+-- a child has one diagram
 pub one_answer : (A : List (List Ref)) (d : PackedChild) (r s : Ref) → ResolvesTo A d r → ResolvesTo A d s → r ≡ s
 one_answer A (Done x) r s e f = e ∙ sym f
 one_answer A (Ask l p m) r s e f = e.2 ∙ ap (complement_by m) (some_same (slice_get (row A l) p) e.0 f.0 e.1 f.1) ∙ sym f.2
 
--- answers of another level leave it
+-- answers of another level do not change a child's diagram
 comes_on : (A B : List (List Ref)) (v : ℕ) → ((w : ℕ) → (w ≡ v → ⊥) → row B w ≡ row A w) → (d : PackedChild) → IsBelow v d → (r : Ref) → ResolvesTo A d r → ResolvesTo B d r
 comes_on A B v same (Done x) b r c = c
 comes_on A B v same (Ask l p m) b r c = (c.0, subst (λ (z : List Ref). slice_get z p ≡ Some c.0) (sym (same l (λ e. omega (arith, e, b)))) c.1, c.2)
@@ -60,10 +60,10 @@ ready_beside s T pairs A B v same R = record {
   high = λ q k d h g. let n = R.high q k d h g in (n.0, (n.1.0, comes_on A B v same d.1 n.0 n.1.0 n.1.1, n.1.2));
 }
 
--- Of level v the first i requests are reduced, and one more is to be.
+-- The first i requests of level v are reduced, and one more is to be.
 module _ (s0 : Nodes) (sound : IsSound s0) (T : List (List Key)) (pairs : List (PackedChild × PackedChild)) (A : List (List Ref)) (v : ℕ) (R : IsReadyAt s0 T pairs A v)
     (i : ℕ) (s : Nodes) (own : List Ref) (so : IsLevelReduced s0 T v i s own) (d : PackedChild × PackedChild) (at : slice_get pairs i ≡ Some d) where
-  -- the request at that place
+  -- the request at this place
   pub here : (k : Key) × IsAtPlace T v i k
   here = at_place_some (row T v) i (let e : length pairs ≡ length (row T v) = R.counts in let lt : i < length pairs = slice_get_within pairs i d at in omega (arith, e, lt))
 
@@ -73,7 +73,7 @@ module _ (s0 : Nodes) (sound : IsSound s0) (T : List (List Key)) (pairs : List (
   pub high_comes : (r : Ref) × ResolvesTo A d.1 r
   high_comes = let k = R.high i here.0 d here.1 at in (k.1.0, k.1.1)
 
-  -- its children's answers
+  -- the diagrams of its children
   module _ (lo hi : Ref) (cl : ResolvesTo A d.0 lo) (ch : ResolvesTo A d.1 hi) where
     -- they make a record of it
     pub is_record : IsRecordAt s v (rec here.0 lo hi)
@@ -88,7 +88,7 @@ module _ (s0 : Nodes) (sound : IsSound s0) (T : List (List Key)) (pairs : List (
           high = subst (IsAnswerAt s0 v here.0 true) eh high.1.2;
         })
 
-    -- the cause of its refusal
+    -- the cause of its fault
     pub refused_one : (u : Nodes) → u ≡ s → (f : StoreFault) → IsFull s v lo hi f → ReducesLevel s0 T v (Err (wave_fault f)) u own
     refused_one u same f full = record {
       adds = subst (λ z. AddsDescribed s0 z (AskedAt s0 T v)) (sym same) so.adds;
@@ -105,7 +105,7 @@ module _ (s0 : Nodes) (sound : IsSound s0) (T : List (List Key)) (pairs : List (
       done : IsAnswer u here.0 r × AddsDescribed s u (AskedBy s v (rec here.0 lo hi ∷ []))
       done = record_done s u v (rec here.0 lo hi) lo hi (Ok r) so.held su is_record.key is_record.low is_record.high m tt
 
-      -- what it adds
+      -- the nodes that it adds
       pub adds_one : AddsDescribed s0 u (AskedAt s0 T v)
       adds_one = adds_then s0 s u so.held (AskedAt s0 T v) so.adds (adds_either s u (AskedBy s v (rec here.0 lo hi ∷ [])) (AskedAt s0 T v) (λ w f a. inl (of_level w f a)) done.1)
         where
@@ -127,7 +127,7 @@ module _ (s0 : Nodes) (sound : IsSound s0) (T : List (List Key)) (pairs : List (
             ),
           )
 
-      -- its answer stands next
+      -- its answer is the next in the list
       pub one_more : (new : List Ref) → new ≡ own ++ r ∷ [] → IsLevelReduced s0 T v (i + 1) u new
       one_more new e = record {
         held = su;
@@ -150,14 +150,14 @@ level_start s T pairs A v S R = record {
   answered = λ q k r h g. absurd (at_place_none [] q r refl g);
 }
 
--- what is left of a level that is given up, and of one whose keys all have their answers
+-- a level that has failed, and a level whose keys all have answers
 pub level_given_up : (s u : Nodes) (T : List (List Key)) (v : ℕ) (own : List Ref) → AddsDescribed s u (AskedAt s T v) → ReducesLevel s T v (Err wave_faults.OutOfMemory) u own
 level_given_up s u T v own a = record { adds = a; whole = tt; fault = tt }
 
 pub level_whole : (s u : Nodes) (T : List (List Key)) (v : ℕ) (own : List Ref) → IsLevelReduced s T v (length (row T v)) u own → ReducesLevel s T v (Ok tt) u own
 level_whole s u T v own so = record { adds = so.adds; whole = so; fault = tt }
 
--- a placed child whose request has its answer is known
+-- a placed child whose request has an answer is known
 known : (s : Nodes) (T : List (List Key)) (A : List (List Ref)) (v : ℕ) (k : Key) (b : Bool) (d : PackedChild) (c : Child) → IsPlaced T d c → IsChild s v k b c →
     ((w q : ℕ) (x : Key) → v < w → IsAtPlace T w q x → length (row A w) ≡ length (row T w)) → ((w q : ℕ) (x : Key) (r : Ref) → v < w → IsAtPlace T w q x → IsAtPlace A w q r → IsAnswer s x r) → IsKnown s A v k b d
 known s T A v k b (Done r) c p i counts answered = (tt, (r, refl, subst (IsChild s v k b) p i))
@@ -173,7 +173,7 @@ known s T A v k b (Ask l p m) c h i counts answered =
     ] in
     (j.0, (complement_by m a.0, (a.0, a.1, refl), resolved s v k b (child.Ask l x m) ((x, a.0) ∷ []) (complement_by m a.0) j only (a.0, (0, omega arith, refl), refl)))
 
--- the last level of lists that are the same before a level is the last of the others
+-- if lists are the same before a level, the last non-empty level before it is the same
 pub last_left : {X : Type 0} (old new : List (List X)) (u : ℕ) → ((w : ℕ) → w < u → row new w ≡ row old w) → (found : Option ℕ) → IsLastLevel new u found → IsLastLevel old u found
 last_left {X} old new u same None h = λ w q x ge lt at. h w q x ge lt (subst (λ (z : List X). slice_get z q ≡ Some x) (sym (same w lt)) at)
 last_left {X} old new u same (Some v) h = (
@@ -182,7 +182,7 @@ last_left {X} old new u same (Some v) h = (
   λ w q x ge lt at. h.2 w q x ge lt (subst (λ (z : List X). slice_get z q ≡ Some x) (sym (same w lt)) at),
 )
 
--- Of a wave over the store S.
+-- A wave over the store S.
 module _ (S : Nodes) (w : IsSound S) (entries : List Entry) (good : All (IsEntry S) entries) (roots : List PackedChild) (T : List (List Key)) (rows : List (List (PackedChild × PackedChild))) (from : ℕ) (E : AreExpanded S entries roots from T rows) where
   splits : (v : ℕ) (k : Key) → IsAdmitted S entries v k → IsRecordAt S v (record_of S k)
   splits v k a = subst (λ z. IsRecordAt S z (record_of S k)) a.level (record {
@@ -191,7 +191,7 @@ module _ (S : Nodes) (w : IsSound S) (entries : List Entry) (good : All (IsEntry
     high = right S w 1 (requests_of entries) (requests_good S entries good) k true (child_of S k true) a.key refl;
   })
 
-  -- nothing stands where no children stand
+  -- if no children are left, no requests are
   pub none_split : (v u : ℕ) → u ≤ from → AreNone rows v u → AreNone T v u
   none_split v u le none w q k ge lt h =
       let c : length (row rows w) ≡ length (row T w) = E.counts w (omega (arith, lt, le)) in
@@ -199,7 +199,7 @@ module _ (S : Nodes) (w : IsSound S) (entries : List Entry) (good : All (IsEntry
       let d = at_place_some (row rows w) q (omega (arith, c, within)) in
       none w q d.0 ge lt d.1
 
-  -- an expanded level whose deeper levels have their answers can be reduced
+  -- an expanded level can be reduced if the deeper levels have their answers
   pub level_ready : (v : ℕ) (s : Nodes) (A : List (List Ref)) → v < from → v < S.levels → AreReducedBelow S entries T (v + 1) s A → IsReadyAt s T (row rows v) A v
   level_ready v s A lt fit d = record {
     bounded = let e : s.levels ≡ S.levels = d.adds.keeps.levels in omega (arith, e, fit);
@@ -212,7 +212,7 @@ module _ (S : Nodes) (w : IsSound S) (entries : List Entry) (good : All (IsEntry
       at : (q : ℕ) (k : Key) → IsAtPlace T v q k → IsRecordAt s v (record_of S k)
       at q k h = record_kept S s w d.adds.keeps v (record_of S k) (splits v k (E.admitted.keys v q k h))
 
-  -- one level more is reduced
+  -- one more level is reduced
   pub level_next : (v : ℕ) (s : Nodes) (A : List (List Ref)) → AreReducedBelow S entries T (v + 1) s A → (u : Nodes) (own : List Ref) → IsLevelReduced s T v (length (row T v)) u own → count_of u ≤ u.limit →
       (B : List (List Ref)) → length B ≡ length A → row B v ≡ own → ((w : ℕ) → (w ≡ v → ⊥) → row B w ≡ row A w) → AreReducedBelow S entries T v u B
   level_next v s A d u own so within B len here others = record {
@@ -230,7 +230,7 @@ module _ (S : Nodes) (w : IsSound S) (entries : List Entry) (good : All (IsEntry
     within = inl within;
   }
 
-  -- levels without requests are passed over
+  -- levels without requests are skipped
   pub levels_left : (v u : ℕ) (s : Nodes) (A : List (List Ref)) → AreNone T v u → AreReducedBelow S entries T u s A → AreReducedBelow S entries T v s A
   levels_left v u s A none d = record {
     held = d.held;
@@ -244,24 +244,26 @@ module _ (S : Nodes) (w : IsSound S) (entries : List Entry) (good : All (IsEntry
     ];
   }
 
-  -- the cause of a level's refusal is one of the wave
+  -- the cause of a level's fault is one of the wave's
   pub level_refused : (v : ℕ) (s : Nodes) → Keeps S s → (f : WaveFault) → IsLevelFault s T v f → IsWaveFault S entries s f
   level_refused v s K wave_faults.OutOfMemory x = tt
   level_refused v s K wave_faults.NoWorker x = tt
   level_refused v s K wave_faults.TooManyRequests x = tt
+  level_refused v s K wave_faults.Stopped x = tt
   level_refused v s K wave_faults.Full x =
       let a : IsAdmitted S entries v x.1 = E.admitted.keys v x.0 x.1 x.2 in
       (has_request_of S w entries good v x.1 a, elim x.3 [ inl over ↦ inl over | inr full ↦ inr (full.0, lacks_wanted S w entries good v x.1 s K a full.1) ])
 
--- a level with requests, of which the store is past its limit
+-- the fault of a level with requests that leaves the store over its limit
 pub past_fault : (s : Nodes) (T : List (List Key)) (pairs : List (PackedChild × PackedChild)) (A : List (List Ref)) (v : ℕ) → IsReadyAt s T pairs A v → 0 < length pairs → (u : Nodes) → u.limit < count_of u → IsLevelFault u T v wave_faults.Full
 past_fault s T pairs A v R some u over =
     let k = at_place_some (row T v) 0 (let e : length pairs ≡ length (row T v) = R.counts in omega (arith, e, some)) in
     (0, k.0, k.1, inl over)
 
--- a level is not refused for want of a worker, nor for too many requests
-pub no_other_cause : (s : Nodes) (T : List (List Key)) (v : ℕ) (e : WaveFault) → IsLevelFault s T v e → (e ≢ wave_faults.NoWorker) × (e ≢ wave_faults.TooManyRequests)
-no_other_cause s T v wave_faults.OutOfMemory h = (λ e. absurd (cc), λ e. absurd (cc))
+-- a level fails neither for want of a worker, nor for too many requests, nor because the run has stopped
+pub no_other_cause : (s : Nodes) (T : List (List Key)) (v : ℕ) (e : WaveFault) → IsLevelFault s T v e → (e ≢ wave_faults.NoWorker) × (e ≢ wave_faults.TooManyRequests) × (e ≢ wave_faults.Stopped)
+no_other_cause s T v wave_faults.OutOfMemory h = (λ e. absurd (cc), λ e. absurd (cc), λ e. absurd (cc))
 no_other_cause s T v wave_faults.NoWorker h = absurd h
 no_other_cause s T v wave_faults.TooManyRequests h = absurd h
-no_other_cause s T v wave_faults.Full h = (λ e. absurd (cc), λ e. absurd (cc))
+no_other_cause s T v wave_faults.Stopped h = absurd h
+no_other_cause s T v wave_faults.Full h = (λ e. absurd (cc), λ e. absurd (cc), λ e. absurd (cc))

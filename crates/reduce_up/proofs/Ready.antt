@@ -1,4 +1,4 @@
--- What the workers recorded, with its children told by place, is a wave that is expanded by place: it can be reduced.
+-- What the workers have recorded, with places for owners, is a wave that is expanded by place, so it can be reduced.
 use Rattle.std.proofs.Common.{◌≡◌, ℕ, zero, suc, ◌+◌, ◌<◌, ◌≤◌, inl, inr, false, Bool, List, [], ◌∷◌, length, take, get_or, slice_get, Some, refl, sym, ◌∙◌, ap, subst, arith, Contains, All}
 use Rattle.std.specs.List.{AllZip}
 use Rattle.std.proofs.Math.ListN.{get_or-eq_default}
@@ -36,18 +36,18 @@ use Rattle.reduce_up.proofs.OverParts.{over_more, over_at, over-long, over_one}
 use Rattle.reduce_up.proofs.Reduction.{adds_none}
 use Rattle.reduce_up.proofs.Rooted.{entries_good, requests_again}
 
--- elements that stand at one place of two lists
+-- partners of two lists that are related place by place
 zip_stands : {A B : Type 0} (R : A → B → Type 0) (xs : List A) (ys : List B) → AllZip R xs ys → (q : ℕ) (x : A) (y : B) → slice_get xs q ≡ Some x → slice_get ys q ≡ Some y → R x y
 zip_stands R [] ys z q x y e f = absurd (let l = slice_get_within [] q x e in omega (arith, l))
 zip_stands R (u ∷ xs) [] z q x y e f = absurd z
 zip_stands R (u ∷ xs) (v ∷ ys) z zero x y e f = let a : u ≡ x = cc in let b : v ≡ y = cc in subst (λ w. R x w) b (subst (λ w. R w v) a z.0)
 zip_stands R (u ∷ xs) (v ∷ ys) z (suc q) x y e f = zip_stands R xs ys z.1 q x y e f
 
--- a request is what its entry comes to
+-- the operation of a request comes to this request
 key_asked : (S : Nodes) (k : Key) → IsKey S k → child_at S k.op k.f k.g ≡ child.Ask (level_of S k) k false
 key_asked S k i = ap (answer_of S k.op k.f k.g) i.long ∙ ap (ask_of S) i.ordered
 
--- how many workers there are does not matter
+-- the number of workers does not matter
 reached_alone : (S : Nodes) (n : ℕ) (roots : List Key) (k : Key) → IsReached (wave_of S n) roots k → IsReached (wave_of S 1) roots k
 reached_alone S n roots k (root_of c) = root_of c
 reached_alone S n roots k (child_from {x = x} b l m r e) = child_from b l m (reached_alone S n roots x r) e
@@ -75,7 +75,7 @@ module _ (S : Nodes) (sound : IsSound S) (n : ℕ) (roots : List Key) (good : Al
   all_joined : (v : ℕ) → v < S.levels → AllZip (IsNumbered T) (at_level v) (level_over rows v)
   all_joined v vb = subst (λ (z : List (List (List (PackedChild × PackedChild)))). AllZip (IsNumbered T) (at_level v) (level_over z v)) (take_all n rows (let e = N.many in omega (arith, e))) (joined v n vb (omega arith))
 
-  -- the record of a request that stands at a place
+  -- the record of a request at a place
   module _ (v q : ℕ) (k : Key) (h : IsAtPlace T v q k) where
     within : v < S.levels
     within = elim (cases_lt v S.levels) [ inl lt ↦ lt | inr ge ↦ absurd (at_place_none (row T v) q k (get_or-eq_default T [] (let e = keys_of-long n p S.levels in omega (arith, e, ge))) h) ]
@@ -136,6 +136,6 @@ module _ (S : Nodes) (sound : IsSound S) (n : ℕ) (roots : List Key) (good : Al
     };
   }
 
--- a wave that stands in one part
+-- a wave in one part
 pub one_part : (s : Nodes) (E : List Entry) (v : ℕ) (rows : List (List (PackedChild × PackedChild))) (A : List (List Ref)) (T : List (List Key)) (parts : List (List (List (PackedChild × PackedChild)))) → parts ≡ rows ∷ [] → All (IsEntry s) E → AreReady s E v rows A T → MayReduce s E v (over_parts s.levels parts) A T
 one_part s E v rows A T parts is good Y = record { operands = good; ready = subst (λ (z : List (List (PackedChild × PackedChild))). AreReady s E v z A T) (sym (ap (over_parts s.levels) is ∙ over_one s.levels rows Y.expanded.levels)) Y }

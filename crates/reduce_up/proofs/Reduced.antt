@@ -1,5 +1,5 @@
--- How many requests are reduced on the way up, and that none is missed.
-use Rattle.std.proofs.Common.{◌≡◌, ℕ, ◌+◌, ◌<◌, ◌≤◌, inl, inr, List, [], ◌∷◌, ◌++◌, suc, length, sym, subst, arith}
+-- The number of requests that are reduced on the way up: none is missed.
+use Rattle.std.proofs.Common.{◌≡◌, ℕ, ◌+◌, ◌<◌, ◌≤◌, inl, inr, List, [], ◌++◌, length, sym, subst, arith}
 use Rattle.std.proofs.Math.Nat.{eq-or-lt_of_le}
 use Rattle.std.proofs.lemmas.Bool.{cases_lt}
 use Rattle.std.proofs.lemmas.List.{length-append}
@@ -15,9 +15,8 @@ use Rattle.reduce_up.specs.Waves.{Entry}
 use Rattle.reduce_up.specs.ByPlace.{AreAdmitted}
 use Rattle.req_table.specs.Places.{row, IsAtPlace, AreNone}
 use Rattle.reduce_up.specs.ReductionPhase.{AreMore, AreCounted}
-use Rattle.slot_table.specs.Lists.{IsIn}
 
--- before the last level nothing is reduced
+-- before the last level nothing was reduced
 pub none_reduced : (T : List (List Key)) (v count : ℕ) → AreCounted T v v count count
 none_reduced T v count = record {
   requests = [];
@@ -27,7 +26,7 @@ none_reduced T v count = record {
   count = omega arith;
 }
 
--- the requests of a level are reduced too, where none stands between it and those that were
+-- the requests of a level were reduced too, if there is none between it and those before
 pub level_reduced : (s : Nodes) (entries : List Entry) (T : List (List Key)) → AreAdmitted s entries T → (u end v before after later : ℕ) →
     AreCounted T end v before after → u < end → end ≤ v → AreNone T (u + 1) end → IsOnce (row T u) → AreMore (length (row T u)) after later → AreCounted T u v before later
 level_reduced s entries T admitted u end v before after later m lt le none own b = record {
@@ -53,7 +52,7 @@ level_reduced s entries T admitted u end v before after later m lt le none own b
       let a = m.count in omega (arith, l, a, b);
 }
 
--- levels without requests are passed over
+-- levels without requests are skipped
 pub reduced_passed : (T : List (List Key)) (u end v before after : ℕ) → AreCounted T end v before after → u ≤ end → AreNone T u end → AreCounted T u v before after
 reduced_passed T u end v before after m le none = record {
   requests = m.requests;

@@ -28,7 +28,7 @@ use Rattle.reduce_up.proofs.Noting.{head_in}
 use Rattle.reduce_up.proofs.Opposite.{one_node_either, one_node_part}
 use Rattle.dd_store.proofs.View.{by_bit, kept_den, kept_top, top-node, keeps-refl}
 
--- what a child comes to
+-- the diagram of a child
 pub resolved : (s : Nodes) (v : ℕ) (k : Key) (b : Bool) (child : Child) (pairs : List (Key × Ref)) (r : Ref) → IsChild s v k b child → AreAnswers s pairs → IsResolved pairs child r → IsAnswerAt s v k b r
 resolved s v k b (Done d) pairs r i a e = subst (IsAnswerAt s v k b) (sym e) i
 resolved s v k b (Ask l c m) pairs r i a (t, h, e) =
@@ -58,7 +58,7 @@ either n v f g lt h y hy = split (take v y) (drop v y) (simp length-take (omega 
     split q [] hq hx e = absurd (omega arith)
     split q (b ∷ x) hq hx e = subst (λ z. f z ≡ g z) e (h b q x hq (omega arith))
 
--- in the new store the reference that stands for the two children is the answer
+-- in the new store the reference for the two children is the answer
 pub made_answer : (old new : Nodes) (v : ℕ) (k : Key) (lo hi r : Ref) → IsSound old → IsSound new → IsKeyAt old v k → IsAnswerAt old v k false lo → IsAnswerAt old v k true hi → Keeps old new → Has new r → ((lo ≡ hi) × (r ≡ lo)) ⊎ ((lo ≢ hi) × (part new r ≡ node v lo hi)) → IsAnswer new k r
 made_answer old new v k lo hi r S T key zero_side one_side K here is =
     by is
@@ -107,11 +107,11 @@ made_answer old new v k lo hi r S T key zero_side one_side K here is =
       denotes = either new.levels v (den new r) (meaning new k) fit (node_case e.1);
     }
 
--- what agrees with a function that is asked for is asked for
+-- a function that agrees with one of a row's keys is one of a row's keys
 pub asked_as : (s : Nodes) (v : ℕ) (row : List Record) (w : ℕ) (f g : List Bool → Bool) → Agree s.levels f g → AskedBy s v row w g → AskedBy s v row w f
 asked_as s v row w f g a (at, (r, c, e)) = (at, (r, c, λ x hx. a x hx ∙ e x hx))
 
--- and the only new node denotes the key's function, or its complement
+-- the only new node denotes the key's function, or its complement
 pub made_adds : (old new : Nodes) (v : ℕ) (entry : Record) (lo hi r : Ref) → IsSound old → IsSound new → IsKeyAt old v entry.key → IsMade old new v lo hi r → IsAnswer new entry.key r → AddsDescribed old new (AskedBy old v (entry ∷ []))
 made_adds old new v entry lo hi r S T key m a = record { keeps = m.keeps; described = λ n h. place n h (m.no_other n h) m.is }
   where
@@ -137,7 +137,7 @@ record_done old new v entry lo hi (Ok r) S T key zero_side one_side m e =
     (a, made_adds old new v entry lo hi r S T key m a)
 record_done old new v entry lo hi (Err f) S T key zero_side one_side m e = (tt, adds_none old new (AskedBy old v (entry ∷ [])) e)
 
--- what is an answer stays one
+-- an answer stays one
 pub answer_kept : (a b : Nodes) → IsSound a → Keeps a b → (k : Key) (r : Ref) → IsAnswer a k r → IsAnswer b k r
 answer_kept a b S K k r i = record {
   first = K.has k.f i.first;
@@ -179,12 +179,12 @@ record_kept a b S K v r i = record {
 pub none_past : (start : Nodes) (before : List (Key × Ref)) (v : ℕ) (row : List Record) (i : ℕ) (s : Nodes) (pairs : List (Key × Ref)) → IsRowReduced start before v row i s pairs → IsRowReduced start before v row 0 s pairs
 none_past start before v row i s pairs so = record { held = so.held; adds = so.adds; answers = so.answers; more = so.more; done = λ j d lt. absurd (omega arith) }
 
--- the cause of a row's refusal, where a record is refused
+-- the cause of a row's fault if a record is refused
 pub row_fault : (s : Nodes) (v : ℕ) (row : List Record) (entry : Record) (e : StoreFault) → Contains row entry → IsRecordFault s v entry.key e → IsRowFault s v row (wave_fault e)
 row_fault s v row entry OutOfMemory c f = tt
 row_fault s v row entry Full c f = (entry, c, elim (eq-or-lt_of_le f.0) [ inl e ↦ inr (sym e, f.1) | inr lt ↦ inl lt ])
 
--- the cause where a store has more nodes than its limit
+-- the cause of a row's fault if the store has more nodes than its limit
 pub row_over : (s : Nodes) (v : ℕ) (row : List Record) → 0 < length row → s.limit < count_of s → IsRowFault s v row wave_faults.Full
 row_over s v [] some over = absurd (omega arith)
 row_over s v (r ∷ row) some over = (r, head_in r row, inl over)
@@ -193,6 +193,6 @@ row_over s v (r ∷ row) some over = (r, head_in r row, inl over)
 pub row_given_up : (start : Nodes) (before : List (Key × Ref)) (v : ℕ) (row : List Record) (i : ℕ) (s : Nodes) (pairs : List (Key × Ref)) (e : WaveFault) → IsRowReduced start before v row i s pairs → IsRowFault s v row e → ReducesRow start before v row (Err e) s pairs
 row_given_up start before v row i s pairs e so f = record { left = none_past start before v row i s pairs so; whole = tt; fault = f }
 
--- a row whose records all have
+-- a row whose records all have answers
 pub row_whole : (start : Nodes) (before : List (Key × Ref)) (v : ℕ) (row : List Record) (s : Nodes) (pairs : List (Key × Ref)) → IsRowReduced start before v row (length row) s pairs → ReducesRow start before v row (Ok tt) s pairs
 row_whole start before v row s pairs so = record { left = none_past start before v row (length row) s pairs so; whole = so; fault = tt }

@@ -54,7 +54,7 @@ requests_good S es h =
     let i : IsEntry S e.0 = All-contains (IsEntry S) es e.0 h e.1 in
     subst (IsKey S) (sym e.3) (is_key S e.0.0 e.0.1 e.0.2 i.0 i.1 e.2))
 
--- the normal key asks for what the entry asks for, or for its complement where it has a mark
+-- the normal key has the function of the entry, complemented if the entry is its complement
 pub normal_means : (S : Nodes) (e : Entry) (x : List Bool) → complemented (normal_of e.0 e.1 e.2).1 (meaning S (normal_of e.0 e.1 e.2).0 x) ≡ entry_value S e x
 normal_means S e x = meaning_normal S e.0 e.1 e.2 x
 
@@ -69,7 +69,7 @@ terminal_diagram S e i r h = (
 pub item_at : {X : Type 0} (xs : List X) (i : ℕ) (x : X) → i < length xs → x ≡ get_or xs i x → Contains xs x
 item_at xs i x lt is = (i, lt, sym is)
 
--- the part of the list that was read goes on with it
+-- the elements that were read, and one more
 pub item_next : {X : Type 0} (xs : List X) (i : ℕ) (x : X) → i < length xs → x ≡ get_or xs i x → take (i + 1) xs ≡ take i xs ++ x ∷ []
 item_next xs i x lt is = take_more xs i x lt ∙ ap (λ z. take i xs ++ z ∷ []) (sym is)
 
@@ -79,7 +79,7 @@ entries_good S [] good i d l = absurd (omega (arith, l))
 entries_good S (k ∷ ks) good zero d l = let own = good 0 k (omega arith) in (own.first, own.second)
 entries_good S (k ∷ ks) good (suc i) d l = entries_good S ks (λ j e m. good (suc j) e (omega (arith, m))) i d (omega (arith, l))
 
--- a request is its own
+-- the request of a request's entry is this request
 pub requests_again : (S : Nodes) (ks : List Key) → All (IsKey S) ks → requests_of (entries_for ks) ≡ ks
 requests_again S [] good = refl
 requests_again S (k ∷ ks) good =

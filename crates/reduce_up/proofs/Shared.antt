@@ -1,4 +1,5 @@
--- A level whose shards several threads share: what they leave, seen through references, and what it is for the level's records.
+-- A level whose shards several threads share: what they leave, seen through references, and what this is for the
+-- level's records.
 use Rattle.std.proofs.Common.{◌≡◌, ◌≢◌, ℕ, ◌<◌, ◌⊎◌, inl, inr, true, false, List, [], ◌∷◌, length, get_or, refl, sym, ◌∙◌, subst, arith, Contains}
 use Rattle.std.specs.Prelude.{slice_index_or, Err}
 use Rattle.std.specs.List.{AllZip}
@@ -22,7 +23,7 @@ use Rattle.reduce_up.proofs.Opposite.{one_node_either, one_node_part}
 use Rattle.reduce_up.proofs.Reduction.{resolved, asked_as, made_answer, kept_meaning, answer_kept, record_kept, row_fault}
 use Rattle.reduce_up.proofs.Missing.{record_fault}
 
--- the item that stands beside one
+-- an item has a partner at the same place of the other list
 pub zip_right : {A B : Type 0} (R : A → B → Type 0) (xs : List A) (ys : List B) → AllZip R xs ys → (y : B) → Contains ys y → (x : A) × Contains xs x × R x y
 zip_right R [] [] h y c = absurd (nothing y c)
 zip_right R [] (z ∷ ys) h y c = absurd h
@@ -32,7 +33,7 @@ zip_right R (x ∷ xs) (z ∷ ys) h y c = elim (in_cases z y ys c) [
   | inr more ↦ let w = zip_right R xs ys h.1 y more in (w.0, tail_in x w.0 xs w.1, w.2)
 ]
 
--- two lists beside one
+-- two lists that agree with a third, place by place
 pub zip_through : {A B C : Type 0} (R : A → B → Type 0) (Q : B → C → Type 0) (xs : List A) (ys : List B) (zs : List C) → AllZip R xs ys → AllZip Q ys zs → AllZip (λ x z. (y : B) × R x y × Q y z) xs zs
 zip_through R Q [] [] [] h k = tt
 zip_through R Q [] [] (z ∷ zs) h k = absurd k
@@ -41,7 +42,7 @@ zip_through R Q (x ∷ xs) [] zs h k = absurd h
 zip_through R Q (x ∷ xs) (y ∷ ys) [] h k = absurd k
 zip_through R Q (x ∷ xs) (y ∷ ys) (z ∷ zs) h k = ((y, h.0, k.0), zip_through R Q xs ys zs h.1 k.1)
 
--- the records of a row, and the pairs that their children come to
+-- the records of a row, and the pairs of their children's diagrams
 module _ (S : Nodes) (before : List (Key × Ref)) (v : ℕ) (row : List Record) (held : IsSound S) (answers : AreAnswers S before) (is_row : IsRow S before v row) where
   low_of : (U : Nodes) (r : Record) (p : Pair) → AreAnswers U before → IsRecordAt U v r → IsPairOf before r p → IsAnswerAt U v r.key false p.0
   low_of U r p a i e = resolved U v r.key false r.low before p.0 i.low a e.0
@@ -56,7 +57,7 @@ module _ (S : Nodes) (before : List (Key × Ref)) (v : ℕ) (row : List Record) 
       record { has_low = low.has; has_high = high.has; below_low = low.below; below_high = high.below }
 
   module _ (T : Nodes) (sound : IsSound T) (adds : AddsRow before S T v row) where
-    -- the reference that stands for a record's pair is its answer
+    -- the reference for a record's pair is its answer
     answered : (r : Record) (p : Pair) (m : Ref) → Contains row r → IsPairOf before r p → Has T m → ((p.0 ≡ p.1) × (m ≡ p.0)) ⊎ ((p.0 ≢ p.1) × (part T m ≡ node v p.0 p.1)) → IsAnswer T r.key m
     answered r p m c e h is =
         let i = is_row.records r c in
@@ -80,7 +81,7 @@ module _ (S : Nodes) (before : List (Key × Ref)) (v : ℕ) (row : List Record) 
     pub added : IsRowReduced S before v row 0 T before
     added = record { held = sound; adds = row_described; answers = answers_kept; more = λ k h. h; done = λ j d lt. absurd (omega arith) }
 
-    -- the cause of a level's refusal is one of the row's
+    -- the cause of a level's fault is one of the row's
     pub refused : (f : StoreFault) → IsRowRefused before T v row f → IsRowFault T v row (wave_fault f)
     refused OutOfMemory h = tt
     refused Full h =
@@ -102,7 +103,7 @@ module _ (S : Nodes) (before : List (Key × Ref)) (v : ℕ) (row : List Record) 
           let h = there_part T v p.0 p.1 (get_or found j r) (adds.keeps.has p.0 low.has) t.2 in
           answered entry p (get_or found j r) member t.1 h.0 h.1
 
-      -- and once they are noted, the row is reduced
+      -- after the answers were noted, the row is reduced
       pub noted : (i : ℕ) (after : List (Key × Ref)) → NotesFirst before row found i after → IsRowReduced S before v row i T after
       noted i after n = record {
         held = sound;

@@ -1,4 +1,4 @@
--- What a reached request asks for is wanted by the entries, and so is what the wave of such requests wants.
+-- The function of a reached request is wanted by the entries, and so is what a wave of such requests wants.
 use Rattle.std.proofs.Common.{◌≡◌, ℕ, suc, ◌+◌, ◌-◌, ◌<◌, ◌≤◌, inl, inr, Bool, true, false, not, List, ◌∷◌, ◌++◌, length, take, drop, sym, ◌∙◌, ap, subst, arith, Contains, All, append_assoc}
 use Rattle.std.proofs.lemmas.Bool.{cases_lt}
 use Rattle.std.proofs.lemmas.List.{length-append, take-append-drop}
@@ -28,7 +28,7 @@ use Rattle.reduce_up.proofs.Reduction.{kept_meaning}
 use Rattle.reduce_up.specs.ByPlace.{IsAdmitted, AreAdmitted}
 use Rattle.reduce_up.specs.ReductionPhase.{AskedAt}
 
--- fixing more bits of a function with bits fixed
+-- fixing more bits of a function that has bits fixed
 pub fixed_more : (n l v : ℕ) (f g h : List Bool → Bool) → l ≤ v → v ≤ n → IsFixedSomehow n l f g → IsFixedSomehow n v g h → IsFixedSomehow n v f h
 fixed_more n l v f g h le fit a b =
     let p : List Bool = a.0 in
@@ -47,12 +47,12 @@ fixed_more n l v f g h le fit a b =
           ∙ ap f (sym (append_assoc p (drop l p') x)),
     )
 
--- the complements of a function and of what it is with bits fixed
+-- the complement of a function with bits fixed
 fixed_not : (n v : ℕ) (f g : List Bool → Bool) → IsFixedSomehow n v f g → IsFixedSomehow n v (λ x. not (f x)) (λ x. not (g x))
 fixed_not n v f g i = (i.0, i.1, λ q x hq hx. ap not (i.2 q x hq hx))
 
 module _ (S : Nodes) (w : IsSound S) (entries : List Entry) (good : All (IsEntry S) entries) where
-  -- a reached key asks for what an entry asks for, or for its complement, with the bits before its level fixed
+  -- a reached key has the function of an entry with the bits before its level fixed, or the complement of it
   pub key_fixed : (v : ℕ) (k : Key) → IsAdmitted S entries v k → (e : Entry) × Contains entries e × OfEither (IsFixedSomehow S.levels v (entry_value S e)) (meaning S k)
   key_fixed v k i =
       let a : AsksFor (wave_of S 1) (meaning S) (requests_of entries) k =
@@ -68,7 +68,7 @@ module _ (S : Nodes) (w : IsSound S) (entries : List Entry) (good : All (IsEntry
       λ g h. fixed_complemented n v m (entry_value S e.0) g (fixed_of n v (λ x. complemented m (entry_value S e.0 x)) root g (λ x hx. asked x) h) in
       (e.0, e.1, either_either (IsFixedSomehow n v (entry_value S e.0)) (meaning S k) (either_more (IsFixedSomehow n v root) (OfEither (IsFixedSomehow n v (entry_value S e.0))) of_root (meaning S k) (fixed_complemented n v a.complement root (meaning S k) f)))
 
-  -- and an entry asks for it
+  -- if a key is reached, some entry needs a request
   pub has_request_of : (v : ℕ) (k : Key) → IsAdmitted S entries v k → HasRequest entries
   has_request_of v k i =
       let a : AsksFor (wave_of S 1) (meaning S) (requests_of entries) k =
@@ -76,7 +76,7 @@ module _ (S : Nodes) (w : IsSound S) (entries : List Entry) (good : All (IsEntry
       let e = of_entry entries a.from a.is_root in
       (e.0, e.1, e.2)
 
-  -- what agrees with such a key's function and depends on the bit of its level is wanted, or its complement is
+  -- a function that agrees with such a key's and depends on the bit of its level is wanted, or its complement is
   pub key_wanted : (v : ℕ) (k : Key) → IsAdmitted S entries v k → (f : List Bool → Bool) → Agree S.levels f (meaning S k) → DependsOn S.levels v f → OfEither (IsWanted S entries v) f
   key_wanted v k i f a d =
       let e = key_fixed v k i in
@@ -106,7 +106,7 @@ module _ (S : Nodes) (w : IsSound S) (entries : List Entry) (good : All (IsEntry
       ∙ (are_requests S w 1).ignores_upper_bits k i.key (p ++ false ∷ take gap r) (p ++ true ∷ take gap r) (drop gap r) (long false) (long true) all
       ∙ sym (ap (meaning S k) (joined true))
 
-  -- so with bits fixed it depends on no bit before its level
+  -- what is a key's function with bits fixed depends on no bit before the key's level
   not_before : (l v : ℕ) (k : Key) → IsAdmitted S entries l k → (f : List Bool → Bool) → IsFixedSomehow S.levels v (meaning S k) f → DependsOn S.levels v f → v < l → ⊥
   not_before l v k i f x d lt =
       let p : List Bool = x.0 in
@@ -117,7 +117,7 @@ module _ (S : Nodes) (w : IsSound S) (entries : List Entry) (good : All (IsEntry
       let hr : v + suc (length r) ≡ S.levels = d.3 in
       d.4 (x.2 q (false ∷ r) hq hr ∙ blind l v k i lt p r hp hr ∙ sym (x.2 q (true ∷ r) hq hr))
 
-  -- what a list of entries asks for, each of which asks for what a reached key asks for
+  -- each entry of a list has the function of a reached key
   abbrev pub AreReachedBy : List Entry → Type 0
   AreReachedBy front = (e : Entry) → Contains front e → (l : ℕ) × (k : Key) × IsAdmitted S entries l k × Agree S.levels (entry_value S e) (meaning S k)
 
@@ -148,7 +148,7 @@ module _ (S : Nodes) (w : IsSound S) (entries : List Entry) (good : All (IsEntry
         ]
       ]
 
-  -- so what its wave adds is described by the entries
+  -- what the wave over reached entries adds is described by the entries
   pub adds_through : (T : Nodes) (front : List Entry) → AreReachedBy front → AddsDescribed S T (IsWanted S front) → AddsDescribed S T (IsWanted S entries)
   adds_through T front each a = adds_either S T (IsWanted S front) (IsWanted S entries) (wanted_through front each) a
 
@@ -157,11 +157,11 @@ module _ (S : Nodes) (w : IsSound S) (entries : List Entry) (good : All (IsEntry
   lacks_either T v f (inl u) none = (v, f, u, none)
   lacks_either T v f (inr u) none = (v, λ x. not (f x), u, λ r h a. none (negate_of r) (has-negate T r h) (λ x hx. den-negate T r x ∙ ap not (a x hx) ∙ not-not (f x)))
 
-  -- and what it lacks, the entries want
+  -- what the store lacks of a wave over reached entries it lacks of the wave over the entries
   pub lacks_through : (T : Nodes) (front : List Entry) → AreReachedBy front → LacksWanted S front T → LacksWanted S entries T
   lacks_through T front each x = lacks_either T x.0 x.1 (wanted_through front each x.0 x.1 x.2) x.3
 
-  -- a level's new nodes, on what the levels below it added
+  -- the new nodes of a level, after those of the levels below it
   pub level_adds : (T : List (List Key)) (v : ℕ) (s u : Nodes) → AreAdmitted S entries T → IsSound s → IsSound u → AddsDescribed S s (IsWanted S entries) → AddsDescribed s u (AskedAt s T v) → AddsDescribed S u (IsWanted S entries)
   level_adds T v s u adm sS uS i j = adds_then S s u sS (IsWanted S entries) i (adds_reads s u uS (AskedAt s T v) (IsWanted S entries) keyed j)
     where
@@ -170,12 +170,12 @@ module _ (S : Nodes) (w : IsSound S) (entries : List Entry) (good : All (IsEntry
           let a : IsAdmitted S entries n k = subst (λ z. IsAdmitted S entries z k) (sym at) (adm.keys v q k stands) in
           key_wanted n k a f (λ x hx. e x (hx ∙ sym i.keeps.levels) ∙ kept_meaning S s w i.keeps k a.key.first a.key.second x) (subst (λ z. DependsOn z n f) i.keeps.levels reads)
 
-  -- a refusal of a level is one of the entries
+  -- the cause of a level's fault is one of the entries' wave
   pub lacks_wanted : (v : ℕ) (k : Key) (s : Nodes) → Keeps S s → IsAdmitted S entries v k → LacksAnswer s v k → LacksWanted S entries s
   lacks_wanted v k s K a x =
       lacks_either s v (meaning s k) (key_wanted v k a (meaning s k) (λ y hy. kept_meaning S s w K k a.key.first a.key.second y) (subst (λ n. DependsOn n v (meaning s k)) K.levels x.0)) x.1
 
-  -- a diagram of what a key asks for stands no higher than the key
+  -- a diagram of a key's function is not above the key
   pub diagram_answer : (T : Nodes) → IsSound T → Keeps S T → (l : ℕ) (k : Key) → IsAdmitted S entries l k → (r : Ref) → IsDiagram T r (meaning S k) → IsAnswer T k r
   diagram_answer T u K l k a r d = record {
     first = K.has k.f a.key.first;

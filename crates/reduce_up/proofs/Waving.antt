@@ -1,4 +1,4 @@
--- What a reduction of a wave's closure gives its entries, and which nodes it adds.
+-- What the reduction of a wave's closure gives its entries, and which nodes it adds.
 use Rattle.std.proofs.Common.{◌≡◌, ◌≢◌, ℕ, suc, ◌<◌, ◌≤◌, ◌⊎◌, inl, inr, Bool, List, [], ◌∷◌, length, Option, Some, None, refl, sym, ◌∙◌, ap, subst, arith, Contains, All}
 use Rattle.std.specs.Prelude.{not, Ok, Err}
 use Rattle.std.specs.List.{AllZip}
@@ -13,7 +13,7 @@ use Rattle.dd_store.specs.Nodes.{Nodes, IsSound, IsDiagram, den, count_of}
 use Rattle.dd_store.specs.View.{part, Has, IsOneNode}
 use Rattle.dd_store.proofs.View.{keeps-refl, has-negate}
 use Rattle.expand_work.specs.declared.fault.WaveFault.{WaveFault}
-use Rattle.expand_work.specs.declared.fault.WaveFault.TheVariants.{OutOfMemory, NoWorker, Full, TooManyRequests}
+use Rattle.expand_work.specs.declared.fault.WaveFault.TheVariants.{OutOfMemory, NoWorker, Full, TooManyRequests, Stopped}
 use Rattle.dd_store.specs.Nodes.{node as node_at}
 use Rattle.dd_store.specs.Complements.{negate_of, complemented}
 use Rattle.dd_store.proofs.Complements.{not-not, IsRef-complement_by, den-complement_by, den-negate, complemented-twice}
@@ -43,7 +43,7 @@ abbrev pub IsKeyFixed : Nodes → List Key → ℕ → (List Bool → Bool) → 
 IsKeyFixed S keys v f = (k : Key) × Contains keys k × IsFixedSomehow S.levels v (meaning S k) f
 
 module _ (S : Nodes) (w : IsSound S) (workers : ℕ) (some : 0 < workers) (roots : List Key) (good : All (IsKey S) roots) (rows : List (List Record)) (closed : IsClosure (wave_of S workers) roots (row_at rows)) where
-  -- what the records of a level ask for is a root's function with the bits before the level fixed, or the complement of one
+  -- the functions of a level's records are those of roots with the bits before the level fixed, or complements of such
   pub root_fixed : (v : ℕ) → v < S.levels → (f : List Bool → Bool) → AskedInRows S rows v f → OfEither (IsKeyFixed S roots v) f
   root_fixed v lt f (e, e_in, same) =
       let at : level_of S e.key ≡ v = placed_at S w workers roots good rows closed v e lt e_in in
@@ -64,7 +64,7 @@ answer_for S T (d ∷ es) (r ∷ answers) z e c =
       | inr i ↦ let a = answer_for S T es answers z.1 e i in (a.0, tail_in r a.0 answers a.1, a.2)
     ]
 
--- each node that is added for entries lies below one of their answers, or is the complement of one that does
+-- each node that was added for entries is below one of their answers, or is the complement of one that is
 pub adds_below : (S : Nodes) (entries : List Entry) (T : Nodes) → IsSound T → AddsDescribed S T (IsWanted S entries) → (answers : List Ref) → AnswersEach S entries T answers → AddsBelow S T answers
 adds_below S entries T u adds answers z m h = by (adds.described m h)
   where
@@ -88,12 +88,12 @@ adds_below S entries T u adds answers z m h = by (adds.described m h)
     by (inl old) = inl old
     by (inr new) = inr (below new.0 new.1 new.2 new.3 new.4)
 
--- Of a wave over the store S: its entries, and the records of all requests that they ask for.
+-- A wave over the store S: its entries, and the records of all requests that they ask for.
 module _ (S : Nodes) (w : IsSound S) (workers : ℕ) (some : 0 < workers) (entries : List Entry) (good : All (IsEntry S) entries) (rows : List (List Record)) (closed : IsClosureOf S workers (requests_of entries) rows) where
   keys : All (IsKey S) (requests_of entries)
   keys = requests_good S entries good
 
-  -- the records are what reduction takes
+  -- the records may be reduced
   pub wave_records : AreRecords S rows
   wave_records = records_of_closure S w workers (requests_of entries) keys rows closed.closure closed.levels
 
@@ -105,7 +105,8 @@ module _ (S : Nodes) (w : IsSound S) (workers : ℕ) (some : 0 < workers) (entri
       by k c = let m = recorded S w workers (requests_of entries) keys rows closed.closure k (root c) in subst (HasAnswer pairs) m.2 (d.done (level_of S k) m.0 m.1)
 
   module _ (T : Nodes) (u : IsSound T) (adds : AddsDescribed S T (AskedInRows S rows)) where
-    -- a request's function with the bits before a level fixed is wanted, or its complement is, where it reads the bit of the level
+    -- a request's function with the bits before a level fixed is wanted, or its complement is, if it depends on the bit
+    -- of the level
     wanted : (v : ℕ) (f : List Bool → Bool) → DependsOn S.levels v f → IsKeyFixed S (requests_of entries) v f → OfEither (IsWanted S entries v) f
     wanted v f reads (k, k_in, fixed) =
         let e = of_entry entries k k_in in
@@ -115,11 +116,12 @@ module _ (S : Nodes) (w : IsSound S) (workers : ℕ) (some : 0 < workers) (entri
         either_reads S.levels v (IsFixedSomehow S.levels v (entry_value S e.0)) (IsWanted S entries v) (λ g d i. record { entry = e.0; is_entry = e.1; fixed = i; depends = d }) f reads
         (fixed_complemented S.levels v m (entry_value S e.0) f (fixed_of S.levels v source (meaning S k) f same fixed))
 
-    -- and so of what is that or its complement
+    -- what is a request's function with these bits fixed, or whose complement is, is wanted, or its complement is, if
+    -- it depends on the bit of the level
     wanted_either : (v : ℕ) (f : List Bool → Bool) → DependsOn S.levels v f → OfEither (IsKeyFixed S (requests_of entries) v) f → OfEither (IsWanted S entries v) f
     wanted_either v f reads i = either_either (IsWanted S entries v) f (either_reads S.levels v (IsKeyFixed S (requests_of entries) v) (OfEither (IsWanted S entries v)) (wanted v) f reads i)
 
-    -- each new node denotes what is wanted, or the complement
+    -- each new node denotes what is wanted, or the complement of it
     pub wave_adds : AddsDescribed S T (IsWanted S entries)
     wave_adds = adds_reads S T u (AskedInRows S rows) (IsWanted S entries)
         (λ v f reads asked. wanted_either v f reads (root_fixed S w workers some (requests_of entries) keys rows closed.closure v (let e = reads.3 in omega (arith, e)) f asked)) adds
@@ -156,17 +158,18 @@ module _ (S : Nodes) (w : IsSound S) (workers : ℕ) (some : 0 < workers) (entri
     wave_within (inl le) = inl le
     wave_within (inr none) = inr (λ h. let r = has_record h in none.0 r.0 r.1 (omega arith) r.2, none.1)
 
-    -- what is lacked is wanted, or its complement is wanted and lacked
+    -- what is missing is wanted, or its complement is wanted and missing
     lacks : (v : ℕ) (f : List Bool → Bool) → ((r : Ref) → Has T r → Agree T.levels (den T r) f → ⊥) → OfEither (IsWanted S entries v) f → LacksWanted S entries T
     lacks v f none (inl i) = (v, f, i, none)
     lacks v f none (inr i) =
         (v, λ x. not (f x), i, λ r h agree. none (negate_of r) (has-negate T r h) (λ x hx. den-negate T r x ∙ ap not (agree x hx) ∙ not-not (f x)))
 
-    -- the cause of a refusal
+    -- the cause of a fault
     pub wave_refused : (e : WaveFault) → IsReduceFault T rows e → IsWaveFault S entries T e
     wave_refused OutOfMemory f = tt
     wave_refused NoWorker f = tt
     wave_refused TooManyRequests f = tt
+    wave_refused Stopped f = tt
     wave_refused Full f =
         let v : ℕ = f.0 in
         let r : Record = f.1 in
@@ -186,14 +189,15 @@ module _ (S : Nodes) (w : IsSound S) (workers : ℕ) (some : 0 < workers) (entri
         has_request v g (inl i) = let e = of_entry entries i.0 i.1 in (e.0, e.1, e.2)
         has_request v g (inr i) = let e = of_entry entries i.0 i.1 in (e.0, e.1, e.2)
 
--- a refusal of another cause than Full needs none
+-- a fault other than Full needs no cause
 pub not_full : (S : Nodes) (entries : List Entry) (T : Nodes) (e : WaveFault) → e ≢ Full → IsWaveFault S entries T e
 not_full S entries T OutOfMemory differ = tt
 not_full S entries T NoWorker differ = tt
 not_full S entries T TooManyRequests differ = tt
+not_full S entries T Stopped differ = tt
 not_full S entries T Full differ = absurd (differ refl)
 
--- a wave that was given up before the store changed
+-- a wave that has failed before the store changed
 pub wave_unchanged : (S : Nodes) (entries asked : List Entry) (e : WaveFault) → IsSound S → IsWaveFault S asked S e → AnswersWave S entries asked (Err e) S
 wave_unchanged S entries asked e w f = record {
   sound = w;
@@ -204,11 +208,11 @@ wave_unchanged S entries asked e w f = record {
   fault = f;
 }
 
--- a wave that was given up, whatever was added
+-- a wave that has failed, whatever was added
 pub wave_given_up : (S : Nodes) (entries asked : List Entry) (T : Nodes) (e : WaveFault) → IsSound T → AddsDescribed S T (IsWanted S entries) → IsWaveFault S asked T e → AnswersWave S entries asked (Err e) T
 wave_given_up S entries asked T e u adds f = record { sound = u; adds = adds; answers = tt; no_others = tt; within = tt; fault = f }
 
--- a wave that has come to its end
+-- a wave that was done
 pub wave_done : (S : Nodes) (entries asked : List Entry) (T : Nodes) (found : Vec Ref Global) → IsSound T → AddsDescribed S T (IsWanted S entries) → AnswersEach S entries T found.items → IsWithinLimit S asked T → AnswersWave S entries asked (Ok found) T
 wave_done S entries asked T found u adds z within = record {
   sound = u;
@@ -219,7 +223,7 @@ wave_done S entries asked T found u adds z within = record {
   fault = tt;
 }
 
--- a store that a wave may have left past its limit was past it before
+-- a store that a wave may leave over its limit was over it before
 pub within_still : (S : Nodes) (entries : List Entry) (T : Nodes) → IsWithinLimit S entries T → count_of S ≤ S.limit → count_of T ≤ T.limit
 within_still S entries T (inl le) old = le
 within_still S entries T (inr n) old = subst (λ x. count_of x ≤ x.limit) (sym n.1) old

@@ -1,4 +1,4 @@
--- Requests by place that are expanded: each request's children stand for what it is split into.
+-- Expanded requests by place: each request has the children that it is split into, by place.
 use Rattle.std.specs.Prelude.{◌≡◌, ℕ, ◌<◌, true, false, List, length}
 use Rattle.std.specs.List.{AllZip}
 use Rattle.req_table.specs.declared.Key.{Key}
@@ -9,18 +9,18 @@ use Rattle.req_table.specs.Places.{row, IsAtPlace, IsPlaced}
 use Rattle.reduce_up.specs.Waves.{Entry, requests_of}
 use Rattle.req_table.specs.declared.packed_child.PackedChild.{PackedChild}
 
--- what stands at a place of level w is a key of the store of that level, which the entries ask for
+-- a request at a place of level w is a key of the store and of this level, and the entries reach it
 pub record IsAdmitted (s : Nodes) (entries : List Entry) (w : ℕ) (k : Key) : Type 0 where
   pub key : IsKey s k
   pub level : level_of s k ≡ w
   pub reached : IsReached (wave_of s 1) (requests_of entries) k
 
--- a table for each level, of such keys
+-- a table of such keys for each level
 pub record AreAdmitted (s : Nodes) (entries : List Entry) (tables : List (List Key)) : Type 0 where
   pub levels : length tables ≡ s.levels
   pub keys : (w q : ℕ) (k : Key) → IsAtPlace tables w q k → IsAdmitted s entries w k
 
--- the pair stands for the two children of the key
+-- the pair is the two children of the key, by place
 abbrev pub IsSplitAt : Nodes → List (List Key) → Key → PackedChild × PackedChild → Type 0
 IsSplitAt s tables k d = IsPlaced tables d.0 (child_of s k false) × IsPlaced tables d.1 (child_of s k true)
 

@@ -13,7 +13,7 @@ use Rattle.reduce_up.specs.Reducing.{IsRecordAt, AreAnswers, HasAnswer, AddsDesc
 use Rattle.req_table.specs.Keys.{meaning}
 use Rattle.req_table.specs.Tables.{row_at}
 
--- a child that asks is a key of its level
+-- a child that is a request is the key of a record of its level
 abbrev pub IsAsked : List (List Record) → Child → Type 0
 IsAsked rows (Done r) = Unit {0}
 IsAsked rows (Ask l k m) = (r : Record) × Contains (row_at rows l) r × (r.key ≡ k)
@@ -25,7 +25,7 @@ pub record AreRecords (s : Nodes) (rows : List (List Record)) : Type 0 where
   pub low_asked : (v : ℕ) (r : Record) → v < s.levels → Contains (row_at rows v) r → IsAsked rows r.low
   pub high_asked : (v : ℕ) (r : Record) → v < s.levels → Contains (row_at rows v) r → IsAsked rows r.high
 
--- the functions that the records of a level ask for
+-- the functions of the keys of a level's records
 abbrev pub AskedInRows : Nodes → List (List Record) → ℕ → (List Bool → Bool) → Type 0
 AskedInRows s rows v f = (r : Record) × Contains (row_at rows v) r × Agree s.levels f (meaning s r.key)
 
@@ -34,7 +34,7 @@ abbrev pub IsWithinFrom : Nodes → List (List Record) → ℕ → Nodes → Typ
 IsWithinFrom start rows v s =
     (count_of s ≤ s.limit) ⊎ (((w : ℕ) (r : Record) → v ≤ w → Contains (row_at rows w) r → ⊥) × (s ≡ start))
 
--- the levels from v on are reduced: from the store `start` to the store s, with the answers pairs
+-- the levels from v on are reduced: from the store `start` to the store s, with the answers `pairs`
 pub record AreReducedFrom (start : Nodes) (rows : List (List Record)) (v : ℕ) (s : Nodes) (pairs : List (Key × Ref)) : Type 0 where
   pub held : IsSound s
   pub adds : AddsDescribed start s (AskedInRows start rows)
@@ -42,16 +42,17 @@ pub record AreReducedFrom (start : Nodes) (rows : List (List Record)) (v : ℕ) 
   pub done : (w : ℕ) (r : Record) → v ≤ w → w < start.levels → Contains (row_at rows w) r → HasAnswer pairs r.key
   pub within : IsWithinFrom start rows v s
 
--- each record's key has an answer, and each answer is the diagram in the store s of what its key asks for
+-- each record's key has an answer, and each answer is the diagram in the store s of its key's function
 pub record AreReduced (rows : List (List Record)) (s : Nodes) (pairs : List (Key × Ref)) : Type 0 where
   pub answers : AreAnswers s pairs
   pub done : (v : ℕ) (r : Record) → Contains (row_at rows v) r → HasAnswer pairs r.key
 
--- the cause of the answer Full: there is a record, and the store has more nodes than its limit, or as many and lacks the
--- node of some record's key
+-- the cause of a fault: Full means that there is a record, and that the store has more nodes than its limit, or as many
+-- and lacks the node of some record's key
 abbrev pub IsReduceFault : Nodes → List (List Record) → WaveFault → Type 0
 IsReduceFault s rows wave_faults.OutOfMemory = Unit {0}
 IsReduceFault s rows wave_faults.NoWorker = ⊥
 IsReduceFault s rows wave_faults.TooManyRequests = ⊥
+IsReduceFault s rows wave_faults.Stopped = ⊥
 IsReduceFault s rows wave_faults.Full =
     (v : ℕ) × (r : Record) × Contains (row_at rows v) r × ((s.limit < count_of s) ⊎ ((count_of s ≡ s.limit) × LacksAnswer s v r.key))

@@ -4,9 +4,7 @@ pub mod Waves
 pub mod Sharing
 pub mod Division
 pub mod Steps
-pub mod CacheProbe
 pub mod AnswersByLevel
-pub mod Forks
 pub mod ByPlace
 pub mod ReductionPhase
 pub mod OverParts

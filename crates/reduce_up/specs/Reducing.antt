@@ -1,4 +1,4 @@
--- Requests of a store, and what their answers are.
+-- Requests of a store, and their answers.
 use Rattle.std.specs.Prelude.{◌≡◌, ℕ, ◌+◌, ◌<◌, ◌≤◌, ◌⊎◌, Bool, true, false, List, [], ◌∷◌, ◌++◌, length, Contains, min, slice_index_or}
 use Rattle.std.specs.Prelude.{Result, IfErr, OnOk}
 use Rattle.std.proofs.Common.{suc}
@@ -26,7 +26,7 @@ pub record IsKeyAt (s : Nodes) (v : ℕ) (k : Key) : Type 0 where
   pub level : min (top s k.f) (top s k.g) ≡ v
   pub bounded : v < s.levels
 
--- r is the diagram of the key's operation on its operands' functions
+-- r is the diagram of the key's operation on the functions of its operands
 pub record IsAnswer (s : Nodes) (k : Key) (r : Ref) : Type 0 where
   pub first : Has s k.f
   pub second : Has s k.g
@@ -34,13 +34,13 @@ pub record IsAnswer (s : Nodes) (k : Key) (r : Ref) : Type 0 where
   pub not_above : min (top s k.f) (top s k.g) ≤ top s r
   pub denotes : Agree s.levels (den s r) (meaning s k)
 
--- r is what the key's function is with the bit at its level set to b
+-- r denotes the key's function with the bit of its level set to b
 pub record IsAnswerAt (s : Nodes) (v : ℕ) (k : Key) (b : Bool) (r : Ref) : Type 0 where
   pub has : Has s r
   pub below : v < top s r
   pub denotes : (q x : List Bool) → length q ≡ v → v + suc (length x) ≡ s.levels → den s r (q ++ b ∷ x) ≡ meaning s k (q ++ b ∷ x)
 
--- a child for b: an answer, or a deeper key that asks for the same, or for its complement
+-- a child for b: an answer, or a deeper key with the same function, or with its complement
 abbrev pub IsChild : Nodes → ℕ → Key → Bool → Child → Type 0
 IsChild s v k b (Done r) = IsAnswerAt s v k b r
 IsChild s v k b (Ask l c m) = (v < l) × IsKeyAt s l c × ((q x : List Bool) → length q ≡ v → v + suc (length x) ≡ s.levels
@@ -66,12 +66,12 @@ pub record NotesAnswer (old : List (Key × Ref)) (k : Key) (r : Ref) (new : List
   pub only : (l : Key) (a : Ref) → Contains new (l, a) → Contains old (l, a) ⊎ ((l ≡ k) × (a ≡ r))
   pub more : (l : Key) → HasAnswer old l → HasAnswer new l
 
--- a child that asks has an answer already
+-- a child that is a request has an answer already
 abbrev pub IsReady : List (Key × Ref) → Child → Type 0
 IsReady pairs (Done r) = Unit {0}
 IsReady pairs (Ask l k m) = HasAnswer pairs k
 
--- what a child comes to: its answer, or that of what it asks for, complemented where it has a mark
+-- the diagram of a child: its answer, or that of its request, complemented if the child is
 abbrev pub IsResolved : List (Key × Ref) → Child → Ref → Type 0
 IsResolved pairs (Done r) answer = answer ≡ r
 IsResolved pairs (Ask l k m) answer = (r : Ref) × Contains pairs (k, r) × (answer ≡ complement_by m r)
@@ -83,12 +83,12 @@ pub record AddsDescribed (old new : Nodes) (Described : ℕ → (List Bool → B
   pub described : (m : Ref) → Has new m → Has old m ⊎ ((v : ℕ) × (lo : Ref) × (hi : Ref) × (part new m ≡ node v lo hi)
       × OfEither (Described v) (den new m))
 
--- the functions that the records of a row ask for
+-- the functions of the keys of a row's records
 abbrev pub AskedBy : Nodes → ℕ → List Record → ℕ → (List Bool → Bool) → Type 0
 AskedBy s v row w f = (w ≡ v) × ((r : Record) × Contains row r × Agree s.levels f (meaning s r.key))
 
--- the row of level v is reduced up to its record i: from the store `start` with the answers `before` to the store s with
--- the answers pairs
+-- the records of the row of level v before record i are reduced: from the store `start` with the answers `before` to
+-- the store s with the answers `pairs`
 pub record IsRowReduced (start : Nodes) (before : List (Key × Ref)) (v : ℕ) (row : List Record) (i : ℕ) (s : Nodes)
     (pairs : List (Key × Ref)) : Type 0 where
   pub held : IsSound s
@@ -97,7 +97,7 @@ pub record IsRowReduced (start : Nodes) (before : List (Key × Ref)) (v : ℕ) (
   pub more : (k : Key) → HasAnswer before k → HasAnswer pairs k
   pub done : (j : ℕ) (d : Record) → j < i → HasAnswer pairs (slice_index_or row j d).key
 
--- each record is one of the level, and what its children ask for has an answer
+-- each record is one of the level, and its children have answers
 pub record IsRow (s : Nodes) (pairs : List (Key × Ref)) (v : ℕ) (row : List Record) : Type 0 where
   pub records : (r : Record) → Contains row r → IsRecordAt s v r
   pub low_ready : (r : Record) → Contains row r → IsReady pairs r.low
@@ -107,32 +107,35 @@ pub record IsRow (s : Nodes) (pairs : List (Key × Ref)) (v : ℕ) (row : List R
 abbrev pub LacksAnswer : Nodes → ℕ → Key → Type 0
 LacksAnswer s v k = DependsOn s.levels v (meaning s k) × ((r : Ref) → Has s r → Agree s.levels (den s r) (meaning s k) → ⊥)
 
--- the cause of the answer Full for a record: the store has as many nodes as its limit, and lacks the node of the record's key
+-- the cause of a record's fault: Full means that the store has as many nodes as its limit and lacks the node of the
+-- record's key
 abbrev pub IsRecordFault : Nodes → ℕ → Key → StoreFault → Type 0
 IsRecordFault s v k store_faults.OutOfMemory = Unit {0}
 IsRecordFault s v k store_faults.Full = (s.limit ≤ count_of s) × LacksAnswer s v k
 
--- the cause of the answer Full for a row of level v: it has a record, and the store has more nodes than its limit, or as
--- many and lacks the node of some record's key
+-- the cause of a row's fault: Full means that the row of level v has a record, and that the store has more nodes than
+-- its limit, or as many and lacks the node of some record's key
 abbrev pub IsRowFault : Nodes → ℕ → List Record → WaveFault → Type 0
 IsRowFault s v row wave_faults.OutOfMemory = Unit {0}
 IsRowFault s v row wave_faults.NoWorker = ⊥
 IsRowFault s v row wave_faults.TooManyRequests = ⊥
+IsRowFault s v row wave_faults.Stopped = ⊥
 IsRowFault s v row wave_faults.Full =
     (r : Record) × Contains row r × ((s.limit < count_of s) ⊎ ((count_of s ≡ s.limit) × LacksAnswer s v r.key))
 
--- the store `new` is within its limit, or the row is empty and the store is as it was
+-- the store `new` is within its limit, or the row is empty and the store is as before
 abbrev pub IsRowWithin : Nodes → List Record → Nodes → Type 0
 IsRowWithin old row new = (count_of new ≤ new.limit) ⊎ ((row ≡ []) × (new ≡ old))
 
--- a row of level v may be reduced: the store is sound, the pairs are answers in it, and what the records' children ask for has one
+-- a row of level v may be reduced: the store is sound, the pairs are answers in it, and the children of the records
+-- have answers
 pub record MayReduceRow (s : Nodes) (pairs : List (Key × Ref)) (v : ℕ) (records : List Record) : Type 0 where
   pub held : IsSound s
   pub answers : AreAnswers s pairs
   pub row : IsRow s pairs v records
 
--- what the reduction of a row of level v comes to and leaves: even where it is refused, the pairs are answers and nothing is added
--- but what the records ask for; all of them have their answers, or else there is a cause
+-- the result of reducing a row of level v, and what is left: also after a refusal the pairs are answers, and the only
+-- new nodes are those of the row's keys; all records have answers, or the fault has its cause
 pub record ReducesRow (old : Nodes) (before : List (Key × Ref)) (v : ℕ) (row : List Record) (result : Result (Unit {0}) WaveFault)
     (new : Nodes) (pairs : List (Key × Ref)) : Type 0 where
   pub left : IsRowReduced old before v row 0 new pairs

@@ -19,7 +19,7 @@ use Rattle.reduce_up.specs.ByPlace.{AreExpanded}
 use Rattle.reduce_up.specs.OverParts.{level_over}
 use Rattle.reduce_up.specs.declared.up.LevelToReduce.{LevelToReduce}
 
--- what a placed child comes to by the answers
+-- the diagram of a placed child
 abbrev pub ResolvesTo : List (List Ref) → PackedChild → Ref → Type 0
 ResolvesTo answers (Done d) r = r ≡ d
 ResolvesTo answers (Ask l p m) r = (a : Ref) × IsAtPlace answers l p a × (r ≡ complement_by m a)
@@ -29,19 +29,19 @@ abbrev pub IsBelow : ℕ → PackedChild → Type 0
 IsBelow v (Done d) = Unit {0}
 IsBelow v (Ask l p m) = v < l
 
--- a child whose answer is known, below level v, and is what the key's function is with the bit of level v set to b
+-- a child whose diagram is known, below level v, and denotes the key's function with the bit of level v set to b
 abbrev pub IsKnown : Nodes → List (List Ref) → ℕ → Key → Bool → PackedChild → Type 0
 IsKnown s answers v k b d = IsBelow v d × ((r : Ref) × ResolvesTo answers d r × IsAnswerAt s v k b r)
 
--- the children of a level's requests, those of all parts one behind the other
+-- the children of a level's requests, those of all parts, one part after the other
 abbrev pub children_of : LevelToReduce → List (PackedChild × PackedChild)
 children_of l = level_over l.parts.now l.number
 
--- the functions that the keys of level v ask for
+-- the functions of the keys of level v
 abbrev pub AskedAt : Nodes → List (List Key) → ℕ → ℕ → (List Bool → Bool) → Type 0
 AskedAt s tables v w f = (w ≡ v) × ((q : ℕ) × (k : Key) × IsAtPlace tables v q k × Agree s.levels f (meaning s k))
 
--- level v can be reduced: each key has its pair of children, and their answers are known
+-- level v can be reduced: each key has its pair of children, and their diagrams are known
 pub record IsReadyAt (s : Nodes) (tables : List (List Key)) (pairs : List (PackedChild × PackedChild)) (answers : List (List Ref))
     (v : ℕ) : Type 0 where
   pub bounded : v < s.levels
@@ -50,40 +50,42 @@ pub record IsReadyAt (s : Nodes) (tables : List (List Key)) (pairs : List (Packe
   pub low : (q : ℕ) (k : Key) (d : PackedChild × PackedChild) → IsAtPlace tables v q k → slice_get pairs q ≡ Some d → IsKnown s answers v k false d.0
   pub high : (q : ℕ) (k : Key) (d : PackedChild × PackedChild) → IsAtPlace tables v q k → slice_get pairs q ≡ Some d → IsKnown s answers v k true d.1
 
--- of level v the first i keys are reduced, from the store `start` to the store s, with these answers
+-- the first i keys of level v are reduced: from the store `start` to the store s, with these diagrams
 pub record IsLevelReduced (start : Nodes) (tables : List (List Key)) (v i : ℕ) (s : Nodes) (own : List Ref) : Type 0 where
   pub held : IsSound s
   pub adds : AddsDescribed start s (AskedAt start tables v)
   pub count : length own ≡ i
   pub answered : (q : ℕ) (k : Key) (r : Ref) → IsAtPlace tables v q k → slice_get own q ≡ Some r → IsAnswer s k r
 
--- the cause of the answer Full for a level: it has a key, and the store has more nodes than its limit, or as many and
--- lacks the node of some key of the level
+-- the cause of a level's fault: Full means that the level has a key, and that the store has more nodes than its limit,
+-- or as many and lacks the node of some key of the level
 abbrev pub IsLevelFault : Nodes → List (List Key) → ℕ → WaveFault → Type 0
 IsLevelFault s tables v wave_faults.OutOfMemory = Unit {0}
 IsLevelFault s tables v wave_faults.NoWorker = ⊥
 IsLevelFault s tables v wave_faults.TooManyRequests = ⊥
+IsLevelFault s tables v wave_faults.Stopped = ⊥
 IsLevelFault s tables v wave_faults.Full =
     (q : ℕ) × (k : Key) × IsAtPlace tables v q k × ((s.limit < count_of s) ⊎ ((count_of s ≡ s.limit) × LacksAnswer s v k))
 
--- level v of the parts may be reduced: the store is sound, each part has the level, and it is ready for some tables
+-- level v of the parts may be reduced: the store is sound, each part has the level, and the level is ready for some
+-- tables
 pub record MayReduceLevel (s : Nodes) (parts : List (List (List (PackedChild × PackedChild)))) (answers : List (List Ref)) (v : ℕ) : Type 0 where
   pub held : IsSound s
   pub levels : All (λ rows. v < length rows) parts
   pub tables : List (List Key)
   pub ready : IsReadyAt s tables (level_over parts v) answers v
 
--- what the reduction of level v comes to and leaves
+-- the result of reducing level v, and what is left
 pub record ReducesLevel (old : Nodes) (tables : List (List Key)) (v : ℕ) (result : Result (Unit {0}) WaveFault) (new : Nodes)
     (own : List Ref) : Type 0 where
-  -- even where it is refused, nothing is added but what the level's keys ask for
+  -- also after a refusal the only new nodes are those of keys of the level
   pub adds : AddsDescribed old new (AskedAt old tables v)
-  -- all keys have their answers
+  -- without a fault all keys have their diagrams
   pub whole : OnOk result (IsLevelReduced old tables v (length (row tables v)) new own)
-  -- or else there is a cause
+  -- a fault has its cause
   pub fault : IfErr result (λ e. IsLevelFault new tables v e)
 
--- modulo 2^64, so many more are counted
+-- the count is higher by so many, modulo 2^64
 abbrev pub AreMore : (more before after : ℕ) → Type 0
 AreMore more before after = after % 2 ^ 64 ≡ (before + more) % 2 ^ 64
 
@@ -92,8 +94,8 @@ abbrev pub IsWithinBelow : Nodes → List (List Key) → ℕ → Nodes → Type 
 IsWithinBelow start tables v s =
     (count_of s ≤ s.limit) ⊎ (((w q : ℕ) (k : Key) → v ≤ w → IsAtPlace tables w q k → ⊥) × (s ≡ start))
 
--- the levels from v on have their answers: from the store `start` to the store s, which has new nodes only for what the entries ask for, or
--- for its complement
+-- the levels from v on have their diagrams: from the store `start` to the store s, whose new nodes denote functions
+-- that the entries want, or complements of such
 pub record AreReducedBelow (start : Nodes) (entries : List Entry) (tables : List (List Key)) (v : ℕ) (s : Nodes)
     (answers : List (List Ref)) : Type 0 where
   pub held : IsSound s
@@ -104,7 +106,7 @@ pub record AreReducedBelow (start : Nodes) (entries : List Entry) (tables : List
   pub within : IsWithinBelow start tables v s
 
 -- ---- how many requests are reduced
--- between two counts modulo 2^64 exactly the requests from level u on that stand before level v were reduced, each once
+-- between two counts modulo 2^64 exactly the requests of the levels from u on and before v were reduced, each once
 pub record AreCounted (tables : List (List Key)) (u v : ℕ) (before after : ℕ) : Type 0 where
   pub requests : List Key
   pub once : IsOnce requests
@@ -112,8 +114,8 @@ pub record AreCounted (tables : List (List Key)) (u v : ℕ) (before after : ℕ
   pub whole : (w q : ℕ) (k : Key) → u ≤ w → w < v → IsAtPlace tables w q k → IsIn requests k
   pub count : AreMore (length requests) before after
 
--- ---- what a reduction begins with
--- the levels before v are expanded, none has a request twice, and those from v on have their answers
+-- ---- the state in which a reduction begins
+-- the levels before v are expanded, none has a request twice, and those from v on have their diagrams
 pub record AreReady (s : Nodes) (entries : List Entry) (v : ℕ) (rows : List (List (PackedChild × PackedChild))) (answers : List (List Ref))
     (tables : List (List Key)) : Type 0 where
   pub roots : List PackedChild
@@ -121,7 +123,7 @@ pub record AreReady (s : Nodes) (entries : List Entry) (v : ℕ) (rows : List (L
   pub once : (w : ℕ) → w < v → IsOnce (row tables w)
   pub reduced : AreReducedBelow s entries tables v s answers
 
--- what the reduction of the levels before v is done for: the entries are of the store, and their levels are ready
+-- the levels before v may be reduced: the entries are of the store, and the levels are ready
 pub record MayReduce (s : Nodes) (entries : List Entry) (v : ℕ) (rows : List (List (PackedChild × PackedChild))) (answers : List (List Ref))
     (tables : List (List Key)) : Type 0 where
   pub operands : All (IsEntry s) entries

@@ -1,4 +1,4 @@
--- Waves: lists of operations on references of a store, whose diagrams are asked for together, and what a wave leaves.
+-- Waves: lists of operations on references of a store, which are done together, and what a wave leaves.
 use Rattle.std.specs.Prelude.{◌≡◌, ℕ, ◌<◌, ◌≤◌, ◌⊎◌, Bool, List, [], ◌∷◌, ◌++◌, length, map, Contains, Option, None, Some, Result, IfOk}
 use Rattle.std.specs.Prelude.{IfErr, OnOk}
 use Rattle.std.specs.List.{AllZip}
@@ -25,7 +25,7 @@ use Rattle.expand_work.specs.declared.fault.WaveFault.TheVariants as wave_faults
 abbrev pub Entry : Type 0
 Entry = Op × Ref × Ref
 
--- the function that an entry asks for
+-- the function of an entry
 abbrev pub entry_value : Nodes → Entry → List Bool → Bool
 entry_value s e = meaning s (key e.0 e.1 e.2)
 
@@ -33,7 +33,7 @@ entry_value s e = meaning s (key e.0 e.1 e.2)
 abbrev pub IsEntry : Nodes → Entry → Type 0
 IsEntry s e = Has s e.1 × Has s e.2
 
--- an answer for each entry, in order: the diagram in the store `new` of what the entry asks for in the store `old`
+-- an answer for each entry, in order: the diagram in the store `new` of the entry's function in the store `old`
 abbrev pub AnswersEach : Nodes → List Entry → Nodes → List Ref → Type 0
 AnswersEach old entries new answers = AllZip (λ e r. IsDiagram new r (entry_value old e)) entries answers
 
@@ -44,7 +44,7 @@ pub record IsWanted (s : Nodes) (entries : List Entry) (v : ℕ) (f : List Bool 
   pub fixed : IsFixedSomehow s.levels v (entry_value s entry) f
   pub depends : DependsOn s.levels v f
 
--- each node of `new` is one of `old`, or lies below an answer, or is the complement of one that does
+-- each node of `new` is one of `old`, or is below an answer, or is the complement of one that is
 abbrev pub AddsBelow : Nodes → Nodes → List Ref → Type 0
 AddsBelow old new answers = (m : Ref) → Has new m → Has old m
     ⊎ ((r : Ref) × (c : Ref) × Contains answers r × IsReachable (part new) r c × IsOneNode new m c)
@@ -61,24 +61,27 @@ entries_for ks = map entry_for ks
 abbrev pub HasRequest : List Entry → Type 0
 HasRequest entries = (e : Entry) × Contains entries e × (terminal_of e.0 e.1 e.2 ≡ None)
 
--- the store `new` is within its limit, or there was no request and the store is as it was
+-- the store `new` is within its limit, or no entry needed a request and the store is as before
 abbrev pub IsWithinLimit : Nodes → List Entry → Nodes → Type 0
 IsWithinLimit old entries new = (count_of new ≤ new.limit) ⊎ ((HasRequest entries → ⊥) × (new ≡ old))
 
--- some function is wanted, and no reference of the store `new` denotes it
+-- some function is wanted that no reference of the store `new` denotes
 abbrev pub LacksWanted : Nodes → List Entry → Nodes → Type 0
 LacksWanted old entries new =
     (v : ℕ) × (f : List Bool → Bool) × IsWanted old entries v f × ((r : Ref) → Has new r → Agree new.levels (den new r) f → ⊥)
 
--- the cause of the answer Full: there was a request, and the store has more nodes than its limit, or as many and lacks one that is wanted
+-- the cause of a wave's fault: Full means that some entry needed a request, and that the store has more nodes than its
+-- limit, or as many and lacks one that is wanted
 abbrev pub IsWaveFault : Nodes → List Entry → Nodes → WaveFault → Type 0
 IsWaveFault old entries new wave_faults.OutOfMemory = Unit {0}
 IsWaveFault old entries new wave_faults.NoWorker = Unit {0}
 IsWaveFault old entries new wave_faults.TooManyRequests = Unit {0}
+IsWaveFault old entries new wave_faults.Stopped = Unit {0}
 IsWaveFault old entries new wave_faults.Full =
     HasRequest entries × ((new.limit < count_of new) ⊎ ((count_of new ≡ new.limit) × LacksWanted old entries new))
 
--- what a wave over entries comes to and leaves; `asked`: the entries that no computed table answers
+-- the result of a wave over entries, and the store that it leaves; `asked` are the entries that no computed table
+-- answers
 pub record AnswersWave (old : Nodes) (entries asked : List Entry) (result : Result (Vec Ref Global) WaveFault) (new : Nodes) : Type 0 where
   pub sound : IsSound new
   -- it keeps what was there, and each new node denotes a function that is wanted, or the complement of one
@@ -98,12 +101,13 @@ abbrev pub requests_of : List Entry → List Key
 requests_of [] = []
 requests_of (e ∷ es) = request_of (terminal_of e.0 e.1 e.2) e ++ requests_of es
 
--- r is the terminal case of an entry, or what the pairs have for its request, complemented where it has a mark
+-- r is the terminal case of an entry, or what the pairs have for its request, complemented if the entry is the
+-- request's complement
 abbrev pub IsTakenFrom : List (Key × Ref) → Option Ref → Entry → Ref → Type 0
 IsTakenFrom pairs None e r = (a : Ref) × Contains pairs ((normal_of e.0 e.1 e.2).0, a) × (r ≡ complement_by (normal_of e.0 e.1 e.2).1 a)
 IsTakenFrom pairs (Some s) e r = r ≡ s
 
--- the roots' requests and all that they ask for, by level
+-- by level exactly the requests that the roots reach, with their children
 pub record IsClosureOf (s : Nodes) (workers : ℕ) (roots : List Key) (rows : List (List Record)) : Type 0 where
   pub levels : length rows ≡ s.levels
   pub closure : IsClosure (wave_of s workers) roots (row_at rows)

@@ -1,4 +1,5 @@
-//! The pairs that a worker's records of a level come to, divided by shard while they are read.
+//! The pairs of diagrams of a worker's requests of a level, divided by shard as they are read, and
+//! the notes by which the requests' diagrams are found again.
 ghost use Rattle.std.specs.Prelude.{◌≡◌, ℕ, [], length, OnOk};
 ghost use Rattle.dd_store.specs.Levels.{list_at};
 ghost use Rattle.reduce_up.specs.Division.{IsPut};
@@ -7,18 +8,19 @@ use crate::lists::empty_all;
 use dd_store::{Ref, SHARDS, shard_of};
 use std::alloc::{AllocError, Global};
 
-/// The home of a record whose children come to one diagram.
+/// The origin of a redundant request, whose children have one diagram: it needs no node.
 pub(crate) const REDUNDANT: u8 = 16;
 
-/// Where the diagram of each record stands, in the order in which the records are read: the shard of its pair, or EQUAL, whose diagrams
-/// are kept here.
+/// The origin of each request's diagram, in the order in which the requests were read.
 #[derive(Drop)]
 pub(crate) struct Origins {
+    /// The shard of the request's pair, or `REDUNDANT`.
     pub(crate) numbers: Vec<u8>,
+    /// The diagrams of the redundant requests, in order.
     pub(crate) equal: Vec<Ref>,
 }
 
-/// The pairs of different children by shard, and where each record's diagram stands.
+/// The pairs of different diagrams, in a list for each shard, and each request's origin.
 #[derive(Drop)]
 pub(crate) struct PairsByShard {
     pub(crate) lists: Vec<Vec<(Ref, Ref)>>,
@@ -26,7 +28,7 @@ pub(crate) struct PairsByShard {
 }
 
 impl PairsByShard {
-    /// No lists, and no memory.
+    /// Returns empty lists, without memory.
     pub(crate) fn none(alloc: Global) -> PairsByShard {
         PairsByShard {
             lists: Vec::new(alloc),
@@ -37,7 +39,7 @@ impl PairsByShard {
         }
     }
 
-    /// Nothing is read any more, and there is room for so many records whose pairs are spread over the shards.
+    /// Removes all pairs, and makes room for `count` requests whose pairs are spread evenly over the shards.
     pub(crate) fn empty(&mut self, alloc: Global, count: usize) -> Result<(), AllocError>
         ensures sixteen { OnOk result (length self.new.lists.items ≡ 16) }
         ensures empty { OnOk result ((s : ℕ) → length (list_at self.new.lists.items s) ≡ 0) }
@@ -51,7 +53,7 @@ impl PairsByShard {
         Ok(())
     }
 
-    /// One pair more is read.
+    /// Adds the pair of the next request.
     pub(crate) fn put(&mut self, pair: (Ref, Ref)) -> Result<(), AllocError>
         requires { length self.old.lists.items ≡ 16 }
         ensures sixteen { length self.new.lists.items ≡ 16 }

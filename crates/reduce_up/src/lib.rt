@@ -1,31 +1,27 @@
-//! From the requests of a wave to their diagrams: reduction from the last level up, of what the
-//! caller's thread or workers in threads have expanded.
+//! The way up of a wave: from the requests to their diagrams, level by level from the last one; and
+//! whole waves by workers.
 //!
-//! **Promises.** `reduce` gives the requests that stand before a level their diagrams, whatever
-//! parts their children stand in (`reduced`), and counts them (`counted`). `wave_by_workers` gives each
-//! request its diagram, adds nodes below the answers alone, or complements of such, and answers
-//! Full only where the store is over its limit, or at it and lacks a node that is wanted (`wave`);
-//! exactly the requests that are reached were expanded (`expanded`), no more than it may expand
-//! (`few`); OutOfMemory leaves a store within its limit that was so (`memory`); more requests than
-//! it may expand are reported as NoWorker (`never_too_many_requests`), which leaves the store as it was
-//! (`untouched`). `CacheProbe` knows which entries a computed table answers, and puts answers and computed table together
-//! (`CacheProbe::complete_answers`: `answers`, `kept`, `refused`).
+//! **Promises.** `reduce` gives the requests of all levels before `from` their diagrams, in
+//! whatever parts their children are (`reduced`), and counts them (`counted`). `wave_by_workers`
+//! gives each request its diagram. It adds only nodes that are below the answers, or complements of
+//! such, and fails with Full only if the store is over its limit, or at its limit and lacks a node
+//! that is wanted (`wave`). Exactly the requests that are reached were expanded (`expanded`), no
+//! more than the bound (`few`). OutOfMemory leaves a store within its limit that was within it
+//! before (`memory`). If there are more requests than the bound, it fails with NoWorker
+//! (`never_too_many_requests`), which leaves the store as it was (`untouched`). A wave is stopped
+//! only while it is expanded, and only if its monitor may stop it (`stopped`, `never_stopped`).
 //!
-//! **Only tests show** when threads share a level (4,096 records, two workers) and how many, and
-//! that every width answers what the workers on one thread do (`wave_tests`). That they read it
-//! from 16,384 requests on, number children from 32,768 and pick diagrams from 65,536 is a matter
-//! of time alone, which nothing shows.
+//! **Only tests show** from which width on threads share a level (4,096 requests, two workers), how
+//! many they are, and that every width gives the answers of workers on one thread (`wave_tests`).
+//! That threads read a level from 16,384 requests on, number children from 32,768 and pick diagrams
+//! from 65,536 is a matter of time only, and nothing shows it.
 //!
-//! **Begin** with `up`, one level after the other, of which a wide one goes to `wide` with `reads`,
-//! `division` and `picking`; then `waves`, for which `numbers` tells what workers asked each other
-//! for by place. `forks` has the map by threads of these, and of others (`fork_each`), which all
-//! the caller's thread starts. What a wave comes to is in `specs/Waves`, what is reduced in
-//! `specs/ReductionPhase`.
+//! **Begin** with `up`, which goes from level to level and hands a wide one to `wide` with `reads`,
+//! `division` and `picking`. Then read `waves`, for which `numbers` puts places for owners. What a
+//! wave is, and what it leaves, is in `specs/Waves`, and the reduction in `specs/ReductionPhase`.
 #![tactic(auto)]
 
-mod cache_probe;
 mod division;
-mod forks;
 mod list_pool;
 mod lists;
 mod numbers;
@@ -38,8 +34,6 @@ mod up;
 mod waves;
 mod wide;
 
-pub use cache_probe::CacheProbe;
-pub use forks::fork_each;
 pub use lists::empty_lists;
 pub use reductions::Reductions;
 pub use up::{ReductionPhase, reduce, root_answers};

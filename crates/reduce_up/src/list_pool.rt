@@ -1,11 +1,11 @@
-//! The memory of levels that threads share, which lasts from level to level and from wave to wave.
+//! The memory for levels that threads share. It lasts from level to level and from wave to wave.
 use crate::division::PairsByShard;
 use req_table::Refs;
 use std::alloc::Global;
 use std::marker::Model;
 
-/// Lists that are filled anew: those of the pairs of a part, and those of the diagrams of a part. Contracts see nothing in it: whoever
-/// takes a list empties it.
+/// Lists to be filled again: those of the pairs of a part, and those of the diagrams of a part. Contracts see nothing
+/// of them, because each is emptied before it is filled.
 #[derive(Drop)]
 pub(crate) struct ListPool {
     divided: Vec<PairsByShard>,
@@ -19,7 +19,7 @@ impl Model for ListPool {
 }
 
 impl ListPool {
-    /// No memory yet.
+    /// Returns a pool without lists.
     pub(crate) fn new(alloc: Global) -> ListPool {
         ListPool {
             divided: Vec::new(alloc),
@@ -27,12 +27,12 @@ impl ListPool {
         }
     }
 
-    /// Where its memory is from.
+    /// The allocator of the lists.
     pub(crate) fn allocator(&self) -> Global {
         *self.divided.allocator()
     }
 
-    /// Lists for the pairs of a part.
+    /// Takes lists for the pairs of a part out, or makes new ones.
     pub(crate) fn divided(&mut self) -> PairsByShard {
         let alloc = *self.divided.allocator();
         match self.divided.pop() {
@@ -41,12 +41,12 @@ impl ListPool {
         }
     }
 
-    /// Keeps the lists of a part's pairs. They are given back where there is no room to keep them.
+    /// Keeps the lists of a part's pairs, or gives their memory back if the pool cannot grow.
     pub(crate) fn keep_divided(&mut self, used: PairsByShard) {
         let _ = self.divided.push(used);
     }
 
-    /// A list for the diagrams of a part.
+    /// Takes a list for the diagrams of a part out, or makes a new one.
     pub(crate) fn picked(&mut self) -> Refs {
         let alloc = *self.picked.allocator();
         match self.picked.pop() {
@@ -55,7 +55,7 @@ impl ListPool {
         }
     }
 
-    /// Keeps the list of a part's diagrams. It is given back where there is no room to keep it.
+    /// Keeps the list of a part's diagrams, or gives its memory back if the pool cannot grow.
     pub(crate) fn keep_picked(&mut self, used: Refs) {
         let _ = self.picked.push(used);
     }

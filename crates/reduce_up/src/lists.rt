@@ -1,11 +1,11 @@
-//! A list of pairs of children for each shard of a level.
+//! Lists of pairs of children, one for each shard of a level.
 ghost use Rattle.std.specs.Prelude.{◌≡◌, ℕ, length, IfOk, OnOk};
 ghost use Rattle.dd_store.specs.Levels.{list_at};
 
 use dd_store::{Ref, SHARDS};
 use std::alloc::{AllocError, Global};
 
-/// A list for each shard, without pairs and with room for some.
+/// Returns an empty list for each shard, with room for `room` pairs.
 pub fn empty_lists(alloc: Global, room: usize) -> Result<Vec<Vec<(Ref, Ref)>>, AllocError>
     ensures sixteen { IfOk result (λ lists. length lists.items ≡ 16) }
     ensures empty { IfOk result (λ lists. (s : ℕ) → length (list_at lists.items s) ≡ 0) }
@@ -17,7 +17,7 @@ pub fn empty_lists(alloc: Global, room: usize) -> Result<Vec<Vec<(Ref, Ref)>>, A
     Ok(lists)
 }
 
-/// Removes all pairs of each list, and makes room for some.
+/// Removes all pairs of each list, and makes room for `room` pairs in each.
 fn clear_lists(lists: &mut Vec<Vec<(Ref, Ref)>>, room: usize) -> Result<(), AllocError>
     ensures same { length lists.new.items ≡ length lists.old.items }
     ensures empty { OnOk result ((s : ℕ) → length (list_at lists.new.items s) ≡ 0) }
@@ -30,7 +30,8 @@ fn clear_lists(lists: &mut Vec<Vec<(Ref, Ref)>>, room: usize) -> Result<(), Allo
     Ok(())
 }
 
-/// Makes a list for each shard, without pairs and with room for some, in the memory of the lists that are there, where these are as many.
+/// Makes `lists` an empty list for each shard, with room for `room` pairs, in the old memory if there are 16 lists
+/// already.
 pub(crate) fn empty_all(
     alloc: Global,
     lists: &mut Vec<Vec<(Ref, Ref)>>,

@@ -1,6 +1,8 @@
-//! Requests that workers asked each other for, told by place. A child of a worker's record names the request's owner alone; of what a
-//! worker asked of that owner, in order, it is the next, and the owner noted at which place of its own it stands. Here each child gets
-//! its place among all requests of its level, those of the workers one behind the other.
+//! The places of children that are requests of other workers. On the way down a worker's row has
+//! only the owner for such a child. Of what the worker has asked of this owner, in order, the child
+//! is the next, and the owner has noted its place, in the same order. Here each child gets its
+//! place among all requests of its level, which are those of the workers, one worker after the
+//! other.
 ghost use Rattle.std.specs.Prelude.{◌≡◌, ◌+◌, ◌<◌, ◌^◌, [], length, slice_index_or, All, List, IfOk, IsOk, OnOk};
 ghost use Rattle.std.specs.List.{AllZip};
 ghost use Rattle.req_table.specs.declared.Key.{Key as KeyValue};
@@ -14,7 +16,6 @@ ghost use Rattle.reduce_up.specs.Numbers.{keys_in, asked_from, IsNumberingInput,
 ghost use Rattle.reduce_up.specs.Numbers.{IsRowNumbered, IsNumberedTo, IsTaskNumbered, AreNew, AreTasks, IsRootPlaced, MayNumberAll};
 ghost use Rattle.reduce_up.specs.Numbers.{AreAllNumbered, AreRowsNumbered, AreNumbered};
 
-use crate::forks::fork_if_much;
 use crate::starts::{all_starts, are_many, worker_count};
 use dd_store::Store;
 use expand_work::WorkerNotes;
@@ -24,9 +25,10 @@ use std::alloc::{AllocError, Global};
 use std::marker::Sync;
 use std::mem;
 use std::thread::Threads;
+use thread_map::fork_if_much;
 
-/// What is read while children are numbered: what the workers noted, and, level by level, how many requests of the level the workers
-/// before each have.
+/// What is read while children are numbered: what the workers have noted, and by level and worker how many requests of
+/// the level the workers before this one have.
 #[derive(Clone, Copy)]
 pub(crate) struct NumberingInput<'a> {
     alloc: Global,
@@ -36,8 +38,9 @@ pub(crate) struct NumberingInput<'a> {
     workers: u32,
 }
 
-/// A worker's share: its rows, what each worker noted of the requests that it has still to ask of it, an empty row for the next level, how
-/// many requests had their children in the memory of that row, and whether there was memory.
+/// The task for one worker's children: its rows; of each owner the noted places of the requests that the worker has
+/// still to ask of it; an empty row for the next level, with the number of requests that its memory was for; and
+/// whether there was memory.
 #[derive(Drop)]
 pub(crate) struct NumberingTask<'a> {
     rows: Rows,
@@ -47,7 +50,7 @@ pub(crate) struct NumberingTask<'a> {
     done: Result<(), AllocError>,
 }
 
-/// A sender's child by its place: of what the sender asks of the child's owner it is the next.
+/// Returns a child with its place for its owner: the next of the places that the owner has noted for this sender.
 #[inline(always)]
 fn number<'a>(
     input: NumberingInput<'_>,
@@ -76,7 +79,7 @@ fn number<'a>(
     }
 }
 
-/// The children of a sender's requests of a level by their places, put into an empty row.
+/// Adds the children of a sender's requests of a level, with places for owners, to an empty row.
 fn number_row<'a>(
     input: NumberingInput<'_>,
     sender: u32,
@@ -93,7 +96,7 @@ fn number_row<'a>(
     ensures row { OnOk result (IsRowNumbered input.entry sender level spare_row.new) }
     ensures left { OnOk result (AreNext input.entry (asked_from input.entry sender (level + 1)) left.new.items) }
 {
-    let _ = sender;
+    let _ = sender; // For the proof.
     spare_row.reserve(by_owner.len())?;
     for place in 0..by_owner.len() {
         let (low, high) = by_owner.at(place);
@@ -104,8 +107,8 @@ fn number_row<'a>(
     Ok(())
 }
 
-/// An empty row for so many requests: the room, unless its memory is that of a row more than twice as large, which a small level would
-/// keep in vain.
+/// Returns an empty row for `count` requests: the spare row, unless its memory is for more than twice as many, which a
+/// small level would keep without need.
 fn fitting_row(alloc: Global, spare_row: Row, size: usize, count: usize) -> Row
     requires { spare_row ≡ [] }
     ensures { result ≡ [] }
@@ -117,7 +120,7 @@ fn fitting_row(alloc: Global, spare_row: Row, size: usize, count: usize) -> Row
 }
 
 impl<'a> NumberingTask<'a> {
-    /// The children of a level by their places. The memory of its row is the next level's room.
+    /// Puts places for owners in the row of a level. The old row's memory will be used for the next level's.
     fn number_level(
         &mut self,
         input: NumberingInput<'_>,
@@ -151,7 +154,7 @@ impl<'a> NumberingTask<'a> {
         Ok(())
     }
 
-    /// The children of all levels by their places.
+    /// Puts places for owners in the rows of all levels.
     fn number_rows(&mut self, input: NumberingInput<'_>, sender: u32) -> Result<(), AllocError>
         requires sender { IsSender input sender }
         requires task { IsNumberedTo input sender 0 self.old }
@@ -163,7 +166,7 @@ impl<'a> NumberingTask<'a> {
         Ok(())
     }
 
-    /// The rows, where there was memory.
+    /// Returns the rows, unless memory was refused.
     fn into_rows(self) -> Result<Rows, AllocError>
         ensures { IfOk result (λ rows. (rows ≡ self.entry.rows) × IsOk self.entry.done) }
     {
@@ -179,11 +182,11 @@ impl<'a> NumberingTask<'a> {
     }
 }
 
-/// So many lists take two cache lines. That much stays unwritten behind each worker's, so that threads which ask at the same time
-/// write to no line in common.
+/// The room that is left unused after each worker's list, 16 bytes an element, so two cache lines: threads that advance
+/// in their lists at the same time then never write to one cache line.
 const LISTS_APART: usize = 8;
 
-/// What each worker noted of the requests that a sender asks of it.
+/// Returns, for each owner, what it has noted of the requests that a sender asked of it.
 fn all_noted<'a>(input: NumberingInput<'a>, sender: u32) -> Result<Vec<&'a [u32]>, AllocError>
     requires { IsSender input sender }
     ensures { IfOk result (λ left. AreNoted input.entry sender left.items) }
@@ -195,7 +198,7 @@ fn all_noted<'a>(input: NumberingInput<'a>, sender: u32) -> Result<Vec<&'a [u32]
     Ok(left)
 }
 
-/// A share for each worker, in which nothing is asked for yet.
+/// Returns a task for each worker, of which nothing is done yet.
 fn new_tasks<'a>(
     input: NumberingInput<'a>,
     rows: Vec<Rows>,
@@ -220,7 +223,7 @@ fn new_tasks<'a>(
     Ok(tasks)
 }
 
-/// A root by its place: worker i modulo their number asks for root i.
+/// Returns a root with its place. Root i was asked for by worker i modulo their number.
 fn number_root(
     input: NumberingInput<'_>,
     roots: &[Key],
@@ -240,7 +243,7 @@ fn number_root(
     number(input, &mut task.left, child)
 }
 
-/// The roots by their places.
+/// Returns the roots with their places.
 fn number_roots(
     input: NumberingInput<'_>,
     roots: &[Key],
@@ -259,7 +262,7 @@ fn number_roots(
     Ok(placed)
 }
 
-/// Numbers the children of all workers, where there is much to do each worker's by a thread of its own.
+/// Numbers the children of all workers, each worker's by a thread of its own if there is much to do.
 fn number_tasks<R: Threads + Sync>(
     rt: &R,
     much: bool,
@@ -277,7 +280,7 @@ fn number_tasks<R: Threads + Sync>(
     fork_if_much(rt, much, tasks, &run);
 }
 
-/// The rows of the shares, where there was memory for all.
+/// Returns the rows of all tasks, unless memory was refused for one.
 fn rows_of_tasks(
     input: NumberingInput<'_>,
     tasks: Vec<NumberingTask<'_>>,
@@ -292,9 +295,11 @@ fn rows_of_tasks(
     Ok(all)
 }
 
-/// Gives each child of the workers' requests its place among all requests of its level, those of the workers one behind the other, and
-/// tells what the roots come to. Each worker's rows are gone over from the first level down, in the order in which the worker asked, and
-/// where there are many by a thread of their own. OutOfMemory, too, where a level has more requests than 32 bits count.
+/// Gives each child of the workers' requests its place among all requests of its level, worker
+/// after worker, and returns the rows and the roots with places. Each worker's rows are read from
+/// the first level on, which is the order in which the worker has asked; if there are many
+/// requests, each worker's by a thread of its own. Fails if memory is refused, or if a level has
+/// 2^32 requests or more.
 pub(crate) fn number_all<R: Threads + Sync>(
     rt: &R,
     alloc: Global,

@@ -1,11 +1,12 @@
-//! Rows of several parts: the last level that any has, and a level that all leave.
+//! Rows by level in several parts: the last level that any part has, and clearing a level in all
+//! parts.
 ghost use Rattle.std.specs.Prelude.{◌≡◌, ◌≢◌, ◌<◌, ◌≤◌, ℕ, [], length, map, All};
 ghost use Rattle.req_table.specs.Places.{IsLastLevel};
 ghost use Rattle.reduce_up.specs.OverParts.{level_over, over_parts, later_of};
 
 use req_table::Rows;
 
-/// The later of two levels, as far as there are some.
+/// Returns the later of two levels, or the one that there is.
 fn later(one: Option<u16>, other: Option<u16>) -> Option<u16>
     ensures { result ≡ later_of one other }
 {
@@ -16,7 +17,7 @@ fn later(one: Option<u16>, other: Option<u16>) -> Option<u16>
     }
 }
 
-/// The last level before one that has children in any part.
+/// Returns the last level before `end` that has children in any part, or none.
 pub(crate) fn last_level(parts: &[Rows], end: u16) -> Option<u16>
     requires { All (λ rows. end ≤ length rows) parts.now }
     ensures { (n : ℕ) → end ≤ n → IsLastLevel (over_parts n parts.now) end result }

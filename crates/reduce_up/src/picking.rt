@@ -1,4 +1,5 @@
-//! The diagrams of a part of a level, picked from those of all parts' pairs.
+//! Picking the diagrams of a part's requests from those of all pairs of a level, which are by
+//! shard.
 ghost use Rattle.std.specs.Prelude.{◌≡◌, ◌+◌, ◌<◌, ◌≤◌, ◌++◌, ℕ, length, slice_get, slice_index_or, Some, All, IfOk, OnOk};
 ghost use Rattle.dd_store.specs.Levels.{all_at};
 ghost use Rattle.reduce_up.specs.declared.division.Origins.{Origins as OriginsValue};
@@ -8,21 +9,21 @@ ghost use Rattle.reduce_up.specs.AnswersByLevel.{joined};
 ghost use Rattle.reduce_up.specs.Steps.{IsTaskPicked, AreAllPicked};
 
 use crate::division::{Origins, REDUNDANT};
-use crate::forks::fork_if_much;
 use crate::list_pool::ListPool;
 use dd_store::{Ref, SHARDS};
 use req_table::Refs;
 use std::alloc::{AllocError, Global};
 use std::thread::Threads;
+use thread_map::fork_if_much;
 
-/// A part's share of a level: the diagrams of its requests, and whether there was memory to pick these.
+/// The task for one part: the diagrams of its requests, and whether there was memory for them.
 #[derive(Drop)]
 pub(crate) struct PickTask {
     pub(crate) answers: Refs,
     pub(crate) done: Result<(), AllocError>,
 }
 
-/// The diagram at a place of a home's.
+/// Returns the diagram at a place of those of an origin.
 fn diagram_at(origins: &Origins, refs: &[Vec<Ref>], origin: u8, place: usize) -> Ref
     requires sixteen { length refs.now ≡ 16 }
     requires origin { origin ≤ 16 }
@@ -35,7 +36,7 @@ fn diagram_at(origins: &Origins, refs: &[Vec<Ref>], origin: u8, place: usize) ->
     refs[origin as usize][place]
 }
 
-/// A diagram for each home: the next of those of this home from a place on.
+/// Adds the diagram of each request: the next one of its origin, from the places in `starts` on.
 fn pick(
     origins: &Origins,
     refs: &[Vec<Ref>],
@@ -64,7 +65,7 @@ fn pick(
     Ok(())
 }
 
-/// Where a part's references of a shard begin.
+/// Returns where the references of a part's pairs begin among those of a shard.
 fn start_of(parts: &[Vec<Vec<(Ref, Ref)>>], part: usize, shard: usize, total: usize) -> usize
     requires part { part < length parts.now }
     requires lists { HaveSixteen parts.now }
@@ -79,7 +80,7 @@ fn start_of(parts: &[Vec<Vec<(Ref, Ref)>>], part: usize, shard: usize, total: us
     start
 }
 
-/// Where a part's references of each shard begin, and its diagrams of equal children.
+/// Returns where a part's references begin in each shard, and 0 for its redundant requests, whose diagrams are its own.
 fn starts_of(
     alloc: Global,
     parts: &[Vec<Vec<(Ref, Ref)>>],
@@ -100,7 +101,7 @@ fn starts_of(
     Ok(starts)
 }
 
-/// The diagrams of a part's requests, in the order in which they stand.
+/// Adds the diagrams of a part's requests, in the order of the requests.
 fn pick_part(
     parts: &[Vec<Vec<(Ref, Ref)>>],
     origins: &[Origins],
@@ -117,7 +118,7 @@ fn pick_part(
     pick(own, refs, starts.as_slice(), answers)
 }
 
-/// A share for each part, in which nothing is picked yet.
+/// Returns a task for each part, of which nothing is done yet.
 fn pick_tasks(
     alloc: Global,
     parts: usize,
@@ -135,10 +136,11 @@ fn pick_tasks(
     Ok(tasks)
 }
 
-/// The diagrams of fewer requests are picked on the caller's thread: to start the threads takes as long.
+/// The diagrams of fewer requests are picked on the caller's thread, because to start threads would take as long.
 const FEWEST_PICKED: usize = 1 << 16;
 
-/// How many requests there are, or as many as can be counted.
+/// Returns the number of requests, or the greatest `usize` if they are more. It only decides whether threads are
+/// started.
 fn request_count(origins: &[Origins]) -> usize {
     let mut total: usize = 0;
     for part in origins {
@@ -147,7 +149,7 @@ fn request_count(origins: &[Origins]) -> usize {
     total
 }
 
-/// Picks the diagrams of all parts, each in the part's share, and where there are many by a thread of its own.
+/// Picks the diagrams of all parts, each part's by a thread of its own if there are many.
 fn pick_each<R: Threads + Sync>(
     rt: &R,
     parts: &[Vec<Vec<(Ref, Ref)>>],
@@ -166,7 +168,7 @@ fn pick_each<R: Threads + Sync>(
     fork_if_much(rt, request_count(origins) >= FEWEST_PICKED, tasks, &pick);
 }
 
-/// The answers of all parts, where each had memory.
+/// Returns the diagrams by part, unless memory was refused for one.
 fn join_picked(
     parts: &[Vec<Vec<(Ref, Ref)>>],
     origins: &[Origins],
@@ -176,7 +178,7 @@ fn join_picked(
     requires { AreAllPicked parts.now origins.now refs.now tasks.items }
     ensures { IfOk result (λ answers. ArePicked parts.now origins.now refs.now (length tasks.items) answers.items) }
 {
-    let _ = (parts.len(), origins.len(), refs.len());
+    let _ = (parts.len(), origins.len(), refs.len()); // For the proof.
     let mut answers = Vec::with_capacity(*tasks.allocator(), tasks.len())?;
     for task in tasks {
         let PickTask {
@@ -189,7 +191,7 @@ fn join_picked(
     Ok(answers)
 }
 
-/// Adds the diagrams of all parts, one part behind the other.
+/// Adds the diagrams of all parts, one part after the other.
 fn add_all(own: &mut Refs, picked: &[Refs]) -> Result<(), AllocError>
     ensures { OnOk result (own.new ≡ own.old ++ joined picked.now) }
 {
@@ -199,7 +201,7 @@ fn add_all(own: &mut Refs, picked: &[Refs]) -> Result<(), AllocError>
     Ok(())
 }
 
-/// The diagrams of all parts, one part behind the other, in the memory of `own`.
+/// Puts the diagrams of all parts, one part after the other, into `own`, whose memory is used again.
 pub(crate) fn pick_level<R: Threads + Sync>(
     rt: &R,
     parts: &[Vec<Vec<(Ref, Ref)>>],

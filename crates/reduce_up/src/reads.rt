@@ -1,33 +1,34 @@
-//! The children of a level, which threads read, part by part: the pairs that they come to, divided by shard.
+//! Reading the children of a level, each part by a thread: the pairs of their diagrams, divided by
+//! shard.
 ghost use Rattle.std.specs.Prelude.{◌≡◌, ◌<◌, length, All, IfOk, OnOk};
 ghost use Rattle.dd_store.specs.Graph.{Pair};
 ghost use Rattle.req_table.specs.Places.{row};
 ghost use Rattle.reduce_up.specs.Steps.{BothResolveTo, MayReadLevel, IsPartRead, IsTaskRead, AreAllRead, AreRead};
 
 use crate::division::{Origins, PairsByShard};
-use crate::forks::fork_if_much;
 use crate::list_pool::ListPool;
 use crate::up::{LevelToReduce, resolve};
 use dd_store::Ref;
 use req_table::{Refs, Row};
 use std::alloc::{AllocError, Global};
 use std::thread::Threads;
+use thread_map::fork_if_much;
 
-/// A part's share of a level: the pairs that its children come to, and whether there was memory to read these.
+/// The task for one part: the pairs of its requests, and whether there was memory for them.
 #[derive(Drop)]
 pub(crate) struct ReadTask {
     pub(crate) divided: PairsByShard,
     pub(crate) done: Result<(), AllocError>,
 }
 
-/// What is read of all parts of a level.
+/// What was read of all parts of a level: the pairs by part and shard, and the origins of the requests by part.
 #[derive(Drop)]
 pub(crate) struct LevelRead {
     pub(crate) parts: Vec<Vec<Vec<(Ref, Ref)>>>,
     pub(crate) origins: Vec<Origins>,
 }
 
-/// Reads the children of a part.
+/// Reads the children of a part: finds their diagrams, and puts the pairs into the lists of their shards.
 fn read_part(
     alloc: Global,
     answers: &[Refs],
@@ -48,7 +49,7 @@ fn read_part(
 }
 
 impl ReadTask {
-    /// Reads the part whose share this is.
+    /// Reads the part of the level that this task is for.
     fn read(&mut self, alloc: Global, level: &LevelToReduce<'_>, part: usize)
         requires part { part < length level.now.parts.now }
         requires may { MayReadLevel level.now }
@@ -59,7 +60,7 @@ impl ReadTask {
     }
 }
 
-/// A share for each part, in which nothing is read yet.
+/// Returns a task for each part, of which nothing is done yet.
 fn read_tasks(
     alloc: Global,
     parts: usize,
@@ -77,10 +78,10 @@ fn read_tasks(
     Ok(tasks)
 }
 
-/// Fewer requests are read on the caller's thread: to start the threads takes as long.
+/// Fewer requests are read on the caller's thread, because to start threads would take as long.
 const FEWEST_READ: u64 = 1 << 14;
 
-/// Reads all parts, each in the part's share, and where there are many requests by a thread of its own.
+/// Reads all parts, each by a thread of its own if there are many requests.
 fn read_all<R: Threads + Sync>(
     rt: &R,
     alloc: Global,
@@ -98,7 +99,7 @@ fn read_all<R: Threads + Sync>(
     fork_if_much(rt, level.len() >= FEWEST_READ, tasks, &read);
 }
 
-/// What was read of each part, put side by side.
+/// Returns what was read of all parts, unless memory was refused for one.
 fn join_reads(
     alloc: Global,
     level: &LevelToReduce<'_>,
@@ -107,7 +108,7 @@ fn join_reads(
     requires { AreAllRead level.now tasks.items }
     ensures { IfOk result (λ r. AreRead level.now (length tasks.items) r.parts.items r.origins.items) }
 {
-    let _ = level.number;
+    let _ = level.number; // For the proof.
     let mut parts = Vec::with_capacity(alloc, tasks.len())?;
     let mut origins = Vec::with_capacity(alloc, tasks.len())?;
     for task in tasks {
@@ -119,7 +120,7 @@ fn join_reads(
     Ok(LevelRead { parts, origins })
 }
 
-/// Reads all children of a level, where these are many each part's by a thread of its own.
+/// Reads all children of a level, each part's by a thread of its own if there are many requests.
 pub(crate) fn read_level<R: Threads + Sync>(
     rt: &R,
     alloc: Global,

@@ -1,4 +1,4 @@
-//! Requests that are reduced, and how many were.
+//! Reducing requests, and counting how many were reduced.
 ghost use Rattle.std.specs.Prelude.{◌≡◌, ◌<◌, ◌+◌, ◌%◌, ◌^◌, IfOk, IfErr, OnErr};
 ghost use Rattle.dd_store.specs.Graph.{top, IsRef};
 ghost use Rattle.dd_store.specs.Nodes.{node, IsSound};
@@ -7,7 +7,7 @@ ghost use Rattle.dd_store.specs.View.{IsMade, IsFull};
 use dd_store::{Ref, Store, StoreFault};
 use std::marker::Model;
 
-/// Reduces requests, and counts how many, modulo 2^64.
+/// Makes the diagrams of requests and counts them, modulo 2^64.
 #[derive(Drop)]
 pub struct Reductions {
     count: u64,
@@ -22,14 +22,14 @@ impl Model for Reductions {
 }
 
 impl Reductions {
-    /// None was reduced.
+    /// Returns a count of 0.
     pub fn new() -> Reductions
         ensures { result ≡ 0 }
     {
         Reductions { count: 0 }
     }
 
-    /// The diagram of a request of a level, from those of its children. It is one more.
+    /// Returns the diagram of a request from those of its children, and counts it. Fails as `Store::make` does.
     pub fn make(
         &mut self,
         store: &mut Store,
@@ -52,14 +52,14 @@ impl Reductions {
         store.make(level, lo, hi)
     }
 
-    /// So many more were reduced.
+    /// Counts requests that threads have reduced.
     pub fn add(&mut self, requests: u64)
         ensures { self.new ≡ (self.old + requests) % 2 ^ 64 }
     {
         self.count = self.count.wrapping_add(requests);
     }
 
-    /// How many were reduced.
+    /// Returns how many requests were reduced.
     pub fn count(&self) -> u64
         ensures { result ≡ self.now }
     {

@@ -1,4 +1,5 @@
-//! How many requests workers have: at each level, the workers one behind the other, and whether they are many.
+//! The number of requests of workers: at each level how many the workers before one have, and
+//! whether there are many in all.
 ghost use Rattle.std.specs.Prelude.{◌≡◌, ◌++◌, ◌<◌, ◌^◌, length, All, List, IfOk, OnOk};
 ghost use Rattle.req_table.specs.declared.Record.{Record as RecordValue};
 ghost use Rattle.req_table.specs.Settled.{level_of_rows};
@@ -9,7 +10,7 @@ ghost use Rattle.reduce_up.specs.Numbers.{starts_at, starts_below, AreFew};
 use req_table::Rows;
 use std::alloc::{AllocError, Global};
 
-/// How many workers there are, where 32 bits count them.
+/// Returns the number of workers. It fails if they are 2^32 or more, which never happens, since there are 16 at most.
 pub(crate) fn worker_count(rows: &Vec<Rows>) -> Result<u32, AllocError>
     ensures { IfOk result (λ count. count ≡ length rows.now.items) }
 {
@@ -20,7 +21,7 @@ pub(crate) fn worker_count(rows: &Vec<Rows>) -> Result<u32, AllocError>
     Ok(count as u32)
 }
 
-/// The children of fewer requests are numbered on the caller's thread: to start the threads takes as long.
+/// The children of fewer requests are numbered on the caller's thread, because to start threads would take as long.
 const FEWEST_NUMBERED: u64 = 1 << 15;
 
 /// Whether the workers together have so many requests that threads number their children.
@@ -32,7 +33,8 @@ pub(crate) fn are_many(rows: &[Rows]) -> bool {
     total >= FEWEST_NUMBERED
 }
 
-/// Adds how many requests of a level the workers before each have; OutOfMemory where 32 bits do not count them.
+/// Adds, for each worker, how many requests of a level the workers before it have. Fails if memory is refused, or if
+/// the level has 2^32 requests or more.
 fn push_starts(rows: &[Rows], level: u16, starts: &mut Vec<u32>) -> Result<(), AllocError>
     requires levels { All (λ own. level < length own) rows.now }
     ensures starts { (records : List (List (List RecordValue))) → AreRowsByOwner records rows.now
@@ -52,7 +54,7 @@ fn push_starts(rows: &[Rows], level: u16, starts: &mut Vec<u32>) -> Result<(), A
     Ok(())
 }
 
-/// How many requests of each level the workers before each have.
+/// Returns, by level and worker, how many requests of the level the workers before this one have.
 pub(crate) fn all_starts(alloc: Global, rows: &[Rows], levels: u16) -> Result<Vec<u32>, AllocError>
     requires levels { All (λ own. length own ≡ levels) rows.now }
     ensures starts { (records : List (List (List RecordValue))) → AreRowsByOwner records rows.now

@@ -1,5 +1,6 @@
-//! Reduction, from the last level up: each request's answer is made of its children's, which are read by place. A level stands in several
-//! parts, one for each worker, or in one; its answers are in one list, those of the parts one behind the other.
+//! Reduction, from the last level up: the diagram of each request is made from those of its
+//! children, which are read by place. The children of a level's requests are in parts, one for each
+//! worker or a single one; its diagrams are in one list, those of the parts one after the other.
 ghost use Rattle.std.specs.Prelude.{◌≡◌, ◌≢◌, ◌<◌, ◌≤◌, ◌+◌, ◌%◌, ◌^◌, ℕ, List, length, All, Err, IfOk, IfErr, OnOk};
 ghost use Rattle.std.specs.List.{AllZip};
 ghost use Rattle.dd_store.specs.declared.reference.Ref.{Ref as RefValue};
@@ -22,17 +23,19 @@ use std::alloc::{AllocError, Global};
 use std::mem;
 use std::thread::Threads;
 
-/// What a wave's reduction leaves: the answers of the requests by level, and the memory of levels that threads share. All requests that
-/// are ever reduced are counted.
+/// The state of reductions, whose memory lasts from wave to wave.
 #[derive(Drop)]
 pub struct ReductionPhase {
+    /// By level the diagrams of the requests, by place.
     pub answers: Vec<Refs>,
+    /// The count of all requests that were ever reduced one by one or by threads.
     pub reductions: Reductions,
+    /// Memory for levels that threads share.
     pub(crate) spare: ListPool,
 }
 
 impl ReductionPhase {
-    /// No levels, and none was reduced. It takes no memory yet.
+    /// Returns a state of no levels, which takes no memory yet.
     pub fn new(alloc: Global) -> ReductionPhase
         ensures { result.reductions ≡ 0 }
     {
@@ -43,7 +46,7 @@ impl ReductionPhase {
         }
     }
 
-    /// Makes a list of answers for each level.
+    /// Makes a list of diagrams for each of `levels` levels.
     pub fn fit(&mut self, levels: u16) -> Result<(), AllocError>
         ensures levels { OnOk result (length self.new.answers.items ≡ levels) }
         ensures counted { self.new.reductions ≡ self.old.reductions }
@@ -61,7 +64,7 @@ impl ReductionPhase {
     }
 }
 
-/// What a placed child comes to.
+/// Returns the diagram of a child: the answer itself, or the one at the request's place, complemented if the child is.
 #[inline(always)]
 pub(crate) fn resolve(answers: &[Refs], child: PackedChild) -> Ref
     requires { (r : RefValue) × ResolvesTo answers.now child r }
@@ -79,7 +82,7 @@ pub(crate) fn resolve(answers: &[Refs], child: PackedChild) -> Ref
     }
 }
 
-/// A level that is to be reduced: the children of its requests, part by part, and the answers that are known.
+/// A level that is to be reduced: the children of its requests, by part, and the diagrams of the levels below it.
 #[derive(Clone, Copy)]
 pub(crate) struct LevelToReduce<'a> {
     pub(crate) parts: &'a [Rows],
@@ -88,7 +91,7 @@ pub(crate) struct LevelToReduce<'a> {
 }
 
 impl<'a> LevelToReduce<'a> {
-    /// How many requests it has, modulo 2^64.
+    /// Returns the number of its requests, modulo 2^64.
     pub(crate) fn len(&self) -> u64
         requires { All (λ rows. self.now.number < length rows) self.now.parts.now }
         ensures { result ≡ length (children_of self.now) % 2 ^ 64 }
@@ -101,7 +104,7 @@ impl<'a> LevelToReduce<'a> {
     }
 }
 
-/// Adds the answers of a level's requests, part by part.
+/// Makes the diagrams of a level's requests on this thread, one after the other, and adds them to `own`.
 fn reduce_level(
     store: &mut Store,
     level: &LevelToReduce<'_>,
@@ -135,10 +138,10 @@ fn reduce_level(
     Ok(())
 }
 
-/// A level with fewer requests is reduced on the caller's thread: to start the threads that share it takes as long.
+/// A level with fewer requests is reduced on the caller's thread, because to start threads would take as long.
 const FEWEST_SHARED: u64 = 4096;
 
-/// Adds the answers of a level's requests, by threads where there are many, in several parts.
+/// Makes the diagrams of a level's requests: by threads if there are several parts and many requests.
 fn answer_level<R: Threads + Sync, G: Monitor>(
     crew: &Crew<'_, R, G>,
     store: &mut Store,
@@ -161,8 +164,8 @@ fn answer_level<R: Threads + Sync, G: Monitor>(
     Ok(())
 }
 
-/// Adds the answers of a level that has requests, and sees that the store is within its limit: Full comes first where it is past that,
-/// whatever else befell.
+/// Makes the diagrams of a level that has requests, and checks that the store is within its limit. If it is not, the
+/// fault is Full, whatever else has failed.
 fn reduce_at<R: Threads + Sync, G: Monitor>(
     crew: &Crew<'_, R, G>,
     store: &mut Store,
@@ -182,7 +185,7 @@ fn reduce_at<R: Threads + Sync, G: Monitor>(
     ensures within { OnOk result (count_of store.new ≤ store.new.limit) }
     ensures memory { result ≡ Err WaveFault.OutOfMemory → count_of store.new ≤ store.new.limit }
 {
-    // the level's own list is taken out, since the lists below it are read meanwhile
+    // The level's own list is moved out, because the lists of the levels below are borrowed meanwhile.
     let fresh = Refs::new(crew.alloc);
     let mut own = mem::replace(&mut up.answers[number as usize], fresh);
     let level = LevelToReduce {
@@ -205,8 +208,9 @@ fn reduce_at<R: Threads + Sync, G: Monitor>(
     done
 }
 
-/// Adds the answers of the levels before `from` that have children, and sees after each that the store is within its limit. A level that
-/// has its answers is left by its children. What is said holds of all requests of which these are the children.
+/// Makes the diagrams of all requests of the levels before `from`, from the last of them up, and checks after each
+/// level that the store is within its limit. A level's children are removed once it has its diagrams. The clauses hold
+/// for every list of requests that have these children.
 pub fn reduce<R: Threads + Sync, G: Monitor>(
     crew: &Crew<'_, R, G>,
     store: &mut Store,
@@ -234,6 +238,7 @@ pub fn reduce<R: Threads + Sync, G: Monitor>(
         → IfErr result (λ e. IsWaveFault store.old entries store.new e) }
     ensures never_no_worker { IfErr result (λ e. e ≢ WaveFault.NoWorker) }
     ensures never_too_many_requests { IfErr result (λ e. e ≢ WaveFault.TooManyRequests) }
+    ensures never_stopped { IfErr result (λ e. e ≢ WaveFault.Stopped) }
     ensures memory { result ≡ Err WaveFault.OutOfMemory → count_of store.new ≤ store.new.limit }
 {
     let mut end = from;
@@ -245,7 +250,7 @@ pub fn reduce<R: Threads + Sync, G: Monitor>(
     Ok(())
 }
 
-/// The answers of the roots.
+/// Returns the diagrams of the roots.
 pub fn root_answers(
     alloc: Global,
     roots: &[PackedChild],

@@ -1,5 +1,5 @@
-//! Waves by threads: the diagrams of a list of requests (Ochi, Yasuoka and Yajima 1993).
-ghost use Rattle.std.specs.Prelude.{◌≡◌, ◌≢◌, ◌<◌, ◌≤◌, ◌-◌, ◌^◌, All, Err, IfErr, OnOk};
+//! Waves by workers: the diagrams of a list of requests (Ochi, Yasuoka and Yajima 1993).
+ghost use Rattle.std.specs.Prelude.{◌≡◌, ◌≢◌, ◌<◌, ◌≤◌, ◌-◌, ◌^◌, true, All, Err, IfErr, OnOk};
 ghost use Rattle.dd_store.specs.Nodes.{count_of};
 ghost use Rattle.req_table.specs.Keys.{IsKey};
 ghost use Rattle.expand_work.specs.Bounds.{AreFew};
@@ -16,7 +16,8 @@ use std::marker::Model;
 use std::sync::Wait;
 use std::thread::Threads;
 
-/// The memory of waves by threads, between two of them. Contracts see how many requests the workers have expanded in it, modulo 2^64.
+/// The memory of waves by workers, which lasts from wave to wave. Contracts see only how many requests the workers have
+/// expanded, modulo 2^64.
 #[derive(Drop)]
 pub struct WaveMemory {
     spaces: MemoryPool,
@@ -32,7 +33,7 @@ impl Model for WaveMemory {
 }
 
 impl WaveMemory {
-    /// No memory yet.
+    /// Returns memory that is empty.
     pub fn new(alloc: Global) -> WaveMemory
         ensures { result ≡ 0 }
     {
@@ -42,7 +43,7 @@ impl WaveMemory {
         }
     }
 
-    /// How many requests the workers have expanded in all these waves.
+    /// Returns how many requests the workers have expanded in all these waves, modulo 2^64.
     pub fn expanded(&self) -> u64
         ensures { result ≡ self.now }
     {
@@ -50,7 +51,7 @@ impl WaveMemory {
     }
 }
 
-/// The diagram of each root, by reduction of what the workers recorded: each child is told by its place first.
+/// Returns the diagram of each root: gives each child its place, and reduces what the workers have recorded.
 fn answer_parts<R: Threads + Sync, G: Monitor>(
     crew: &Crew<'_, R, G>,
     store: &mut Store,
@@ -63,12 +64,13 @@ fn answer_parts<R: Threads + Sync, G: Monitor>(
     ensures wave { AnswersWave store.old (entries_for roots.now) (entries_for roots.now) result store.new }
     ensures never_no_worker { IfErr result (λ e. e ≢ WaveFault.NoWorker) }
     ensures never_too_many_requests { IfErr result (λ e. e ≢ WaveFault.TooManyRequests) }
+    ensures never_stopped { IfErr result (λ e. e ≢ WaveFault.Stopped) }
     ensures memory { count_of store.old ≤ store.old.limit → result ≡ Err WaveFault.OutOfMemory → count_of store.new ≤ store.new.limit }
     ensures expanded { wave_memory.new ≡ wave_memory.old }
 {
     let levels = store.levels();
     let alloc = crew.alloc;
-    let _ = crew.workers.count();
+    let _ = crew.workers.count(); // For the proof.
     let (rows, notes) = parts.open();
     let Ok((mut rows, placed)) = number_all(crew.rt, alloc, store, &notes, roots, rows) else {
         return Err(WaveFault::OutOfMemory);
@@ -91,14 +93,17 @@ fn answer_parts<R: Threads + Sync, G: Monitor>(
     Ok(answers)
 }
 
-/// The diagram of each request, without a computed table.
+/// Returns the diagram of each request. No computed table is used.
 ///
-/// The requests, and all that they ask for, are expanded by workers in threads, and reduced from the last level up (Ochi,
-/// Yasuoka and Yajima 1993). `most` is the most requests that the workers may expand; the greatest number bounds nothing.
+/// The requests, and all that they ask for, are expanded by workers in threads, and reduced from the last level up
+/// (Ochi, Yasuoka and Yajima 1993). `most` is the most requests that the workers may expand, or the greatest number for
+/// no bound.
 ///
-/// NoWorker is answered if a worker's thread could not be started, and if the requests are more than the most; then nothing is
-/// reduced. If a thread cannot be started in a reduction, the caller's thread does its work. All of it is done in the memory of an
-/// earlier wave as far as there is some, and leaves its own for the next; after a refusal the workers' is given back.
+/// Fails with NoWorker if a worker's thread could not be started or if there are more requests than `most`, and with
+/// Stopped if the run has stopped before the workers have done their part; in these cases nothing was reduced. A
+/// reduction is not stopped, and if a thread cannot be started in it, the caller's thread does that thread's work.
+/// Fails with Full as `reduce` does, and with OutOfMemory. The memory of earlier waves is used; after a failure that of
+/// the workers is given back.
 pub fn wave_by_workers<R: Threads + Wait + Sync, G: Monitor>(
     crew: &Crew<'_, R, G>,
     store: &mut Store,
@@ -113,9 +118,10 @@ pub fn wave_by_workers<R: Threads + Wait + Sync, G: Monitor>(
     ensures wave_memory { result ≡ Err WaveFault.NoWorker → wave_memory.new ≡ wave_memory.old }
     ensures expanded { OnOk result (HaveExpanded store.old crew.now.workers.count roots.now wave_memory.old wave_memory.new) }
     ensures never_too_many_requests { IfErr result (λ e. e ≢ WaveFault.TooManyRequests) }
+    ensures stopped { result ≡ Err WaveFault.Stopped → (G.bound crew.now.monitor.now).stops ≡ true }
     ensures memory { count_of store.old ≤ store.old.limit → result ≡ Err WaveFault.OutOfMemory → count_of store.new ≤ store.new.limit }
 {
-    let _ = store.levels();
+    let _ = store.levels(); // For the proof.
     let (parts, _) = expand_parts(crew, store, roots, most, &mut wave_memory.spaces)?;
     answer_parts(crew, store, roots, parts, wave_memory)
 }

@@ -1,5 +1,6 @@
-//! A level with many requests, which threads reduce in three steps: each reads a part's children and divides the pairs of
-//! their diagrams by shard, the store makes the nodes of all pairs, and each picks its part's diagrams. No pair is sought twice.
+//! A level with many requests, which threads reduce in three steps: each reads a part's children
+//! and divides the pairs of their diagrams by shard; the store makes the nodes of all pairs; and
+//! each picks its part's diagrams. Each pair is searched for once.
 ghost use Rattle.std.specs.Prelude.{List};
 ghost use Rattle.dd_store.specs.Nodes.{IsSound};
 ghost use Rattle.req_table.specs.declared.Key.{Key};
@@ -22,8 +23,8 @@ fn keep_read(spare: &mut ListPool, parts: Vec<Vec<Vec<(Ref, Ref)>>>, origins: Ve
     }
 }
 
-/// Puts the answers of a level's requests into the memory of `own`, the parts' one behind the other; missing nodes are made. What is said
-/// holds of all requests of which the level's children are the children.
+/// Makes the diagrams of a level's requests by threads, and puts them into `own`, those of the parts one after the
+/// other. The clauses hold for every list of requests that have these children.
 pub(crate) fn share_level<R: Threads + Sync, G: Monitor>(
     crew: &Crew<'_, R, G>,
     store: &mut Store,

@@ -1,15 +1,15 @@
-//! Reports by an order that is found, and what is told where none is.
+//! Reports in an order that was found, and what is reported if none is.
 use crate::devices::{End, new_writer};
 use crate::failing::AMPLE;
 use check_report::{
     Candidate, CheckFault, Context, Difference, PairFilter, Settings, Strategy, check,
 };
 use expand_work::{NoMonitor, WaveFault};
-use net_bench::device::StdDevice;
-use net_order::order::{Match, Order};
+use net_names::order::{Match, Order};
 use std::sync::Wait;
 use std::test::Fail;
 use std::thread::Threads;
+use text_device::StdDevice;
 
 static CROSSED: &str =
     "INPUT(a1)\nINPUT(b2)\nINPUT(c3)\nOUTPUT(o)\nx = XOR(b2, c3, a1)\nn = NOT(c3)\no = AND(x, n)\n";
@@ -26,7 +26,7 @@ static INTERLEAVED: &str =
 static MSB_FIRST: &str =
     "DIFFER o at c3=0 b2=0 a1=1 first=1 second=0\n0 equal, 1 different, 0 unmatched\n";
 
-/// A pattern shows a difference, which is made small.
+/// A pattern shows a difference, which was made small.
 static NOT_THE_LEAST: &str =
     "DIFFER o at a1=0 b2=1 c3=0 first=1 second=0 (may not be the least)\n0 equal, 1 different, 0 unmatched\n";
 
@@ -64,7 +64,7 @@ fn reported<R: AllocGlobal + Threads + Wait + Sync>(
     Ok(out.written)
 }
 
-// The first order that is tried is another than the declared one, and the least difference in it another assignment.
+// The first order that is tried is not the declared one, and the least difference in it is another assignment.
 #[test]
 fn found_order_and_declared_report(rt: HostRuntime) -> Result<(), Fail> {
     for (order, wanted) in [
@@ -82,7 +82,7 @@ fn found_order_and_declared_report(rt: HostRuntime) -> Result<(), Fail> {
     Ok(())
 }
 
-// Three variables alone are three nodes.
+// Three variables need three nodes by themselves, so no order fits within one node.
 #[test]
 fn no_order_is_found(rt: HostRuntime) -> Result<(), Fail> {
     assert!(rt; reported(&rt, Strategy::Best, 1).err() == Some(CheckFault::Wave(WaveFault::Full)));

@@ -1,11 +1,11 @@
-//! Readers and writers in memory, which fail where they are told to.
+//! Readers and writers in memory, which fail at a given place.
 ghost use Rattle.std.specs.Prelude.{◌≡◌, None, Some, false};
 
 use check_tool::terminal::TerminalSink;
-use net_bench::device::{Failed, Sink, Source};
 use std::alloc::Global;
+use text_device::{Failed, Sink, Source};
 
-/// A reader of a text that gives one byte a read, and fails behind so many reads.
+/// A reader of a text that gives one byte a read, and fails after so many reads.
 #[derive(Drop)]
 pub struct ByteReader {
     left: &'static [u8],
@@ -13,7 +13,7 @@ pub struct ByteReader {
     pub(crate) failed: bool,
 }
 
-/// A reader at the beginning of a text, which fails behind so many reads.
+/// A reader at the beginning of a text, which fails after `good_reads` reads.
 pub fn byte_reader(text: &'static str, good_reads: usize) -> ByteReader
     ensures { result.failed ≡ false }
 {
@@ -64,16 +64,16 @@ impl Source for Endless {
     }
 }
 
-/// What a writer does where its room ends.
+/// What a writer does when its room is used up.
 #[derive(Clone, Copy, Drop)]
 pub enum End {
     /// It fails.
     Fails,
-    /// It takes no byte of what it is handed.
+    /// It takes none of the bytes that it is given.
     TakesNone,
 }
 
-/// A writer that takes a few bytes at once, up to its room. Its flush may fail.
+/// A writer that takes at most seven bytes at once, as long as it has room. Its flush may fail.
 #[derive(Drop)]
 pub struct BoundedWriter {
     pub written: Vec<u8>,
@@ -85,7 +85,7 @@ pub struct BoundedWriter {
     pub(crate) seen: bool,
 }
 
-/// An empty page, which nobody sees.
+/// A writer that has written nothing, and is no terminal.
 pub fn new_writer(alloc: Global, capacity: usize, end: End, flushes: bool) -> BoundedWriter {
     BoundedWriter {
         written: Vec::new(alloc),

@@ -1,19 +1,19 @@
-//! Checks over devices that fail at each place.
+//! Comparisons over devices that fail at each place.
 use crate::devices::{BoundedWriter, ByteReader, End, Endless, byte_reader, new_writer};
 use check_report::{CheckFault, Context, Difference, PairFilter, Settings, Strategy, check};
 use expand_work::{Monitor, NoMonitor};
-use net_bench::device::Source;
 use net_bench::fault::BenchFault;
-use net_order::order::{Match, Order};
+use net_names::order::{Match, Order};
 use std::sync::Wait;
 use std::test::Fail;
 use std::thread::Threads;
+use text_device::Source;
 
 /// The smallest circuit of ISCAS-85: six NAND gates.
 pub(crate) static C17: &str =
     "INPUT(1)\nINPUT(2)\nINPUT(3)\nINPUT(6)\nINPUT(7)\nOUTPUT(22)\nOUTPUT(23)\n10 = NAND(1, 3)\n11 = NAND(3, 6)\n16 = NAND(2, 11)\n19 = NAND(11, 7)\n22 = NAND(10, 16)\n23 = NAND(16, 19)\n";
 
-/// Gate 19 reads 6 in place of 7.
+/// C17 with gate 19 reading 6 instead of 7.
 pub(crate) static C17B: &str =
     "INPUT(1)\nINPUT(2)\nINPUT(3)\nINPUT(6)\nINPUT(7)\nOUTPUT(22)\nOUTPUT(23)\n10 = NAND(1, 3)\n11 = NAND(3, 6)\n16 = NAND(2, 11)\n19 = NAND(11, 6)\n22 = NAND(10, 16)\n23 = NAND(16, 19)\n";
 
@@ -21,13 +21,13 @@ pub(crate) static C17B: &str =
 pub(crate) static REPORT: &str =
     "EQUAL 22\nDIFFER 23 at 1=0 2=0 3=0 6=0 7=1 first=1 second=0\n1 equal, 1 different, 0 unmatched\n";
 
-/// A condition that allows the first input or the second, not both.
+/// A condition that is 1 unless the first and the second input are both 1.
 static NOT_BOTH: &str = "INPUT(1)\nINPUT(2)\nOUTPUT(c)\nc = NAND(1, 2)\n";
 
-/// Enough reads or bytes for each text here.
+/// More reads, or bytes, than any text here needs.
 pub(crate) const AMPLE: usize = 1_000;
 
-/// The fault of a check by name, in the declared order, by two workers.
+/// The fault of a comparison by name, in declared order, with two workers.
 pub(crate) fn checked<R: AllocGlobal + Threads + Wait + Sync, R1: Source, R2: Source, G: Monitor>(
     rt: &R,
     first: &mut R1,
@@ -59,7 +59,7 @@ pub(crate) fn checked<R: AllocGlobal + Threads + Wait + Sync, R1: Source, R2: So
     check(&context, first, second, given, out).err()
 }
 
-/// The fault of a check of two texts without a condition.
+/// The fault of a comparison of two texts without a condition.
 fn fault_of<R: AllocGlobal + Threads + Wait + Sync, R1: Source, R2: Source>(
     rt: &R,
     first: &mut R1,
@@ -69,12 +69,12 @@ fn fault_of<R: AllocGlobal + Threads + Wait + Sync, R1: Source, R2: Source>(
     checked(rt, first, second, &mut None, &NoMonitor, out)
 }
 
-/// The text, a byte a read, all of which succeed.
+/// A reader of the text that never fails.
 pub(crate) fn good_reader(text: &'static str) -> ByteReader {
     byte_reader(text, AMPLE)
 }
 
-// A text has as many reads as bytes, and one more that tells its end.
+// A text takes as many reads as it has bytes, and one more that reports its end.
 #[test]
 fn failing_readers(rt: HostRuntime) -> Result<(), Fail> {
     let mut out = new_writer(rt.alloc(), AMPLE, End::Fails, true);
@@ -106,7 +106,7 @@ fn failing_readers(rt: HostRuntime) -> Result<(), Fail> {
     Ok(())
 }
 
-/// The fault of a check on a condition that gives so many reads.
+/// The fault of a comparison with a condition that fails after so many reads.
 fn fault_given<R: AllocGlobal + Threads + Wait + Sync>(
     rt: &R,
     reads: usize,
@@ -150,7 +150,7 @@ fn endless_readers(rt: HostRuntime) -> Result<(), Fail> {
     Ok(())
 }
 
-// A writer that fails, or takes nothing, behind each front part of the report.
+// A writer fails, or takes nothing, after each front part of the report.
 #[test]
 fn failing_writers(rt: HostRuntime) -> Result<(), Fail> {
     for capacity in 0..REPORT.len() {

@@ -1,13 +1,13 @@
-//! Pairs whose verdict is known before they are judged, and pairs that are left: differences that patterns show, pairs that are equal inside.
+//! Pairs whose verdict is known before they are judged, by patterns or since they are equal inside, and pairs that remain.
 use crate::devices::{End, new_writer};
 use crate::failing::AMPLE;
 use check_report::{CheckFault, Context, Difference, PairFilter, Settings, Strategy, check};
 use expand_work::NoMonitor;
-use net_bench::device::StdDevice;
-use net_order::order::Match;
+use net_names::order::Match;
 use std::sync::Wait;
 use std::test::Fail;
 use std::thread::Threads;
+use text_device::StdDevice;
 
 /// Which netlists are compared, and how.
 #[derive(Drop)]
@@ -64,15 +64,15 @@ fn reported<R: AllocGlobal + Threads + Wait + Sync>(
     Ok(out.written)
 }
 
-/// A sum of three, and of which two come first.
+/// A sum of three operands, and another in which other two come first.
 static SUM: &str = "INPUT(a)\nINPUT(b)\nINPUT(c)\nOUTPUT(o)\nt = XOR(a, b)\no = XOR(t, c)\n";
 
 static OTHER_SUM: &str = "INPUT(a)\nINPUT(b)\nINPUT(c)\nOUTPUT(o)\nt = XOR(b, c)\no = XOR(a, t)\n";
 
-/// The complement.
+/// The complement of the sum.
 static NO_SUM: &str = "INPUT(a)\nINPUT(b)\nINPUT(c)\nOUTPUT(o)\nt = XOR(b, c)\no = XNOR(a, t)\n";
 
-/// One assignment of twenty-four variables, which no pattern is.
+/// A function that is 1 at one assignment of 24 variables, which is no pattern.
 static RARE: &str =
     "INPUT(a)\nINPUT(b)\nINPUT(c)\nINPUT(d)\nINPUT(e)\nINPUT(f)\nINPUT(g)\nINPUT(h)\nINPUT(i)\nINPUT(j)\nINPUT(k)\nINPUT(l)\nINPUT(m)\nINPUT(n)\nINPUT(p)\nINPUT(q)\nINPUT(r)\nINPUT(s)\nINPUT(t)\nINPUT(u)\nINPUT(v)\nINPUT(w)\nINPUT(x)\nINPUT(y)\nOUTPUT(o)\nones = AND(a, c, d, g, h, i, m, q, r, t, w, x)\nzeros = NOR(b, e, f, j, k, l, n, p, s, u, v, y)\no = AND(ones, zeros)\n";
 
@@ -124,7 +124,7 @@ fn equal_inside(rt: HostRuntime) -> Result<(), Fail> {
     Ok(())
 }
 
-// A difference that a pattern shows is enough if any is asked for, and within one node it is all that is known.
+// If any difference is asked for, one that a pattern shows is enough; and within one node it is all that is known.
 #[test]
 fn differences_of_patterns(rt: HostRuntime) -> Result<(), Fail> {
     for (order, difference, limit, is_least) in [
@@ -153,7 +153,7 @@ fn differences_of_patterns(rt: HostRuntime) -> Result<(), Fail> {
     Ok(())
 }
 
-// A difference that no pattern shows is the least, and within one node it is not found.
+// A difference that no pattern shows is found as the least, and within one node not at all.
 #[test]
 fn differences_of_no_pattern(rt: HostRuntime) -> Result<(), Fail> {
     let least =
@@ -182,7 +182,7 @@ fn differences_of_no_pattern(rt: HostRuntime) -> Result<(), Fail> {
     Ok(())
 }
 
-// Where the condition fails, no difference counts; what is equal everywhere is equal under any condition.
+// No difference counts if the condition is 0 there; and what is equal everywhere is equal under any condition.
 #[test]
 fn pairs_under_a_condition(rt: HostRuntime) -> Result<(), Fail> {
     for (first, second, order, limit, wanted) in [

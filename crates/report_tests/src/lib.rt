@@ -1,9 +1,11 @@
-//! Tests of a whole check and of the program's runs, over devices that fail, with threads that meet, and of what is
-//! told meanwhile. They stand apart, since a crate with tests is proved twice. What the built program can show stands
-//! in tests/.
+//! Tests of whole comparisons and of the program's runs: over devices that fail, with threads that meet, and of what is
+//! reported meanwhile. They are a crate of their own, since a crate with tests is proved twice. What the built program
+//! can show is in tests/.
 //!
-//! **Begin** with `runs`, over a folder in memory (`memory_folder`), and `failing`, readers and writers that fail at each byte; `monitoring`,
-//! `auto`, `picks` and `known_pairs` have what attempts, patterns and merging decide, `rendezvous` the threads, `progress` and `quotations` what standard error has.
+//! **Begin** with `runs`, over a folder in memory (`memory_folder`), and `failing`, with readers and writers that fail
+//! at each byte. `monitoring`, `auto`, `picks` and `known_pairs` are about what attempts, patterns and merging decide,
+//! `stopping` about runs that are stopped, `rendezvous` about threads, and `progress` and `quotations` about standard
+//! error.
 #![tactic(auto)]
 
 #[cfg(test)]
@@ -28,3 +30,5 @@ mod quotations;
 mod rendezvous;
 #[cfg(test)]
 mod runs;
+#[cfg(test)]
+mod stopping;

@@ -1,4 +1,4 @@
-//! A folder in memory, whose files fail where they are told to.
+//! A folder in memory, whose files fail at a given place.
 ghost use Rattle.std.specs.Prelude.{◌≡◌, None, false};
 
 use crate::devices::{ByteReader, byte_reader};
@@ -6,18 +6,19 @@ use crate::failing::{AMPLE, C17, C17B};
 use check_tool::folder::{Folder, Obstacle, OpenFault};
 use std::alloc::Global;
 
-/// What becomes of the files of a folder once they were opened.
+/// What happens to the files of a folder after they were opened.
 #[derive(Clone, Copy, Drop, PartialEq, Eq)]
 pub(crate) enum AfterOpen {
     Stays,
-    /// Each file is opened once, and then gone.
+    /// Each file can be opened once, and is gone then.
     Gone,
-    /// No file is a plain one.
+    /// No path is a regular file.
     NoFile,
 }
 
-/// A folder with the files `first`, `second` and `list`, one of which may fail at its end, and `forbidden`, which memory is wanting for. It
-/// notes the paths that it is asked for, and what is saved in the file `wave`; `full` takes nothing, and no other file is made.
+/// A folder with the files `first`, `second` and `list`, one of which may fail at its end, and `forbidden`, for which
+/// there is no memory. It notes the paths that it is asked for, and what is saved in the file `wave`. `full` takes
+/// nothing, and no other file can be made.
 #[derive(Drop)]
 pub(crate) struct MemoryFolder {
     pub(crate) second: &'static str,
@@ -29,7 +30,7 @@ pub(crate) struct MemoryFolder {
 }
 
 impl MemoryFolder {
-    /// C17, C17 with another gate, and a list of their inputs.
+    /// C17, C17 with one gate changed, and a list of their inputs.
     pub(crate) fn new(alloc: Global) -> MemoryFolder {
         MemoryFolder {
             second: C17B,
@@ -41,7 +42,7 @@ impl MemoryFolder {
         }
     }
 
-    /// Whether a path was asked for before.
+    /// Whether this path was asked for before.
     fn was_asked(&self, path: &str) -> bool {
         self.asked
             .as_slice()
@@ -49,7 +50,7 @@ impl MemoryFolder {
             .any(|asked| asked == path.as_bytes())
     }
 
-    /// A file of this text.
+    /// A file with this text.
     fn file(&self, path: &str, text: &'static str) -> ByteReader
         ensures { result.failed ≡ false }
     {

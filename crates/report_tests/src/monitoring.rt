@@ -1,4 +1,4 @@
-//! What a monitor is told of a comparison, in one order, in the best, and by workers.
+//! Of what a monitor is notified in a comparison, in one order, in the best, and with workers.
 ghost use Rattle.std.specs.Prelude.{◌<◌, ◌≤◌};
 
 use crate::failing::C17;
@@ -7,17 +7,17 @@ use check_report::{
 };
 use dd_store::Watch;
 use expand_work::{AttemptEnd, Monitor};
-use net_bench::device::StdDevice;
-use net_order::order::Match;
+use net_names::order::Match;
 use std::alloc::{AllocError, Global};
 use std::sync::Wait;
 use std::sync::atomic::{AtomicU64, AtomicUsize, Ordering};
 use std::test::Fail;
 use std::thread::Threads;
+use text_device::StdDevice;
 
-/// Adds up what it is told: how often of a rank, their numbers, those of the last ranks, the nodes, the requests, the attempts that have
-/// decided, those that were given up for a wave's requests, and how often a worker came to a level. The caller's thread may have so many
-/// requests of a level.
+/// A monitor that adds up what it is notified of: how often of a rank, the numbers of these ranks and of the last
+/// ranks, the nodes, the requests, the attempts that decided, those that were given up because a wave had too many
+/// requests, and how often a worker came to a level. The caller's thread may have `caller_limit` requests of a level.
 #[derive(Drop)]
 struct CountingMonitor {
     caller_limit: usize,
@@ -32,7 +32,7 @@ struct CountingMonitor {
 }
 
 impl CountingMonitor {
-    /// One that has heard nothing.
+    /// A monitor that has not been notified of anything.
     fn new(caller_limit: usize) -> CountingMonitor {
         CountingMonitor {
             caller_limit,
@@ -87,7 +87,7 @@ impl Monitor for CountingMonitor {
     }
 }
 
-/// What a monitor was told, added up as by a listener.
+/// What a monitor was notified of, added up as by `CountingMonitor`.
 #[derive(Clone, Copy, Drop, Debug, PartialEq, Eq)]
 struct Counts {
     times: usize,
@@ -113,7 +113,7 @@ const CALLER_ONLY: WorkerSetup = WorkerSetup {
     caller_limit: usize::MAX,
 };
 
-/// What a monitor is told of the comparison of a netlist with itself, within so many nodes.
+/// Of what a monitor is notified in the comparison of a netlist with itself, within so many nodes.
 fn counts_of<R: Threads + Wait + Sync>(
     rt: &R,
     alloc: Global,
@@ -161,7 +161,7 @@ fn counts_of<R: Threads + Wait + Sync>(
     })
 }
 
-// C17 has three ranks. The limit is above the first budget, so the best order's one attempt is bounded by that.
+// C17 has three ranks. The limit is above the first budget, so the only attempt of the best order is bounded by that budget.
 #[test]
 fn counts_of_a_bounded_attempt(rt: HostRuntime) -> Result<(), Fail> {
     let single = counts_of(
@@ -185,7 +185,7 @@ fn counts_of_a_bounded_attempt(rt: HostRuntime) -> Result<(), Fail> {
     Ok(())
 }
 
-// Workers are called into the waves of an attempt, each of which has a bound, and expand the same requests.
+// Workers are called into the waves of an attempt, each of which is bounded, and expand the same requests.
 #[test]
 fn workers_in_an_attempt(rt: HostRuntime) -> Result<(), Fail> {
     let called = WorkerSetup {
@@ -205,10 +205,10 @@ fn workers_in_an_attempt(rt: HostRuntime) -> Result<(), Fail> {
 /// So many nodes are enough in each order that is tried.
 const LIMIT: u32 = 4_000;
 
-/// Each of two products compares so many pairs of inputs.
+/// How many pairs of inputs each of the two products compares.
 const COMPARED: usize = 8;
 
-/// Puts the inputs whose names begin so in, one behind the other, between two texts.
+/// Appends the inputs whose names begin with these letters, one after the other, between two texts.
 fn add_list(
     text: &mut String,
     alloc: Global,
@@ -225,8 +225,8 @@ fn add_list(
     text.push_str(back)
 }
 
-/// Two products that exclude each other, of sums of two inputs that are far apart by falling number at the end of their names, and next to
-/// each other as they are declared.
+/// Two products, which exclude each other, of sums of two inputs. By falling number at the end of their names the two
+/// inputs are far apart, and as declared they are neighbours.
 fn far_apart(alloc: Global) -> Result<String, AllocError> {
     let mut text = String::new(alloc);
     text.push_str("OUTPUT(p)\nOUTPUT(o)\nINPUT(z0)\ny = NOT(z0)\no = AND(f, g)\n")?;
@@ -250,8 +250,8 @@ fn far_apart(alloc: Global) -> Result<String, AllocError> {
     Ok(text)
 }
 
-// In the first order that is tried the nodes are within the limit, and the last wave has more than eight requests for each node of it: this
-// attempt is given up, and one in another order decides.
+// In the first order that is tried the nodes are within the limit, but the last wave has more than three requests for
+// each node of the limit. So this attempt is given up, and one in another order decides.
 #[test]
 fn requests_for_each_node(rt: HostRuntime) -> Result<(), Fail> {
     let text = far_apart(rt.alloc())?;
@@ -263,7 +263,7 @@ fn requests_for_each_node(rt: HostRuntime) -> Result<(), Fail> {
         LIMIT,
         CALLER_ONLY,
     )?;
-    assert!(rt; single.requests > 8 * LIMIT as usize);
+    assert!(rt; single.requests > 3 * LIMIT as usize);
     let best = counts_of(&rt, rt.alloc(), &text, Strategy::Best, LIMIT, CALLER_ONLY)?;
     assert!(rt; best.decided == 1 && best.wide == 1);
     Ok(())

@@ -1,4 +1,4 @@
-//! What is told of a build.
+//! What is reported while diagrams are built.
 use crate::devices::{End, byte_reader, new_writer};
 use crate::failing::AMPLE;
 use crate::memory_folder::MemoryFolder;
@@ -14,7 +14,7 @@ use std::test::Fail;
 use std::thread::Threads;
 use std::time::Duration;
 
-/// A runtime whose clock goes on by so many milliseconds at each look, and whose memory is what it was made with.
+/// A runtime whose clock is `step` milliseconds later each time that it is read, and which reports `megabytes` of memory.
 #[derive(Drop)]
 struct Ticks<'a, R> {
     rt: &'a R,
@@ -63,7 +63,7 @@ impl<R> MemoryMeter for Ticks<'_, R> {
     }
 }
 
-/// What is told by lines at so many ranks.
+/// The lines that are written at so many ranks.
 fn lines_at<R: AllocGlobal + Wait + Sync>(rt: &R, ranks: u32) -> Vec<u8> {
     let mut errors = new_writer(rt.alloc(), AMPLE, End::Fails, true);
     let ticks = Ticks::new(rt, 400, None);
@@ -94,7 +94,7 @@ fn lines_a_second(rt: HostRuntime) -> Result<(), Fail> {
     Ok(())
 }
 
-/// What is told by a line of the third rank of seven.
+/// The line that is written at the third of seven ranks.
 fn line_of_third<R: AllocGlobal + Wait + Sync>(rt: &R, megabytes: Option<u64>) -> Vec<u8> {
     let mut errors = new_writer(rt.alloc(), AMPLE, End::Fails, true);
     let ticks = Ticks::new(rt, 400, megabytes);
@@ -127,7 +127,7 @@ fn line_of_progress(rt: HostRuntime) -> Result<(), Fail> {
     Ok(())
 }
 
-/// What is told in place of two builds, the second of which comes to its end or not.
+/// What is written in place for two builds, the second of which comes to its end or not.
 fn bytes_in_place<R: AllocGlobal + Wait + Sync>(rt: &R, ends: bool) -> Vec<u8> {
     let mut errors = new_writer(rt.alloc(), AMPLE, End::Fails, true);
     let ticks = Ticks::new(rt, 400, Some(41));
@@ -144,7 +144,7 @@ fn bytes_in_place<R: AllocGlobal + Wait + Sync>(rt: &R, ends: bool) -> Vec<u8> {
     errors.written
 }
 
-// On a terminal the line is written in place, and taken away once: before the last rank, behind which a report may come, or at the end.
+// On a terminal the line is written in place, and removed once: before the last rank, after which a report may come, or at the end.
 #[test]
 fn line_in_place(rt: HostRuntime) -> Result<(), Fail> {
     let wanted =
@@ -156,7 +156,7 @@ fn line_in_place(rt: HostRuntime) -> Result<(), Fail> {
     Ok(())
 }
 
-/// What is reported in this form of patterns, some of which show differences, and of a round of merging.
+/// What is written in this form about patterns, of which some show differences, and a round of merging.
 fn patterns_and_round<R: AllocGlobal + Wait + Sync>(rt: &R, form: Form) -> Vec<u8> {
     let mut errors = new_writer(rt.alloc(), AMPLE, End::Fails, true);
     let ticks = Ticks::new(rt, 400, None);
@@ -176,7 +176,7 @@ fn patterns_and_round<R: AllocGlobal + Wait + Sync>(rt: &R, form: Form) -> Vec<u
     errors.written
 }
 
-// A terminal by itself shows only that there are differences. A name is written without control characters.
+// In place, only patterns that show differences are reported, and no rounds of merging. A name is written without control characters.
 #[test]
 fn lines_of_patterns_and_merging(rt: HostRuntime) -> Result<(), Fail> {
     for (form, wanted) in [
@@ -195,7 +195,7 @@ fn lines_of_patterns_and_merging(rt: HostRuntime) -> Result<(), Fail> {
     Ok(())
 }
 
-/// What a run says on these words, seen or not, where each rank could be told.
+/// What a run with these arguments writes on standard error, if that is a terminal or not and each rank could have a line.
 fn said_on<R: AllocGlobal + Threads + Wait + Sync>(
     rt: &R,
     line: &str,
@@ -216,7 +216,7 @@ fn said_on<R: AllocGlobal + Threads + Wait + Sync>(
     Ok((status, errors.written))
 }
 
-// Nothing is written while diagrams are built, unless more is asked for, or it is seen on a terminal.
+// Nothing is written while diagrams are built, unless `--verbose` is given, or standard error is a terminal.
 #[test]
 fn silence(rt: HostRuntime) -> Result<(), Fail> {
     for (line, seen, first) in [
@@ -246,5 +246,73 @@ fn silence(rt: HostRuntime) -> Result<(), Fail> {
 fn memory_of_the_process(rt: HostRuntime) -> Result<(), Fail> {
     let megabytes = rt.megabytes(rt.alloc());
     assert!(rt; megabytes.is_some_and(|megabytes| megabytes < 1_000_000));
+    Ok(())
+}
+
+/// The status of a run whose time is over the second time that it reads the clock, its report, and what it writes on standard error.
+fn stopped_on<R: AllocGlobal + Threads + Wait + Sync>(
+    rt: &R,
+    line: &str,
+) -> Result<(u8, Vec<u8>, Vec<u8>), Fail> {
+    let ticks = Ticks::new(rt, 2_000, None);
+    let mut out = new_writer(rt.alloc(), AMPLE, End::Fails, true);
+    let mut errors = new_writer(rt.alloc(), AMPLE, End::Fails, true);
+    let status = ran(
+        &ticks,
+        line,
+        &mut MemoryFolder::new(rt.alloc()),
+        &mut byte_reader("", 1),
+        &mut out,
+        &mut errors,
+    )?;
+    Ok((status, out.written, errors.written))
+}
+
+/// What a run writes that is stopped before its first attempt, if a pattern shows that one pair differs.
+static STOPPED: &str = "UNDECIDED 22\nDIFFER 23 at ";
+
+// Standard error has a line for a run that is stopped, before that on undecided pairs, and the report has what was known by then.
+#[test]
+fn stopped_run(rt: HostRuntime) -> Result<(), Fail> {
+    for (line, said) in [
+        (
+            "--seconds 1 first second",
+            "bddcheck: stopped after 1 second\n",
+        ),
+        (
+            "--seconds 2 --order cones first second",
+            "bddcheck: stopped after 2 seconds\n",
+        ),
+        (
+            "--seconds 2 --order merge first second",
+            "bddcheck: stopped after 2 seconds\n",
+        ),
+    ] {
+        let (status, report, errors) = stopped_on(&rt, line)?;
+        assert!(rt; status == 1, "{line}");
+        assert!(rt; report.as_slice().starts_with(STOPPED.as_bytes()), "{line}");
+        assert!(rt; errors.as_slice().starts_with(said.as_bytes()), "{line}");
+    }
+    Ok(())
+}
+
+// In a named order, and in the best one, a run that is stopped ends with a fault and without a report.
+#[test]
+fn stopped_run_in_one_order(rt: HostRuntime) -> Result<(), Fail> {
+    let said = "bddcheck: stopped after 2 seconds\nbddcheck: build: stopped before its end\n";
+    for order in ["declared", "msb-first", "best"] {
+        let line = format!(in rt.alloc(); "--seconds 2 --order {order} first second")?;
+        let (status, report, errors) = stopped_on(&rt, line.as_str())?;
+        assert!(rt; status == 3 && report.is_empty(), "{order}");
+        assert!(rt; errors.as_slice().starts_with(said.as_bytes()), "{order}");
+    }
+    Ok(())
+}
+
+// A run that ends before its time is over does not mention it.
+#[test]
+fn run_that_ends_in_time(rt: HostRuntime) -> Result<(), Fail> {
+    let (status, report, errors) = stopped_on(&rt, "--seconds 4000000 first second")?;
+    assert!(rt; status == 1 && !report.is_empty() && errors.is_empty());
     Ok(())
 }

@@ -1,4 +1,4 @@
-//! What is said after a fault: where it is, what helps, and the refused line or name.
+//! What is written after a fault: where it is, what helps, and the refused line or name.
 use crate::devices::{End, byte_reader, new_writer};
 use crate::failing::{AMPLE, C17};
 use crate::memory_folder::{AfterOpen, MemoryFolder};
@@ -28,12 +28,12 @@ static BAD_NAME: &str =
     "bddcheck: order: line 2: not a signal name\nbddcheck: list:2: a list has only names and blanks, as --print-order writes it";
 
 static UNKNOWN: &str =
-    "bddcheck: only: no such output or register\nbddcheck: first: the first netlist has no output and no register of ";
+    "bddcheck: only: no such output or register\nbddcheck: first: the first netlist has no output or register, or after NEXT no register, of ";
 
 static UNEXPLAINED: &str =
     "bddcheck: explain: no such output or register\nbddcheck: first: the first netlist has no output, or after NEXT no register, of ";
 
-/// Words, the second text, what becomes of the folder, what is said, what is shown after it, and the paths that are asked for.
+/// Arguments, the second text, what happens to the files, what is written, what is quoted after it, and the paths that are asked for.
 type Row = (
     &'static str,
     &'static str,
@@ -43,7 +43,7 @@ type Row = (
     &'static str,
 );
 
-/// The list has a name and then none. With --verbose and without it the same is said.
+/// The list has a name and then something that is none. With `--verbose` the same is written as without it.
 fn rows() -> [Row; 15] {
     let files = "--verbose first second";
     let plain = "first second";

@@ -1,4 +1,4 @@
-//! Threads that are at one place at once while a netlist is checked against itself.
+//! Threads that are at the same place at the same time while a netlist is compared with itself.
 use crate::devices::{End, new_writer};
 use crate::failing::{AMPLE, C17, C17B, REPORT, checked, good_reader};
 use dd_store::Watch;
@@ -6,7 +6,7 @@ use expand_work::Monitor;
 use std::sync::atomic::{AtomicBool, Ordering};
 use std::test::Fail;
 
-/// Two threads, each of which waits where it first comes until the other is there.
+/// A meeting of two threads, each of which waits at its first arrival until the other has arrived.
 #[derive(Drop)]
 struct Rendezvous {
     arrived: [AtomicBool; 2],
@@ -21,7 +21,7 @@ impl Rendezvous {
         }
     }
 
-    /// The first or the last of the two says that it is there, and waits for so many turns until the other is.
+    /// The first or the last of the two arrives, and waits until the other has, but only for so many turns.
     fn arrive(&self, is_last: bool) {
         let [first, last] = &self.arrived;
         let (own, other) = if is_last {
@@ -40,7 +40,7 @@ impl Rendezvous {
         self.timed_out.store(true, Ordering::SeqCst);
     }
 
-    /// Whether both were there, and neither waited in vain.
+    /// Whether both arrived, and neither waited in vain.
     fn both_arrived(&self) -> bool {
         let [first, last] = &self.arrived;
         first.load(Ordering::SeqCst)
@@ -89,7 +89,7 @@ impl Monitor for AtShards {
     }
 }
 
-/// The variables of each pair stand far apart, which makes the diagram large.
+/// The variables of each pair are far apart, which makes the diagram large.
 static PAIRS15: &str =
     "INPUT(x1)\nINPUT(x2)\nINPUT(x3)\nINPUT(x4)\nINPUT(x5)\nINPUT(x6)\nINPUT(x7)\nINPUT(x8)\nINPUT(x9)\nINPUT(x10)\nINPUT(x11)\nINPUT(x12)\nINPUT(x13)\nINPUT(x14)\nINPUT(x15)\nINPUT(y1)\nINPUT(y2)\nINPUT(y3)\nINPUT(y4)\nINPUT(y5)\nINPUT(y6)\nINPUT(y7)\nINPUT(y8)\nINPUT(y9)\nINPUT(y10)\nINPUT(y11)\nINPUT(y12)\nINPUT(y13)\nINPUT(y14)\nINPUT(y15)\nOUTPUT(o)\na1 = AND(x1, y1)\na2 = AND(x2, y2)\na3 = AND(x3, y3)\na4 = AND(x4, y4)\na5 = AND(x5, y5)\na6 = AND(x6, y6)\na7 = AND(x7, y7)\na8 = AND(x8, y8)\na9 = AND(x9, y9)\na10 = AND(x10, y10)\na11 = AND(x11, y11)\na12 = AND(x12, y12)\na13 = AND(x13, y13)\na14 = AND(x14, y14)\na15 = AND(x15, y15)\no = OR(a1, a2, a3, a4, a5, a6, a7, a8, a9, a10, a11, a12, a13, a14, a15)\n";
 

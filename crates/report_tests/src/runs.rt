@@ -1,4 +1,4 @@
-//! Runs of the program over a folder and devices in memory, which fail where they are told to.
+//! Runs of the program over a folder and devices in memory, which fail at a given place.
 use crate::devices::{BoundedWriter, ByteReader, End, byte_reader, new_writer};
 use crate::failing::{AMPLE, C17, C17B, REPORT};
 use crate::memory_folder::MemoryFolder;
@@ -10,7 +10,7 @@ use check_tool::progress::MemoryMeter;
 use check_tool::tool::{refuse, run_tool};
 use expand_work::WaveFault;
 use net_bench::fault::BenchFault;
-use net_order::order::OrderFault;
+use net_names::order::OrderFault;
 use std::alloc::{AllocError, Global};
 use std::process::Abort;
 use std::rt::Clock;
@@ -18,7 +18,7 @@ use std::sync::Wait;
 use std::test::Fail;
 use std::thread::Threads;
 
-/// The words of a line.
+/// The arguments of a line.
 fn words_of(alloc: Global, line: &str) -> Result<Vec<String>, AllocError> {
     let mut words = Vec::new(alloc);
     for word in line.split_ascii_whitespace() {
@@ -27,7 +27,7 @@ fn words_of(alloc: Global, line: &str) -> Result<Vec<String>, AllocError> {
     Ok(words)
 }
 
-/// The status of a run on the words of a line.
+/// The status of a run with the arguments of a line.
 pub(crate) fn ran<R: AllocGlobal + Clock + MemoryMeter + Threads + Wait + Sync>(
     rt: &R,
     line: &str,
@@ -40,7 +40,7 @@ pub(crate) fn ran<R: AllocGlobal + Clock + MemoryMeter + Threads + Wait + Sync>(
     Ok(run_tool(rt, words.as_slice(), folder, input, out, errors))
 }
 
-/// Words, the file that fails, the input, which fails too, the status, the line after the program's name, and what helps.
+/// Arguments, the file that fails, standard input, which fails too, the status, the line after the program's name, and what helps.
 type Row = (
     &'static str,
     &'static str,
@@ -126,7 +126,7 @@ fn files_that_fail(rt: HostRuntime) -> Result<(), Fail> {
     Ok(())
 }
 
-/// The status of a run on words, over an output of so much room; and what is said on errors of so much room.
+/// The status of a run with these arguments and this output, and what it writes on standard error, which has so much room.
 fn ended_on<R: AllocGlobal + Clock + MemoryMeter + Threads + Wait + Sync>(
     rt: &R,
     line: &str,
@@ -166,7 +166,7 @@ fn outputs_that_fail(rt: HostRuntime) -> Result<(), Fail> {
     Ok(())
 }
 
-// The status is the same where nothing can be said.
+// The status is the same if nothing can be written on standard error.
 #[test]
 fn errors_that_fail(rt: HostRuntime) -> Result<(), Fail> {
     for (line, want) in [
@@ -199,8 +199,8 @@ fn no_words(rt: HostRuntime) -> Result<(), Fail> {
     Ok(())
 }
 
-/// Faults of a check with their lines, behind the program's name, and their statuses. No run of the program ends with the last, whose gate
-/// has a bound.
+/// Faults of a comparison with their lines, after the program's name, and their statuses. No run of the program ends
+/// with the last fault: too many requests only end an attempt.
 fn check_faults() -> [(CheckFault, &'static str, u8); 5] {
     [
         (
@@ -233,7 +233,7 @@ fn check_faults() -> [(CheckFault, &'static str, u8); 5] {
     ]
 }
 
-/// Sees that a fault is told by this line, behind the program's name, and has this status.
+/// Expects that a fault is reported by this line, after the program's name, and has this status.
 fn expect_fault_line<R: AllocGlobal + Abort>(
     rt: &R,
     fault: ToolFault,
@@ -279,7 +279,7 @@ fn plain_run(rt: HostRuntime) -> Result<(), Fail> {
     Ok(())
 }
 
-/// What a run on these words writes, saves and says, with its status.
+/// What a run with these arguments writes, saves, and writes on standard error, with its status.
 fn saved_by<R: AllocGlobal + Clock + MemoryMeter + Threads + Wait + Sync>(
     rt: &R,
     line: &str,
@@ -292,7 +292,7 @@ fn saved_by<R: AllocGlobal + Clock + MemoryMeter + Threads + Wait + Sync>(
     Ok((out.written, folder.wave, errors.written, status))
 }
 
-// What the file has in full is in tests/vcd.py.
+// The whole text of the file is in tests/vcd.py.
 #[test]
 fn differences_as_vcd(rt: HostRuntime) -> Result<(), Fail> {
     let (report, wave, said, status) = saved_by(&rt, "--vcd wave --order declared first second")?;

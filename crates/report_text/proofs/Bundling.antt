@@ -1,6 +1,6 @@
 -- Buses among the variables, and their numbers, part by part.
 use Rattle.std.proofs.Common.{◌≡◌, ◌∙◌, ap, sym, refl, ℕ, suc, ◌+◌, ◌-◌, ◌<◌, arith, Bool, true, false, cond, List, [], ◌∷◌, ◌++◌, length, get_or, take, drop, add-one, drop-cons, Option, Some}
-use Rattle.std.specs.Prelude.{slice_get, count_by, flat_map}
+use Rattle.std.specs.Prelude.{slice_get, count_by}
 use Rattle.std.specs.List.{position_from}
 use Rattle.std.specs.Str.{bytes_eq}
 use Rattle.std.proofs.lemmas.Iterator.Adapters.{position_from-zero}
@@ -9,7 +9,7 @@ use Rattle.net_bench.specs.Circuit.{find}
 use Rattle.report_text.specs.Buses.{Bus, bit_name, places_from, put_before, hex_digit, hex_digits, nibble}
 use Rattle.report_text.proofs.Wording.{there}
 
--- a variable, and then the rest
+-- a variable, and those after it
 pub next_of : (vs : List (List ℕ)) (i : ℕ) (v : List ℕ) → slice_get vs i ≡ Some v → i < length vs → drop i vs ≡ v ∷ drop (i + 1) vs
 next_of vs i v e lt = rw (add-one, drop-cons vs i v, there vs i v v e) refl
 

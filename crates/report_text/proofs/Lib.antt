@@ -2,3 +2,4 @@ pub mod Written
 pub mod Wording
 pub mod Tokens
 pub mod Bundling
+pub mod BusNumbers

@@ -18,7 +18,7 @@ no_bits : (which : Option Assignment) (vs : List (List ℕ)) (ms : List Bool) �
 no_bits which [] ms = refl
 no_bits which (v ∷ vs) ms = refl
 
--- where the variables or the bits are over, nothing follows
+-- after the last variable, or the last bit, nothing follows
 pub assignment_over : (which : Option Assignment) (vs : List (List ℕ)) (bs ms : List Bool) (i : ℕ) → min (length bs) (length vs) ≤ i → assignment_tokens which (drop i vs) (drop i bs) ms ≡ []
 assignment_over which [] bs ms zero le = refl
 assignment_over which [] bs ms (suc i) le = refl
@@ -38,11 +38,11 @@ names_over [] (suc i) le = refl
 names_over (v ∷ vs) zero le = absurd (omega (arith, le))
 names_over (v ∷ vs) (suc i) le = names_over vs i (omega (arith, le))
 
--- a text is shown as it is
+-- a name that is UTF-8 is shown as it is
 pub shown_whole : (name : List ℕ) → IsUtf8 name → shown name ≡ name
 shown_whole name is = rw (is_utf8-from_IsUtf8 name is) refl
 
--- and bytes that are no text as none
+-- bytes that are no UTF-8 are shown as nothing
 pub shown_none : (name : List ℕ) → (IsUtf8 name → ⊥) → shown name ≡ []
 shown_none name not_one = by (is_utf8 name) (λ e. not_one (IsUtf8-from_is_utf8 name e))
   where
@@ -60,7 +60,7 @@ adds_more (Ok u) a b c xs ys all whole first second =
     (more.0, more.1 ∙ ap (λ z. a.tokens ++ z) (sym whole))
 adds_more (Err e) a b c xs ys all whole first second = tt
 
--- one token more
+-- one more token
 pub written : {E : Type 0} (r : Result (Unit {0}) E) (a b : Written) (t : Token) → Writes r a b t → Adds r a b (t ∷ [])
 written (Ok u) a b t w = (w.room.0, w.ok)
 written (Err e) a b t w = tt

@@ -1,16 +1,16 @@
--- The bytes of a report, part by part.
+-- The bytes of a report, part after part.
 use Rattle.std.proofs.Common.{◌≡◌, ◌∙◌, ap, sym, refl, ℕ, zero, suc, ◌+◌, ◌<◌, ◌≤◌, min, arith, Bool, true, false, List, [], ◌∷◌, ◌++◌, length, get_or, drop, append_assoc, add-one, drop-cons, Option, Some}
 use Rattle.std.specs.Prelude.{slice_get}
 use Rattle.report_text.specs.declared.assignment.Assignment.{Assignment}
 use Rattle.report_text.specs.Lines.{variable_text, assignment_text}
 
--- what stands at a place, where it is there
+-- what is at a place, if there is something
 pub there : {A : Type 0} (xs : List A) (i : ℕ) (v d : A) → slice_get xs i ≡ Some v → get_or xs i d ≡ v
 there [] i v d e = cc
 there (x ∷ xs) zero v d e = cc
 there (x ∷ xs) (suc i) v d e = there xs i v d e
 
--- a mark, and then the others
+-- a support bit, and those after it
 pub first_support_bit : (ms : List Bool) (i : ℕ) → get_or (drop i ms) 0 true ≡ get_or ms i true
 first_support_bit [] zero = refl
 first_support_bit [] (suc i) = refl
@@ -32,7 +32,7 @@ no_bits : (which : Option Assignment) (vs : List (List ℕ)) (ms : List Bool) �
 no_bits which [] ms = refl
 no_bits which (v ∷ vs) ms = refl
 
--- where the variables or the bits are over, nothing follows
+-- after the last variable, or the last bit, nothing follows
 pub assignment_over : (which : Option Assignment) (vs : List (List ℕ)) (bs ms : List Bool) (i : ℕ) → min (length bs) (length vs) ≤ i → assignment_text which (drop i vs) (drop i bs) ms ≡ []
 assignment_over which [] bs ms zero le = refl
 assignment_over which [] bs ms (suc i) le = refl
@@ -41,7 +41,7 @@ assignment_over which (v ∷ vs) [] ms (suc i) le = no_bits which (drop i vs) ms
 assignment_over which (v ∷ vs) (b ∷ bs) ms zero le = absurd (omega (arith, le))
 assignment_over which (v ∷ vs) (b ∷ bs) ms (suc i) le = assignment_over which vs bs ms i (omega (arith, le))
 
--- what was added goes from the rest to the text
+-- a part that was appended no longer belongs to the rest
 pub moved : {A : Type 0} (whole text more part rest all : List A) → text ++ all ≡ whole → all ≡ part ++ rest → more ≡ text ++ part → more ++ rest ≡ whole
 moved whole text more part rest all done split added =
     ap (λ z. z ++ rest) added ∙ append_assoc text part rest ∙ ap (λ z. text ++ z) (sym split) ∙ done

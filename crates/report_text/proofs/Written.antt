@@ -1,8 +1,8 @@
 -- One more write of a list of bytes.
 use Rattle.std.proofs.Common.{◌≡◌, ◌≢◌, ◌∙◌, ap, sym, ℕ, zero, suc, Bool, true, false, refl, ◌||◌, List, [], ◌∷◌, ◌++◌, Some, None, Option, Ok, append_assoc, append-nil}
 use Rattle.std.specs.Io.KnownBytes.{Appends, Keeps}
-use Rattle.net_bench.specs.Devices.{took_none}
-use Rattle.net_bench.specs.declared.device.Failed.{Failed}
+use Rattle.text_device.specs.Devices.{took_none}
+use Rattle.text_device.specs.declared.device.Failed.{Failed}
 
 pub appends_more : (held middle now : Option (List ℕ)) (front part bytes rest after : List ℕ) → bytes ≡ front ++ rest → rest ≡ part ++ after
     → Appends held middle front → Appends middle now part → (x : List ℕ) × (bytes ≡ x ++ after) × Appends held now x
@@ -25,17 +25,17 @@ pub none_yet : (held : Option (List ℕ)) → Appends held held []
 none_yet None = tt
 none_yet (Some held) = sym (append-nil held)
 
--- a call that has not failed leaves a device failed or not
+-- after a call that has not failed, a device has failed only if it had before
 pub still : (now before : Bool) → now ≡ (before || false) → now ≡ before
 still now true e = e
 still now false e = e
 
--- a write that took some bytes leaves a device stopped or not
+-- after a write that took some bytes, a device has stopped only if it had before
 pub goes_on : (now before : Bool) (n : ℕ) (bytes : List ℕ) → n ≢ 0 → now ≡ (before || took_none {E = Failed} (Ok n) bytes) → now ≡ before
 goes_on now before zero bytes some e = absurd (some refl)
 goes_on now before (suc n) bytes some e = still now before e
 
--- a write that took none of some bytes leaves a device stopped
+-- after a write that took none of some bytes, a device has stopped
 pub has_taken_none : (now before : Bool) (n : ℕ) (bytes : List ℕ) → n ≡ 0 → bytes ≢ [] → now ≡ (before || took_none {E = Failed} (Ok n) bytes) → now ≡ true
 has_taken_none now before zero [] none some e = absurd (some refl)
 has_taken_none now true zero (b ∷ bytes) none some e = e

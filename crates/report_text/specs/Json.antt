@@ -1,16 +1,18 @@
--- What a comparison found as one JSON object: its tokens, and their text.
+-- A report as one JSON object: its tokens, and their text.
 use Rattle.std.specs.Prelude.{◌≡◌, ℕ, zero, suc, Bool, true, false, List, [], ◌∷◌, ◌++◌, Option, Some, None, Result, OnOk, codes, decimal}
 use Rattle.std.specs.Prelude.{drop, slice_index_or, if◌then◌else◌}
 use Rattle.std.specs.Str.{is_utf8}
 use Rattle.json.specs.Print.{print}
 use Rattle.json.specs.Token.{Token, begin_object, end_object, begin_array, end_array, key, string, number, boolean}
 use Rattle.json.specs.Written.{Written}
-use Rattle.net_order.specs.declared.order.Match.{Match}
-use Rattle.net_order.specs.declared.order.Match.TheVariants.{Name, Position}
-use Rattle.net_order.specs.declared.order.Order.{Order}
-use Rattle.net_order.specs.declared.order.Order.TheVariants as orders
+use Rattle.net_names.specs.declared.order.Match.{Match}
+use Rattle.net_names.specs.declared.order.Match.TheVariants.{Name, Position}
+use Rattle.net_names.specs.declared.order.Order.{Order}
+use Rattle.net_names.specs.declared.order.Order.TheVariants as orders
+use Rattle.net_names.specs.declared.order_name.OrderName.TheVariants.{Declared, Depth, Interleave, Index, Force}
+use Rattle.net_names.specs.OrderName.{word_of_order}
 use Rattle.report_text.specs.declared.order_kind.OrderKind.{OrderKind}
-use Rattle.report_text.specs.declared.order_kind.OrderKind.TheVariants.{Declared, Depth, Interleave, Index, Force, MsbFirst, Weights, ForceGroups, File, Auto, Cones, Merge}
+use Rattle.report_text.specs.declared.order_kind.OrderKind.TheVariants.{Named, File, Auto, Cones, Merge}
 use Rattle.report_text.specs.declared.outcome.Outcome.{Outcome}
 use Rattle.report_text.specs.declared.outcome.PairKind.{PairKind}
 use Rattle.report_text.specs.declared.outcome.PairKind.TheVariants.{Output, NextState}
@@ -31,32 +33,25 @@ abbrev pub match_kind : Match → List ℕ
 match_kind Name = codes "name"
 match_kind Position = codes "position"
 
--- where an order of the variables comes from
+-- the order of the variables as a report names it
 abbrev pub kind_of : Order → OrderKind
-kind_of orders.Declared = Declared
-kind_of orders.Depth = Depth
-kind_of orders.Interleave = Interleave
-kind_of orders.Index = Index
-kind_of orders.Force = Force
+kind_of orders.Declared = Named Declared
+kind_of orders.Depth = Named Depth
+kind_of orders.Interleave = Named Interleave
+kind_of orders.Index = Named Index
+kind_of orders.Force = Named Force
 kind_of (orders.Listed names) = File
 kind_of (orders.Extended names) = File
 
--- the same as a word
+-- the same as a string
 abbrev pub order_word : OrderKind → List ℕ
-order_word Declared = codes "declared"
-order_word Depth = codes "depth"
-order_word Interleave = codes "interleave"
-order_word Index = codes "index"
-order_word Force = codes "force"
-order_word MsbFirst = codes "msb-first"
-order_word Weights = codes "weights"
-order_word ForceGroups = codes "force-groups"
+order_word (Named name) = word_of_order name
 order_word File = codes "file"
 order_word Auto = codes "auto"
 order_word Cones = codes "cones"
 order_word Merge = codes "merge"
 
--- A name as a text. The names of a netlist are ASCII, so each of them is its own text; bytes that are none have the empty one.
+-- A name as a string. The names of a netlist are ASCII, so each of them is its own text; bytes that are no UTF-8 become the empty one.
 abbrev pub shown : List ℕ → List ℕ
 shown name = if is_utf8 name then name else []
 
@@ -65,7 +60,7 @@ abbrev pub bit_token : Bool → Token
 bit_token true = number (decimal 1)
 bit_token false = number (decimal 0)
 
--- what is spoken of: an output, or the next state of a register
+-- as what a signal is compared: an output, or the next state of a register
 abbrev pub role_text : PairKind → List ℕ
 role_text Output = codes "output"
 role_text NextState = codes "next state"
@@ -77,7 +72,7 @@ side_word Second = codes "second"
 abbrev pub subject_tokens : PairKind → List ℕ → List Token
 subject_tokens role name = key (codes "of") ∷ string (role_text role) ∷ key (codes "name") ∷ string (shown name) ∷ []
 
--- sizes where they are asked for
+-- sizes, if they are asked for
 abbrev pub size_tokens : Option ℕ → List Token
 size_tokens None = []
 size_tokens (Some n) = key (codes "size") ∷ number (decimal n) ∷ []
@@ -86,16 +81,16 @@ abbrev pub sizes_tokens : Option (ℕ × ℕ) → List Token
 sizes_tokens None = []
 sizes_tokens (Some p) = key (codes "sizes") ∷ begin_array ∷ number (decimal p.0) ∷ number (decimal p.1) ∷ end_array ∷ []
 
--- a member of a difference of which it is not known that it is the least
+-- a member of a difference that may not be the least
 abbrev pub least_tokens : (least : Bool) → List Token
 least_tokens true = []
 least_tokens false = key (codes "least") ∷ boolean false ∷ []
 
--- a variable with its bit, where it is told
+-- a variable with its bit, if it is shown
 abbrev pub variable_tokens : Option Assignment → List ℕ → (bit in_support : Bool) → List Token
 variable_tokens which v b m = if is_reported which b m then key (shown v) ∷ bit_token b ∷ [] else []
 
--- each variable that is told with its bit; a variable without a mark has 1
+-- each variable that is shown, with its bit; without support bits each variable counts as being in the support
 abbrev pub assignment_tokens : Option Assignment → List (List ℕ) → (bits support_bits : List Bool) → List Token
 assignment_tokens which (v ∷ vs) (b ∷ bs) ms = variable_tokens which v b (slice_index_or ms 0 true)
     ++ assignment_tokens which vs bs (drop 1 ms)
@@ -106,12 +101,12 @@ abbrev pub numbers_tokens : List Bool → List Bus → List Token
 numbers_tokens at [] = []
 numbers_tokens at (b ∷ bs) = key (shown b.name) ∷ string (hex_text b at) ∷ numbers_tokens at bs
 
--- the buses of the variables, where words say which variables are told
+-- the buses of the variables, if it is said which variables are shown
 abbrev pub buses_in : Option Assignment → List (List ℕ) → List Bus
 buses_in None variables = []
 buses_in (Some which) variables = buses_of variables
 
--- the numbers of these buses, where words say which variables are told
+-- the numbers of these buses, if it is said which variables are shown
 abbrev pub buses_tokens : Option Assignment → List Bus → List Bool → List Token
 buses_tokens None buses at = []
 buses_tokens (Some which) buses at = key (codes "buses") ∷ begin_object ∷ (numbers_tokens at buses ++ end_object ∷ [])
@@ -120,7 +115,7 @@ buses_tokens (Some which) buses at = key (codes "buses") ∷ begin_object ∷ (n
 abbrev pub values_tokens : (first second : Bool) → List Token
 values_tokens first second = key (codes "first") ∷ bit_token first ∷ key (codes "second") ∷ bit_token second ∷ []
 
--- the members of a verdict; the variables stand by level
+-- the members of a verdict; the variables are given by level
 abbrev pub verdict_members : Option Assignment → List (List ℕ) → Verdict → List Token
 verdict_members which variables (Equal role name size) = key (codes "verdict") ∷ string (codes "EQUAL")
     ∷ (subject_tokens role name ++ size_tokens size)
@@ -146,12 +141,12 @@ names_tokens (v ∷ vs) = string (shown v) ∷ names_tokens vs
 abbrev pub settings_tokens : Match → OrderKind → List Token
 settings_tokens how kind = key (codes "match") ∷ string (match_kind how) ∷ key (codes "order") ∷ string (order_word kind) ∷ []
 
--- how many pairs are undecided, where some are
+-- how many pairs are undecided, if some are
 abbrev pub undecided_tokens : ℕ → List Token
 undecided_tokens zero = []
 undecided_tokens (suc k) = key (codes "undecided") ∷ number (decimal (suc k)) ∷ []
 
--- which share of the pairs it is, where it is of one
+-- which share of the pairs the report is of, if it is of one
 abbrev pub share_tokens : Option Share → List Token
 share_tokens None = []
 share_tokens (Some s) = key (codes "share") ∷ begin_array ∷ number (decimal s.number) ∷ number (decimal s.of) ∷ end_array ∷ []
@@ -162,7 +157,7 @@ counts_tokens o =
     ∷ number (decimal o.unmatched)
     ∷ undecided_tokens o.undecided
 
--- an array behind its key
+-- an array with its key
 abbrev pub array_tokens : List ℕ → List Token → List Token
 array_tokens name items = key name ∷ begin_array ∷ (items ++ end_array ∷ [])
 
@@ -185,33 +180,46 @@ abbrev pub caused_tokens : List Caused → List Token
 caused_tokens [] = []
 caused_tokens (c ∷ cs) = (begin_object ∷ (cause_members c ++ end_object ∷ [])) ++ caused_tokens cs
 
--- the causes, where they are asked for
+-- the causes, if they are asked for
 abbrev pub causes_tokens : Option (List Caused) → List Token
 causes_tokens None = []
 causes_tokens (Some cs) = array_tokens (codes "causes") (caused_tokens cs)
 
--- that there was a condition, where there was one
+-- whether there was a condition
 abbrev pub given_tokens : Bool → List Token
 given_tokens true = key (codes "given") ∷ boolean true ∷ []
 given_tokens false = []
 
--- the whole object: the settings, the variables, the verdicts, the counts, the causes, the share
-abbrev pub report_tokens : Option Assignment → Match → OrderKind → (given : Bool) → Option Share → Option (List Caused) → Found → List Token
-report_tokens which how kind given share causes found =
+-- whether the run was stopped before all attempts were made
+abbrev pub stopped_tokens : Bool → List Token
+stopped_tokens true = key (codes "stopped") ∷ boolean true ∷ []
+stopped_tokens false = []
+
+-- how much of all pairs a report covers: which share, if it is of one, and that the run was stopped, if it was
+abbrev pub extent_tokens : Option Share → (stopped : Bool) → List Token
+extent_tokens share stopped = share_tokens share ++ stopped_tokens stopped
+
+-- the whole object: the settings, the condition, the variables, the verdicts, the counts, the causes, the share,
+-- whether the run was stopped
+abbrev pub report_tokens : Option Assignment → Match → OrderKind → (given : Bool) → Option Share → (stopped : Bool) → Option (List Caused) → Found
+    → List Token
+report_tokens which how kind given share stopped causes found =
     begin_object ∷ (settings_tokens how kind ++ (given_tokens given ++ (array_tokens (codes "variables") (names_tokens found.variables)
     ++ (array_tokens (codes "verdicts") (verdicts_tokens which found.variables found.verdicts)
-    ++ (counts_tokens (counted found.verdicts) ++ (causes_tokens causes ++ (share_tokens share ++ end_object ∷ [])))))))
+    ++ (counts_tokens (counted found.verdicts) ++ (causes_tokens causes ++ (extent_tokens share stopped ++ end_object ∷ [])))))))
 
--- its text, on one line
-abbrev pub json_text : Option Assignment → Match → OrderKind → (given : Bool) → Option Share → Option (List Caused) → Found → List ℕ
-json_text which how kind given share causes found = print (report_tokens which how kind given share causes found) ++ 10 ∷ []
+-- the text of the object, on one line
+abbrev pub json_text : Option Assignment → Match → OrderKind → (given : Bool) → Option Share → (stopped : Bool) → Option (List Caused) → Found
+    → List ℕ
+json_text which how kind given share stopped causes found = print (report_tokens which how kind given share stopped causes found) ++ 10 ∷ []
 
--- the bytes of a report in the form that is asked for: as JSON, which tells of a condition and of causes, or as lines
-abbrev pub form_text : (json : Bool) → Option Assignment → Match → OrderKind → (given : Bool) → Option Share → Option (List Caused)
-    → Found → List ℕ
-form_text true which how kind given share causes = json_text which how kind given share causes
-form_text false which how kind given share causes = report_text which share
+-- the bytes of a report in the form that is asked for: as JSON, which also has a condition, causes, and whether the run
+-- was stopped, or as lines
+abbrev pub form_text : (json : Bool) → Option Assignment → Match → OrderKind → (given : Bool) → Option Share → (stopped : Bool)
+    → Option (List Caused) → Found → List ℕ
+form_text true which how kind given share stopped causes = json_text which how kind given share stopped causes
+form_text false which how kind given share stopped causes = report_text which share
 
--- a writer has taken these tokens, where it has taken all
+-- if there was no error, a writer has taken exactly these tokens
 abbrev pub Adds : {E : Type 0} → Result (Unit {0}) E → (old new : Written) → List Token → Type 0
 Adds r old new ts = OnOk r ((new.before ≡ old.before) × (new.tokens ≡ old.tokens ++ ts))

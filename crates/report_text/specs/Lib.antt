@@ -4,4 +4,3 @@ pub mod Buses
 pub mod Causes
 pub mod Json
 pub mod SupportBits
-pub mod Findings

@@ -1,4 +1,4 @@
--- The verdicts of a comparison, and the bytes of their lines in a report. A name is a list of bytes.
+-- Verdicts, and the bytes of their lines in a report. A name is a list of bytes.
 use Rattle.std.specs.Prelude.{ℕ, zero, suc, Bool, true, false, List, [], ◌∷◌, ◌++◌, Option, Some, None, codes, decimal, count_by, drop}
 use Rattle.std.specs.Prelude.{slice_index_or, if◌then◌else◌}
 use Rattle.report_text.specs.declared.assignment.Assignment.{Assignment}
@@ -13,7 +13,7 @@ use Rattle.report_text.specs.declared.outcome.Share.{Share}
 use Rattle.report_text.specs.SupportBits.{support_bits_of}
 use Rattle.report_text.specs.declared.verdict.Verdict.TheVariants.{Equal, Differs, Unmatched, Undecided}
 
--- What a comparison found: the variables by level, and the verdicts in the order of the report.
+-- The findings that a report shows: the variables by level, and the verdicts in the order of the report.
 pub record Found : Type 0 where
   pub variables : List (List ℕ)
   pub verdicts : List Verdict
@@ -23,48 +23,48 @@ abbrev pub bit_text : Bool → List ℕ
 bit_text true = codes "1"
 bit_text false = codes "0"
 
--- a size behind its word, where it is asked for
+-- a size after its keyword, if sizes are asked for
 abbrev pub size_text : Option ℕ → List ℕ
 size_text None = []
 size_text (Some n) = codes " size " ++ decimal n
 
--- two sizes behind their word, where they are asked for
+-- two sizes after their keyword, if sizes are asked for
 abbrev pub sizes_text : Option (ℕ × ℕ) → List ℕ
 sizes_text None = []
 sizes_text (Some p) = codes " sizes " ++ (decimal p.0 ++ (codes " " ++ decimal p.1))
 
--- whether a variable with this bit and this mark is told: each one, where nothing else is asked for
+-- whether a variable is shown, by its bit and whether a function depends on it; unless something else is asked for, each one is
 abbrev pub is_reported : Option Assignment → (bit in_support : Bool) → Bool
 is_reported None b m = true
 is_reported (Some All) b m = true
 is_reported (Some Support) b m = m
 is_reported (Some Ones) b m = b
 
--- a variable with its bit behind a space, where it is told
+-- a space and a variable with its bit, if it is shown
 abbrev pub variable_text : Option Assignment → List ℕ → (bit in_support : Bool) → List ℕ
 variable_text which v b m = if is_reported which b m then codes " " ++ (v ++ (codes "=" ++ bit_text b)) else []
 
--- what follows a difference of which it is not known that it is the least
+-- what follows a difference that may not be the least
 abbrev pub least_text : (least : Bool) → List ℕ
 least_text true = []
 least_text false = codes " (may not be the least)"
 
--- each variable that is told with its bit, a space before each; a variable without a mark has 1
+-- each variable that is shown with its bit, a space before each; without support bits each variable counts as being in the support
 abbrev pub assignment_text : Option Assignment → List (List ℕ) → (bits support_bits : List Bool) → List ℕ
 assignment_text which (v ∷ vs) (b ∷ bs) ms = variable_text which v b (slice_index_or ms 0 true) ++ assignment_text which vs bs (drop 1 ms)
 assignment_text which vs bs ms = []
 
--- the word of a netlist
+-- the keyword of a netlist
 abbrev pub side_text : Side → List ℕ
 side_text First = codes "FIRST"
 side_text Second = codes "SECOND"
 
--- a name, that of a next state behind its word
+-- a name; that of a next state has `NEXT` before it
 abbrev pub subject_text : PairKind → List ℕ → List ℕ
 subject_text Output name = name
 subject_text NextState name = codes "NEXT " ++ name
 
--- the line of a verdict, without its end; the variables stand by level
+-- the line of a verdict, without its end; the variables are given by level
 abbrev pub line_text : Option Assignment → List (List ℕ) → Verdict → List ℕ
 line_text which variables (Equal role name size) = codes "EQUAL " ++ (subject_text role name ++ size_text size)
 line_text which variables (Differs role name at first second extras) =
@@ -114,12 +114,12 @@ counted vs = record {
       count_by is_undecided vs;
 }
 
--- how many pairs are undecided, where some are
+-- how many pairs are undecided, if some are
 abbrev pub undecided_text : ℕ → List ℕ
 undecided_text zero = []
 undecided_text (suc k) = codes ", " ++ (decimal (suc k) ++ codes " undecided")
 
--- which share of the pairs a report is of, where it is of one
+-- which share of the pairs a report is of, if it is of one
 abbrev pub share_text : Option Share → List ℕ
 share_text None = []
 share_text (Some s) = codes ", share " ++ (decimal s.number ++ (codes " of " ++ decimal s.of))
@@ -130,6 +130,6 @@ counts_text share o =
     decimal o.equal ++ (codes " equal, " ++ (decimal o.different
     ++ (codes " different, " ++ (decimal o.unmatched ++ (codes " unmatched" ++ (undecided_text o.undecided ++ share_text share))))))
 
--- the bytes of the report of what a comparison found: its lines, and last their counts
+-- the bytes of a report: its lines, and last their counts
 abbrev pub report_text : Option Assignment → Option Share → Found → List ℕ
 report_text which share found = lines_text which found.variables found.verdicts ++ (counts_text share (counted found.verdicts) ++ 10 ∷ [])

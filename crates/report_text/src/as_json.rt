@@ -1,8 +1,7 @@
-//! What a comparison found as one JSON object.
+//! A report as one JSON object.
 ghost use Rattle.std.specs.Prelude.{◌≡◌, IfOk, codes, option_map};
 ghost use Rattle.report_text.specs.Json.{Adds, names_tokens, settings_tokens, given_tokens, undecided_tokens, share_tokens, counts_tokens};
-ghost use Rattle.report_text.specs.Json.{array_tokens, json_text};
-ghost use Rattle.report_text.specs.Findings.{found_of};
+ghost use Rattle.report_text.specs.Json.{array_tokens, extent_tokens, json_text, stopped_tokens};
 
 use crate::assignment::Assignment;
 use crate::cause::Cause;
@@ -12,13 +11,14 @@ use crate::json_verdicts::add_judged;
 use crate::json_words::{match_word, order_word, text_of};
 use crate::order_kind::OrderKind;
 use crate::outcome::{Outcome, Share};
-use crate::verdicts::Verdicts;
+use crate::verdict::Verdict;
+use crate::verdicts::outcome_of;
 use json::Writer;
-use net_order::names::Names;
-use net_order::order::Match;
+use net_names::names::Names;
+use net_names::order::Match;
 use std::alloc::{AllocError, Global};
 
-/// Adds the names of the variables.
+/// Appends the names of the variables.
 fn add_names(out: &mut Writer, names: &Names) -> Result<(), AllocError>
     ensures { Adds result out.old out.new (names_tokens names.now) }
 {
@@ -28,7 +28,7 @@ fn add_names(out: &mut Writer, names: &Names) -> Result<(), AllocError>
     Ok(())
 }
 
-/// Adds the variables by level.
+/// Appends the variables, by level.
 fn add_variables(out: &mut Writer, names: &Names) -> Result<(), AllocError>
     ensures { Adds result out.old out.new (array_tokens (codes "variables") (names_tokens names.now)) }
 {
@@ -38,7 +38,7 @@ fn add_variables(out: &mut Writer, names: &Names) -> Result<(), AllocError>
     out.end_array()
 }
 
-/// Adds the settings.
+/// Appends the settings: how the netlists were paired, and in which order the variables were.
 fn add_settings(out: &mut Writer, matching: Match, kind: OrderKind) -> Result<(), AllocError>
     ensures { Adds result out.old out.new (settings_tokens matching kind) }
 {
@@ -46,7 +46,7 @@ fn add_settings(out: &mut Writer, matching: Match, kind: OrderKind) -> Result<()
     add_text(out, "order", order_word(kind))
 }
 
-/// Adds that there was a condition, where there was one.
+/// Appends that there was a condition, if there was one.
 fn add_given(out: &mut Writer, given: bool) -> Result<(), AllocError>
     ensures { Adds result out.old out.new (given_tokens given) }
 {
@@ -58,7 +58,7 @@ fn add_given(out: &mut Writer, given: bool) -> Result<(), AllocError>
     }
 }
 
-/// Adds how many pairs are undecided, where some are.
+/// Appends how many pairs are undecided, if some are.
 fn add_undecided(out: &mut Writer, undecided: u64) -> Result<(), AllocError>
     ensures { Adds result out.old out.new (undecided_tokens undecided) }
 {
@@ -68,7 +68,7 @@ fn add_undecided(out: &mut Writer, undecided: u64) -> Result<(), AllocError>
     add_number(out, "undecided", undecided)
 }
 
-/// Adds the counts.
+/// Appends the counts.
 fn add_counts(out: &mut Writer, outcome: Outcome) -> Result<(), AllocError>
     ensures { Adds result out.old out.new (counts_tokens outcome) }
 {
@@ -78,7 +78,7 @@ fn add_counts(out: &mut Writer, outcome: Outcome) -> Result<(), AllocError>
     add_undecided(out, outcome.undecided)
 }
 
-/// Adds which share of the pairs it is, where it is of one.
+/// Appends which share of the pairs the report is of, if it is of one.
 fn add_share(out: &mut Writer, share: Option<Share>) -> Result<(), AllocError>
     ensures { Adds result out.old out.new (share_tokens share) }
 {
@@ -92,45 +92,70 @@ fn add_share(out: &mut Writer, share: Option<Share>) -> Result<(), AllocError>
     out.end_array()
 }
 
-/// What a report tells of a comparison besides what was found: how it pairs and orders the variables, whether there was a condition, and
-/// the share of the pairs that it is of.
+/// Appends that the run was stopped, if it was.
+fn add_stopped(out: &mut Writer, stopped: bool) -> Result<(), AllocError>
+    ensures { Adds result out.old out.new (stopped_tokens stopped) }
+{
+    if stopped {
+        out.key("stopped")?;
+        out.boolean(true)
+    } else {
+        Ok(())
+    }
+}
+
+/// Appends how much of all pairs the report covers: which share, and whether the run was stopped.
+fn add_extent(out: &mut Writer, share: Option<Share>, stopped: bool) -> Result<(), AllocError>
+    ensures { Adds result out.old out.new (extent_tokens share stopped) }
+{
+    add_share(out, share)?;
+    add_stopped(out, stopped)
+}
+
+/// What a report says of a comparison besides its findings: how signals were paired and variables ordered, whether
+/// there was a condition, of which share of the pairs it is, and whether the run was stopped before all attempts were
+/// made.
 #[derive(Clone, Copy, Drop)]
 pub struct Heading {
     pub matching: Match,
     pub kind: OrderKind,
     pub given: bool,
     pub share: Option<Share>,
+    pub stopped: bool,
 }
 
-/// What a comparison found as the text of one JSON object, on a line: the settings, that there was a condition, the variables by level,
-/// the verdicts as in the report by lines, with the numbers of buses where words say which variables an assignment tells, their counts, the
-/// causes where they are asked for, and the share that it is of. docs/report.schema.json describes it.
+/// The findings of a comparison as the text of one JSON object, on one line: the settings, whether there was a
+/// condition, the variables by level, the verdicts as in the report by lines, their counts, the causes if they are
+/// asked for, the share, and whether the run was stopped. If `which` says which variables an assignment shows, the
+/// numbers of buses are there, too. docs/report.schema.json describes it.
 pub fn json_of(
     alloc: Global,
     heading: &Heading,
     which: Option<Assignment>,
     causes: Option<&[Cause]>,
-    found: &Verdicts,
+    variables: &Names,
+    verdicts: &[Verdict],
 ) -> Result<Vec<u8>, AllocError>
     ensures { IfOk result (λ text. text.items
-        ≡ json_text which heading.now.matching heading.now.kind heading.now.given heading.now.share
-        (option_map (λ c. c.now) causes.entry) (found_of found.now)) }
+        ≡ json_text which heading.now.matching heading.now.kind heading.now.given heading.now.share heading.now.stopped
+        (option_map (λ c. c.now) causes.entry) (record { variables = variables.now; verdicts = verdicts.now })) }
 {
     let Heading {
         matching,
         kind,
         given,
         share,
+        stopped,
     } = *heading;
     let mut out = Writer::new(Vec::new(alloc));
     out.begin_object()?;
     add_settings(&mut out, matching, kind)?;
     add_given(&mut out, given)?;
-    add_variables(&mut out, found.variables())?;
-    add_judged(alloc, &mut out, which, found)?;
-    add_counts(&mut out, found.outcome())?;
+    add_variables(&mut out, variables)?;
+    add_judged(alloc, &mut out, which, variables, verdicts)?;
+    add_counts(&mut out, outcome_of(verdicts))?;
     add_causes(&mut out, causes)?;
-    add_share(&mut out, share)?;
+    add_extent(&mut out, share, stopped)?;
     out.end_object()?;
     let mut text = out.into_inner();
     text.push(b'\n')?;

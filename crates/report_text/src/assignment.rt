@@ -1,8 +1,8 @@
-//! Which variables an assignment tells.
+//! Which variables an assignment shows.
 ghost use Rattle.std.specs.Prelude.{◌≡◌, true, slice_index_or};
 ghost use Rattle.report_text.specs.Lines.{is_reported};
 
-/// Which variables an assignment tells, where that is asked for.
+/// Which variables the assignment of a difference shows, by the option `--assignment`.
 #[derive(Clone, Copy, Drop, Debug, PartialEq, Eq)]
 pub enum Assignment {
     All,
@@ -12,7 +12,8 @@ pub enum Assignment {
     Ones,
 }
 
-/// Whether a variable with this bit and this mark is told: each one, where nothing else is asked for.
+/// Whether a variable is shown, by its bit and whether a function depends on it. Unless something else is asked for,
+/// each one is.
 pub(crate) fn is_reported(which: Option<Assignment>, bit: bool, in_support: bool) -> bool
     ensures { result ≡ is_reported which bit in_support }
 {
@@ -23,7 +24,8 @@ pub(crate) fn is_reported(which: Option<Assignment>, bit: bool, in_support: bool
     }
 }
 
-/// The mark of a variable: that at its place, or 1 where none is there.
+/// Whether a function depends on the variable of this level. If support was not asked for, there are no bits, and it
+/// counts as true.
 pub(crate) fn is_supported_at(support_bits: &[bool], place: usize) -> bool
     ensures { result ≡ slice_index_or support_bits.now place true }
 {

@@ -1,14 +1,14 @@
-//! Buses: variables whose names are one name with the numbers from 0 on behind it, each in brackets.
-ghost use Rattle.std.specs.Prelude.{◌≡◌, ◌+◌, ◌<◌, ◌≤◌, ◌++◌, ◌^◌, count_by, flat_map, length, option_map, IfOk, OnOk, string_bytes};
+//! Buses: variables with one name and the numbers from 0 on after it, each in brackets, as `a[0]` and `a[1]`.
+ghost use Rattle.std.specs.Prelude.{◌≡◌, ◌+◌, ◌<◌, ◌≤◌, ◌++◌, ◌^◌, count_by, length, option_map, IfOk, OnOk, string_bytes};
 ghost use Rattle.net_bench.specs.Circuit.{find};
 ghost use Rattle.report_text.specs.Buses.{begins, bit_name, bit_of, bus_at, bus_name, bus_of, buses_of, hex_digit, hex_text, nibble};
 ghost use Rattle.report_text.specs.Buses.{places_from};
 
-use net_order::names::Names;
+use net_names::names::Names;
 use std::alloc::{AllocError, Global};
 use std::marker::Model;
 
-/// A bus: its name, and the places of its bits among the variables, bit 0 first.
+/// A bus: its name, and the levels of its bits, bit 0 first.
 #[derive(Drop)]
 pub(crate) struct Bus {
     name: Vec<u8>,
@@ -32,7 +32,7 @@ impl Bus {
     }
 }
 
-/// The name of a bit of a bus.
+/// The name of a bit of a bus, as `a[3]`.
 fn bit_name(alloc: Global, base: &[u8], bit: usize) -> Result<Vec<u8>, AllocError>
     ensures { IfOk result (λ name. name.items ≡ bit_name base.now bit) }
 {
@@ -42,7 +42,7 @@ fn bit_name(alloc: Global, base: &[u8], bit: usize) -> Result<Vec<u8>, AllocErro
     Ok(name)
 }
 
-/// The place of a name among the variables.
+/// The place of a name among the variables; None if it is none of them.
 fn place_of(names: &Names, name: &[u8]) -> Option<usize>
     ensures { result ≡ find names.now name.now }
 {
@@ -54,7 +54,7 @@ fn place_of(names: &Names, name: &[u8]) -> Option<usize>
     None
 }
 
-/// The places of the bits of a bus, from bit 0 on, as far as they are variables.
+/// The levels of the bits of a bus, from bit 0 on, up to the first that is no variable.
 fn places_of(alloc: Global, names: &Names, base: &[u8]) -> Result<Vec<usize>, AllocError>
     ensures { IfOk result (λ places. places.items ≡ places_from names.now base.now (length names.now) 0) }
 {
@@ -69,14 +69,14 @@ fn places_of(alloc: Global, names: &Names, base: &[u8]) -> Result<Vec<usize>, Al
     Ok(places)
 }
 
-/// Whether a name begins with that of a bus and a bracket.
+/// Whether a name begins with the name of a bus and a bracket.
 fn begins(base: &[u8], name: &[u8]) -> bool
     ensures { result ≡ begins base.now name.now }
 {
     name.starts_with(base) && base.len() < name.len() && name[base.len()] == b'['
 }
 
-/// How many names begin so.
+/// How many variables' names do.
 fn begun(names: &Names, base: &[u8]) -> usize
     ensures { result ≡ count_by (begins base.now) names.now }
 {
@@ -89,7 +89,7 @@ fn begun(names: &Names, base: &[u8]) -> usize
     count
 }
 
-/// The bus of a name, where all variables whose names begin with it and a bracket are its bits.
+/// The bus of a name, if all variables whose names begin with it and a bracket are its bits; otherwise None.
 fn bus_of(alloc: Global, names: &Names, base: &[u8]) -> Result<Option<Bus>, AllocError>
     ensures { IfOk result (λ bus. bus ≡ bus_of names.now base.now) }
 {
@@ -101,14 +101,14 @@ fn bus_of(alloc: Global, names: &Names, base: &[u8]) -> Result<Option<Bus>, Allo
     Ok(Some(Bus { name, places }))
 }
 
-/// The name of the bus whose bit 0 has this name.
+/// The name of the bus whose bit 0 has this name; None if this is no name of a bit 0.
 fn bus_name(name: &[u8]) -> Option<&[u8]>
     ensures { option_map (λ s. s.now) result ≡ bus_name name.now }
 {
     name.strip_suffix(b"[0]".as_slice())
 }
 
-/// Adds the bus whose bit 0 has this name, where there is one.
+/// Appends the bus whose bit 0 has this name, if there is one.
 fn add_bus(
     alloc: Global,
     buses: &mut Vec<Bus>,
@@ -126,7 +126,7 @@ fn add_bus(
     Ok(())
 }
 
-/// The buses of the variables, by the places of their bits 0. Time is quadratic in the variables.
+/// The buses of the variables, in the order of their bits 0. Time is quadratic in the number of variables.
 pub(crate) fn buses_of(alloc: Global, names: &Names) -> Result<Vec<Bus>, AllocError>
     ensures { IfOk result (λ buses. buses.items ≡ buses_of names.now) }
 {
@@ -137,7 +137,7 @@ pub(crate) fn buses_of(alloc: Global, names: &Names) -> Result<Vec<Bus>, AllocEr
     Ok(buses)
 }
 
-/// A bit of a bus at an assignment, as a number; 0 behind the last.
+/// A bit of a bus at an assignment, as a number; 0 beyond the last bit.
 fn bit_of(bus: &Bus, at: &[bool], bit: usize) -> u8
     ensures value { result ≡ bit_of bus.now at.now bit }
     ensures small { result ≤ 1 }
@@ -151,7 +151,7 @@ fn bit_of(bus: &Bus, at: &[bool], bit: usize) -> u8
     }
 }
 
-/// The number of four bits of a bus at an assignment.
+/// The number of four bits of a bus at an assignment, the bits 4 * digit to 4 * digit + 3.
 fn nibble(bus: &Bus, at: &[bool], digit: usize) -> u8
     requires { digit < 2 ^ 62 }
     ensures value { result ≡ nibble bus.now at.now digit }
@@ -164,7 +164,7 @@ fn nibble(bus: &Bus, at: &[bool], digit: usize) -> u8
         + 8 * bit_of(bus, at, low + 3)
 }
 
-/// The digit of a number below sixteen.
+/// The hexadecimal digit of a number below sixteen.
 fn hex_digit(number: u8) -> u8
     requires { number < 16 }
     ensures digit { result ≡ hex_digit number }
@@ -177,7 +177,7 @@ fn hex_digit(number: u8) -> u8
     }
 }
 
-/// The number of a bus at an assignment, by digits of four bits.
+/// The number of a bus at an assignment, as `0x` and a hexadecimal digit for each four bits.
 pub(crate) fn hex_of(alloc: Global, bus: &Bus, at: &[bool]) -> Result<String, AllocError>
     ensures { IfOk result (λ text. string_bytes text ≡ hex_text bus.now at.now) }
 {

@@ -1,18 +1,18 @@
-//! Why pairs differ, said once for all that have it in common.
+//! Causes: inner signals at which differences begin, each with all pairs that it explains.
 ghost use Rattle.std.specs.Prelude.{◌≡◌};
 
 use crate::outcome::PairKind;
 use crate::verdict::Name;
 use std::marker::Model;
 
-/// What a verdict is on: an output of the first netlist, or the next state of one of its registers.
+/// A pair that a verdict is about: an output of the first netlist, or the next state of one of its registers.
 #[derive(Drop)]
 pub struct PairName {
     pub role: PairKind,
     pub name: Name,
 }
 
-/// A cause: an inner signal of the first netlist, and the pairs of which it is the first that differs.
+/// A cause: an inner signal of the first netlist, and the pairs of which it is the first inner signal that differs.
 #[derive(Drop)]
 pub struct Cause {
     signal: Name,
@@ -30,7 +30,8 @@ impl Model for Cause {
 }
 
 impl Cause {
-    /// The cause of these pairs: a signal, with the lines of its gate in the first text and of that of its name in the second.
+    /// The cause of these pairs: a signal, with the line of its gate in the first text and that of the gate of the same
+    /// name in the second.
     pub fn of(signal: Name, lines: (u32, u32), pairs: Vec<PairName>) -> Cause
         ensures { result ≡ record { signal = signal; first_line = lines.0; second_line = lines.1; pairs = pairs.items } }
     {

@@ -1,5 +1,5 @@
-//! The causes of a comparison as an array of objects.
-ghost use Rattle.std.specs.Prelude.{◌≡◌, ◌∷◌, [], codes, option_map};
+//! The causes of a comparison as an array of JSON objects.
+ghost use Rattle.std.specs.Prelude.{◌∷◌, [], codes, option_map};
 ghost use Rattle.report_text.specs.Json.{Adds, array_tokens, cause_members, caused_tokens, causes_tokens, lines_tokens, pairs_tokens};
 
 use crate::cause::{Cause, PairName};
@@ -8,7 +8,7 @@ use crate::json_words::text_of;
 use json::Writer;
 use std::alloc::AllocError;
 
-/// Adds the object of a pair.
+/// Appends the object of a pair.
 fn add_pair(out: &mut Writer, pair: &PairName) -> Result<(), AllocError>
     ensures { Adds result out.old out.new (pairs_tokens (pair.now ∷ [])) }
 {
@@ -17,7 +17,7 @@ fn add_pair(out: &mut Writer, pair: &PairName) -> Result<(), AllocError>
     out.end_object()
 }
 
-/// Adds the objects of pairs.
+/// Appends the objects of pairs.
 fn add_each_pair(out: &mut Writer, pairs: &[PairName]) -> Result<(), AllocError>
     ensures { Adds result out.old out.new (pairs_tokens pairs.now) }
 {
@@ -27,7 +27,7 @@ fn add_each_pair(out: &mut Writer, pairs: &[PairName]) -> Result<(), AllocError>
     Ok(())
 }
 
-/// Adds the pairs of a cause.
+/// Appends the pairs of a cause.
 fn add_pairs(out: &mut Writer, pairs: &[PairName]) -> Result<(), AllocError>
     ensures { Adds result out.old out.new (array_tokens (codes "pairs") (pairs_tokens pairs.now)) }
 {
@@ -37,7 +37,7 @@ fn add_pairs(out: &mut Writer, pairs: &[PairName]) -> Result<(), AllocError>
     out.end_array()
 }
 
-/// Adds the lines of two gates.
+/// Appends the lines of two gates.
 fn add_lines(out: &mut Writer, lines: (u32, u32)) -> Result<(), AllocError>
     ensures { Adds result out.old out.new (lines_tokens lines.0 lines.1) }
 {
@@ -49,7 +49,7 @@ fn add_lines(out: &mut Writer, lines: (u32, u32)) -> Result<(), AllocError>
     out.end_array()
 }
 
-/// Adds the members of a cause.
+/// Appends the members of a cause.
 fn add_members(out: &mut Writer, cause: &Cause) -> Result<(), AllocError>
     ensures { Adds result out.old out.new (cause_members cause.now) }
 {
@@ -58,7 +58,7 @@ fn add_members(out: &mut Writer, cause: &Cause) -> Result<(), AllocError>
     add_pairs(out, cause.pairs())
 }
 
-/// Adds the object of a cause.
+/// Appends the object of a cause.
 fn add_cause(out: &mut Writer, cause: &Cause) -> Result<(), AllocError>
     ensures { Adds result out.old out.new (caused_tokens (cause.now ∷ [])) }
 {
@@ -67,7 +67,7 @@ fn add_cause(out: &mut Writer, cause: &Cause) -> Result<(), AllocError>
     out.end_object()
 }
 
-/// Adds the objects of causes.
+/// Appends the objects of causes.
 fn add_each(out: &mut Writer, causes: &[Cause]) -> Result<(), AllocError>
     ensures { Adds result out.old out.new (caused_tokens causes.now) }
 {
@@ -77,7 +77,7 @@ fn add_each(out: &mut Writer, causes: &[Cause]) -> Result<(), AllocError>
     Ok(())
 }
 
-/// Adds the causes, where they are asked for.
+/// Appends the causes, if they are asked for.
 pub(crate) fn add_causes(out: &mut Writer, causes: Option<&[Cause]>) -> Result<(), AllocError>
     ensures { Adds result out.old out.new (causes_tokens (option_map (λ c. c.now) causes.entry)) }
 {

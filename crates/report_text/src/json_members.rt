@@ -1,5 +1,5 @@
-//! Members of an object.
-ghost use Rattle.std.specs.Prelude.{◌≡◌, ◌∷◌, [], decimal};
+//! Members of a JSON object.
+ghost use Rattle.std.specs.Prelude.{◌∷◌, [], decimal};
 ghost use Rattle.json.specs.Token.{key, string, number};
 ghost use Rattle.report_text.specs.Json.{Adds, bit_token, least_tokens, subject_tokens, size_tokens, sizes_tokens, values_tokens};
 
@@ -8,7 +8,7 @@ use crate::outcome::PairKind;
 use json::Writer;
 use std::alloc::AllocError;
 
-/// Adds a member that is a text.
+/// Appends a member that is a string.
 pub(crate) fn add_text(out: &mut Writer, name: &str, text: &str) -> Result<(), AllocError>
     ensures { Adds result out.old out.new (key name.now ∷ string text.now ∷ []) }
 {
@@ -16,7 +16,7 @@ pub(crate) fn add_text(out: &mut Writer, name: &str, text: &str) -> Result<(), A
     out.string(text)
 }
 
-/// Adds a member that is a number.
+/// Appends a member that is a number.
 pub(crate) fn add_number(out: &mut Writer, name: &str, n: u64) -> Result<(), AllocError>
     ensures { Adds result out.old out.new (key name.now ∷ number (decimal n) ∷ []) }
 {
@@ -24,7 +24,7 @@ pub(crate) fn add_number(out: &mut Writer, name: &str, n: u64) -> Result<(), All
     out.u64(n)
 }
 
-/// Adds a member that is a bit.
+/// Appends a member that is a bit, as the number 0 or 1.
 pub(crate) fn add_bit(out: &mut Writer, name: &str, bit: bool) -> Result<(), AllocError>
     ensures { Adds result out.old out.new (key name.now ∷ bit_token bit ∷ []) }
 {
@@ -32,7 +32,7 @@ pub(crate) fn add_bit(out: &mut Writer, name: &str, bit: bool) -> Result<(), All
     if bit { out.u64(1) } else { out.u64(0) }
 }
 
-/// Adds what a verdict speaks of.
+/// Appends what a verdict is about.
 pub(crate) fn add_subject(out: &mut Writer, role: PairKind, name: &[u8]) -> Result<(), AllocError>
     ensures { Adds result out.old out.new (subject_tokens role name.now) }
 {
@@ -40,7 +40,7 @@ pub(crate) fn add_subject(out: &mut Writer, role: PairKind, name: &[u8]) -> Resu
     add_text(out, "name", text_of(name))
 }
 
-/// Adds a size, where it is asked for.
+/// Appends a size, if sizes are asked for.
 pub(crate) fn add_size(out: &mut Writer, size: Option<u64>) -> Result<(), AllocError>
     ensures { Adds result out.old out.new (size_tokens size) }
 {
@@ -50,7 +50,7 @@ pub(crate) fn add_size(out: &mut Writer, size: Option<u64>) -> Result<(), AllocE
     }
 }
 
-/// Adds two sizes, where they are asked for.
+/// Appends two sizes, if sizes are asked for.
 pub(crate) fn add_sizes(out: &mut Writer, sizes: Option<(u64, u64)>) -> Result<(), AllocError>
     ensures { Adds result out.old out.new (sizes_tokens sizes) }
 {
@@ -64,7 +64,7 @@ pub(crate) fn add_sizes(out: &mut Writer, sizes: Option<(u64, u64)>) -> Result<(
     out.end_array()
 }
 
-/// Adds that it is not known whether a difference is the least, if so.
+/// Appends that a difference may not be the least, if this is not known.
 pub(crate) fn add_least(out: &mut Writer, least: bool) -> Result<(), AllocError>
     ensures { Adds result out.old out.new (least_tokens least) }
 {
@@ -75,7 +75,7 @@ pub(crate) fn add_least(out: &mut Writer, least: bool) -> Result<(), AllocError>
     out.boolean(false)
 }
 
-/// Adds the values of two functions.
+/// Appends the values of two functions.
 pub(crate) fn add_values(out: &mut Writer, first: bool, second: bool) -> Result<(), AllocError>
     ensures { Adds result out.old out.new (values_tokens first second) }
 {

@@ -1,4 +1,4 @@
-//! The verdicts of a comparison as an array of objects.
+//! The verdicts of a comparison as an array of JSON objects.
 ghost use Rattle.std.specs.Prelude.{◌≡◌, ◌∷◌, [], ◌++◌, IfOk, codes};
 ghost use Rattle.json.specs.Token.{begin_object, end_object, key};
 ghost use Rattle.report_text.specs.Json.{Adds, variable_tokens, assignment_tokens, numbers_tokens, buses_in, buses_tokens, verdict_members};
@@ -11,12 +11,11 @@ use crate::json_members::{
 };
 use crate::json_words::{side_name, text_of};
 use crate::verdict::Verdict;
-use crate::verdicts::Verdicts;
 use json::Writer;
-use net_order::names::Names;
+use net_names::names::Names;
 use std::alloc::{AllocError, Global};
 
-/// The variables of a report, which of them an assignment tells, and their buses, where words say which.
+/// How assignments are written: the variables by level, which of them are shown, and their buses if `which` is given.
 #[derive(Clone, Copy, Drop)]
 struct AssignmentLayout<'a> {
     names: &'a Names,
@@ -24,7 +23,7 @@ struct AssignmentLayout<'a> {
     buses: &'a [Bus],
 }
 
-/// Adds a variable with its bit, where it is told.
+/// Appends a variable with its bit, if it is shown.
 fn add_variable(
     out: &mut Writer,
     which: Option<Assignment>,
@@ -40,7 +39,7 @@ fn add_variable(
     Ok(())
 }
 
-/// Adds each variable that is told with its bit.
+/// Appends each variable that is shown, with its bit.
 fn add_assignment(
     out: &mut Writer,
     which: Option<Assignment>,
@@ -63,7 +62,7 @@ fn add_assignment(
     Ok(())
 }
 
-/// Adds a bus with its number.
+/// Appends a bus with its number.
 fn add_number_of(
     alloc: Global,
     out: &mut Writer,
@@ -76,7 +75,7 @@ fn add_number_of(
     add_text(out, text_of(bus.name()), number.as_str())
 }
 
-/// Adds each bus with its number.
+/// Appends each bus with its number.
 fn add_numbers(
     alloc: Global,
     out: &mut Writer,
@@ -91,7 +90,7 @@ fn add_numbers(
     Ok(())
 }
 
-/// Adds an object of buses with their numbers.
+/// Appends an object of buses with their numbers.
 fn add_numbered(
     alloc: Global,
     out: &mut Writer,
@@ -106,7 +105,7 @@ fn add_numbered(
     out.end_object()
 }
 
-/// Adds the numbers of the buses, where words say which variables are told.
+/// Appends the numbers of the buses, if `which` is given.
 fn add_buses(
     alloc: Global,
     out: &mut Writer,
@@ -121,7 +120,7 @@ fn add_buses(
     }
 }
 
-/// Adds the assignment at which two functions differ.
+/// Appends the assignment at which two functions differ.
 fn add_difference(
     out: &mut Writer,
     layout: &AssignmentLayout<'_>,
@@ -137,7 +136,7 @@ fn add_difference(
     out.end_object()
 }
 
-/// Adds the members of a verdict.
+/// Appends the members of a verdict.
 fn add_members(
     alloc: Global,
     out: &mut Writer,
@@ -181,7 +180,7 @@ fn add_members(
     }
 }
 
-/// Adds the object of a verdict.
+/// Appends the object of a verdict.
 fn add_verdict(
     alloc: Global,
     out: &mut Writer,
@@ -196,7 +195,7 @@ fn add_verdict(
     out.end_object()
 }
 
-/// Adds the verdicts.
+/// Appends the objects of verdicts.
 fn add_verdicts(
     alloc: Global,
     out: &mut Writer,
@@ -212,7 +211,7 @@ fn add_verdicts(
     Ok(())
 }
 
-/// The buses of the variables, where words say which of these are told.
+/// The buses of the variables, if `which` is given; otherwise none.
 fn buses_in(alloc: Global, which: Option<Assignment>, names: &Names) -> Result<Vec<Bus>, AllocError>
     ensures { IfOk result (λ buses. buses.items ≡ buses_in which names.now) }
 {
@@ -222,16 +221,16 @@ fn buses_in(alloc: Global, which: Option<Assignment>, names: &Names) -> Result<V
     }
 }
 
-/// Adds the verdicts as an array.
+/// Appends the array of the verdicts.
 pub(crate) fn add_judged(
     alloc: Global,
     out: &mut Writer,
     which: Option<Assignment>,
-    found: &Verdicts,
+    names: &Names,
+    verdicts: &[Verdict],
 ) -> Result<(), AllocError>
-    ensures { Adds result out.old out.new (array_tokens (codes "verdicts") (verdicts_tokens which found.now.naming.names found.now.verdicts)) }
+    ensures { Adds result out.old out.new (array_tokens (codes "verdicts") (verdicts_tokens which names.now verdicts.now)) }
 {
-    let names = found.variables();
     let buses = buses_in(alloc, which, names)?;
     let layout = AssignmentLayout {
         names,
@@ -240,6 +239,6 @@ pub(crate) fn add_judged(
     };
     out.key("verdicts")?;
     out.begin_array()?;
-    add_verdicts(alloc, out, &layout, found.as_slice())?;
+    add_verdicts(alloc, out, &layout, verdicts)?;
     out.end_array()
 }

@@ -1,12 +1,12 @@
-//! The words of a report as JSON.
+//! The strings of a report as JSON.
 ghost use Rattle.std.specs.Prelude.{◌≡◌};
 ghost use Rattle.report_text.specs.Json.{shown, match_kind, order_word, role_text, side_word};
 
 use crate::order_kind::OrderKind;
 use crate::outcome::{PairKind, Side};
-use net_order::order::Match;
+use net_names::order::Match;
 
-/// A name as a text, which it is where it is ASCII, as each name of a netlist.
+/// A name as a string. The names of a netlist are ASCII; bytes that are no UTF-8 would become the empty string.
 pub(crate) fn text_of(name: &[u8]) -> &str
     ensures { result.now ≡ shown name.now }
 {
@@ -16,7 +16,7 @@ pub(crate) fn text_of(name: &[u8]) -> &str
     }
 }
 
-/// The word of a way of pairing.
+/// The string for how signals were paired.
 pub(crate) fn match_word(matching: Match) -> &'static str
     ensures { result.now ≡ match_kind matching }
 {
@@ -26,19 +26,12 @@ pub(crate) fn match_word(matching: Match) -> &'static str
     }
 }
 
-/// The word of a kind of order.
+/// The string for the order of the variables.
 pub(crate) fn order_word(kind: OrderKind) -> &'static str
     ensures { result.now ≡ order_word kind }
 {
     match kind {
-        OrderKind::Declared => "declared",
-        OrderKind::Depth => "depth",
-        OrderKind::Interleave => "interleave",
-        OrderKind::Index => "index",
-        OrderKind::Force => "force",
-        OrderKind::MsbFirst => "msb-first",
-        OrderKind::Weights => "weights",
-        OrderKind::ForceGroups => "force-groups",
+        OrderKind::Named(name) => name.word(),
         OrderKind::File => "file",
         OrderKind::Auto => "auto",
         OrderKind::Cones => "cones",
@@ -46,7 +39,7 @@ pub(crate) fn order_word(kind: OrderKind) -> &'static str
     }
 }
 
-/// The words of what is compared.
+/// The string for what a pair is compared as.
 pub(crate) fn role_name(role: PairKind) -> &'static str
     ensures { result.now ≡ role_text role }
 {
@@ -56,7 +49,7 @@ pub(crate) fn role_name(role: PairKind) -> &'static str
     }
 }
 
-/// The word of a netlist.
+/// The string for one of the two netlists.
 pub(crate) fn side_name(side: Side) -> &'static str
     ensures { result.now ≡ side_word side }
 {

@@ -1,15 +1,15 @@
-//! The lines of a report as bytes.
-ghost use Rattle.std.specs.Prelude.{◌≡◌, ◌++◌, ℕ, List, [], ◌∷◌, None, OnOk, codes};
+//! A report as lines.
+ghost use Rattle.std.specs.Prelude.{◌≡◌, ◌++◌, [], ◌∷◌, None, OnOk, codes};
 ghost use Rattle.report_text.specs.Lines.{line_text, variable_text, assignment_text, bit_text, side_text, sizes_text, subject_text};
 ghost use Rattle.report_text.specs.Lines.{least_text, undecided_text, share_text, counts_text};
 
 use crate::assignment::{Assignment, is_reported, is_supported_at};
 use crate::outcome::{Outcome, PairKind, Share, Side};
 use crate::verdict::{Extras, Name, Verdict};
-use net_order::names::Names;
+use net_names::names::Names;
 use std::alloc::{AllocError, Global};
 
-/// What a line speaks of: as what, and by which name.
+/// What a line is about: an output or a next state, and its name.
 #[derive(Clone, Copy, Drop)]
 struct Label<'a> {
     role: PairKind,
@@ -27,14 +27,14 @@ fn label_of(role: PairKind, name: &Name) -> Label<'_>
     }
 }
 
-/// The word of a bit.
+/// The digit of a bit, 0 or 1.
 fn bit_word(bit: bool) -> &'static [u8]
     ensures { result.now ≡ bit_text bit }
 {
     if bit { b"1" } else { b"0" }
 }
 
-/// Adds a variable with its bit, behind a space.
+/// Appends a space and a variable with its bit.
 fn add_variable(text: &mut Vec<u8>, name: &[u8], bit: bool) -> Result<(), AllocError>
     ensures { OnOk result (text.new.items ≡ text.old.items ++ (codes " " ++ (name.now ++ (codes "=" ++ bit_text bit)))) }
 {
@@ -45,7 +45,7 @@ fn add_variable(text: &mut Vec<u8>, name: &[u8], bit: bool) -> Result<(), AllocE
     Ok(())
 }
 
-/// Adds a variable with its bit, where it is told.
+/// Appends a variable with its bit, if it is shown.
 fn add_if_reported(
     text: &mut Vec<u8>,
     which: Option<Assignment>,
@@ -61,7 +61,7 @@ fn add_if_reported(
     Ok(())
 }
 
-/// Adds each variable that is told with its bit.
+/// Appends each variable that is shown, with its bit.
 fn add_assignment(
     text: &mut Vec<u8>,
     which: Option<Assignment>,
@@ -84,7 +84,7 @@ fn add_assignment(
     Ok(())
 }
 
-/// Adds a name, that of a next state behind its word.
+/// Appends a name; that of a next state has `NEXT` before it.
 fn add_label(text: &mut Vec<u8>, label: Label<'_>) -> Result<(), AllocError>
     ensures { OnOk result (text.new.items ≡ text.old.items ++ subject_text label.entry.role label.entry.name.now) }
 {
@@ -96,7 +96,7 @@ fn add_label(text: &mut Vec<u8>, label: Label<'_>) -> Result<(), AllocError>
     Ok(())
 }
 
-/// Adds the line of two equal functions.
+/// Appends the line of two equal functions.
 fn add_equal(
     alloc: Global,
     text: &mut Vec<u8>,
@@ -116,7 +116,7 @@ fn add_equal(
     Ok(())
 }
 
-/// Adds the values of two functions.
+/// Appends the values of two functions.
 fn add_values(text: &mut Vec<u8>, first: bool, second: bool) -> Result<(), AllocError>
     ensures { OnOk result (text.new.items ≡ text.old.items ++ (codes " first="
         ++ (bit_text first ++ (codes " second=" ++ bit_text second)))) }
@@ -128,7 +128,7 @@ fn add_values(text: &mut Vec<u8>, first: bool, second: bool) -> Result<(), Alloc
     Ok(())
 }
 
-/// Adds two sizes, where they are asked for.
+/// Appends two sizes, if sizes are asked for.
 fn add_sizes(alloc: Global, text: &mut Vec<u8>, sizes: Option<(u64, u64)>) -> Result<(), AllocError>
     ensures { OnOk result (text.new.items ≡ text.old.items ++ sizes_text sizes) }
 {
@@ -139,7 +139,7 @@ fn add_sizes(alloc: Global, text: &mut Vec<u8>, sizes: Option<(u64, u64)>) -> Re
     Ok(())
 }
 
-/// The words that follow a difference of which it is not known that it is the least.
+/// What follows a difference that may not be the least.
 fn least_words(least: bool) -> &'static [u8]
     ensures { result.now ≡ least_text least }
 {
@@ -150,9 +150,10 @@ fn least_words(least: bool) -> &'static [u8]
     }
 }
 
-/// Where two functions differ: an assignment by level, which of its variables are told, the value of each there, and what is told besides.
+/// A difference of two functions: an assignment by level, which of its variables are shown, the value of each function
+/// there, and what is reported besides.
 #[derive(Clone, Copy, Drop)]
-struct Difference<'a> {
+struct ShownDifference<'a> {
     bits: &'a [bool],
     which: Option<Assignment>,
     first: bool,
@@ -160,13 +161,13 @@ struct Difference<'a> {
     extras: &'a Extras,
 }
 
-/// Adds the line of two different functions.
+/// Appends the line of two different functions.
 fn add_different(
     alloc: Global,
     text: &mut Vec<u8>,
     names: &Names,
     label: Label<'_>,
-    at: Difference<'_>,
+    at: ShownDifference<'_>,
 ) -> Result<(), AllocError>
     ensures { OnOk result (text.new.items ≡ text.old.items ++ (line_text at.entry.which names.now
         (Verdict.Differs label.entry.role label.entry.name.now at.entry.bits.now at.entry.first at.entry.second at.entry.extras.now) ++ 10
@@ -183,7 +184,7 @@ fn add_different(
     Ok(())
 }
 
-/// The word of a netlist.
+/// The keyword of a netlist.
 fn side_word(side: Side) -> &'static [u8]
     ensures { result.now ≡ side_text side }
 {
@@ -193,7 +194,7 @@ fn side_word(side: Side) -> &'static [u8]
     }
 }
 
-/// Adds the line of an output or a register that has no partner.
+/// Appends the line of an output or a register without a partner.
 fn add_unmatched(text: &mut Vec<u8>, side: Side, label: Label<'_>) -> Result<(), AllocError>
     ensures { OnOk result (text.new.items ≡ text.old.items ++ (line_text None [] (Verdict.Unmatched side label.entry.role label.entry.name.now)
         ++ 10 ∷ [])) }
@@ -206,7 +207,7 @@ fn add_unmatched(text: &mut Vec<u8>, side: Side, label: Label<'_>) -> Result<(),
     Ok(())
 }
 
-/// Adds the line of a pair that no attempt has decided.
+/// Appends the line of a pair that no attempt has decided.
 fn add_undecided(text: &mut Vec<u8>, label: Label<'_>) -> Result<(), AllocError>
     ensures { OnOk result (text.new.items ≡ text.old.items ++ (line_text None [] (Verdict.Undecided label.entry.role label.entry.name.now)
         ++ 10 ∷ [])) }
@@ -217,7 +218,7 @@ fn add_undecided(text: &mut Vec<u8>, label: Label<'_>) -> Result<(), AllocError>
     Ok(())
 }
 
-/// Adds the line of a verdict.
+/// Appends the line of a verdict.
 pub fn add_line(
     alloc: Global,
     text: &mut Vec<u8>,
@@ -239,7 +240,7 @@ pub fn add_line(
             second,
             extras,
         } => {
-            let at = Difference {
+            let at = ShownDifference {
                 bits: at.as_slice(),
                 which,
                 first: *first,
@@ -257,7 +258,7 @@ pub fn add_line(
     }
 }
 
-/// Adds how many pairs are undecided, where some are.
+/// Appends how many pairs are undecided, if some are.
 fn add_undecided_count(alloc: Global, text: &mut Vec<u8>, undecided: u64) -> Result<(), AllocError>
     ensures { OnOk result (text.new.items ≡ text.old.items ++ undecided_text undecided) }
 {
@@ -269,7 +270,7 @@ fn add_undecided_count(alloc: Global, text: &mut Vec<u8>, undecided: u64) -> Res
     Ok(())
 }
 
-/// Adds which share of the pairs a report is of, where it is of one.
+/// Appends which share of the pairs the report is of, if it is of one.
 fn add_share(alloc: Global, text: &mut Vec<u8>, share: Option<Share>) -> Result<(), AllocError>
     ensures { OnOk result (text.new.items ≡ text.old.items ++ share_text share) }
 {
@@ -282,7 +283,7 @@ fn add_share(alloc: Global, text: &mut Vec<u8>, share: Option<Share>) -> Result<
     Ok(())
 }
 
-/// Adds the last line.
+/// Appends the last line: how many verdicts of each kind there are.
 pub fn add_counts(
     alloc: Global,
     text: &mut Vec<u8>,

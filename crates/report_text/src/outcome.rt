@@ -1,8 +1,8 @@
-//! What a comparison compares, and what it counts.
+//! What is compared, and what is counted.
 ghost use Rattle.std.specs.Prelude.{◌≤◌};
 
-/// How many pairs of outputs and of next states are equal, how many are different, how many outputs and registers have no partner, and
-/// how many pairs no attempt has decided.
+/// How many pairs of outputs and next states are equal, how many are different, how many outputs and registers have no
+/// partner, and how many pairs no attempt has decided.
 #[derive(Clone, Copy, Drop, Debug, PartialEq, Eq)]
 pub struct Outcome {
     pub equal: u64,
@@ -11,7 +11,7 @@ pub struct Outcome {
     pub undecided: u64,
 }
 
-/// A share of the pairs, and of how many shares it is one.
+/// Share `number` of `of` shares of the pairs, counted from 1.
 #[derive(Clone, Copy, Drop, Debug, PartialEq, Eq)]
 pub struct Share {
     pub number: u32,
@@ -27,7 +27,7 @@ pub enum Side {
     Second,
 }
 
-/// What a signal is compared as.
+/// As what a signal is compared.
 #[derive(Clone, Copy, Drop, Debug, PartialEq, Eq)]
 pub enum PairKind {
     Output,

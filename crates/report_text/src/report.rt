@@ -1,28 +1,31 @@
-//! What a comparison found as the lines of a report.
+//! The report of a comparison by lines.
 ghost use Rattle.std.specs.Prelude.{◌≡◌, IfOk};
-ghost use Rattle.report_text.specs.Findings.{found_of};
 ghost use Rattle.report_text.specs.Lines.{report_text};
 
 use crate::assignment::Assignment;
 use crate::lines::{add_counts, add_line};
 use crate::outcome::Share;
-use crate::verdicts::Verdicts;
+use crate::verdict::Verdict;
+use crate::verdicts::outcome_of;
+use net_names::names::Names;
 use std::alloc::{AllocError, Global};
 
-/// The report of what a comparison found: a line for each verdict, whose assignment tells these variables, and last their counts, with the
-/// share of the pairs that it is of where that is not all.
+/// The report of these verdicts over these variables: a line for each verdict, whose assignment
+/// shows the variables that are asked for, and last their counts, with the share of the pairs if
+/// the report is not of all.
 pub fn report_of(
     alloc: Global,
     which: Option<Assignment>,
     share: Option<Share>,
-    verdicts: &Verdicts,
+    variables: &Names,
+    verdicts: &[Verdict],
 ) -> Result<Vec<u8>, AllocError>
-    ensures { IfOk result (λ text. text.items ≡ report_text which share (found_of verdicts.now)) }
+    ensures { IfOk result (λ text. text.items ≡ report_text which share (record { variables = variables.now; verdicts = verdicts.now })) }
 {
     let mut text = Vec::new(alloc);
-    for verdict in verdicts.as_slice() {
-        add_line(alloc, &mut text, which, verdicts.variables(), verdict)?;
+    for verdict in verdicts {
+        add_line(alloc, &mut text, which, variables, verdict)?;
     }
-    add_counts(alloc, &mut text, share, verdicts.outcome())?;
+    add_counts(alloc, &mut text, share, outcome_of(verdicts))?;
     Ok(text)
 }

@@ -1,4 +1,4 @@
-//! What a comparison says of one pair, or of what has no partner.
+//! A verdict: what a comparison says of one pair, or of an output or register without a partner.
 ghost use Rattle.std.specs.Prelude.{◌≡◌, IfOk};
 ghost use Rattle.report_text.specs.SupportBits.{support_bits_of};
 
@@ -67,19 +67,19 @@ impl Bits {
     }
 }
 
-/// What is reported of two different functions besides the assignment and their values.
+/// What is reported of two different functions besides an assignment and their values.
 #[derive(Debug, Drop)]
 pub struct Extras {
     /// Whether the assignment is known to be the least at which they differ.
     pub least: bool,
-    /// A mark for each variable, by level: those on which one of the two functions depends.
+    /// For each variable, by level, whether one of the two functions depends on it; None if support is not asked for.
     pub support: Option<Bits>,
-    /// The sizes of both.
+    /// The sizes of both diagrams; None if sizes are not asked for.
     pub sizes: Option<(u64, u64)>,
 }
 
 impl Extras {
-    /// The marks of the variables, none where they are not asked for.
+    /// For each variable whether one of the functions depends on it; empty if support is not asked for.
     pub(crate) fn support_bits(&self) -> &[bool]
         ensures { result.now ≡ support_bits_of self.now.support }
     {
@@ -90,16 +90,17 @@ impl Extras {
     }
 }
 
-/// What a comparison says of one pair of functions, or of what has no partner.
+/// What a comparison says of one pair of functions, or of an output or register without a partner.
 #[derive(Debug, Drop)]
 pub enum Verdict {
-    /// The two functions are equal. Their size is there where sizes are asked for.
+    /// The two functions are equal. The size of their diagram is there if sizes are asked for.
     Equal {
         role: PairKind,
         name: Name,
         size: Option<u64>,
     },
-    /// The two functions differ at this assignment, and have these values there. Unless `extras.least` is false it is the least.
+    /// The two functions differ at this assignment, and have these values there. It is the least such assignment if
+    /// `extras.least` is true.
     Differs {
         role: PairKind,
         name: Name,

@@ -1,11 +1,11 @@
-//! Writes of a whole list of bytes.
-ghost use Rattle.std.specs.Prelude.{◌≡◌, ◌≤◌, Some, OnOk, OnErr};
+//! Writing of a whole list of bytes.
+ghost use Rattle.std.specs.Prelude.{◌≡◌, OnOk, OnErr};
 ghost use Rattle.std.specs.Io.KnownBytes.{Appends};
 ghost use Rattle.report_text.specs.Writing.{AppendsFront};
 
-use net_bench::device::{Failed, Sink};
+use text_device::{Failed, Sink};
 
-/// Writes all of `bytes` and flushes. A write that takes nothing is a failure.
+/// Writes all of `bytes` and flushes. A write that takes none of the bytes is a failure, so that no device is tried forever.
 pub fn write_whole<W: Sink>(out: &mut W, bytes: &[u8]) -> Result<(), Failed>
     ensures ok { OnOk result (Appends (W.contents out.old) (W.contents out.new) bytes.now) }
     ensures kept { OnOk result ((W.has_failed out.new ≡ W.has_failed out.old) × (W.has_stopped out.new ≡ W.has_stopped out.old)) }

@@ -1,4 +1,4 @@
--- What stands in lists by level, and levels that are emptied.
+-- Lists by level: what is at a place, and levels that are emptied.
 use Rattle.std.proofs.Common.{◌≡◌, ◌≢◌, ℕ, zero, suc, ◌<◌, ◌≤◌, ◌⊎◌, inl, inr, List, [], ◌∷◌, length, set, get_or, replicate, Option, Some, None, slice_get, refl, sym, ◌∙◌, ap, subst, arith}
 use Rattle.std.proofs.Math.Nat.{eq-or-lt_of_le}
 use Rattle.std.proofs.Math.ListN.{get_or-eq_default, length-replicate}
@@ -30,7 +30,7 @@ row_own lists v xs lt = get_or-set_same lists v xs [] lt
 pub row_other : {X : Type 0} (lists : List (List X)) (v : ℕ) (xs : List X) (w : ℕ) → w ≢ v → row (set lists v xs) w ≡ row lists w
 row_other lists v xs w ne = get_or-set_other lists v w xs [] ne
 
--- a level where nothing stands is empty
+-- a level with nothing at any place is empty
 pub row_none : {X : Type 0} (lists : List (List X)) (w : ℕ) → ((q : ℕ) (x : X) → IsAtPlace lists w q x → ⊥) → row lists w ≡ []
 row_none {X} lists w none = by (row lists w) refl
   where
@@ -42,11 +42,11 @@ row_none {X} lists w none = by (row lists w) refl
 pub row_read : {X : Type 0} (lists : List (List X)) (v : ℕ) (xs : List X) → v < length lists → xs ≡ get_or lists v xs → xs ≡ row lists v
 row_read lists v xs lt e = e ∙ get_or_default lists v xs [] lt
 
--- what stands at a place stands in one of the lists
+-- what is at a place is in one of the lists
 pub in_lists : {X : Type 0} (lists : List (List X)) (l p : ℕ) (x : X) → IsAtPlace lists l p x → l < length lists
 in_lists lists l p x h = elim (cases_lt l (length lists)) [ inl lt ↦ lt | inr le ↦ absurd (at_place_none (row lists l) p x (get_or-eq_default lists [] le) h) ]
 
--- something stands at each place of a list
+-- each place of a list has something
 pub at_place_some : {X : Type 0} (xs : List X) (i : ℕ) → i < length xs → (x : X) × (slice_get xs i ≡ Some x)
 at_place_some [] i lt = absurd (omega arith)
 at_place_some (x ∷ xs) zero lt = (x, refl)

@@ -1,4 +1,4 @@
--- What a cache holds after a pair was put, and what is right for a store.
+-- What a cache holds after a pair was put, and when a computed table is right for a store.
 use Rattle.std.proofs.Common.{◌≡◌, ◌-◌, ℕ, Bool, List, ◌∷◌, inl, inr, Option, Some, None, Contains, take, refl, sym, ◌∙◌, ap, subst, IfSome, OnOk, OnErr, Result, Ok, Err, IsSome, IsOk, true≢false}
 use Rattle.std.specs.Option.{option_map, option_map_or}
 use Rattle.std.specs.Map.{lookup, lookup_entry, remove_entry}
@@ -54,7 +54,7 @@ found_in pairs k None e = tt
 found_in pairs k (Some r) e = Contains-from_lookup key_same k r pairs (sym e)
 
 -- ---- a computed table that is right for a store
--- a store that has only grown keeps it right
+-- a computed table stays right if the store only grows
 pub right_kept : (S T : Nodes) → IsSound S → KeepsNodes S T → (m : ComputedView) → IsRight S m → IsRight T m
 right_kept S T w keeps m right k r c =
     let a = right k r c in
@@ -69,7 +69,7 @@ right_kept S T w keeps m right k r c =
       );
     }
 
--- a pair that is kept is right where its answer is the key's
+-- a computed table stays right if the answer that is kept is that of its key
 pub right_with : (S : Nodes) (old : ComputedView) (k : Key) (r : Ref) (new : ComputedView) → IsRight S old → IsAnswerOf S k r → KeepsAnswer old k r new → IsRight S new
 right_with S old k r new right is (inr (none, same)) = subst (IsRight S) (sym same) right
 right_with S old k r new right is (inl first) = subst (IsRight S) (sym first) (λ l a c. by l a (computed_answer old k) c)
@@ -92,7 +92,7 @@ module _ (S : Nodes) (m : ComputedView) (right : IsRight S m) (op : Op) (f g : R
       let b : Bool = (normal_of op f g).1 in
       (of_complement (Has S) (has-negate S) b r a.diagram.0, λ x hx. den-complement_by S b r x ∙ ap (complemented b) (a.diagram.1 x hx) ∙ meaning_normal S op f g x)
 
-  -- what is known of an operation is its diagram
+  -- the answer that is known of an operation is its diagram
   pub known_value : (t : Option Ref) → terminal_of op f g ≡ t → IfSome (or_computed m (normal_of op f g) t) (IsValueOf S op f g)
   known_value None e = held_value (computed_answer m (normal_of op f g).0) (found_in m.pairs (normal_of op f g).0 (computed_answer m (normal_of op f g).0) refl)
   known_value (Some r) e =
@@ -101,7 +101,7 @@ module _ (S : Nodes) (m : ComputedView) (right : IsRight S m) (op : Op) (f g : R
       terminal_has : OnAnswer (Has S) (Some r) → Has S r
       terminal_has h = h
 
--- what is held of an operation's form is known of the operation
+-- the answer that is held for an operation's form is known of the operation
 pub made_computed : (m : ComputedView) (op : Op) (f g : Ref) {n : Key × Bool} {k : Key} {p r : Option Ref} → n ≡ form_of op f g → k ≡ in_order n.0 → p ≡ computed_answer m k → r ≡ option_map (complement_by n.1) p
     → terminal_of op f g ≡ None → r ≡ terminal_or_computed_of m op f g
 made_computed m op f g {n} {k} {p} {r} e hk hp hr long =
@@ -111,7 +111,7 @@ made_computed m op f g {n} {k} {p} {r} e hk hp hr long =
 pub made_terminal : (m : ComputedView) (op : Op) (f g : Ref) {n : Key × Bool} {a r : Ref} → n ≡ form_of op f g → Some a ≡ terminal_at n.0 → r ≡ complement_by n.1 a → Some r ≡ terminal_or_computed_of m op f g
 made_terminal m op f g {n} {a} {r} e h hr = ap (λ z. Some z) hr ∙ ap (or_computed m (normal_of op f g)) (of_form op f g {t = Some a} e h)
 
--- where nothing is known, the request is made
+-- if nothing is known of an operation, it has no terminal case
 pub not_known : (m : ComputedView) (k : Key × Bool) (t : Option Ref) → or_computed m k t ≡ None → t ≡ None
 not_known m k None e = refl
 not_known m k (Some r) e = absurd (cc)

@@ -1,4 +1,4 @@
--- What a table whose requests have eight bytes keeps, and what it has not.
+-- A table whose requests have eight bytes each: what it keeps, and what it does not have.
 use Rattle.std.proofs.Common.{ℕ, Bool, true, false, List, [], ◌∷◌, All, Contains, Ok, Err, Result, sym, subst}
 use Rattle.std.proofs.lemmas.List.Elements.{All-nil, All-cons, All-append, All-contains}
 use Rattle.std.specs.declared.alloc.AllocError.{AllocError}
@@ -14,6 +14,6 @@ kept k old new (Ok (p, true)) all fits h =
 kept k old new (Ok (p, false)) all fits h = subst (λ (z : List Key). All IsShort z) (sym h.0.1) all
 kept k old new (Err e) all fits h = subst (λ (z : List Key). All IsShort z) (sym h.0) all
 
--- a request that does not fit is not there
+-- a request that does not fit is not in the table
 pub absent_long : (k : Key) (keys : List Key) → All IsShort keys → (IsShort k → ⊥) → Contains keys k → ⊥
 absent_long k keys all lacks there = lacks (All-contains IsShort keys k all there)

@@ -1,4 +1,4 @@
--- Operands in order: they stay so, and the first operand of a request stands at the request's level.
+-- Operands in order: they stay so, and the first operand of a request is at the request's level.
 use Rattle.std.proofs.Common.{◌≡◌, ℕ, ◌≤◌, Bool, true, false, cond, refl, sym, ◌∙◌, ap, subst, arith}
 use Rattle.std.proofs.Math.Nat.{min-eq_left}
 use Rattle.std.proofs.lemmas.Bool.Decides.{nat_tests}
@@ -64,7 +64,7 @@ top_first n (Node l b) False t e = absurd t
 top_first n (Node l b) True t e = absurd t
 top_first n (Node l b) (Node m c) t e = level_first l m (nodes_first l m b c e)
 
--- the first operand of a request stands at its level
+-- the first operand of a request is at its level
 pub level_of_first : (S : Nodes) (k : Key) → IsRequest k → level_of S k ≡ top S.levels k.f
 unfolding IsInOrder
 level_of_first S k i = min-eq_left (top_first S.levels k.f k.g (two_nodes k.op k.f k.g i.long) (request_in_order k i))

@@ -1,4 +1,4 @@
--- The derived `==` of keys is equality, and what that makes of a set of keys.
+-- The derived `==` of keys is equality, and what follows for a set of keys.
 use Rattle.std.proofs.Common.{if◌then◌else◌, ◌≡◌, ◌∙◌, ℕ, ◌<◌, ◌+◌, suc, Bool, true, false, not, List, [], ◌∷◌, ◌++◌, length, take, get_or, Option, None, Some, slice_get, position, Contains, true≢false, refl, sym, ap, subst, inl, inr, arith}
 use Rattle.std.specs.List.{list_any, IsDistinct}
 use Rattle.std.specs.Option.{MatchOption, is_some}
@@ -30,7 +30,7 @@ key_decides x y = (key_same x y, λ e. ap (eq-value.it x) (sym e) ∙ key_laws.r
 pub absent_from : (keys : List Key) (k : Key) → list_any (eq-value.it k) keys ≡ false → ¬ Contains keys k
 absent_from keys k e m = true≢false (sym (list_any-from_Contains key_laws k keys m) ∙ e)
 
--- what an insertion answers and leaves is an offer
+-- an insertion offers a key to the table
 pub offered : (old new : List Key) (k : Key) (fresh : Bool) → fresh ≡ not (list_any (eq-value.it k) old) → new ≡ insert_key eq-value.it old k → AdmitsKey old k fresh new
 offered old new k fresh e f =
     elim (list_any (eq-value.it k) old) as (λ t. list_any (eq-value.it k) old ≡ t → fresh ≡ not t → new ≡ (if t then old else old ++ k ∷ []) → AdmitsKey old k fresh new) [
@@ -38,7 +38,7 @@ offered old new k fresh e f =
       | false ↦ (λ t e' f'. subst (λ b. AdmitsKey old k b new) (sym e') (absent_from old k t, f'))
     ] refl e f
 
--- an equal key that stands at a place is the key
+-- an equal key at a place is the key
 pub stored : (keys : List Key) (k x : Key) (p : ℕ) → slice_get keys p ≡ Some x → eq-value.it k x ≡ true → slice_get keys p ≡ Some k
 stored keys k x p at same = at ∙ ap (λ z. Some z) (sym (key_same k x same))
 
@@ -56,7 +56,7 @@ once keys distinct i j x a b = elim (cases_lt i j) [ inl lt ↦ absurd (apart i 
         AllPairs-from_IsDistinct key_decides keys distinct u v x lt (slice_get_within keys v x q)
         (get_or_from_slice_get keys u x x p ∙ sym (get_or_from_slice_get keys v x x q))
 
--- a key that stands behind so many others goes last among them
+-- a key after i others is the last of the first i + 1
 module _ (keys : List Key) (i : ℕ) (k : Key) (distinct : IsOnce keys) (lt : i < length keys) (is : k ≡ get_or keys i k) where
   absent_before : Contains (take i keys) k → ⊥
   absent_before h =

@@ -1,11 +1,11 @@
--- Levels are in the set where they have something.
+-- The set of non-empty levels when a level changes.
 use Rattle.std.proofs.Common.{◌≡◌, ◌≢◌, ◌∙◌, ℕ, ◌<◌, inl, inr, List, [], length, set, Some, slice_get, sym, ap, subst, arith}
 use Rattle.std.proofs.lemmas.List.{length-set}
 use Rattle.req_table.specs.LevelSet.{IsMember, member_of}
 use Rattle.req_table.specs.Places.{row, AreMembers}
 use Rattle.req_table.proofs.AtPlace.{same_level, at_place_none, at_place_some, row_own, row_other}
 
--- a level that has something gets another list that has something
+-- a non-empty level gets another list that is not empty
 pub member_more : {X : Type 0} (ms : List ℕ) (T : List (List X)) (l : ℕ) (new : List X) → AreMembers ms T → l < length T → 0 < length (row T l) → 0 < length new → AreMembers ms (set T l new)
 member_more {X} ms T l new m lt some more = record {
   room = let z : length (set T l new) ≡ length T = length-set T l new in omega (arith, z, m.room);
@@ -20,7 +20,7 @@ member_more {X} ms T l new m lt some more = record {
   ];
 }
 
--- a level that comes into the set gets a list that has something
+-- a level is added to the set and gets a list that is not empty
 pub member_first : {X : Type 0} (ms ns : List ℕ) (T : List (List X)) (l : ℕ) (new : List X) → AreMembers ms T → l < length T → 0 < length new → length ns ≡ length ms → IsMember ns l
     → ((w : ℕ) → w ≢ l → member_of ns w ≡ member_of ms w) → AreMembers ns (set T l new)
 member_first {X} ms ns T l new m lt some same own others = record {
@@ -36,7 +36,7 @@ member_first {X} ms ns T l new m lt some same own others = record {
   ];
 }
 
--- a level that goes out of the set gets a list that has nothing
+-- a level is removed from the set and gets the empty list
 pub member_gone : {X : Type 0} (ms ns : List ℕ) (T : List (List X)) (l : ℕ) → AreMembers ms T → l < length T → length ns ≡ length ms → member_of ns l ≡ 0
     → ((w : ℕ) → w ≢ l → member_of ns w ≡ member_of ms w) → AreMembers ns (set T l [])
 member_gone {X} ms ns T l m lt same own others = record {

@@ -1,4 +1,4 @@
--- Forms and terminal cases: which references they are, and that they do not look at the operands' order.
+-- Forms and terminal cases: which references they are, and that the order of the operands does not matter.
 use Rattle.std.proofs.Common.{◌≡◌, Bool, true, false, cond, Option, Some, None, refl, sym, ◌∙◌, ap, subst, arith}
 use Rattle.std.specs.Option.{option_map}
 use Rattle.dd_store.specs.declared.reference.NodeId.{NodeId}
@@ -10,12 +10,12 @@ use Rattle.req_table.specs.declared.Op.{Op}
 use Rattle.req_table.specs.declared.Op.TheVariants.{And, Or, Xor, Nand, Nor, Xnor}
 use Rattle.req_table.specs.TerminalCase.{Operation, key, node_eq, regular_of, form_of, terminal_and, terminal_xor, terminal_at, terminal_of}
 
--- what holds of an answer, where there is one
+-- a property holds of an answer, if there is one
 abbrev pub OnAnswer : (Ref → Type 0) → Option Ref → Type 0
 OnAnswer P None = Unit {0}
 OnAnswer P (Some r) = P r
 
--- what holds of a reference holds of its complement
+-- a property that holds of a reference holds of its complement
 abbrev pub IsOfBoth : (Ref → Type 0) → Type 0
 IsOfBoth P = (r : Ref) → P r → P (negate_of r)
 
@@ -71,14 +71,14 @@ terminal_is P n op f g a p q =
     let h = form_is P P n n op f g p q in
     of_complemented P n (form_of op f g).1 (terminal_at k) (at_is P n k.op k.f k.g a h.0 h.1)
 
--- the terminal case of an operation's form, with the mark, is the operation's
+-- the terminal case of an operation's form, complemented if the form is, is that of the operation
 pub of_form : (op : Op) (f g : Ref) {n : Operation × Bool} {t : Option Ref} → n ≡ form_of op f g → t ≡ terminal_at n.0 → option_map (complement_by n.1) t ≡ terminal_of op f g
 of_form op f g {n} {t} e h = ap (λ z. option_map (complement_by n.1) z) h ∙ ap (λ (z : Operation × Bool). option_map (complement_by z.1) (terminal_at z.0)) e
 
 pub no_form : (op : Op) (f g : Ref) {n : Operation × Bool} → n ≡ form_of op f g → None ≡ terminal_at n.0 → terminal_of op f g ≡ None
 no_form op f g {n} e h = sym (of_form op f g {t = None} e h)
 
--- where the answer has no mark to turn, there was none
+-- if the complemented answer is none, there is no answer
 pub no_answer : (h : Ref → Ref) (t : Option Ref) → option_map h t ≡ None → t ≡ None
 no_answer h None e = refl
 no_answer h (Some r) e = absurd (cc)
@@ -141,7 +141,7 @@ at_nodes Xnor f g e = both_regular (is_complement f) (is_complement g) f g (xor_
 pub two_nodes : (op : Op) (f g : Ref) → terminal_of op f g ≡ None → AreTwoNodes f g
 two_nodes op f g e = at_nodes op f g (no_answer (complement_by (form_of op f g).1) (terminal_at (form_of op f g).0) e)
 
--- so the first is a node
+-- of two nodes the first is a node
 pub a_node : (f g : Ref) → AreTwoNodes f g → (m : NodeId) × (b : Bool) × (f ≡ Node m b)
 a_node False g h = absurd h
 a_node True g h = absurd h
@@ -167,7 +167,7 @@ turned_swap true false = refl
 turned_swap false true = refl
 turned_swap false false = refl
 
--- of one node twice, either is the answer
+-- of one node twice, either operand is the answer
 either : (a : NodeId) (b c : Bool) → cond (complemented b c) False (Node a b) ≡ cond (complemented c b) False (Node a c)
 either a true true = refl
 either a true false = refl
@@ -212,7 +212,7 @@ at_swap Nor f g = refl
 at_swap Xnor f g = refl
 
 -- ---- a form is its own form, in both orders
--- And, or Xor of references without marks
+-- an operation is And, or Xor of references without complement bits
 abbrev pub IsOwn : Operation → Type 0
 IsOwn k = form_of k.op k.f k.g ≡ (k, false)
 

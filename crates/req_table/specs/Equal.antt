@@ -1,4 +1,4 @@
--- The derived `==` of operations tells them apart, and so that of keys.
+-- The derived `==` of operations holds of equal ones only, and so does that of keys.
 use Rattle.std.proofs.Common.{◌≡◌, refl, sym, true, true≢false, arith}
 use Rattle.std.proofs.lemmas.Bool.Decides.{nat_tests}
 use Rattle.dd_store.specs.Equal.{ref_same}

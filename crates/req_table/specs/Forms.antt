@@ -1,4 +1,4 @@
--- A table of requests in either of its forms.
+-- A table of requests, in its narrow or its wide form.
 use Rattle.std.specs.Prelude.{◌≡◌, ℕ, ◌^◌, ◌<◌, Bool, List, length, slice_get, Some, All, Contains, Result, Ok, Err}
 use Rattle.std.specs.declared.alloc.AllocError.{AllocError}
 use Rattle.req_table.specs.declared.Key.{Key}
@@ -17,20 +17,21 @@ abbrev pub AreShort : Keys → Type 0
 AreShort (Short s) = Unit {0}
 AreShort (Long s) = ⊥
 
--- all fit in eight bytes where they have as many
+-- if the requests have eight bytes each, all fit
 abbrev pub AreFitting : Keys → Type 0
 AreFitting (Short s) = All IsShort s.keys
 AreFitting (Long s) = Unit {0}
 
--- what is true of a table
+-- the invariant of a table
 abbrev pub IsValidTable : Keys → Type 0
 IsValidTable ks = (length (keys_in ks) < 2 ^ 32) × AreFitting ks
 
--- the requests after one was offered: its place, and whether it is new, or all as before where memory was refused
+-- a request was offered to a table: it is in the table at the place that was returned, and was added if it was new; or
+-- memory was refused, and the table is as before
 abbrev pub IsAdmitted : Key → List Key → Result (ℕ × Bool) AllocError → List Key → Type 0
 IsAdmitted k old (Ok r) new = AdmitsKey old k r.1 new × (slice_get new r.0 ≡ Some k)
 IsAdmitted k old (Err e) new = (new ≡ old) × (¬ Contains old k)
 
--- the table is as before, and has no place for a request that does not fit
+-- a request that does not fit is not in the table, which is as before
 abbrev pub DoesNotFit : Key → Keys → Keys → Type 0
 DoesNotFit k old new = AreShort old × (new ≡ old) × (¬ Contains (keys_in old) k)

@@ -1,4 +1,4 @@
--- The keys of a store: their levels, their children, what they ask for, and the wave that they make.
+-- The keys of a store: their levels, their children, their functions, and the wave that they make.
 use Rattle.std.specs.Prelude.{◌≡◌, ℕ, ◌<◌, Bool, true, false, min, List, Option, Some, None}
 use Rattle.dd_store.specs.declared.reference.Ref.{Ref}
 use Rattle.dd_store.specs.Graph.{top, bit}
@@ -22,31 +22,31 @@ level_at n k = min (top n k.f) (top n k.g)
 abbrev pub level_of : Nodes → Key → ℕ
 level_of S k = level_at S.levels k
 
--- a key of the store: it has no terminal case, and is its own request: And, or Xor without marks, with its operands in order
+-- a key of the store: a request whose operands are of the store
 pub record IsKey (S : Nodes) (k : Key) : Type 0 where
   pub first : Has S k.f
   pub second : Has S k.g
   pub long : terminal_of k.op k.f k.g ≡ None
   pub ordered : normal_of k.op k.f k.g ≡ (k, false)
 
--- the function that a key asks for
+-- the function of a key: its operation on the functions of its operands
 abbrev pub meaning : Nodes → Key → List Bool → Bool
 meaning S k x = op_value k.op (den S k.f x) (den S k.g x)
 
--- r denotes the operation's value on the functions of f and g
+-- r denotes the operation on the functions of f and g
 abbrev pub Denotes : Nodes → Op → Ref → Ref → Ref → Type 0
 Denotes S op f g r = (x : List Bool) → den S r x ≡ op_value op (den S f x) (den S g x)
 
--- a request at its level, and whether what asks for it is its complement
+-- a request at its level, and whether the answer of what asks for it is the complement
 abbrev pub ask_of : Nodes → Key × Bool → Child
 ask_of S n = Ask (level_of S n.0) n.0 n.1
 
--- the answer of an operation where it is a terminal case, else the request
+-- the answer of an operation that has a terminal case, or else its request
 abbrev pub answer_of : Nodes → Op → Ref → Ref → Option Ref → Child
 answer_of S op f g None = ask_of S (normal_of op f g)
 answer_of S op f g (Some r) = Done r
 
--- what an operation comes to
+-- what an operation comes to: its answer, or a request
 abbrev pub child : Nodes → Op → Ref → Ref → Child
 child S op f g = answer_of S op f g (terminal_of op f g)
 
@@ -62,26 +62,26 @@ owner workers k = owner_of k.op k.f k.g workers
 abbrev pub record_of : Nodes → Key → Record
 record_of S k = record { key = k; low = child_of S k false; high = child_of S k true }
 
--- the value of a child: that of the answer, or of the function that is asked for, or of its complement
+-- the value of a child: that of the answer, or of the request's function, complemented if the child is
 abbrev pub child_value : Nodes → Child → List Bool → Bool
 child_value S (Done r) x = den S r x
 child_value S (Ask l k m) x = complemented m (meaning S k x)
 
--- a child of the store: an answer is one of its references, and a request one of its keys, told with its level
+-- a child of the store: an answer is one of its references, and a request one of its keys, at its own level
 abbrev pub IsChildIn : Nodes → Child → Type 0
 IsChildIn S (Done r) = Has S r
 IsChildIn S (Ask l k m) = IsKey S k × (l ≡ level_of S k)
 
--- a child that stands further down than a level
+-- a child is deeper than a level
 abbrev pub IsDeeper : Nodes → ℕ → Child → Type 0
 IsDeeper S v (Done r) = v < top S.levels r
 IsDeeper S v (Ask l k m) = v < l
 
--- a child has the value that the key has where the bit of the key's level is b
+-- a child has the value of the key whenever the bit of the key's level is b
 abbrev pub IsCofactorChild : Nodes → Key → Bool → Child → Type 0
 IsCofactorChild S k b c = (x : List Bool) → bit x (level_of S k) ≡ b → child_value S c x ≡ meaning S k x
 
--- a wave over a store, of so many levels and workers
+-- the wave over a store, with this number of levels and of workers
 abbrev pub wave_at : Nodes → ℕ → ℕ → Wave
 wave_at S levels workers = record {
   scope = record { levels = levels; workers = workers; HasKey = IsKey S; level = level_of S };
@@ -89,6 +89,6 @@ wave_at S levels workers = record {
   owner = owner workers;
 }
 
--- the wave over a store with so many workers
+-- the wave over a store, with this number of workers
 abbrev pub wave_of : Nodes → ℕ → Wave
 wave_of S workers = wave_at S S.levels workers

@@ -1,4 +1,4 @@
--- The word of a child gives back what it says, and what it was made of.
+-- The word of a child determines the child, and the child its word.
 use Rattle.std.specs.Prelude.{◌≡◌, ℕ, ◌-◌, ◌*◌, ◌/◌, ◌%◌, ◌^◌, ◌<◌, ◌≤◌, ◌==◌, Bool, if◌then◌else◌}
 use Rattle.std.proofs.Common.{◌∙◌, ap, arith, inl, inr}
 use Rattle.std.proofs.lemmas.Bool.Decides.{nat_tests}
@@ -7,7 +7,7 @@ use Rattle.dd_store.specs.WordLaws.{low_bit, word_of-reference_of, short_or_long
 use Rattle.req_table.specs.declared.packed_child.PlacedChild.TheVariants.{Done, Ask}
 use Rattle.req_table.specs.PackedChildWords.{short_numbers, near_word, far_word, long_word, ask_word, packed_child_word, long_of, packed_child_of, IsNearWord, IsFarWord, IsPackedChildWord}
 
--- ---- what the words of each kind say
+-- ---- what the words of each kind are
 short_answer : (w : ℕ) → w < 2 ^ 31 → packed_child_of w ≡ Done (reference_of w)
 short_answer w short = grind (arith, nat_tests)
 
@@ -39,11 +39,11 @@ far_ask l n m first level number = grind (arith, nat_tests)
 long_ask : (l n : ℕ) (m : Bool) → short_numbers l ≤ n → ask_word l n m ≡ long_word l n m
 long_ask l n m number = grind (arith, nat_tests)
 
--- bit 62 of a long request is its mark
+-- bit 62 of a long request is its complement bit
 complement_bit : (w : ℕ) → 2 ^ 63 ≤ w → w < 2 ^ 64 → (if w / 2 ^ 62 == 3 then 2 ^ 62 else 0) ≡ w / 2 ^ 62 * 2 ^ 62 - 2 ^ 63
 complement_bit w big small = grind (arith, nat_tests)
 
--- a word gives back what it says
+-- the word of what a word says is this word
 pub packed_child_word-packed_child_of : (w : ℕ) → IsPackedChildWord w → packed_child_word (packed_child_of w) ≡ w
 packed_child_word-packed_child_of w (inl h) = ap packed_child_word (answer w h) ∙ word_of-reference_of w h
 packed_child_word-packed_child_of w (inr (inl h)) =

@@ -1,4 +1,4 @@
--- The eight bytes of a request give back what they say.
+-- The eight bytes of a request determine the request, and the request its bytes.
 use Rattle.std.specs.Prelude.{◌≡◌, ℕ, ◌+◌, ◌-◌, ◌*◌, ◌/◌, ◌%◌, ◌^◌, ◌<◌, nat_eq}
 use Rattle.std.specs.Int.RustNames.{bit_and}
 use Rattle.std.specs.Cmp.{IsEquivalence}
@@ -15,7 +15,7 @@ use Rattle.req_table.specs.Words.{op_in, operation_of, IsFirstWord}
 use Rattle.req_table.specs.WordLaws.{bit_back}
 use Rattle.req_table.specs.Short.{short_word, short_of, IsShortWord}
 
--- the bytes give back what they say
+-- the bytes of what bytes say are these bytes
 pub short_word-short_of : (w : ℕ) → IsShortWord w → short_word (short_of w) ≡ w
 short_word-short_of w h =
     let op = bit_back w h.0 in
@@ -25,7 +25,7 @@ short_word-short_of w h =
     let clear = h.1 in
     omega arith
 
--- ---- the bytes say what they were made of: a first word, and the word of the second operand
+-- ---- the request of bytes that were made of a first word and the word of the second operand
 added_op : (w m : ℕ) → w < 2 ^ 64 → w % 2 ^ 63 < 2 ^ 31 → m < 2 ^ 31 → op_in (w + m * 2 ^ 31) ≡ op_in w
 added_op w m most fits less = grind (arith, nat_tests)
 
@@ -42,7 +42,7 @@ short_made w m g h fits less is_m g-is =
       λ i. record { op = op i; f = first i; g = second i },
     )
 
--- ---- their first word
+-- ---- the first word of the request
 masked : (w : ℕ) → w < 2 ^ 64 → bit_and w (2 ^ 63 + 2 ^ 31 - 1) ≡ w / 2 ^ 63 * 2 ^ 63 + w % 2 ^ 31
 masked w small =
     let parts : w ≡ w / 2 ^ 63 * 2 ^ 63 + w % 2 ^ 63 = omega arith in
@@ -70,7 +70,7 @@ first_made w g h g-is =
 operation_laws : IsEquivalence operation_eq.it
 operation_laws = laws-law
 
--- bytes are the same where they say the same
+-- equal bytes say equal requests, and no others do
 pub same_short : (a b : ℕ) → IsShortWord a → IsShortWord b → nat_eq a b ≡ operation_eq.it (short_of a) (short_of b)
 same_short a b h k =
     compared operation_eq.it key_same short_word operation_laws.refl short_of a b (short_word-short_of a h) (short_word-short_of b k)

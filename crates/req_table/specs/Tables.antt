@@ -3,7 +3,7 @@ use Rattle.std.specs.Prelude.{◌≡◌, ℕ, Bool, true, false, List, [], ◌�
 use Rattle.req_table.specs.declared.Key.{Key}
 use Rattle.req_table.specs.declared.Record.{Record}
 
--- a table after a key was offered to it: it is new and stands at the end, or it was there and the table is as before
+-- a key was offered to a table: it was new and is now the last, or it was there and the table is as before
 abbrev pub AdmitsKey : List Key → Key → Bool → List Key → Type 0
 AdmitsKey old k true new = (¬ Contains old k) × (new ≡ old ++ k ∷ [])
 AdmitsKey old k false new = Contains old k × (new ≡ old)

@@ -1,4 +1,4 @@
--- The first word of a request gives back what it says.
+-- The first word of a request determines its operation and first operand, and these the word.
 use Rattle.std.specs.Prelude.{◌≡◌, ℕ, ◌+◌, ◌*◌, ◌/◌, ◌%◌, ◌^◌, ◌<◌, ◌⊎◌, Bool, true, false, cond}
 use Rattle.std.proofs.Common.{◌∙◌, ap, arith, refl, sym, subst, inl, inr}
 use Rattle.std.proofs.lemmas.Bool.Decides.{nat_tests}
@@ -17,7 +17,7 @@ use Rattle.req_table.specs.Words.{xor_bit, op_in, first_word, operation_of, IsFi
 pub bit_back : (w : ℕ) → w < 2 ^ 64 → xor_bit (op_in w) ≡ w / 2 ^ 63 * 2 ^ 63
 bit_back w small = grind (arith, nat_tests)
 
--- a first word gives back what it says
+-- the first word of what a word says is this word
 pub first_word-back : (w : ℕ) → IsFirstWord w → first_word (op_in w) (reference_of (w % 2 ^ 63)) ≡ w
 first_word-back w h =
     let op = bit_back w h.0 in
@@ -45,7 +45,7 @@ request_op k i =
     let same : (form_of k.op k.f k.g).0.op ≡ k.op = sym (op_in_order (form_of k.op k.f k.g).0) ∙ ap (λ n. n.0.op) i.ordered in
     subst IsForm same (form_op k.op k.f k.g)
 
--- ---- its first word says what it was made of
+-- ---- what a first word that was made of an operation and an operand says
 and_made : (n : ℕ) → n < 2 ^ 63 → op_in (0 + n) ≡ And
 and_made n small = grind (arith, nat_tests)
 
@@ -71,7 +71,7 @@ word_made k n i h b =
       λ j. record { op = op j; f = first j; g = k.g },
     )
 
--- requests whose first words differ differ
+-- requests with different first words are different
 pub first_differs : (a b : ℕ) (f g : Ref) (t : Bool) → IsFirstWord a → IsFirstWord b
     → operation_eq.it (operation_of a f) (operation_of b g) ≡ t → (a ≡ b → ⊥) → t ≡ false
 first_differs a b f g t h k e n =

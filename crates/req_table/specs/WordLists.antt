@@ -1,4 +1,4 @@
--- The words in a list of four or eight bytes a word, and what they are the words of.
+-- Lists of words of four or eight bytes each, as lists of references and of children.
 use Rattle.std.specs.Prelude.{ℕ, List, map}
 use Rattle.std.specs.List.{All}
 use Rattle.dd_store.specs.declared.reference.Ref.{Ref}

@@ -1,4 +1,4 @@
-//! The children of a wave's requests, by level.
+//! The children of a wave's requests, in a row for each level.
 ghost use Rattle.std.specs.Prelude.{◌≡◌, ◌<◌, ◌≤◌, ◌-◌, ◌%◌, ◌^◌, [], length, replicate, set, IfOk, OnOk};
 ghost use Rattle.std.specs.List.{sum_by};
 ghost use Rattle.req_table.specs.Places.{row, AreEmpty, IsNextLevel, IsLastLevel};
@@ -9,12 +9,13 @@ use std::alloc::{AllocError, Global};
 use std::marker::Model;
 use std::mem;
 
-/// The children of each expanded level's requests, by place. The levels that have some are known.
+/// For each expanded level the children of its requests, by place. The levels that have any are in a set, so that empty
+/// ones cost no time.
 #[derive(Drop)]
 pub struct Rows {
     rows: Vec<Row>,
     nonempty_levels: LevelSet,
-    /// A row of more requests gives its memory back when a level leaves it.
+    /// The memory of a row of more requests is given back when its level is cleared.
     max_kept: usize,
 }
 
@@ -31,7 +32,7 @@ impl Model for Rows {
     ghost invariant = { λ r. AreMembers r.nonempty_levels r.rows.items };
 }
 
-/// So many empty rows.
+/// Returns `levels` empty rows.
 fn empty_rows(alloc: Global, levels: u16) -> Result<Vec<Row>, AllocError>
     ensures { IfOk result (λ rows. AreEmpty rows.items levels) }
 {
@@ -43,8 +44,8 @@ fn empty_rows(alloc: Global, levels: u16) -> Result<Vec<Row>, AllocError>
 }
 
 impl Rows {
-    /// No levels. It takes no memory yet. A row of no more requests than `max_kept` is kept where its level leaves it, and a larger one
-    /// gives its memory back.
+    /// Returns rows of no levels, which take no memory yet. When a level is cleared, a row of at most `max_kept`
+    /// requests keeps its memory for the next wave; a larger one gives it back.
     pub fn new(alloc: Global, max_kept: usize) -> Rows
         ensures { result ≡ [] }
     {
@@ -55,7 +56,7 @@ impl Rows {
         }
     }
 
-    /// So many levels without children.
+    /// Returns `levels` levels without children.
     fn with_levels(alloc: Global, levels: u16, max_kept: usize) -> Result<Rows, AllocError>
         ensures { IfOk result (λ r. AreEmpty r levels) }
     {
@@ -66,7 +67,7 @@ impl Rows {
         })
     }
 
-    /// Takes the children out of a level, with their memory.
+    /// Moves the children of a level out, with their memory.
     pub fn take(&mut self, level: u16) -> Row
         requires { level < length self.old }
         ensures children { result ≡ row self.old level }
@@ -77,7 +78,8 @@ impl Rows {
         mem::replace(&mut self.rows[level as usize], fresh)
     }
 
-    /// Leaves a level without children. It keeps the memory of its row for the next wave, unless that is much.
+    /// Leaves a level without children. Its row keeps its memory for the next wave if it had at most `max_kept`
+    /// requests.
     pub fn clear_level(&mut self, level: u16)
         requires { level < length self.old }
         ensures { self.new ≡ set self.old level [] }
@@ -87,7 +89,7 @@ impl Rows {
         self.rows[level as usize].clear_keeping(alloc, self.max_kept);
     }
 
-    /// Leaves so many levels without children. Only levels that had some are come to.
+    /// Leaves `levels` levels without children. Visits non-empty levels only, unless the number of levels changes.
     pub fn restart(&mut self, alloc: Global, levels: u16) -> Result<(), AllocError>
         ensures { OnOk result (self.new ≡ replicate levels []) }
     {
@@ -103,7 +105,7 @@ impl Rows {
         Ok(())
     }
 
-    /// Gives a level that has none its children.
+    /// Puts the children of a level that has none.
     pub fn put(&mut self, level: u16, children: Row)
         requires bound { level < length self.old }
         requires empty { row self.old level ≡ [] }
@@ -116,7 +118,7 @@ impl Rows {
         }
     }
 
-    /// The children of a level's requests, by place.
+    /// Returns the children of a level's requests, by place.
     pub fn row(&self, level: u16) -> &Row
         requires { level < length self.now }
         ensures { result.now ≡ row self.now level }
@@ -124,7 +126,7 @@ impl Rows {
         &self.rows[level as usize]
     }
 
-    /// How many requests all levels have, modulo 2^64.
+    /// Returns the number of requests of all levels, modulo 2^64. It bounds nothing (`total` does).
     pub fn count(&self) -> u64
         ensures { result ≡ sum_by (λ row. length row) self.now % 2 ^ 64 }
     {
@@ -135,7 +137,8 @@ impl Rows {
         total
     }
 
-    /// How many requests all levels have together. The greatest number says that they may be more.
+    /// Returns the number of requests of all levels, if it is less than the greatest `u64`; the greatest itself may
+    /// mean more.
     pub fn total(&self) -> u64
         ensures { result < 2 ^ 64 - 1 → result ≡ sum_by (λ row. length row) self.now }
     {
@@ -146,7 +149,7 @@ impl Rows {
         total
     }
 
-    /// The first level from one on that has children.
+    /// Returns the first level from `from` on that has children, or none.
     fn next_level(&self, from: u16) -> Option<u16>
         ensures { IsNextLevel self.now from result }
     {
@@ -156,7 +159,7 @@ impl Rows {
         }
     }
 
-    /// The last level before one that has children.
+    /// Returns the last level before `end` that has children, or none.
     pub fn last_level(&self, end: u16) -> Option<u16>
         requires { end ≤ length self.now }
         ensures { IsLastLevel self.now end result }

@@ -1,4 +1,4 @@
-//! The answers of requests that were made before.
+//! The computed table: the answers of earlier requests.
 ghost use Rattle.std.specs.Prelude.{◌≡◌, ◌≤◌, [], length, AllPairs, Contains, IfOk, IfSome};
 ghost use Rattle.dd_store.specs.Nodes.{Nodes};
 ghost use Rattle.std.specs.Map.{keys_of};
@@ -12,7 +12,8 @@ use std::alloc::{AllocError, Global};
 use std::marker::Model;
 use std::num::NonZeroUsize;
 
-/// Answers of requests, no more than its capacity. The answer that was kept last is forgotten last.
+/// The answers of earlier requests, as many as its capacity at most. A full table forgets first the answer that was
+/// kept longest ago.
 #[derive(Drop)]
 pub struct ComputedTable {
     cache: LruCache<Key, Ref>,
@@ -27,7 +28,7 @@ impl Model for ComputedTable {
 }
 
 impl ComputedTable {
-    /// A computed table that holds nothing. It grows as it fills.
+    /// Returns an empty computed table of at most `capacity` answers. Its memory grows as it fills.
     pub fn new(alloc: Global, capacity: usize) -> Result<ComputedTable, AllocError>
         requires some { 1 ≤ capacity }
         ensures empty { IfOk result (λ m. m ≡ record { pairs = []; capacity = capacity }) }
@@ -39,18 +40,18 @@ impl ComputedTable {
         })
     }
 
-    /// The answer that is held of a request.
+    /// Returns the answer of a request, or none if it is not held. It does not change which answer is forgotten next.
     pub fn peek(&self, key: &Key) -> Option<Ref>
         ensures value { result ≡ computed_answer self.now key.now }
         ensures pair { IfSome result (λ r. Contains self.now.pairs (key.now, r)) }
         ensures once { AllPairs (λ (a b : KeyValue). ¬ (a ≡ b)) (keys_of self.now.pairs) }
         ensures few { length self.now.pairs ≤ self.now.capacity }
     {
-        let _ = self.cache.len();
+        let _ = self.cache.len(); // For the proof.
         self.cache.peek(key).copied()
     }
 
-    /// Holds the answer of a request. Where memory is refused, a request that was not held is not held then either.
+    /// Holds the answer of a request. If memory is refused, nothing changes: an answer that is lost costs only time.
     pub fn keep(&mut self, key: Key, answer: Ref)
         ensures { KeepsAnswer self.old key answer self.new }
     {

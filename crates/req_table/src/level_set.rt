@@ -1,11 +1,11 @@
-//! A set of levels: a bit for each, 64 in a word.
+//! A set of levels, by a bit for each, 64 in a word.
 ghost use Rattle.std.specs.Prelude.{◌≡◌, ◌≢◌, ◌<◌, ◌≤◌, ◌*◌, ℕ, length, IfOk, []};
 ghost use Rattle.req_table.specs.LevelSet.{IsMember, member_of, IsLowestFrom, IsHighestBefore, IsNextFrom, IsLastBefore};
 
 use std::alloc::{AllocError, Global};
 use std::marker::Model;
 
-/// The levels that have requests.
+/// A set of levels: those that have requests, or children.
 #[derive(Drop)]
 pub(crate) struct LevelSet {
     words: Vec<u64>,
@@ -23,7 +23,7 @@ impl Model for LevelSet {
     ghost invariant = { λ m. length m.words.items ≤ 1024 };
 }
 
-/// The lowest bit of a word that is set, of those from a place on.
+/// Returns the lowest bit that is set in a word, of those from `from` on, or none.
 fn lowest_from(word: u64, from: usize) -> Option<usize>
     requires { from < 64 }
     ensures { IsLowestFrom word from result }
@@ -36,7 +36,7 @@ fn lowest_from(word: u64, from: usize) -> Option<usize>
     }
 }
 
-/// The highest bit of a word that is set, of those before a place.
+/// Returns the highest bit that is set in a word, of those before `end`, or none.
 fn highest_before(word: u64, end: usize) -> Option<usize>
     requires first { 0 < end }
     requires last { end ≤ 64 }
@@ -51,7 +51,7 @@ fn highest_before(word: u64, end: usize) -> Option<usize>
 }
 
 impl LevelSet {
-    /// No levels. It takes no memory yet.
+    /// Returns a set with room for no levels, which takes no memory yet.
     pub(crate) fn new(alloc: Global) -> LevelSet
         ensures { result ≡ [] }
     {
@@ -60,7 +60,7 @@ impl LevelSet {
         }
     }
 
-    /// None of so many levels.
+    /// Returns the empty set, with room for `levels` levels.
     pub(crate) fn with_levels_empty(alloc: Global, levels: u16) -> Result<LevelSet, AllocError>
         ensures room { IfOk result (λ m. levels ≤ 64 * length m) }
         ensures none { IfOk result (λ m. (w : ℕ) → member_of m w ≡ 0) }
@@ -81,7 +81,7 @@ impl LevelSet {
         self.words[place / 64] |= 1u64 << (place % 64);
     }
 
-    /// Takes a level out.
+    /// Removes a level.
     pub(crate) fn remove(&mut self, level: u16)
         requires { level < 64 * length self.old }
         ensures room { length self.new ≡ length self.old }
@@ -92,7 +92,7 @@ impl LevelSet {
         self.words[place / 64] &= !(1u64 << (place % 64));
     }
 
-    /// The first of its levels from one on.
+    /// Returns the first level of the set from `from` on, or none.
     pub(crate) fn next(&self, from: usize) -> Option<usize>
         ensures { IsNextFrom self.now from result }
     {
@@ -105,7 +105,7 @@ impl LevelSet {
         None
     }
 
-    /// The last of its levels before one.
+    /// Returns the last level of the set before `end`, or none.
     pub(crate) fn last(&self, end: usize) -> Option<usize>
         requires { end ≤ 64 * length self.now }
         ensures { IsLastBefore self.now end result }

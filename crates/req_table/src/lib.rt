@@ -1,21 +1,27 @@
-//! Requests, their records, and the items that carry them from worker to worker.
+//! Requests, their terminal cases and children, tables of them by level, and the computed table;
+//! and the definitions that all forms of workers share: items, fair lists and settled waves.
 //!
-//! **Promises.** `requests::terminal_case`, `normal`, `child`, `split` and `terminal_or_computed` follow their
-//! tables (`value`, `key`) and mean the operation on the operands' functions (`means`, `low`,
-//! `high`). A `Key` is a request, in sixteen bytes (`Key::op`: `request`). A `Table` is a list of
-//! requests, each once (`Table::admit`: `admits_key`, `at_place`, `refused`); each has eight bytes where
-//! all fit. A `ComputedTable` is a list of keys with answers (`ComputedTable::peek`: `value`,
-//! `once`, `few`); `keep` puts a pair first and drops the key's old one, or the last of a full
-//! computed table, or changes nothing. `PackedChild` tells a child in eight bytes, its request by a
-//! number of its level; a `Row` has the children of requests, and `Refs` references, in half of
-//! that where all fit. `Waiting` and `Rows` have tables and rows by level, and find the next level
-//! that has something.
+//! **Promises.** `requests::terminal_case`, `normal`, `child`, `split` and `terminal_or_computed`
+//! follow the tables of `specs/TerminalCase` (`value`, `key`), and what they return has the value
+//! of the operation on the functions of its operands (`means`, `low`, `high`). A `Key` is always a
+//! request (`Key::op`: `request`). A `Table` is a list of requests, each once (`Table::admit`:
+//! `admits_key`, `at_place`, `refused`). A `ComputedTable` is a list of keys with answers
+//! (`ComputedTable::peek`: `value`, `once`, `few`); `keep` puts a pair first and removes the old
+//! pair of its key, or the last pair of a full table, or changes nothing. A `Row` has the children
+//! of requests, each a `PackedChild`, and `Refs` has references. `Waiting` and `Rows` have tables
+//! and rows by level, and find the next level that is not empty.
 //!
-//! **Only tests show** that ample memory suffices, that then a pair is kept, and that a full store
-//! answers what is held (`wave_tests`).
+//! **Only tests show** that nothing is refused if there is ample memory, that an answer is then
+//! kept, and that a wave over a full store still has the answers that are held (`wave_tests`).
 //!
-//! **Begin** with `specs/TerminalCase` and `Keys`, what an operation comes to; what both forms of
-//! workers share, lanes and settled waves, is in `specs/Lanes` and `Settled`.
+//! **Begin** with `specs/TerminalCase` and `Keys`, what an operation comes to. The crate has four parts: what a
+//! request is (`requests`, and the types here), sets of requests by level (`table`, `short_key`, `level_set`,
+//! `waiting`, `children`, `spare_tables`), words in few bytes (`words`, `packed_child`, `packed_lists`), and the
+//! computed table.
+//!
+//! **What stays out.** Nothing here makes a node (`reduce_up`), starts a thread or sends a request (`lane_queue`), or
+//! says when one is expanded (`expand_work`, `wave_engine`). What both forms of workers, `expand_work` and
+//! `wave_core`, say of lanes and settled waves is only defined here, in `specs/Lanes`, `Reached`, `Settled` and `Wave`.
 #![tactic(auto)]
 
 ghost use Rattle.std.specs.Prelude.{◌≡◌};
@@ -59,7 +65,7 @@ pub enum Op {
     Xnor,
 }
 
-/// An operation on two operands.
+/// An operation on two references.
 #[derive(Clone, Copy, Debug, PartialEq, Eq)]
 pub struct Operation {
     pub op: Op,
@@ -67,8 +73,8 @@ pub struct Operation {
     pub g: Ref,
 }
 
-/// A request, in sixteen bytes: And of two references, or Xor of two without marks, that has no terminal case, with its operands in
-/// order.
+/// A request, in sixteen bytes: And of two references, or Xor of two without complement bits, that has no terminal case
+/// and has its operands in order. The fields are private, so every value of this type is a request.
 #[derive(Clone, Copy)]
 pub struct Key {
     /// The word of the first operand, with bit 63 set for Xor.
@@ -78,10 +84,10 @@ pub struct Key {
 
 const _: () = prove!(size_of::<Key>() == 16);
 
-/// The bit that tells Xor from And.
+/// The bit of `Key::first` that is set for Xor. No word of a reference has it.
 const XOR_BIT: u64 = 1 << 63;
 
-/// The lowest bit of the second operand's word in the number of a request's sixteen bytes.
+/// The value of the lowest bit of the second operand's word in the number that is hashed for a request.
 const SECOND_BIT: u128 = 1 << 64;
 
 impl Model for Key {
@@ -89,7 +95,6 @@ impl Model for Key {
 
     ghost Value = { Operation };
 
-    ghost use Rattle.std.specs.Prelude.{refl};
     ghost use Rattle.req_table.specs.Operation.{IsRequest};
     ghost use Rattle.req_table.specs.Words.{first_word, operation_of, IsFirstWord};
     ghost use Rattle.req_table.specs.WordLaws.{first_word-back};
@@ -103,7 +108,7 @@ impl Model for Key {
     ghost invariant = { λ k. IsFirstWord k.first × IsRequest (operation_of k.first k.second) };
 }
 
-/// The number of an operation.
+/// Returns the number of an operation, by which owners are found.
 #[inline(always)]
 fn number(op: Op) -> u64
     ensures { result ≡ op_number op }
@@ -118,7 +123,7 @@ fn number(op: Op) -> u64
     }
 }
 
-/// The bit of an operation, set for Xor.
+/// Returns the bit of an operation in `Key::first`.
 #[inline(always)]
 fn xor_bit(op: Op) -> u64
     ensures { result ≡ xor_bit op }
@@ -127,7 +132,7 @@ fn xor_bit(op: Op) -> u64
 }
 
 impl Key {
-    /// The request for an operation.
+    /// Returns the request for an operation that is one.
     #[inline(always)]
     fn of(op: Op, f: Ref, g: Ref) -> Key
         requires { IsRequest (record { op = op; f = f; g = g }) }
@@ -136,7 +141,7 @@ impl Key {
         Key::of_words(xor_bit(op) + f.word(), g)
     }
 
-    /// The request with this first word and this second operand.
+    /// Returns the request with this first word and this second operand.
     #[inline(always)]
     fn of_words(first: u64, second: Ref) -> Key
         requires word { IsFirstWord first }
@@ -146,7 +151,7 @@ impl Key {
         Key { first, second }
     }
 
-    /// The word of the first operand, with the bit of the operation.
+    /// Returns the word of the first operand, with the bit of the operation.
     #[inline(always)]
     fn first_word(self) -> u64
         ensures word { result ≡ first_word self.op self.f }
@@ -156,12 +161,11 @@ impl Key {
         self.first
     }
 
-    /// The operation.
+    /// Returns the operation, which is And or Xor.
     pub fn op(self) -> Op
         ensures value { result ≡ self.op }
         ensures request { IsRequest self }
     {
-        // A request is by Xor or else by And.
         if self.first < XOR_BIT {
             Op::And
         } else {
@@ -169,7 +173,7 @@ impl Key {
         }
     }
 
-    /// The first operand.
+    /// Returns the first operand, a node of the request's level.
     pub fn f(self) -> Ref
         ensures value { result ≡ self.f }
         ensures request { IsRequest self }
@@ -177,7 +181,7 @@ impl Key {
         Ref::of_word(self.first % XOR_BIT)
     }
 
-    /// The second operand.
+    /// Returns the second operand.
     pub fn g(self) -> Ref
         ensures value { result ≡ self.g }
         ensures request { IsRequest self }
@@ -185,7 +189,7 @@ impl Key {
         self.second
     }
 
-    /// What it asks for.
+    /// Returns the operation that is asked for.
     pub fn view(self) -> Operation
         ensures { result ≡ self }
     {
@@ -237,8 +241,8 @@ impl Hash for Key {
     }
 }
 
-/// What an operation comes to: its answer, or the request to make at a level; `complement` says that it is the complement of what the request
-/// asks for.
+/// What an operation comes to: its answer, or the request that is to be made at a level. If `complement` is set, the
+/// operation's answer is the complement of the request's.
 #[derive(Clone, Copy, Debug)]
 pub enum Child {
     Done(Ref),
@@ -249,7 +253,8 @@ pub enum Child {
     },
 }
 
-/// A request with its two children.
+/// A request with its two children: its operation on the cofactors of its operands, for the bit of its level at 0 and
+/// at 1.
 #[derive(Clone, Copy, Debug)]
 pub struct Record {
     pub key: Key,
@@ -257,15 +262,16 @@ pub struct Record {
     pub high: Child,
 }
 
-/// What a worker sends: a request, or the end of a level.
+/// What contracts see of a message between workers: a request for its owner, or that the sender `from` has nothing more
+/// to ask for at a level.
 #[derive(Clone, Copy, Debug)]
 pub enum Item {
     Ask { from: u32, level: u16, key: Key },
     End { from: u32, level: u16 },
 }
 
-/// What contracts keep of a store: its number of levels, and how many nodes each shard has, the 16 shards of level 0
-/// first. No value of it is made.
+/// What lanes keep of a store for contracts: the number of levels, and the number of nodes of each shard, the 16 shards
+/// of level 0 first. No value of this type is made when the program runs.
 pub struct Sizes {
     pub levels: u16,
     pub counts: LinkedList<u64>,

@@ -1,12 +1,13 @@
-//! What a child comes to, in eight bytes.
+//! The children of requests, in eight bytes each.
 ghost use Rattle.std.specs.Prelude.{◌≡◌, ◌<◌, ◌≤◌, ◌^◌};
 ghost use Rattle.req_table.specs.PackedChildWords.{packed_child_word, packed_child_of, short_of, IsPackedChildWord};
 
 use dd_store::Ref;
 use std::marker::Model;
 
-/// What a child comes to: its answer, or the level of its request with a number there, which is its place, or of what a worker asks the
-/// worker that owns it; `complement` says that it is the complement of what the request asks for.
+/// A child of a request: its answer, or the level of the request that it asks for and a number there. The number is the
+/// request's place, or, before the places are known, the number of its owner. If `complement` is set, the child is the
+/// complement of the request's answer.
 #[derive(Clone, Copy, Debug)]
 pub enum PlacedChild {
     Done(Ref),
@@ -17,23 +18,26 @@ pub enum PlacedChild {
     },
 }
 
-/// What a child comes to, in eight bytes, of which the upper four are 0 where it fits in four.
+/// A child of a request, in eight bytes, of which the upper four are 0 if it fits in four.
 #[derive(Clone, Copy)]
 pub struct PackedChild {
-    /// The word of an answer, which is below 2^31 or from 2^41 on. Or a request that fits, near or far: 1 in bit 31, with the mark in
-    /// bit 0 and the number from bit 1 on; a near one has its level from bit 22 on, and a far one 1 in bit 30 and its level from bit
-    /// 18 on. Or another request: 1 in bit 63, with the mark in bit 62, the level from bit 32 on and the number below.
+    /// An answer is its word, which is below 2^31 or at least 2^41. A near or far request, which fits in four bytes,
+    /// has bit 31 set, its complement bit in bit 0 and its number from bit 1 on; a near one has its level from bit 22
+    /// on; a far one has bit 30 set and its level from bit 18 on. Any other request has bit 63 set, its complement bit
+    /// in bit 62, its level from bit 32 on, and its number below.
     word: u64,
 }
 
-/// The bit that tells a request that fits from an answer, the first bit of longer words, and the bit of a far request.
+/// A request that fits in four bytes has `SHORT_BIT`, which no short answer has, and is below `SHORT_END`; a far one
+/// has `FAR_BIT`.
 const SHORT_BIT: u64 = 1 << 31;
 
 const SHORT_END: u64 = 1 << 32;
 
 const FAR_BIT: u64 = 1 << 30;
 
-/// The levels before which requests are near and far, and the numbers of theirs that fit.
+/// A request is near if its level and its number are below the NEAR bounds. It is far if its level is not below
+/// `NEAR_LEVELS`, and both are below the FAR bounds.
 const NEAR_LEVELS: u16 = 1 << 8;
 
 const FAR_LEVELS: u16 = 1 << 12;
@@ -42,12 +46,12 @@ const NEAR_NUMBERS: u32 = 1 << 21;
 
 const FAR_NUMBERS: u32 = 1 << 17;
 
-/// The lowest bit of a near request's level, and of a far one's.
+/// The values of the lowest bit of the level in a near request and in a far one.
 const NEAR_LEVEL_BIT: u64 = 1 << 22;
 
 const FAR_LEVEL_BIT: u64 = 1 << 18;
 
-/// The bit that tells another request from an answer, the bit of its mark, and the lowest bit of its level.
+/// In any other request: the bit that no answer has, the complement bit, and the value of the lowest bit of the level.
 const ASK_BIT: u64 = 1 << 63;
 
 const COMPLEMENT_BIT: u64 = 1 << 62;
@@ -73,7 +77,7 @@ impl Model for PackedChild {
     ghost invariant = { λ p. IsPackedChildWord p.word };
 }
 
-/// The request with this word, of those that fit.
+/// Returns the request that has this word of four bytes.
 #[inline(always)]
 fn short_request(word: u64) -> PlacedChild
     requires first { 2 ^ 31 ≤ word }
@@ -96,7 +100,7 @@ fn short_request(word: u64) -> PlacedChild
 }
 
 impl PackedChild {
-    /// An answer.
+    /// Returns the child that is this answer.
     #[inline(always)]
     pub fn done(answer: Ref) -> PackedChild
         ensures { result ≡ PlacedChild.Done answer }
@@ -106,7 +110,7 @@ impl PackedChild {
         }
     }
 
-    /// A request, told by its number.
+    /// Returns the child that asks for the request with this number at a level.
     #[inline(always)]
     pub fn ask(level: u16, number: u32, complement: bool) -> PackedChild
         ensures { result ≡ PlacedChild.Ask level number complement }
@@ -128,7 +132,7 @@ impl PackedChild {
         }
     }
 
-    /// Which of the two it is.
+    /// Returns the child as an enum, to match on.
     #[inline(always)]
     pub fn view(self) -> PlacedChild
         ensures { result ≡ self }
@@ -150,7 +154,7 @@ impl PackedChild {
         }
     }
 
-    /// Its eight bytes as a number, different for each.
+    /// Returns the child as a number, its word. Different children have different words.
     #[inline(always)]
     pub fn word(self) -> u64
         ensures word { result ≡ packed_child_word self }
@@ -160,7 +164,7 @@ impl PackedChild {
         self.word
     }
 
-    /// What has these eight bytes.
+    /// Returns the child that has this word.
     #[inline(always)]
     pub fn of_word(word: u64) -> PackedChild
         requires { IsPackedChildWord word }

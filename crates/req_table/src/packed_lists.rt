@@ -1,4 +1,5 @@
-//! What a wave keeps of a level beside its requests: the children of each, and the answer of each, by place.
+//! What a wave keeps of a level besides its requests: the children of each and the answer of each,
+//! by place.
 ghost use Rattle.std.specs.Prelude.{◌≡◌, ◌<◌, ◌++◌, ◌∷◌, [], length, slice_get, Some, OnOk, OnErr};
 
 use crate::packed_child::PackedChild;
@@ -7,7 +8,8 @@ use dd_store::Ref;
 use std::alloc::{AllocError, Global};
 use std::marker::Model;
 
-/// The children of a level's requests, low and high, by place: in eight bytes a request where all fit in four each, else in sixteen.
+/// The children of a level's requests, low and high, by place: in eight bytes a request as long as each child fits in
+/// four, and in sixteen from the first that does not.
 #[derive(Drop)]
 pub struct Row {
     pairs: WordPairs,
@@ -27,7 +29,7 @@ impl Model for Row {
 }
 
 impl Row {
-    /// No pairs. It takes no memory yet.
+    /// Returns an empty row, which takes no memory yet.
     pub fn new(alloc: Global) -> Row
         ensures { result ≡ [] }
     {
@@ -36,7 +38,7 @@ impl Row {
         }
     }
 
-    /// Adds the children of the next place.
+    /// Adds the children of the request at the next place.
     #[inline(always)]
     pub fn push(&mut self, pair: (PackedChild, PackedChild)) -> Result<(), AllocError>
         ensures done { OnOk result (self.new ≡ self.old ++ pair ∷ []) }
@@ -46,14 +48,14 @@ impl Row {
         Ok(())
     }
 
-    /// How many pairs there are.
+    /// Returns the number of requests whose children are there.
     pub fn len(&self) -> usize
         ensures { result ≡ length self.now }
     {
         self.pairs.len()
     }
 
-    /// The children of a place.
+    /// Returns the children of the request at a place.
     #[inline(always)]
     pub fn at(&self, place: usize) -> (PackedChild, PackedChild)
         requires { place < length self.now }
@@ -63,14 +65,14 @@ impl Row {
         (PackedChild::of_word(low), PackedChild::of_word(high))
     }
 
-    /// Removes all pairs, and keeps the memory where all fit.
+    /// Removes all pairs. The memory is kept if all fit in eight bytes each.
     pub fn clear(&mut self)
         ensures { self.new ≡ [] }
     {
         self.pairs.clear();
     }
 
-    /// Removes all pairs. The memory of at most so many serves on.
+    /// Removes all pairs, and gives the memory back if they were more than `max_kept`.
     pub(crate) fn clear_keeping(&mut self, alloc: Global, max_kept: usize)
         ensures { self.new ≡ [] }
     {
@@ -81,7 +83,7 @@ impl Row {
         }
     }
 
-    /// Has room for so many pairs more, if they fit or some before them do not.
+    /// Reserves memory for `count` more pairs of the present width. Fails if memory is refused.
     pub fn reserve(&mut self, count: usize) -> Result<(), AllocError>
         ensures { self.new ≡ self.old }
     {
@@ -90,7 +92,8 @@ impl Row {
     }
 }
 
-/// References, by place, such as the answers of a level's requests: in four bytes each where all fit, else in eight.
+/// References by place, such as the answers of a level's requests: in four bytes each as long as all fit, and in eight
+/// from the first that does not.
 #[derive(Drop)]
 pub struct Refs {
     words: Words,
@@ -110,7 +113,7 @@ impl Model for Refs {
 }
 
 impl Refs {
-    /// No references. They take no memory yet.
+    /// Returns an empty list, which takes no memory yet.
     pub fn new(alloc: Global) -> Refs
         ensures { result ≡ [] }
     {
@@ -129,7 +132,7 @@ impl Refs {
         Ok(())
     }
 
-    /// Adds the references of another list at the end. After a refusal some of them may stand.
+    /// Adds the references of another list at the end. After a refusal some of them may have been added.
     pub fn append(&mut self, more: &Refs) -> Result<(), AllocError>
         ensures { OnOk result (self.new ≡ self.old ++ more.now) }
     {
@@ -137,7 +140,7 @@ impl Refs {
         Ok(())
     }
 
-    /// The reference at a place.
+    /// Returns the reference at a place.
     #[inline(always)]
     pub fn at(&self, place: usize) -> Ref
         requires { place < length self.now }
@@ -146,7 +149,7 @@ impl Refs {
         Ref::of_word(self.words.at(place))
     }
 
-    /// Removes all references, keeps the memory where all fit, and has room for so many that fit.
+    /// Removes all references and reserves memory for `count`. The old memory is kept if all fit in four bytes each.
     pub fn restart(&mut self, count: usize) -> Result<(), AllocError>
         ensures { self.new ≡ [] }
     {

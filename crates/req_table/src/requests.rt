@@ -1,4 +1,6 @@
-//! Terminal cases, normal keys, children and owners.
+//! What an operation comes to: its terminal case or its request, the request's children, and its
+//! owner. The operations on references are those of Bryant (1986), with complement edges (Brace,
+//! Rudell and Bryant 1990).
 ghost use Rattle.std.specs.Prelude.{◌≡◌, ◌<◌, Bool, List, None, IfSome, true, false};
 ghost use Rattle.dd_store.specs.Nodes.{Nodes, den};
 ghost use Rattle.dd_store.specs.View.{Has};
@@ -14,21 +16,22 @@ ghost use Rattle.req_table.specs.ComputedTables.{IsRight, IsValueOf, terminal_or
 use crate::{Child, ComputedTable, Key, Op, Record, number};
 use dd_store::{Ref, Store, ref_hash};
 
-/// A reference without its mark.
+/// Returns a reference without its complement bit.
 fn regular(reference: Ref) -> Ref
     ensures { result ≡ regular_of reference }
 {
     reference.complement_if(reference.is_complement())
 }
 
-/// Whether one of two references has a mark and the other has none.
+/// Whether exactly one of two references has a complement bit.
 fn one_complemented(f: Ref, g: Ref) -> bool
     ensures { result ≡ complemented (is_complement f) (is_complement g) }
 {
     f.is_complement() != g.is_complement()
 }
 
-/// An operation by And, or by Xor of references without marks, and whether its answer is the complement of that one's.
+/// Rewrites an operation by And, or by Xor of references without complement bits, and returns whether the answer is the
+/// complement of that one's.
 #[inline(always)]
 fn form(op: Op, f: Ref, g: Ref) -> (Op, Ref, Ref, bool)
     ensures { (key result.0 result.1 result.2, result.3) ≡ form_of op f g }
@@ -43,7 +46,7 @@ fn form(op: Op, f: Ref, g: Ref) -> (Op, Ref, Ref, bool)
     }
 }
 
-/// And of two references where it needs no request.
+/// Returns the answer of And if it has a terminal case: an operand is a terminal, or both are one node.
 #[inline(always)]
 fn terminal_and(f: Ref, g: Ref) -> Option<Ref>
     ensures { result ≡ terminal_and f g }
@@ -63,7 +66,7 @@ fn terminal_and(f: Ref, g: Ref) -> Option<Ref>
     None
 }
 
-/// Xor of two references where it needs no request.
+/// Returns the answer of Xor if it has a terminal case: an operand is a terminal, or both are one node.
 #[inline(always)]
 fn terminal_xor(f: Ref, g: Ref) -> Option<Ref>
     ensures { result ≡ terminal_xor f g }
@@ -83,7 +86,7 @@ fn terminal_xor(f: Ref, g: Ref) -> Option<Ref>
     None
 }
 
-/// The answer of And or Xor, where it needs no request.
+/// Returns the answer of And or Xor if it has a terminal case.
 #[inline(always)]
 fn terminal_at(op: Op, f: Ref, g: Ref) -> Option<Ref>
     ensures { result ≡ terminal_at (key op f g) }
@@ -95,7 +98,7 @@ fn terminal_at(op: Op, f: Ref, g: Ref) -> Option<Ref>
     }
 }
 
-/// The answer, or its complement where `complement` is set.
+/// Returns the answer, complemented if `complement` is set.
 fn complement_if(answer: Option<Ref>, complement: bool) -> Option<Ref>
     ensures { result ≡ option_map (complement_by complement) answer }
 {
@@ -105,7 +108,7 @@ fn complement_if(answer: Option<Ref>, complement: bool) -> Option<Ref>
     }
 }
 
-/// The request, with the operands in order.
+/// Returns the request for an operation, with its operands in order.
 #[inline(always)]
 fn request(op: Op, f: Ref, g: Ref) -> Key
     requires { IsRequest (in_order (key op f g)) }
@@ -118,7 +121,8 @@ fn request(op: Op, f: Ref, g: Ref) -> Key
     }
 }
 
-/// The answer of an operation that needs no request: a terminal, or an operand or its complement.
+/// Returns the answer of an operation that has a terminal case, which is a terminal, or an operand or its complement;
+/// or none if a request has to be made.
 pub fn terminal_case(op: Op, f: Ref, g: Ref) -> Option<Ref>
     ensures value { result ≡ terminal_of op f g }
     ensures means { (S : Nodes) → IfSome result (Denotes S op f g) }
@@ -127,14 +131,15 @@ pub fn terminal_case(op: Op, f: Ref, g: Ref) -> Option<Ref>
     complement_if(terminal_at(op, f, g), complement)
 }
 
-/// The worker that expands a request: the number of the operation, plus three times the code of the first operand, plus
-/// five times that of the second, modulo the number of workers.
+/// Returns the owner of a request, the worker that expands it: the number of the operation, plus three times the hash
+/// of the first operand, plus five times that of the second, modulo the number of workers. Only which worker does what
+/// rests on it.
 pub fn owner(key: Key, workers: u32) -> u32
     requires { 0 < workers }
     ensures { result ≡ owner_of key.op key.f key.g workers }
 {
     let sum = number(key.op()) + 3 * ref_hash(key.f()) + 5 * ref_hash(key.g());
-    // What a division takes is spared where the workers are as many as bits can count.
+    // A modulus that is a constant power of two spares a division of 64 bits, which took 7 % of the workers' time.
     match workers {
         1 => 0,
         2 => (sum % 2) as u32,
@@ -145,8 +150,9 @@ pub fn owner(key: Key, workers: u32) -> u32
     }
 }
 
-/// The request for an operation, by And or Xor, with the operands in order: False, True, then nodes by level, shard and index,
-/// without a mark before marked; and whether the operation's answer is the complement of the request's.
+/// Returns the request for an operation without a terminal case, and whether the operation's answer is the complement
+/// of the request's. The request is by And, or by Xor without complement bits; its operands are in the order of
+/// references.
 pub fn normal(op: Op, f: Ref, g: Ref) -> (Key, bool)
     requires { terminal_of op f g ≡ None }
     ensures key { result ≡ normal_of op f g }
@@ -156,16 +162,16 @@ pub fn normal(op: Op, f: Ref, g: Ref) -> (Key, bool)
     (request(op, f, g), complement)
 }
 
-/// The level of a request: the smaller level of its operands.
+/// Returns the level of a request: the smaller of its operands' levels.
 #[inline(always)]
 pub fn level_of(store: &Store, key: Key) -> u16
     ensures { result ≡ level_of store.now key }
 {
-    // Both operands are nodes, in order of their levels.
+    // Both operands are nodes, and in order, so the first one's level is not the greater.
     store.top(key.f())
 }
 
-/// What an operation comes to: its terminal case, or else its request.
+/// Returns what an operation comes to: its answer if it has a terminal case, and otherwise its request.
 #[inline(always)]
 pub fn child(store: &Store, op: Op, f: Ref, g: Ref) -> Child
     requires first { Has store.now f }
@@ -188,7 +194,8 @@ pub fn child(store: &Store, op: Op, f: Ref, g: Ref) -> Child
     }
 }
 
-/// The record of a request: its children are its operation on the cofactors of its operands at its level (Bryant, 1986).
+/// Returns a request with its children, which are its operation on the cofactors of its operands at its level (Bryant,
+/// 1986). To make such a record is to expand the request.
 #[inline(always)]
 pub fn split(store: &Store, key: Key) -> Record
     requires { IsKey store.now key }
@@ -199,7 +206,7 @@ pub fn split(store: &Store, key: Key) -> Record
     ensures high { IsCofactorChild store.now key true result.high }
 {
     let level = level_of(store, key);
-    let _ = store.levels();
+    let _ = store.levels(); // For the proof.
     let op = key.op();
     let first = store.cofactors(key.f(), level);
     let second = store.cofactors(key.g(), level);
@@ -208,7 +215,7 @@ pub fn split(store: &Store, key: Key) -> Record
     Record { key, low, high }
 }
 
-/// The answer of an operation that needs no request, or that the computed table holds.
+/// Returns the answer of an operation if it has a terminal case or the computed table holds it.
 pub fn terminal_or_computed(computed: &ComputedTable, op: Op, f: Ref, g: Ref) -> Option<Ref>
     ensures value { result ≡ terminal_or_computed_of computed.now op f g }
     ensures means { (S : Nodes) → IsRight S computed.now → Has S f → Has S g → IfSome result (IsValueOf S op f g) }

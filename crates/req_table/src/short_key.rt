@@ -10,13 +10,13 @@ use std::marker::Model;
 /// A request whose operands' words have at most 31 bits each, in eight bytes.
 #[derive(Clone, Copy)]
 pub(crate) struct ShortKey {
-    /// The word of the first operand, with that of the second from bit 31 on, and bit 63 set for Xor.
+    /// The word of the first operand in bits 0 to 30, that of the second in bits 31 to 61, and bit 63 set for Xor.
     word: u64,
 }
 
 const _: () = prove!(size_of::<ShortKey>() == 8);
 
-/// The lowest bit of the second operand's word, and what both operands' words are below.
+/// The value of the lowest bit of the second operand's word. Both operands' words are below it.
 const SECOND_BIT: u64 = 1 << 31;
 
 /// The bits of the first operand's word and of the operation.
@@ -41,7 +41,7 @@ impl Model for ShortKey {
 }
 
 impl ShortKey {
-    /// The request in eight bytes, if it fits.
+    /// Returns the request in eight bytes, or none if it does not fit.
     #[inline(always)]
     pub(crate) fn of(key: Key) -> Option<ShortKey>
         ensures { MatchOption result (IsShort key → ⊥) (λ s. IsShort key × (s ≡ key)) }
@@ -56,7 +56,7 @@ impl ShortKey {
         })
     }
 
-    /// The request in sixteen bytes.
+    /// Returns the request in sixteen bytes.
     #[inline(always)]
     pub(crate) fn key(self) -> Key
         ensures { result ≡ self }

@@ -1,12 +1,13 @@
-//! Tables whose levels need them no more, for other levels.
+//! Tables that their levels no longer need, to be used by other levels.
 ghost use Rattle.std.specs.Prelude.{◌≡◌, []};
 
 use crate::table::Table;
 use std::alloc::{AllocError, Global};
 use std::marker::Model;
 
-/// The memory of tables whose levels were expanded. The last that was put is taken first: it is the warmest in caches. Contracts see
-/// nothing in it: a table is empty when it is taken.
+/// Empty tables with the memory of levels that were expanded. The last one that was put is taken first, because it is
+/// most likely still in the processor's caches. Contracts see nothing of them but that a table is empty when it is
+/// taken.
 #[derive(Drop)]
 pub struct SpareTables {
     tables: Vec<Table>,
@@ -19,7 +20,7 @@ impl Model for SpareTables {
 }
 
 impl SpareTables {
-    /// No tables yet.
+    /// Returns no tables.
     pub fn new(alloc: Global) -> SpareTables {
         SpareTables {
             tables: Vec::new(alloc),
@@ -31,13 +32,13 @@ impl SpareTables {
         self.tables.is_empty()
     }
 
-    /// A table without requests: the last of these, or one that has no memory yet.
+    /// Returns an empty table: the last that was put, or if there is none, a new one without memory.
     pub fn take(&mut self) -> Table
         ensures { result ≡ [] }
     {
         match self.tables.pop() {
             Some(mut table) => {
-                // It is empty since it was put.
+                // This changes nothing, since `put` has emptied it; the contract rests on it.
                 table.empty();
                 table
             }
@@ -45,8 +46,8 @@ impl SpareTables {
         }
     }
 
-    /// Keeps all memory of a table, without its requests. A large one is soon needed again, and to grow it anew takes a hundred times as
-    /// long as to empty it.
+    /// Keeps a table with all its memory, but without its requests. A large one is kept too, because it is soon needed
+    /// again: to grow a table takes about a hundred times as long as to empty it.
     pub fn put(&mut self, table: Table) -> Result<(), AllocError> {
         let mut table = table;
         table.empty();
@@ -56,7 +57,7 @@ impl SpareTables {
         Ok(())
     }
 
-    /// Gives back the memory of each table that has room for many times so many requests.
+    /// Gives back the memory of each table that has room for more than eight times `most` requests.
     pub fn trim(&mut self, most: usize) {
         self.tables.retain(|table| !table.has_excess_capacity(most));
     }

@@ -1,4 +1,5 @@
-//! The requests of a level, each once, by place: in eight bytes each where all fit, else in sixteen.
+//! The requests of a level, each once, by place: in eight bytes each as long as all fit, and in
+//! sixteen from the first that does not.
 ghost use Rattle.std.specs.Prelude.{◌≡◌, ◌<◌, ◌+◌, ◌^◌, [], length, slice_get, Some, Contains, MatchOption, IfOk, OnErr};
 ghost use Rattle.slot_table.specs.Lists.{IsOnce};
 ghost use Rattle.req_table.specs.Forms.{keys_in, AreFitting, AreShort, IsAdmitted, DoesNotFit};
@@ -10,10 +11,11 @@ use indexmap::IndexSet;
 use std::alloc::{AllocError, Global};
 use std::marker::Model;
 
-/// A table that has room for more than so many times the requests that it is to hold gives its memory back.
+/// A table with room for more than so many times the requests that it is to hold has excess capacity. Emptying such a
+/// table takes long, since all of its room is written.
 const MAX_CAPACITY_RATIO: usize = 8;
 
-/// Admits a request that fits.
+/// Adds a request that fits in eight bytes, if it is new, and returns its place and whether it is new.
 #[inline(always)]
 fn admit_short(short: &mut IndexSet<ShortKey>, key: ShortKey) -> Result<(u32, bool), AllocError>
     requires { length short.old.keys + 1 < 2 ^ 32 }
@@ -23,7 +25,7 @@ fn admit_short(short: &mut IndexSet<ShortKey>, key: ShortKey) -> Result<(u32, bo
     Ok((place as u32, new))
 }
 
-/// Admits a request. Its code stands apart from that of most requests, which fit.
+/// The same for requests of sixteen bytes. It is not inlined, because in most runs all requests fit in eight.
 #[inline(never)]
 fn admit_long(long: &mut IndexSet<Key>, key: Key) -> Result<(u32, bool), AllocError>
     requires { length long.old.keys + 1 < 2 ^ 32 }
@@ -33,7 +35,7 @@ fn admit_long(long: &mut IndexSet<Key>, key: Key) -> Result<(u32, bool), AllocEr
     Ok((place as u32, new))
 }
 
-/// The same requests, in sixteen bytes each, with room for one more.
+/// Returns the same requests, in sixteen bytes each, with room for one more.
 fn widened(short: &IndexSet<ShortKey>) -> Result<IndexSet<Key>, AllocError>
     ensures { IfOk result (λ long. long.keys ≡ short.now.keys) }
 {
@@ -44,17 +46,17 @@ fn widened(short: &IndexSet<ShortKey>) -> Result<IndexSet<Key>, AllocError>
     Ok(long)
 }
 
-/// Requests, each once.
+/// Distinct requests, by place.
 #[derive(Drop)]
 enum Keys {
-    /// All fit in eight bytes.
+    /// All requests fit in eight bytes.
     Short(IndexSet<ShortKey>),
-    /// Some do not.
+    /// At least one request does not fit.
     Long(IndexSet<Key>),
 }
 
 impl Keys {
-    /// Admits a request; none if it does not fit.
+    /// Adds a request if it is new. Returns none, and changes nothing, if it does not fit.
     #[inline(always)]
     fn admit(&mut self, key: Key) -> Option<Result<(u32, bool), AllocError>>
         requires fitting { AreFitting self.old }
@@ -72,7 +74,7 @@ impl Keys {
         }
     }
 
-    /// Admits a request that does not fit: each has sixteen bytes from now on.
+    /// Adds a request that does not fit. From then on each has sixteen bytes.
     #[inline(never)]
     fn widen_and_admit(&mut self, key: Key) -> Result<(u32, bool), AllocError>
         requires fitting { AreFitting self.old }
@@ -92,8 +94,8 @@ impl Keys {
     }
 }
 
-/// Requests, each once, in the order of their admission. A place is a number of 32 bits. The first request that does not fit in eight
-/// bytes widens all.
+/// Distinct requests in the order in which they were admitted. The place of a request is its number in this order, from
+/// 0; there are fewer than 2^32.
 #[derive(Drop)]
 pub struct Table {
     keys: Keys,
@@ -113,7 +115,7 @@ impl Model for Table {
 }
 
 impl Table {
-    /// No requests. It takes no memory yet.
+    /// Returns a table without requests, which takes no memory yet.
     pub fn new(alloc: Global) -> Table
         ensures { result ≡ [] }
     {
@@ -122,7 +124,8 @@ impl Table {
         }
     }
 
-    /// The place of a request, and whether it is new: then it is admitted, behind all others.
+    /// Adds a request at the end if it is new, and returns its place and whether it is new. Fails if memory is refused,
+    /// or if there are 2^32 - 1 requests already and it is new; the table is then as before.
     #[inline(always)]
     pub fn admit(&mut self, key: Key) -> Result<(u32, bool), AllocError>
         ensures admits_key { IfOk result (λ r. AdmitsKey self.old key r.1 self.new) }
@@ -142,7 +145,7 @@ impl Table {
         self.keys.widen_and_admit(key)
     }
 
-    /// The place of a request.
+    /// Returns the place of a request, or none if it is not in the table.
     pub fn find(&self, key: Key) -> Option<u32>
         ensures { MatchOption result (¬ Contains self.now key) (λ p. slice_get self.now p ≡ Some key) }
     {
@@ -156,7 +159,7 @@ impl Table {
         }
     }
 
-    /// The number of requests.
+    /// Returns the number of requests.
     #[inline(always)]
     pub fn len(&self) -> usize
         ensures value { result ≡ length self.now }
@@ -168,7 +171,7 @@ impl Table {
         }
     }
 
-    /// The request at a place.
+    /// Returns the request at a place.
     #[inline(always)]
     pub fn key_at(&self, place: usize) -> Key
         requires { place < length self.now }
@@ -180,7 +183,7 @@ impl Table {
         }
     }
 
-    /// How many requests it has memory for.
+    /// Returns how many requests the table has memory for.
     pub fn capacity(&self) -> usize {
         match &self.keys {
             Keys::Short(short) => short.capacity(),
@@ -188,12 +191,12 @@ impl Table {
         }
     }
 
-    /// Whether it has room for many times so many requests.
+    /// Whether the table has room for more than eight times `count` requests.
     pub fn has_excess_capacity(&self, count: usize) -> bool {
         self.capacity() / MAX_CAPACITY_RATIO > count
     }
 
-    /// Removes all requests. The memory serves on if each had eight bytes.
+    /// Removes all requests. The memory is kept if each request had eight bytes.
     pub fn empty(&mut self)
         ensures { self.new ≡ [] }
     {
@@ -209,7 +212,8 @@ impl Table {
         }
     }
 
-    /// Removes all requests. The memory serves on if each had eight bytes, unless it is much more than these requests needed.
+    /// Removes all requests. The memory is kept if each request had eight bytes, and if it was not more than eight
+    /// times what they needed.
     pub fn clear(&mut self)
         ensures { self.new ≡ [] }
     {

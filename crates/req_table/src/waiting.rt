@@ -1,4 +1,4 @@
-//! The requests of a wave, by level.
+//! The requests of a wave that wait to be expanded, by level.
 ghost use Rattle.std.specs.Prelude.{◌≡◌, ◌<◌, [], Bool, length, set, IfOk, OnOk};
 ghost use Rattle.slot_table.specs.Lists.{IsOnce};
 ghost use Rattle.req_table.specs.declared.Child.TheVariants as child;
@@ -12,20 +12,21 @@ use std::alloc::{AllocError, Global};
 use std::marker::Model;
 use std::mem;
 
-/// A table of more requests than these serves no other level: it gives its memory back, half a megabyte or more, which
-/// the children need.
+/// The greatest number of requests of a table that goes on to another level. A larger one gives its memory back at
+/// once, half a megabyte or more, because the children of its requests need memory.
 const MAX_SPARE_LEN: usize = 1 << 14;
 
-/// A table of no more requests than these keeps its memory, and changes places with that of the next level: to hand it on takes as long as
-/// they do.
+/// The greatest number of requests of a small table. A small table keeps its memory and is exchanged with that of the
+/// next level, because handing it on would take as long as its requests do.
 const MAX_SMALL_LEN: usize = 64;
 
-/// The requests that wait at each level, each once. The levels that have some are known, so that those without are passed over.
+/// The requests that wait at each level, each once. The levels that have any are in a set, so that empty ones cost no
+/// time.
 #[derive(Drop)]
 pub struct Waiting {
     tables: Vec<Table>,
-    /// Tables of levels that were expanded. The next level that is asked for something takes the last of them, so a wave has as many
-    /// tables as levels that wait at once, but for small ones.
+    /// Tables of levels that were expanded. The next level that gets a request takes the last of them. So a wave has
+    /// about as many tables with memory as levels have requests at the same time, not counting small ones.
     spare: SpareTables,
     nonempty_levels: LevelSet,
 }
@@ -43,7 +44,7 @@ impl Model for Waiting {
     ghost invariant = { λ r. AreMembers r.nonempty_levels r.tables.items };
 }
 
-/// So many empty tables.
+/// Returns `levels` empty tables.
 fn empty_tables(alloc: Global, levels: u16) -> Result<Vec<Table>, AllocError>
     ensures { IfOk result (λ tables. AreEmpty tables.items levels) }
 {
@@ -54,7 +55,7 @@ fn empty_tables(alloc: Global, levels: u16) -> Result<Vec<Table>, AllocError>
     Ok(tables)
 }
 
-/// Keeps a table for another level, without its requests, unless it is large.
+/// Keeps an emptied table for another level, unless it had more than `MAX_SPARE_LEN` requests.
 fn keep_spare(spare: &mut SpareTables, table: Table) -> Result<(), AllocError> {
     if table.len() > MAX_SPARE_LEN {
         return Ok(());
@@ -65,7 +66,7 @@ fn keep_spare(spare: &mut SpareTables, table: Table) -> Result<(), AllocError> {
 }
 
 impl Waiting {
-    /// No levels. It takes no memory yet.
+    /// Returns tables of no levels, which take no memory yet.
     pub fn new(alloc: Global) -> Waiting
         ensures { result ≡ [] }
     {
@@ -76,7 +77,7 @@ impl Waiting {
         }
     }
 
-    /// So many levels without requests.
+    /// Returns `levels` levels without requests.
     fn with_levels(alloc: Global, levels: u16) -> Result<Waiting, AllocError>
         ensures { IfOk result (λ r. AreEmpty r levels) }
     {
@@ -87,8 +88,9 @@ impl Waiting {
         })
     }
 
-    /// Takes a level's requests out, in order, into an empty table, for the level to be expanded. The level has that table's memory now
-    /// where its own is small, and else none, so that it takes a spare table when it is asked next.
+    /// Moves a level's requests, in order, into the empty table `keys`, so that the level can be expanded. If they are
+    /// few, the level keeps the memory that `keys` had. If not, it has none, and takes a spare table at its next
+    /// request.
     #[inline(always)]
     pub fn take(&mut self, level: u16, keys: &mut Table)
         requires level { level < length self.old }
@@ -103,8 +105,8 @@ impl Waiting {
         }
     }
 
-    /// Empties the table of a level that was expanded. Where it is small it keeps its memory; else this serves another level, unless it
-    /// is large.
+    /// Empties the table of a level that was expanded. A small table keeps its memory in `keys`; that of a larger one
+    /// is for another level, and that of a very large one is given back.
     pub fn recycle(&mut self, keys: &mut Table) -> Result<(), AllocError>
         ensures same { self.new ≡ self.old }
         ensures empty { keys.new ≡ [] }
@@ -118,7 +120,7 @@ impl Waiting {
         keep_spare(&mut self.spare, used)
     }
 
-    /// Leaves so many levels without requests. Only levels that had some are come to.
+    /// Leaves `levels` levels without requests. Visits non-empty levels only, unless the number of levels changes.
     pub fn restart(&mut self, alloc: Global, levels: u16) -> Result<(), AllocError>
         ensures { OnOk result (AreEmpty self.new levels) }
     {
@@ -136,7 +138,7 @@ impl Waiting {
         Ok(())
     }
 
-    /// Gives a level without requests a spare table, unless it has the memory of a small one.
+    /// Gives a level without requests a spare table, unless its own table has memory.
     fn reuse_spare_table(&mut self, level: u16)
         requires bound { level < length self.old }
         requires first { row self.old level ≡ [] }
@@ -162,7 +164,8 @@ impl Waiting {
         Ok(place)
     }
 
-    /// The place of a request among those of its level, to which it is admitted if it was not there.
+    /// Returns the place of a request among those of its level. If it is new, it is added to them at the end. Fails if
+    /// memory is refused.
     #[inline(always)]
     pub fn admit(&mut self, level: u16, key: Key) -> Result<u32, AllocError>
         requires { level < length self.old }
@@ -176,14 +179,14 @@ impl Waiting {
         Ok(place)
     }
 
-    /// The number of levels.
+    /// Returns the number of levels.
     pub fn levels(&self) -> usize
         ensures { result ≡ length self.now }
     {
         self.tables.len()
     }
 
-    /// The number of requests of a level.
+    /// Returns the number of requests of a level.
     pub fn count(&self, level: u16) -> usize
         requires { level < length self.now }
         ensures value { result ≡ length (row self.now level) }
@@ -192,7 +195,7 @@ impl Waiting {
         self.tables[level as usize].len()
     }
 
-    /// Whether so many requests or more wait at a level on average, from one on.
+    /// Whether the levels from `from` on have `average` requests or more on average.
     pub fn are_many(&self, from: u16, average: usize) -> bool {
         let levels = self.tables.len();
         let mut waiting: usize = 0;
@@ -202,7 +205,7 @@ impl Waiting {
         waiting >= average.saturating_mul(levels.saturating_sub(from as usize))
     }
 
-    /// The requests of a level, by place.
+    /// Returns the requests of a level, by place.
     pub fn keys(&self, level: usize) -> &Table
         requires { level < length self.now }
         ensures { result.now ≡ row self.now level }
@@ -210,7 +213,7 @@ impl Waiting {
         &self.tables[level]
     }
 
-    /// The first level from one on that has requests.
+    /// Returns the first level from `from` on that has requests, or none.
     pub fn next_level(&self, from: u16) -> Option<u16>
         ensures { IsNextLevel self.now from result }
     {

@@ -1,22 +1,23 @@
-//! Lists of words, in four bytes a word while all of a list fit, else in eight.
+//! Lists of words, in four bytes a word as long as all of a list fit, and in eight from the first
+//! that does not.
 ghost use Rattle.std.specs.Prelude.{◌≡◌, ◌<◌, ◌++◌, ◌∷◌, ℕ, [], length, take, slice_get, Some, IfOk, OnOk, OnErr};
 ghost use Rattle.req_table.specs.WordLists.{words_in, pairs_in};
 
 use std::alloc::{AllocError, Global};
 
-/// The first word that does not fit in four bytes.
+/// The least word that does not fit in four bytes.
 const SHORT_END: u64 = 1 << 32;
 
 /// Words, by place.
 #[derive(Drop)]
 pub(crate) enum Words {
-    /// All fit in four bytes.
+    /// All words fit in four bytes.
     Short(Vec<u32>),
-    /// Some do not.
+    /// At least one word does not fit.
     Long(Vec<u64>),
 }
 
-/// The same words in eight bytes each, with as much room.
+/// Returns the same words in eight bytes each, with as much room.
 fn widened(short: &Vec<u32>) -> Result<Vec<u64>, AllocError>
     ensures { IfOk result (λ long. long.items ≡ short.now.items) }
 {
@@ -29,7 +30,7 @@ fn widened(short: &Vec<u32>) -> Result<Vec<u64>, AllocError>
 }
 
 impl Words {
-    /// No words. They take no memory yet.
+    /// Returns an empty list, which takes no memory yet.
     pub(crate) fn new(alloc: Global) -> Words
         ensures { words_in result ≡ [] }
     {
@@ -50,7 +51,7 @@ impl Words {
         Ok(())
     }
 
-    /// Adds a word that does not fit: each has eight bytes from now on. Its code stands apart from that of most words, which fit.
+    /// Adds a word that does not fit. From then on each has eight bytes. It is not inlined, because most words fit.
     #[inline(never)]
     fn widen_and_push(&mut self, word: u64) -> Result<(), AllocError>
         ensures done { OnOk result (words_in self.new ≡ words_in self.old ++ word ∷ []) }
@@ -67,7 +68,7 @@ impl Words {
         Ok(())
     }
 
-    /// Adds words of four bytes each: where each here has as many, they are copied as one.
+    /// Adds words of four bytes each at the end; if this list has such words too, they are copied at once.
     fn append_short(&mut self, more: &[u32]) -> Result<(), AllocError>
         ensures done { OnOk result (words_in self.new ≡ words_in self.old ++ more.now) }
         ensures begun { (n : ℕ) × (words_in self.new ≡ words_in self.old ++ take n more.now) }
@@ -82,7 +83,7 @@ impl Words {
         Ok(())
     }
 
-    /// Adds words of eight bytes each.
+    /// Adds words of eight bytes each at the end.
     fn append_long(&mut self, more: &[u64]) -> Result<(), AllocError>
         ensures done { OnOk result (words_in self.new ≡ words_in self.old ++ more.now) }
         ensures begun { (n : ℕ) × (words_in self.new ≡ words_in self.old ++ take n more.now) }
@@ -99,7 +100,7 @@ impl Words {
         Ok(())
     }
 
-    /// Adds the words of another list at the end. After a refusal some of them may stand.
+    /// Adds the words of another list at the end. After a refusal some of them may have been added.
     pub(crate) fn append(&mut self, more: &Words) -> Result<(), AllocError>
         ensures done { OnOk result (words_in self.new ≡ words_in self.old ++ words_in more.now) }
         ensures begun { (n : ℕ) × (words_in self.new ≡ words_in self.old ++ take n (words_in more.now)) }
@@ -111,7 +112,7 @@ impl Words {
         Ok(())
     }
 
-    /// The word at a place.
+    /// Returns the word at a place.
     #[inline(always)]
     pub(crate) fn at(&self, place: usize) -> u64
         requires { place < length (words_in self.now) }
@@ -123,7 +124,7 @@ impl Words {
         }
     }
 
-    /// Removes all words, and keeps the memory where each had four bytes.
+    /// Removes all words. The memory is kept if each had four bytes.
     pub(crate) fn clear(&mut self)
         ensures { words_in self.new ≡ [] }
     {
@@ -136,7 +137,7 @@ impl Words {
         }
     }
 
-    /// Has room for so many words more, each in as many bytes as those that are there.
+    /// Reserves memory for `count` more words of the present width.
     pub(crate) fn reserve(&mut self, count: usize) -> Result<(), AllocError>
         ensures { words_in self.new ≡ words_in self.old }
     {
@@ -153,11 +154,11 @@ impl Words {
 pub(crate) enum WordPairs {
     /// All words fit in four bytes.
     Short(Vec<(u32, u32)>),
-    /// Some do not.
+    /// At least one word does not fit.
     Long(Vec<(u64, u64)>),
 }
 
-/// The same pairs in sixteen bytes each, with as much room.
+/// Returns the same pairs in sixteen bytes each, with as much room.
 fn widened_pairs(short: &Vec<(u32, u32)>) -> Result<Vec<(u64, u64)>, AllocError>
     ensures { IfOk result (λ long. long.items ≡ short.now.items) }
 {
@@ -170,7 +171,7 @@ fn widened_pairs(short: &Vec<(u32, u32)>) -> Result<Vec<(u64, u64)>, AllocError>
 }
 
 impl WordPairs {
-    /// No pairs. They take no memory yet.
+    /// Returns an empty list, which takes no memory yet.
     pub(crate) fn new(alloc: Global) -> WordPairs
         ensures { pairs_in result ≡ [] }
     {
@@ -194,7 +195,7 @@ impl WordPairs {
         Ok(())
     }
 
-    /// Adds a pair that does not fit: each has sixteen bytes from now on. Its code stands apart from that of most pairs, which fit.
+    /// Adds a pair that does not fit. From then on each has sixteen bytes. It is not inlined, because most pairs fit.
     #[inline(never)]
     fn widen_and_push(&mut self, pair: (u64, u64)) -> Result<(), AllocError>
         ensures done { OnOk result (pairs_in self.new ≡ pairs_in self.old ++ pair ∷ []) }
@@ -211,7 +212,7 @@ impl WordPairs {
         Ok(())
     }
 
-    /// How many pairs there are.
+    /// Returns the number of pairs.
     pub(crate) fn len(&self) -> usize
         ensures { result ≡ length (pairs_in self.now) }
     {
@@ -221,7 +222,7 @@ impl WordPairs {
         }
     }
 
-    /// The pair at a place.
+    /// Returns the pair at a place.
     #[inline(always)]
     pub(crate) fn at(&self, place: usize) -> (u64, u64)
         requires { place < length (pairs_in self.now) }
@@ -236,7 +237,7 @@ impl WordPairs {
         }
     }
 
-    /// Removes all pairs, and keeps the memory where each had eight bytes.
+    /// Removes all pairs. The memory is kept if each had eight bytes.
     pub(crate) fn clear(&mut self)
         ensures { pairs_in self.new ≡ [] }
     {
@@ -249,7 +250,7 @@ impl WordPairs {
         }
     }
 
-    /// Has room for so many pairs more, each in as many bytes as those that are there.
+    /// Reserves memory for `count` more pairs of the present width.
     pub(crate) fn reserve(&mut self, count: usize) -> Result<(), AllocError>
         ensures { pairs_in self.new ≡ pairs_in self.old }
     {

@@ -1,24 +1,24 @@
--- How many slots there are.
+-- The number of slots.
 use Rattle.std.proofs.Common.{◌≡◌, ℕ, zero, suc, ◌+◌, ◌*◌, ◌/◌, ◌^◌, ◌<◌, ◌≤◌, sym, ◌∙◌, ap, arith, ◌⊎◌, inl, inr}
 use Rattle.std.proofs.Math.Nat.{pow-succ'}
 use Rattle.slot_table.specs.Probes.{IsSlotCount}
 use Rattle.slot_table.specs.Stamps.{IsPower}
 
--- where there are slots, they are more than the items, and their number is a power of two
+-- if there are slots, there are more than items, and a power of two
 pub slots-some : (len n : ℕ) → IsSlotCount len n → 0 < n → (len < n) × IsPower n
 slots-some len n count some = elim count [
   | inl none ↦ absurd (omega arith)
   | inr table ↦ (let filled = table.filled in omega arith, table.power)
 ]
 
--- slots for one item more have room for it and for another
+-- slots for one more item leave one empty besides
 pub slots-room : (len n : ℕ) → IsSlotCount (len + 1) n → (len + 1 < n) × IsPower n
 slots-room len n count = elim count [
   | inl none ↦ absurd (omega arith)
   | inr table ↦ (let filled = table.filled in omega arith, table.power)
 ]
 
--- a power of two that is at least 8 has a quarter
+-- a power of two that is at least 8 is a multiple of 4
 quarter_of : (k n : ℕ) → n ≡ 2 ^ k → 8 ≤ n → (q : ℕ) × (n ≡ 4 * q)
 quarter_of zero n is eight = absurd (omega arith)
 quarter_of (suc zero) n is eight = absurd (omega arith)
@@ -27,7 +27,7 @@ quarter_of (suc (suc k)) n is eight =
     let inner = pow-succ' 2 k in
     (2 ^ k, omega arith)
 
--- twice as many slots serve one pair more
+-- doubling gives the number of slots for one more item if three quarters are filled
 pub slots-more : (len n more : ℕ) → IsSlotCount len n → n / 4 * 3 ≤ len
     → ((n ≡ 0) × (more ≡ 8)) ⊎ ((n ≡ 0 → ⊥) × (more ≡ 2 * n)) → IsSlotCount (len + 1) more
 slots-more len n more count full by = elim count [

@@ -1,4 +1,4 @@
--- One more item, which was not there, and lists one behind the other.
+-- Lists of distinct items: adding an absent item, and appending.
 use Rattle.std.proofs.Common.{◌≡◌, ◌∙◌, ℕ, zero, suc, List, [], ◌∷◌, ◌++◌, slice_get, Some, sym, ap, ◌⊎◌, inl, inr}
 use Rattle.slot_table.specs.Lists.{IsIn, IsOnce}
 use Rattle.slot_table.proofs.Places.{slice_get-append, slice_get_cases-push}

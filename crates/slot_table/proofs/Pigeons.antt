@@ -1,4 +1,4 @@
--- A list whose elements have partners of their own in another is no longer than that.
+-- The pigeonhole principle: a list whose elements have distinct partners in another list is no longer than that.
 use Rattle.std.proofs.Common.{◌≡◌, ℕ, zero, suc, ◌+◌, ◌<◌, ◌≤◌, List, [], ◌∷◌, length, slice_get, Some, refl, sym, ◌∙◌, ap, subst, arith}
 use Rattle.std.proofs.lemmas.Option.{slice_get_within}
 use Rattle.slot_table.proofs.Places.{none_some}
@@ -15,7 +15,7 @@ length-without i [] lt = absurd (omega arith)
 length-without zero (x ∷ xs) lt = omega arith
 length-without (suc i) (x ∷ xs) lt = let e = length-without i xs (omega arith) in omega arith
 
--- what stands at another place is still there
+-- an element at another place is still in the list
 still_there : {X : Type 0} (i j : ℕ) (xs : List X) (x : X) → slice_get xs j ≡ Some x → (i ≡ j → ⊥) → (k : ℕ) × (slice_get (without i xs) k ≡ Some x)
 unfolding without
 still_there i j [] x e ne = absurd (none_some x e)
@@ -25,7 +25,7 @@ still_there (suc i) zero (y ∷ ys) x e ne = (zero, e)
 still_there (suc i) (suc j) (y ∷ ys) x e ne =
     let w = still_there i j ys x e (λ s. ne (ap (λ n. suc n) s)) in (suc w.0, w.1)
 
--- if each element of xs, in which none stands twice, has a partner of its own in ys, then xs is no longer than ys
+-- if xs has distinct elements, and each has a partner in ys that is no other's, then xs is no longer than ys
 pub pigeons : {X Y : Type 0} (R : X → Y → Type 0) (xs : List X) (ys : List Y)
     → ((i j : ℕ) (x : X) → slice_get xs i ≡ Some x → slice_get xs j ≡ Some x → i ≡ j)
     → ((i : ℕ) (x : X) → slice_get xs i ≡ Some x → (y : Y) × R x y × ((j : ℕ) × (slice_get ys j ≡ Some y)))

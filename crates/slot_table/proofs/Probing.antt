@@ -1,4 +1,4 @@
--- What a search of the slots says, and what one more item leaves.
+-- What follows from the end of a search, and that slots still find all items if one is added.
 use Rattle.std.proofs.Common.{◌≡◌, ℕ, suc, ◌+◌, ◌<◌, ◌≤◌, List, [], ◌∷◌, ◌++◌, length, slice_get, set, replicate, Some, sym, ◌∙◌, ap, subst, arith, inl, inr}
 use Rattle.std.proofs.lemmas.Bool.{cases_lt, cases_eq}
 use Rattle.std.proofs.lemmas.List.{length-set, length_push, length-replicate}
@@ -9,7 +9,7 @@ use Rattle.slot_table.proofs.Places.{none_some, slice_get_cases-push}
 use Rattle.slot_table.proofs.Walking.{slice_get-set_same, kept, held_cases, count_up, length-count_up, in_count_up, slice_get-replicate}
 
 module _ {X : Type 0} (slot_hash : X → ℕ) where
-  -- the slots before a distance hold other pairs
+  -- the slots before a distance hold other items
   abbrev pub Passed : ℕ → List X → List ℕ → X → ℕ → Type 0
   Passed n ps ts p d =
       (e : ℕ) → e < d → (i : ℕ) × Holds ts (slot_of n (home_of slot_hash n p) e) i × (slice_get ps i ≡ Some p → ⊥)
@@ -41,7 +41,7 @@ module _ {X : Type 0} (slot_hash : X → ℕ) where
         ]
       ]
 
-  -- one more pair, in the first empty slot from its home
+  -- adding an item whose slot is the first empty one from its home
   pub Probes-push : (n : ℕ) (ps : List X) (ts : List ℕ) (p : X) (j : ℕ) → Probes slot_hash n ps ts
       → IsFree n (home_of slot_hash n p) ts j → Probes slot_hash n (ps ++ p ∷ []) (set ts j (suc (length ps)))
   Probes-push n ps ts p j w free =
@@ -83,7 +83,7 @@ module _ {X : Type 0} (slot_hash : X → ℕ) where
         ];
       }
 
-  -- with more slots than pairs, not every slot is taken
+  -- if there are more slots than items, a slot is empty
   pub not_all_taken : (n : ℕ) (ps : List X) (ts : List ℕ) → Probes slot_hash n ps ts → length ps < n → HasFree n ts
   not_all_taken n ps ts w lt full =
       let size : length ts ≡ n = w.size in
@@ -103,7 +103,7 @@ module _ {X : Type 0} (slot_hash : X → ℕ) where
       let l : length ys ≡ length ps = length-count_up 0 (length ps) in
       omega arith
 
-  -- empty slots find no pair
+  -- empty slots find the items of an empty list
   pub Probes-empty : (n : ℕ) → Probes slot_hash n [] (replicate n 0)
   Probes-empty n = record {
     size = length-replicate n 0;

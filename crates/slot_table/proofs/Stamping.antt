@@ -1,4 +1,4 @@
--- What slots hold: the stamps of items.
+-- Stamps: the place in a slot is that of its item, and slots with stamps find items.
 use Rattle.std.proofs.Common.{◌≡◌, ℕ, zero, suc, ◌+◌, ◌-◌, ◌*◌, ◌/◌, ◌%◌, ◌^◌, ◌<◌, ◌≤◌, List, [], ◌∷◌, ◌++◌, length, slice_get, get_or, set, replicate, Some, option_map, refl, sym, ◌∙◌, ap, subst, arith, inl, inr, bit_and}
 use Rattle.std.proofs.lemmas.Bool.{cases_lt, cases_eq}
 use Rattle.std.proofs.lemmas.List.{length-map, map-set}
@@ -13,7 +13,7 @@ use Rattle.slot_table.proofs.Places.{none_some, slice_get-append, slice_get-push
 use Rattle.slot_table.proofs.Probing.{Probes-empty, Probes-push, not_all_taken}
 use Rattle.slot_table.proofs.Walking.{slice_get-set_same, slice_get-set_other}
 
--- a number without its k lower bits
+-- subtracting the k lower bits is multiplying the rest
 above : (s k : ℕ) → s - bit_and s (2 ^ k - 1) ≡ s / 2 ^ k * 2 ^ k
 above s k =
     let m : bit_and s (2 ^ k - 1) ≡ s % 2 ^ k = and_mask s k in
@@ -24,7 +24,7 @@ below_pow : (s k p : ℕ) → p < 2 ^ k → bit_and (s - bit_and s (2 ^ k - 1) +
 below_pow s k p lt =
     ap (λ z. bit_and (z + p) (2 ^ k - 1)) (above s k) ∙ and_mask (s / 2 ^ k * 2 ^ k + p) k ∙ mod_low (s / 2 ^ k) k p lt
 
--- what stands below a tag
+-- the bits below a tag are the place
 pub below_tag : (s n p : ℕ) → IsPower n → p < n → bit_and (s - bit_and s (n - 1) + p) (n - 1) ≡ p
 below_tag s n p power lt =
     subst (λ (z : ℕ). p < z → bit_and (s - bit_and s (z - 1) + p) (z - 1) ≡ p) (sym power.1) (below_pow s power.0 p) lt
@@ -60,7 +60,7 @@ pub tag_fits : (s n p : ℕ) → IsPower n → s < 2 ^ 32 → p < n → p < 2 ^ 
 tag_fits s n p power small lt few =
     subst (λ (z : ℕ). p < z → s - bit_and s (z - 1) + p < 2 ^ 32) (sym power.1) (λ l. fits_pow s power.0 p small l few) lt
 
--- the place in a slot
+-- a slot's place is what its lower bits say
 pub place_at : (n : ℕ) (ts : List ℕ) (j t : ℕ) → slice_get ts j ≡ Some t → slice_get (places_in n ts) j ≡ Some (bit_and t (n - 1))
 place_at n ts j t at = slice_get-map (λ z. bit_and z (n - 1)) ts j ∙ ap (λ o. option_map (λ z. bit_and z (n - 1)) o) at
 
@@ -100,7 +100,7 @@ module _ {X : Type 0} (slot_hash : X → ℕ) where
   size_is n xs ts w = sym (length-map ts (λ z. bit_and z (n - 1))) ∙ w.probes.size
 
   module _ (n : ℕ) (power : IsPower n) (xs : List X) (ts : List ℕ) (few : length xs < n) (w : Finds slot_hash n xs ts) where
-    -- what a slot that is not empty holds
+    -- a slot that is not empty holds the stamp of an item
     pub held_item : (j t : ℕ) → slice_get ts j ≡ Some t → (t ≡ 0 → ⊥)
         → (i : ℕ) × (x : X) × (slice_get xs i ≡ Some x) × (t ≡ stamp_of slot_hash n x i) × (bit_and t (n - 1) ≡ suc i)
     held_item j t at full = elim (w.stamped j t at) [
@@ -115,7 +115,7 @@ module _ {X : Type 0} (slot_hash : X → ℕ) where
         let h = held_item j (suc i) at (λ e. absurd (omega arith)) in
         (h.0, place_at n ts j (suc i) at ∙ ap (λ z. Some z) h.4)
 
-    -- with more slots than items, not every slot is taken
+    -- if there are more slots than items, a slot is empty
     pub has_free : HasFree n ts
     has_free full = not_all_taken slot_hash n xs (places_in n ts) w.probes few (λ j lt. let h = full j lt in held_place j h.0 h.1)
 
@@ -128,7 +128,7 @@ module _ {X : Type 0} (slot_hash : X → ℕ) where
       λ e lt. let h = free.4 e lt in held_place (slot_of n home e) h.0 h.1,
     )
 
-    -- one item more, in the first empty slot from its home
+    -- adding an item whose slot is the first empty one from its home
     module _ (x : X) (j : ℕ) (room : length xs + 1 < n) (free : IsFree n (home_of slot_hash n x) ts j) where
       pub stamped_more : AreStamped slot_hash n (xs ++ x ∷ []) (set ts j (stamp_of slot_hash n x (length xs)))
       stamped_more k t at = elim (cases_eq j k) [
@@ -159,7 +159,7 @@ module _ {X : Type 0} (slot_hash : X → ℕ) where
         stamped = stamped_more;
       }
 
-  -- what a slot that is not empty says: its item's place and tag
+  -- what a slot that is not empty says of its item: the place, and whether the tag is another
   pub seen : (xs : List X) (ts : List ℕ) (j : ℕ) → Finds slot_hash (length ts) xs ts → IsSlotCount (length xs) (length ts) → j < length ts
       → (get_or ts j 0 ≡ 0 → ⊥)
       → (i : ℕ) × (x : X) × (slice_get xs i ≡ Some x) × (i < length xs) × (bit_and (get_or ts j 0) (length ts - 1) ≡ suc i)

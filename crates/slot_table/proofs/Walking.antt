@@ -1,4 +1,4 @@
--- Walks over slots, each slot after the one before it and the first after the last.
+-- Walks over the slots, from one to the next, and from the last to the first.
 use Rattle.std.proofs.Common.{◌≡◌, ℕ, zero, suc, ◌+◌, ◌-◌, ◌<◌, if◌then◌else◌, List, [], ◌∷◌, length, slice_get, get_or, set, ◌==◌, replicate, Some, refl, sym, ◌∙◌, ap, subst, arith, ◌⊎◌, inl, inr}
 use Rattle.std.proofs.lemmas.Bool.{cases_lt, cases_eq}
 use Rattle.std.proofs.lemmas.Option.{slice_get-get_or}
@@ -13,7 +13,7 @@ pub slot-within : (n h d : ℕ) → h < n → d < n → slot_of n h d < n
 unfolding slot_of
 slot-within n h d lt le = grind (arith)
 
--- the slot after one
+-- the slot at the next distance
 pub slot-next : (n h d s : ℕ) → h < n → d < n → s ≡ slot_of n h d → s + 1 < n → s + 1 ≡ slot_of n h (d + 1)
 unfolding slot_of
 slot-next n h d s lt le e more = grind (arith)
@@ -22,7 +22,7 @@ pub slot-wraps : (n h d s : ℕ) → h < n → d < n → s ≡ slot_of n h d →
 unfolding slot_of
 slot-wraps n h d s lt le e last = grind (arith)
 
--- the slot that the code goes on to
+-- `next_slot` is the slot at the next distance
 pub slot-after : (n h d s r : ℕ) → h < n → d < n → s ≡ slot_of n h d → r ≡ (if s + 1 == n then 0 else (s + 1))
     → (r ≡ slot_of n h (d + 1)) × (r < n)
 slot-after n h d s r lt le e f =
@@ -49,7 +49,7 @@ IsTaken-more n h ts d taken content e lt = elim (cases_eq e d) [
   | inr before ↦ taken e (omega arith)
 ]
 
--- each slot is at some distance
+-- each slot is at some distance from home
 pub slot-onto : (n h j : ℕ) → h < n → j < n → (d : ℕ) × (d < n) × (j ≡ slot_of n h d)
 unfolding slot_of
 slot-onto n h j lt le = elim (cases_lt j h) [
@@ -69,7 +69,7 @@ slice_get-set_other (z ∷ zs) zero (suc j) x ne = refl
 slice_get-set_other (z ∷ zs) (suc i) zero x ne = refl
 slice_get-set_other (z ∷ zs) (suc i) (suc j) x ne = slice_get-set_other zs i j x (λ e. ne (ap (λ n. suc n) e))
 
--- what was held stays where it was, since the slot that is written was empty
+-- a slot keeps what it holds if an empty slot is written
 pub kept : (ts : List ℕ) (j k i v : ℕ) → slice_get ts j ≡ Some 0 → Holds ts k i → Holds (set ts j (suc v)) k i
 kept ts j k i v empty h = slice_get-set_other ts j k (suc v) (λ e. clash (sym empty ∙ ap (λ z. slice_get ts z) e ∙ h)) ∙ h
   where
@@ -87,7 +87,7 @@ held_cases ts j k i v empty h = elim (cases_eq j k) [
   | inr off ↦ inl (sym (slice_get-set_other ts j k (suc v) off) ∙ h)
 ]
 
--- the numbers from a up
+-- the numbers from a on
 unfoldable pub count_up : ℕ → ℕ → List ℕ
 count_up a zero = []
 count_up a (suc k) = a ∷ count_up (suc a) k
@@ -103,7 +103,7 @@ in_count_up a zero c lt = absurd (omega arith)
 in_count_up a (suc k) zero lt = ap (λ n. Some n) (omega arith)
 in_count_up a (suc k) (suc c) lt = in_count_up (suc a) k c (omega arith) ∙ ap (λ n. Some n) (omega arith)
 
--- a walk of all the slots meets an empty one
+-- a walk over all slots meets an empty one
 pub not_all_passed : (n h : ℕ) (ts : List ℕ) → h < n → HasFree n ts → IsTaken n h ts n → ⊥
 not_all_passed n h ts lt free taken = free (λ j le.
     let d = slot-onto n h j lt le in

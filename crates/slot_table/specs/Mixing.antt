@@ -1,4 +1,4 @@
--- A number that spreads what has two words. No proof knows more of it than that two words have one.
+-- The hash of two words. Proofs know of it only that it is a function of both.
 use Rattle.std.specs.Prelude.{ℕ, ◌*◌, ◌/◌, ◌%◌, ◌^◌, bit_xor}
 use Rattle.std.specs.Int.{rotate_left, w64}
 

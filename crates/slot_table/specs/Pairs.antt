@@ -1,4 +1,4 @@
--- Two equalities that tell values apart tell pairs apart.
+-- If two equalities hold of equal values only, so does that of pairs.
 use Rattle.std.specs.Prelude.{◌≡◌, ◌&&◌, Bool, true, false}
 use Rattle.std.proofs.Common.{refl, sym, true≢false}
 

@@ -1,4 +1,4 @@
--- What looking for an item, and perhaps adding it, leaves.
+-- The result of finding or adding an item.
 use Rattle.std.specs.Prelude.{◌≡◌, ℕ, ◌<◌, List, [], ◌∷◌, ◌++◌, length, slice_get, Some, Result, Ok, Err}
 use Rattle.slot_table.specs.Lists.{IsIn}
 use Rattle.slot_table.specs.declared.Admission.{Admission}
@@ -6,8 +6,8 @@ use Rattle.slot_table.specs.declared.Admission.TheVariants.{Found, Added}
 use Rattle.slot_table.specs.declared.Refusal.{Refusal}
 use Rattle.slot_table.specs.declared.Refusal.TheVariants.{Full, OutOfMemory}
 
--- what looking for an item, with room for so many more, answers and leaves: its place, or that of one item more, or a
--- refusal that changes nothing
+-- by the result of a search with room for so many more: the item was found and the list is as before, or it was absent
+-- and is now the last, or it is absent, the list is as before, and this refusal has its cause
 abbrev pub IsPlaced : {X : Type 0} → ℕ → X → List X → Result Admission Refusal → List X → Type 0
 IsPlaced room x old (Ok (Found i)) new = (slice_get old i ≡ Some x) × (new ≡ old)
 IsPlaced room x old (Ok (Added i)) new = (IsIn old x → ⊥) × (0 < room) × (i ≡ length old) × (new ≡ old ++ x ∷ [])

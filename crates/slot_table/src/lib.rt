@@ -1,17 +1,18 @@
-//! Items in the order in which they were added, each once, beside slots that find the place of an
-//! item by open addressing.
+//! A list of distinct items in the order in which they were added, and an open-addressing hash
+//! table that finds the place of an item in this list.
 //!
-//! **Promises.** A `SlotTable` is a list of items without double ones (`SlotTable::as_slice`:
-//! `all`, `once`). `find` answers an item's place, or that it is not there; `find_or_add` finds it,
-//! adds it last, or refuses and changes nothing (`IsPlaced`); `slots` is the least power of two
-//! that is at least 8 and of which the items fill at most three quarters, and none for none
-//! (`IsSlotCount`); `clear` leaves no items. All this holds whatever numbers spread the items.
+//! **Promises.** A `SlotTable` is a list in which no item is twice (`SlotTable::as_slice`: `all`,
+//! `once`). `find` returns an item's place, or none if the item is not there. `find_or_add` finds
+//! it, or adds it at the end, or refuses and changes nothing (`IsPlaced`). The number of slots is 0
+//! if there are no items; otherwise it is the least power of two that is at least 8 and of which
+//! the items fill at most three quarters (`slots`, by `IsSlotCount`). `clear` leaves no items. All
+//! this holds for every hash.
 //!
-//! **Only tests show** that ample memory suffices (`wave_tests`). How far a search goes nothing
-//! shows.
+//! **Only tests show** that nothing is refused if there is ample memory (`wave_tests`). Nothing
+//! shows how many slots a search looks at.
 //!
-//! **Begin** with `SlotHash`, which is all that an item needs, and with `specs/Placing`; how slots
-//! find items is in `specs/Probes` and `Stamps`, and done in `slots`.
+//! **Begin** with `SlotHash`, which is all that an item needs, and with `specs/Placing`. How slots
+//! find items is defined in `specs/Probes` and `specs/Stamps`; the code is in `slots`.
 #![tactic(auto)]
 
 ghost use Rattle.std.specs.Prelude.{◌≡◌, ◌<◌, ◌+◌, [], ◌^◌, ℕ, true, length, slice_get, Some, MatchOption};
@@ -29,7 +30,7 @@ pub use slots::{free_slot, next_slot};
 use std::alloc::Global;
 use std::marker::Model;
 
-/// What has a number that spreads it over slots, and an equality that tells different values apart.
+/// An item of a `SlotTable`: it has a hash, and an equality that holds of equal values only.
 pub trait SlotHash: Copy + Eq {
     ghost slot_hash_of: { Self → ℕ };
 
@@ -39,8 +40,9 @@ pub trait SlotHash: Copy + Eq {
     ghost same: { (x y : Self) → Self.eq x y ≡ true → x ≡ y };
 }
 
-/// A number that spreads what has two words: two multiplications, and the upper half. Between them the halves change
-/// places, so that the upper bits of both words reach the lower bits of the number.
+/// Returns a hash of two words, below 2^32: the upper half of a product. The halves of a first product are exchanged,
+/// since the lower bits of a product do not depend on the higher bits of its factors; so the higher bits of both words
+/// reach the lower bits of the hash, by which slots are chosen.
 pub fn mix(first: u64, second: u64) -> u64
     ensures { result ≡ mix_of first second }
 {
@@ -79,12 +81,13 @@ impl<A: SlotHash, B: SlotHash> SlotHash for (A, B) {
     ghost same = { pairs-same A.eq B.eq A.same B.same };
 }
 
-/// Items, each at its place.
+/// Distinct items, each at its place: their numbers in the order of adding, from 0.
 #[derive(Drop)]
 pub struct SlotTable<T: SlotHash> {
     items: Vec<T>,
-    /// 0 where a slot is empty, else the stamp of an item: a place and 1, and above them a part of the item's number,
-    /// which tells most items apart without a look at them.
+    /// A slot is 0 if it is empty. Otherwise it is the stamp of an item: its place and 1 in the lower bits, as many as
+    /// number the slots, and above them the tag, the same bits of the item's hash. A search reads only items with the
+    /// tag that it looks for.
     slots: Vec<u32>,
 }
 
@@ -100,26 +103,26 @@ impl<T: SlotHash> Model for SlotTable<T> {
     ghost invariant = { λ t. IsTable T.slot_hash_of t.items.items t.slots.items };
 }
 
-/// Where an item stands after it was looked for and, if need be, added.
+/// The place of an item after `find_or_add`.
 #[derive(Clone, Copy, Debug, PartialEq, Eq)]
 pub enum Admission {
-    /// At a place at which it stood before.
+    /// The item was there already, at this place.
     Found(u32),
-    /// At the end.
+    /// The item was added at the end, which is this place.
     Added(u32),
 }
 
-/// Why an item was not added.
+/// Why an item was not added. The table is as before.
 #[derive(Clone, Copy, Debug, PartialEq, Eq)]
 pub enum Refusal {
-    /// There was no room for one more.
+    /// The caller allowed no further item (`room` is 0).
     Full,
-    /// A growth was refused.
+    /// Memory for the items or the slots was refused.
     OutOfMemory,
 }
 
 impl<T: SlotHash> SlotTable<T> {
-    /// A table without items. It takes no memory yet.
+    /// Returns a table without items, which takes no memory yet.
     pub fn new(alloc: Global) -> SlotTable<T>
         ensures { result ≡ [] }
     {
@@ -129,21 +132,21 @@ impl<T: SlotHash> SlotTable<T> {
         }
     }
 
-    /// How many items there are.
+    /// Returns the number of items.
     pub fn len(&self) -> usize
         ensures { result ≡ length self.now }
     {
         self.items.len()
     }
 
-    /// How many slots there are.
+    /// Returns the number of slots, of four bytes each.
     pub fn slots(&self) -> usize
         ensures { IsSlotCount (length self.now) result }
     {
         self.slots.len()
     }
 
-    /// The item at a place.
+    /// Returns the item at a place.
     pub fn at(&self, place: usize) -> T
         requires { place < length self.now }
         ensures { slice_get self.now place ≡ Some result }
@@ -151,7 +154,7 @@ impl<T: SlotHash> SlotTable<T> {
         self.items[place]
     }
 
-    /// All items, by place.
+    /// Returns all items by place.
     pub fn as_slice(&self) -> &[T]
         ensures all { result.now ≡ self.now }
         ensures once { IsOnce self.now }
@@ -159,7 +162,7 @@ impl<T: SlotHash> SlotTable<T> {
         self.items.as_slice()
     }
 
-    /// The place of an item.
+    /// Returns the place of an item, or none if it is not in the table.
     pub fn find(&self, item: T) -> Option<u32>
         ensures { MatchOption result (IsIn self.now item → ⊥) (λ i. slice_get self.now i ≡ Some item) }
     {
@@ -169,7 +172,9 @@ impl<T: SlotHash> SlotTable<T> {
         }
     }
 
-    /// Finds an item, or adds it at the end, where there is room for one more. One search serves both.
+    /// Finds an item, or adds it at the end; `room` is how many more items there may be. One search serves both. Fails
+    /// with `Full` if the item is absent and `room` is 0, and with `OutOfMemory` if a growth is refused; the table is
+    /// then as before.
     #[inline(always)]
     pub fn find_or_add(&mut self, item: T, room: u64) -> Result<Admission, Refusal>
         requires { 0 < room → length self.old + room < 2 ^ 32 }
@@ -190,7 +195,7 @@ impl<T: SlotHash> SlotTable<T> {
         }
     }
 
-    /// Removes all items and slots, and keeps their memory.
+    /// Removes all items and empties the slots, but keeps the memory of both.
     pub fn clear(&mut self)
         ensures { self.new ≡ [] }
     {

@@ -1,4 +1,4 @@
-//! Slots that find the place of an item by open addressing.
+//! Open addressing with linear probing: slots that find the place of an item.
 ghost use Rattle.std.specs.Prelude.{◌≡◌, ◌<◌, ◌≤◌, ◌+◌, ◌==◌, ◌++◌, ◌∷◌, [], ◌^◌, length, vec_len, vec_capacity, IfOk, OnOk, OnErr};
 ghost use Rattle.std.specs.Prelude.{if◌then◌else◌};
 ghost use Rattle.slot_table.specs.Probes.{home_of, IsFree, IsFreeFor, HasFree, IsSlotCount, IsProbeResult};
@@ -8,21 +8,22 @@ ghost use Rattle.slot_table.specs.Lists.{IsIn, IsOnce};
 use crate::SlotHash;
 use std::alloc::AllocError;
 
-/// What a search of the slots ends at.
+/// The result of a search.
 pub(crate) enum ProbeResult {
-    /// The place of the item.
+    /// The item is at this place of the list.
     Place(u32),
-    /// The first empty slot, if the item has no place; any number where there are no slots.
+    /// The item is in no place. This is the first empty slot from its home; if there are no slots, the number means
+    /// nothing.
     Slot(usize),
 }
 
-/// How many slots the first item makes.
+/// The number of slots that the first item makes.
 const FIRST_SLOTS: usize = 8;
 
-/// From how many items on a list grows by a quarter.
+/// A list of at least this many items grows by a quarter, a shorter one doubles.
 const MANY_ITEMS: usize = 64;
 
-/// The slot, of `count`, in which the search for an item begins.
+/// Returns the home of an item, the slot in which its search begins. `count` is the number of slots, a power of two.
 fn home<T: SlotHash>(item: T, count: usize) -> usize
     requires { 0 < count }
     ensures value { result ≡ home_of T.slot_hash_of count item }
@@ -31,7 +32,7 @@ fn home<T: SlotHash>(item: T, count: usize) -> usize
     item.slot_hash() as usize & (count - 1)
 }
 
-/// The upper part of an item's number of 32 bits, above the bits that number the slots, of which there are `count`.
+/// Returns an item's tag: the lower 32 bits of its hash without those that number the `count` slots.
 fn tag<T: SlotHash>(item: T, count: usize) -> usize
     requires { 0 < count }
     ensures { result ≡ tag_of T.slot_hash_of count item }
@@ -40,7 +41,7 @@ fn tag<T: SlotHash>(item: T, count: usize) -> usize
     number - (number & (count - 1))
 }
 
-/// What one of `count` slots holds for an item at a place.
+/// Returns the stamp of an item at a place: what one of `count` slots holds for it.
 fn stamp<T: SlotHash>(item: T, count: usize, place: usize) -> u32
     requires count { IsPower count }
     requires place { place + 1 < count }
@@ -50,7 +51,7 @@ fn stamp<T: SlotHash>(item: T, count: usize, place: usize) -> u32
     (tag(item, count) + place + 1) as u32
 }
 
-/// The slot after this one, of `count`: the first comes after the last.
+/// Returns the slot after this one of `count`. After the last comes the first.
 pub fn next_slot(slot: usize, count: usize) -> usize
     requires { slot < count }
     ensures { result ≡ (if slot + 1 == count then 0 else slot + 1) }
@@ -58,7 +59,8 @@ pub fn next_slot(slot: usize, count: usize) -> usize
     if slot + 1 == count { 0 } else { slot + 1 }
 }
 
-/// The first empty slot from `home`, for a table whose items have no type of their own.
+/// Returns the first empty slot from `home`. It is public for tables whose items are no values of one type
+/// (`net_bench::NameTable`).
 pub fn free_slot(slots: &[u32], home: usize) -> usize
     requires home { home < length slots.now }
     requires free { HasFree (length slots.now) slots.now }
@@ -74,7 +76,7 @@ pub fn free_slot(slots: &[u32], home: usize) -> usize
     unreachable!()
 }
 
-/// Where the search for an item ends.
+/// Searches for an item. The tag in a slot spares a look at most items with another hash.
 #[inline(always)]
 pub(crate) fn probe<T: SlotHash>(items: &[T], slots: &[u32], item: T) -> ProbeResult
     requires finds { Finds T.slot_hash_of (length slots.now) items.now slots.now }
@@ -100,8 +102,8 @@ pub(crate) fn probe<T: SlotHash>(items: &[T], slots: &[u32], item: T) -> ProbeRe
     unreachable!()
 }
 
-/// Makes `count` slots that find each of the items. The memory of the slots serves on where it is large enough. After an
-/// error the slots are as before.
+/// Makes `count` slots that find all items. The old memory is used again if it is large enough. After an error the
+/// slots are as before.
 fn rehash<T: SlotHash>(items: &[T], slots: &mut Vec<u32>, count: usize) -> Result<(), AllocError>
     requires count { length items.now < count }
     requires power { IsPower count }
@@ -121,8 +123,8 @@ fn rehash<T: SlotHash>(items: &[T], slots: &mut Vec<u32>, count: usize) -> Resul
     Ok(())
 }
 
-/// The slot that a new item takes: the one at which its search ended, or, where one item more would fill over three
-/// quarters of the slots, the first empty one of twice as many. After an error the slots are as before.
+/// Returns the slot for a new item: the one at which its search ended, or, if one more item would fill more than three
+/// quarters of the slots, the first empty one after they have been doubled. After an error the slots are as before.
 fn slot_for<T: SlotHash>(
     items: &[T],
     slots: &mut Vec<u32>,
@@ -148,8 +150,9 @@ fn slot_for<T: SlotHash>(
     Ok(free_slot(slots.as_slice(), home(item, more)))
 }
 
-/// Makes room for one item more. A list of many items grows by a quarter, where a shorter one doubles: of what it takes, a
-/// tenth is empty in the mean, not three. The C library moves no large block that grows.
+/// Makes room for one more item. A list of `MANY_ITEMS` or more grows by a quarter: on average a tenth of its memory is
+/// then empty, and three tenths if it doubled. There are more growths, but the C library does not copy a large block to
+/// grow it.
 fn make_room<T>(list: &mut Vec<T>) -> Result<(), AllocError>
     ensures items { list.new.items ≡ list.old.items }
     ensures room { OnOk result (vec_len list.new < vec_capacity list.new) }
@@ -161,7 +164,7 @@ fn make_room<T>(list: &mut Vec<T>) -> Result<(), AllocError>
     list.reserve_exact(len / 4)
 }
 
-/// Adds an item at the end, where there is room for it and slots enough, and stamps the first empty slot from its home.
+/// Adds an item at the end, and its stamp to the slot, which is the first empty one from its home. Nothing grows here.
 #[inline(always)]
 fn push_at<T: SlotHash>(items: &mut Vec<T>, slots: &mut Vec<u32>, item: T, slot: usize)
     requires finds { Finds T.slot_hash_of (length slots.old.items) items.old.items slots.old.items }
@@ -180,8 +183,8 @@ fn push_at<T: SlotHash>(items: &mut Vec<T>, slots: &mut Vec<u32>, item: T, slot:
     items.push_reserved(item);
 }
 
-/// Makes room for an item whose search ended at `slot`, and adds it at the end. After an error all is as before. Few items
-/// need this, so its code stands apart.
+/// Grows what has to grow, and adds an item whose search ended at `slot`. After an error the list is as before. It is a
+/// function of its own and not inlined because few items need it.
 #[inline(never)]
 fn grow_and_push<T: SlotHash>(
     items: &mut Vec<T>,
@@ -207,7 +210,7 @@ fn grow_and_push<T: SlotHash>(
     Ok(())
 }
 
-/// Adds an item at the end, whose search ended at `slot`. After an error all is as before.
+/// Adds an item whose search ended at `slot`. After an error the list is as before.
 #[inline(always)]
 pub(crate) fn add_at<T: SlotHash>(
     items: &mut Vec<T>,

@@ -1,10 +1,13 @@
-//! A whole caller of the store and its waves, to start from: "a and b and c", grouped in two ways in one store, and the proof that
-//! both are one diagram.
+//! A whole caller of the store and its waves, to start from: it builds "a and b and c", grouped in
+//! two ways, in one store, and proves that both are the same diagram.
 //!
-//! **Promises.** `two_ways` answers the diagram of "a and b and c" (`meaning`), both times (`same`). **Only a test shows** that ample
-//! memory suffices, and how many nodes the store has.
+//! **Promises.** `two_ways` returns the diagram of "a and b and c" (`meaning`), both times
+//! (`same`).
 //!
-//! **Begin** here, with docs/CALLING.md beside it: copy it, and change what is built.
+//! **Only a test shows** that nothing is refused if there is ample memory, and how many nodes the
+//! store has.
+//!
+//! **Begin** here, with docs/CALLING.md: copy it, and change what is built.
 #![tactic(auto)]
 
 ghost use Rattle.std.specs.Prelude.{◌≡◌, ◌&&◌, Bool, List, IfOk};
@@ -27,7 +30,7 @@ use std::test::Fail;
 use std::thread::Threads;
 use wave_engine::Engine;
 
-/// The diagrams of two operations, by one wave. All references that the store had keep their functions.
+/// Returns the diagrams of two operations, by one wave. All references that the store had keep their functions.
 #[tactic(auto, using(dd_store::proofs::View::kept_den))]
 fn both<R: Threads + Wait + Sync>(
     engine: &mut Engine<'_, R, NoMonitor>,
@@ -45,12 +48,12 @@ fn both<R: Threads + Wait + Sync>(
     ensures first { IfOk result (λ r. IsDiagram store.new r.0 (entry_value store.old one)) }
     ensures second { IfOk result (λ r. IsDiagram store.new r.1 (entry_value store.old two)) }
 {
-    let _ = store.levels();
+    let _ = store.levels(); // For the proof.
     let answers = engine.wave(store, &[one, two])?;
     Ok((answers[0], answers[1]))
 }
 
-/// Builds "(a and b) and c" and "a and (b and c)" in a store of their own, and answers this store and both diagrams.
+/// Builds "(a and b) and c" and "a and (b and c)" in a new store, and returns this store and both diagrams.
 pub fn two_ways<R: Threads + Wait + Sync>(
     rt: &R,
     alloc: Global,
@@ -71,11 +74,11 @@ pub fn two_ways<R: Threads + Wait + Sync>(
     let mut engine = Engine::new(&crew)?;
     let (ab, bc) = both(&mut engine, &mut store, (Op::And, a, b), (Op::And, b, c))?;
     let ways = both(&mut engine, &mut store, (Op::And, ab, c), (Op::And, a, bc))?;
-    let _ = store.levels();
+    let _ = store.levels(); // For the proof.
     Ok((store, ways.0, ways.1))
 }
 
-// Both are equal, and 1 where a, b and c are 1. The nodes are those of a, b, c, "a and b", "b and c" and "a and b and c".
+// Both are equal, and 1 if a, b and c are 1. The nodes are those of a, b, c, "a and b", "b and c" and "a and b and c".
 #[test]
 fn both_ways_are_equal(rt: HostRuntime) -> Result<(), Fail> {
     let (store, first, second) = two_ways(&rt, rt.alloc())?;

@@ -1,11 +1,11 @@
--- What a table has after some keys were admitted to it.
+-- What a table has after keys were admitted to it.
 use Rattle.std.proofs.Common.{◌≡◌, List, [], ◌∷◌, ◌++◌, Contains, ◌⊎◌, inl, inr, refl, sym, ap, ◌∙◌, subst, append_assoc, append-nil}
 use Rattle.req_table.specs.declared.Key.{Key}
 use Rattle.req_table.specs.Settled.{Admits, IsDistinctOf}
-use Rattle.req_table.proofs.Lists.{Has, has_of, contains_of, Has-append_left, Has-append_right, Has-append_cases, IsDistinct, IsDistinct-append}
+use Rattle.req_table.proofs.Lists.{Has, has_of, contains_of, Has-append_left, Has-append_right, IsDistinct}
 use Rattle.req_table.proofs.Admits.{Admits-append, Admits-distinct}
 
--- keys that are there change nothing
+-- keys that are there already change nothing
 pub Admits-known : (ys xs : List Key) → ((x : Key) → Has xs x → Has ys x) → Admits ys xs ys
 Admits-known ys [] h = refl
 Admits-known ys (x ∷ xs) h = inl (contains_of ys x (h x (inl refl)), Admits-known ys xs (λ z i. h z (inr i)))
@@ -14,7 +14,7 @@ Admits-known ys (x ∷ xs) h = inl (contains_of ys x (h x (inl refl)), Admits-kn
 pub Admits-new : (ys : List Key) (x : Key) → (Has ys x → ⊥) → Admits ys (x ∷ []) (ys ++ x ∷ [])
 Admits-new ys x n = inr ((λ c. n (has_of ys x c)), refl)
 
--- what was there stays in front
+-- what was there stays at the front
 pub Admits-front : (ys xs zs : List Key) → Admits ys xs zs → (more : List Key) × (zs ≡ ys ++ more)
 Admits-front ys [] zs a = ([], sym a ∙ sym (append-nil ys))
 Admits-front ys (x ∷ xs) zs (inl a) = Admits-front ys xs zs a.1
@@ -29,7 +29,7 @@ not_longer [] [] x rest e = cc
 not_longer [] (m ∷ more) x rest e = cc
 not_longer (y ∷ ys) more x rest e = not_longer ys more x rest (let r : ys ≡ (ys ++ more) ++ x ∷ rest = cc in r)
 
--- The key that follows `row` in the table of xs is the first of xs that row lacks.
+-- The key after `row` in the table of xs is the first of xs that row does not have.
 pub next_from : (ys more xs row : List Key) (x : Key) (rest : List Key) → ys ++ more ≡ row → Admits ys xs (row ++ x ∷ rest)
     → (before : List Key) × (after : List Key) × (xs ≡ before ++ x ∷ after) × ((y : Key) → Has before y → Has row y)
 next_from ys more [] row x rest e a = absurd (not_longer ys more x rest (a ∙ ap (λ l. l ++ x ∷ rest) (sym e)))
@@ -54,7 +54,7 @@ pub Admits-offer : (ys xs zs us : List Key) (x : Key) → Admits ys xs zs → (C
 Admits-offer ys xs zs us x a (inl h) = Admits-append ys xs zs (x ∷ []) us a (inl (h.0, sym h.1))
 Admits-offer ys xs zs us x a (inr h) = Admits-append ys xs zs (x ∷ []) us a (inr (h.0, sym h.1))
 
--- so the next key of a table is the first one that its front lacks
+-- the next key of a table is the first one that the keys before it are not
 pub next_of : (xs row : List Key) (x : Key) (rest : List Key) → IsDistinctOf xs (row ++ x ∷ rest)
     → (before : List Key) × (after : List Key) × (xs ≡ before ++ x ∷ after) × ((y : Key) → Has before y → Has row y) × (Has row x → ⊥)
 next_of xs row x rest a =

@@ -1,4 +1,4 @@
--- A machine that takes allowed steps alone keeps a core sound.
+-- A machine that only makes allowed steps keeps a core sound.
 use Rattle.std.proofs.Common.{◌≡◌, ℕ, ◌+◌, ◌<◌, get_or, IsTrue, Bool, true, false, List, All, AllPairs, Contains, map, Result, Ok, Err, IfOk, OnErr, MatchBool, refl, sym, ap, ◌∙◌, subst, arith}
 use Rattle.std.specs.declared.alloc.AllocError.{AllocError}
 use Rattle.dd_store.specs.Nodes.{Nodes, IsSound as IsSoundStore}
@@ -30,7 +30,7 @@ core_at S v roots = record { store = S; roots = roots; machine = v }
 abbrev pub Does : Nodes → MachineView → Event → Bool → MachineView → Type 0
 Does S v e b u = MatchBool b (IsStep (wave_of_view S v) (state_of v) e (state_of u)) ((u ≡ v) × ¬ IsAllowed (wave_of_view S v) (state_of v) e)
 
--- the same of the wave of a core
+-- what a core ensures of an event, by the wave over its store
 abbrev pub TriesEvent : Nodes → MachineView → List Key → Event → Bool → MachineView → Type 0
 TriesEvent S v roots e b u = MatchBool b (IsStep (wave_of S v.workers) (state_of v) e (state_of u)) ((core_at S u roots ≡ core_at S v roots) × ¬ IsAllowed (wave_of S v.workers) (state_of v) e)
 
@@ -61,7 +61,7 @@ pub event_keeps : (S : Nodes) (v u : MachineView) (roots : List Key) (e : Event)
 event_keeps S v u roots e (Ok b) same ok err h = does_keeps S v u roots e b same ok h
 event_keeps S v u roots e (Err x) same ok err h = subst (λ (x : MachineView). IsSoundCore (core_at S x roots)) (sym err) h
 
--- what a worker took of a sender is fair, and what it took at its level is of the store
+-- what a worker has taken of a sender is fair, and what it has taken at its level is of the store
 pub taken_fair : (S : Nodes) (v : MachineView) (roots : List Key) (by : ℕ) → IsSoundCore (core_at S v roots) → by < v.workers → (s : ℕ) → s < v.workers → IsFair (wave_of_view S v).scope (sent_by s (list_of v.taken by))
 taken_fair S v roots by h bb s sb =
     let w = wave_of S v.workers in
@@ -73,7 +73,8 @@ taken_fair S v roots by h bb s sb =
 pub taken_held : (S : Nodes) (v : MachineView) (roots : List Key) (by : ℕ) → IsSoundCore (core_at S v roots) → by < v.workers → All (IsKey S) (asks_here (state_of v) by)
 taken_held S v roots by h bb = all_of (IsKey S) (asks_here (state_of v) by) (λ x i. (taken_key (wave_of S v.workers) roots (state_of v) by ((state_of v).at by) x h.sound bb i).1)
 
--- what a worker sent to itself it took or has waiting, and what is due from it to itself has a level of the machine
+-- what a worker has sent to itself it has taken or it waits, and what is due from it to itself is of a level of the
+-- machine
 pub own_in_order : (S : Nodes) (v : MachineView) (roots : List Key) (by : ℕ) → IsSoundCore (core_at S v roots) → by < v.workers → IsOwnInOrder v by
 own_in_order S v roots by h bb = let c = state_of v in taken_prefix (wave_of S v.workers).scope (λ k. c.sent k by) (c.taken by) (c.waiting by) by (h.sound.lane by bb) bb
 
@@ -83,7 +84,7 @@ own_below S v roots by h bb =
     all_of (λ x. level_of S x < v.levels) (c.due by by)
     (λ x i. subst (λ n. level_of S x < n) (sym h.levels) (h.laws.bounded x (each (IsDue (wave_of S v.workers) (ends (c.sent by by)) (c.at by)) (c.due by by) x (h.sound.dues by by bb bb) i).held))
 
--- an event that was done counts as one, and one that was not leaves the count
+-- an event that was done counts as one, and an event that was not leaves the count
 pub counts_event : (S : Nodes) (v u : MachineView) (e : Event) (b : Bool) → IsConsistent v → (u.workers ≡ v.workers) × (u.levels ≡ v.levels) → Does S v e b u → (IsTrue b → u.kept ≡ v.kept + kept_by e) → MatchBool b (done_of u ≡ done_of v + 1) (done_of u ≡ done_of v)
 counts_event S v u e true h same d k = counts_one S v u e h same d (k refl)
 counts_event S v u e false h same d k = ap done_of d.0
@@ -93,7 +94,7 @@ pub counts_does : (S : Nodes) (v u : MachineView) (e : Event) (r : Result Bool A
 counts_does S v u e (Ok b) h same d k = counts_event S v u e b h same d k
 counts_does S v u e (Err x) h same d k = d
 
--- so it is of an event that keeps no request
+-- an event that keeps no request counts as one if it was done
 pub counts_same : (S : Nodes) (v u : MachineView) (e : Event) (r : Result Bool AllocError) → IsConsistent v → (u.workers ≡ v.workers) × (u.levels ≡ v.levels) → IfOk r (λ b. Does S v e b u) → u.kept ≡ v.kept → kept_by e ≡ 0
     → IfOk r (λ b. MatchBool b (done_of u ≡ done_of v + 1) (done_of u ≡ done_of v))
 counts_same S v u e (Ok b) h same d k z = counts_event S v u e b h same d (λ t. omega (arith, k, z))
@@ -102,7 +103,7 @@ counts_same S v u e (Err x) h same d k z = d
 pub settles_at : (x v : CoreView) → x ≡ v → IsSoundCore x → IsFinished (core_wave v) (core_state v) → IsSettledCore v
 settles_at x v e h = subst (λ (y : CoreView). IsFinished (core_wave y) (core_state y) → IsSettledCore y) e (λ done. finished_settles (core_wave x) h.laws x.roots (core_state x) h.sound done)
 
--- what the machine says of its levels, of a core
+-- what the machine says of its levels holds of the core
 pub finish_says : (x v : CoreView) → x ≡ v → x.machine.levels ≡ x.store.levels → (b : Bool) → MatchBool b ((k : ℕ) → k < x.machine.workers → get_or x.machine.at k 0 ≡ x.machine.levels) ((k : ℕ) × (k < x.machine.workers) × ¬ (get_or x.machine.at k 0 ≡ x.machine.levels))
     → MatchBool b (IsFinished (core_wave v) (core_state v)) (¬ IsFinished (core_wave v) (core_state v))
 finish_says x v e l true m = subst (λ (y : CoreView). IsFinished (core_wave y) (core_state y)) e (λ k kb. m k kb ∙ l)
@@ -112,7 +113,7 @@ pub finish_settles : (x v : CoreView) → x ≡ v → (b : Bool) → IsSoundCore
 finish_settles x v e true h m t = settles_at x v e h m
 finish_settles x v e false h m t = absurd (cc)
 
--- the start
+-- the core before any event
 pub start_keeps : (S : Nodes) (m : MachineView) (roots : List Key) (workers : ℕ) → IsSoundStore S → 0 < workers → All (IsKey S) roots → (m.workers ≡ workers) × (m.levels ≡ S.levels) × IsStart (wave_of S workers) roots (state_of m) → IsSoundCore (core_at S m roots)
 start_keeps S m roots workers o some held h =
     let workers-is = ap (λ n. wave_of S n) (sym h.0) in
@@ -125,7 +126,7 @@ start_keeps S m roots workers o some held h =
 pub start_is_new : (S : Nodes) (m : MachineView) (roots : List Key) (workers' : ℕ) → (m.workers ≡ workers') × (m.levels ≡ S.levels) × IsStart (wave_of S workers') roots (state_of m) → IsNew S workers' roots (core_at S m roots)
 start_is_new S m roots workers' h = record { store = refl; roots = refl; workers = h.0; start = subst (λ w. IsStart w roots (state_of m)) (ap (λ n. wave_of S n) (sym h.0)) h.2 }
 
--- ---- records by level that are the same rows
+-- ---- records by level that are the same as the rows
 closure_along : (v : CoreView) (rows records : ℕ → List Record) → ((l : ℕ) → l < v.store.levels → records l ≡ rows l) → IsClosure (core_wave v) v.roots rows → IsClosure (core_wave v) v.roots records
 closure_along v rows records e h = record {
   split = λ l b. subst (All (IsSplit (core_wave v))) (sym (e l b)) (h.split l b);
@@ -150,7 +151,7 @@ records_close_ok x v e h (Ok rows) same done =
     records_close x v e h (row_at rows) (subst (λ (y : CoreView). (l : ℕ) → l < y.store.levels → row_at rows l ≡ level_of_rows y.machine.workers (core_state y).rows l) e (λ l b. same l (subst (λ n. l < n) (sym h.levels) b))) done
 records_close_ok x v e h (Err f) same done = same
 
--- what the machine says of an event, of a core
+-- what the machine says of an event holds of the core
 pub allows_at : (x v : CoreView) → x ≡ v → x.machine.levels ≡ x.store.levels → (f : Event) (b : Bool) → MatchBool b (IsAllowed (wave_of_view x.store x.machine) (core_state x) f) (¬ IsAllowed (wave_of_view x.store x.machine) (core_state x) f)
     → MatchBool b (IsAllowed (core_wave v) (core_state v) f) (¬ IsAllowed (core_wave v) (core_state v) f)
 allows_at x v e l f b m = subst (λ (y : CoreView). MatchBool b (IsAllowed (core_wave y) (core_state y) f) (¬ IsAllowed (core_wave y) (core_state y) f)) e

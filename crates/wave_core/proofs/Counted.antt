@@ -35,7 +35,7 @@ sum_list g d (x ∷ xs) = sum_by-cons g x xs ∙ ap (λ n. g x + n) (sum_list g 
 pub sum_numbers : (xs : List ℕ) → sum xs ≡ sum_below (length xs) (λ k. get_or xs k 0)
 sum_numbers xs = sum_list (λ x. x) 0 xs
 
--- a list of n times m lists, told by place
+-- a list of n times m lists, by place
 pub sum_grid : {X : Type 0} (n m : ℕ) (xss : List (List X)) → length xss ≡ n * m → sum_by length xss ≡ sum_over n m (λ s k. length (get_or xss (s * m + k) []))
 sum_grid n m xss long = sum_list length [] xss ∙ ap (λ l. sum_below l (λ k. length (get_or xss k []))) long ∙ sum_blocks n m (λ k. length (get_or xss k []))
 
@@ -45,7 +45,7 @@ sum_line n xss long = sum_list length [] xss ∙ ap (λ l. sum_below l (λ k. le
 pub sum_of_numbers : (n : ℕ) (xs : List ℕ) → length xs ≡ n → sum xs ≡ sum_below n (λ k. get_or xs k 0)
 sum_of_numbers n xs long = sum_numbers xs ∙ ap (λ l. sum_below l (λ k. get_or xs k 0)) long
 
--- what the lists of a machine count
+-- the sum of the sizes of a machine's lists
 pub counted : (v : MachineView) → IsShaped v → sum_by length v.sent + sum_by length v.taken + (sum_by length v.rows + sum v.at) ≡ noted v.workers v.levels (state_of v)
 counted v h =
     let a = sum_grid v.workers v.workers v.sent h.sent in
@@ -94,14 +94,14 @@ applied w c d f h =
     let t = sum_same w.workers d.at (λ k. c.at k + f.level_added k) h.at ∙ sum_add w.workers c.at f.level_added in
     omega (arith, a, b, r, t)
 
--- ---- one item, at a pair and at a worker
+-- ---- one item, of a pair or of a worker
 one_at_pair : {X : Type 0} (n by to : ℕ) (x : X) → by < n → to < n → sum_over n n (λ s k. length (at_pair by to x s k)) ≡ 1
 one_at_pair n by to x l m = over_same n n (λ s k. length (at_pair by to x s k)) (λ s k. total (λ y. 1) (at_pair by to x s k)) (λ s k sb kb. long_total (at_pair by to x s k)) ∙ sum_at_pair (λ y. 1) n by to x l m
 
 one_at_one : {X : Type 0} (n by : ℕ) (x : X) → by < n → sum_below n (λ k. length (at_one by x k)) ≡ 1
 one_at_one n by x l = sum_same n (λ k. length (at_one by x k)) (λ k. total (λ y. 1) (at_one by x k)) (λ k kb. long_total (at_one by x k)) ∙ sum_at_one (λ y. 1) n by x l
 
--- a record at the place of its worker and level
+-- a record, at the place of its worker and level
 one_at_place : {X : Type 0} (n m by l : ℕ) (x : X) → by < n → l < m → sum_over n m (λ k v. length (at_pair by l x k v)) ≡ 1
 one_at_place n m by l x bb lb =
     over_same n m (λ k v. length (at_pair by l x k v)) (λ k v. total (λ y. 1) (at_pair by l x k v)) (λ k v kb vb. long_total (at_pair by l x k v))
@@ -127,7 +127,7 @@ starts_at_none w roots c h =
     let t = sum_none w.workers c.at h.at in
     omega (arith, a, b, r, t)
 
--- what the event adds to the requests that were kept
+-- how many requests an event keeps
 abbrev pub kept_by : Event → ℕ
 kept_by (Send by to) = 0
 kept_by (End by to) = 0
@@ -177,7 +177,7 @@ counts_step w c d (Keep by) (bb, x, rest, here, all, h) =
     let r = over_none w.workers w.levels (λ k v. 0) (λ k v kb vb. refl) in
     omega (arith, a, s, g, z, r)
 
--- a machine has sent at least what was kept, so one event more is counted
+-- a machine has sent at least what was kept, so one more event is counted
 pub counts_one : (S : Nodes) (v u : MachineView) (e : Event) → IsConsistent v → (u.workers ≡ v.workers) × (u.levels ≡ v.levels) → IsStep (wave_of_view S v) (state_of v) e (state_of u) → u.kept ≡ v.kept + kept_by e → done_of u ≡ done_of v + 1
 counts_one S v u e h same s kept =
     let a = counts_step (wave_of_view S v) (state_of v) (state_of u) e s in
@@ -185,7 +185,7 @@ counts_one S v u e h same s kept =
     let few = h.kept in
     omega (arith, a, n, few, kept)
 
--- lists that grow are as many as before, and one more where one of them grew
+-- the sizes of lists that grow are as before, and one more if one of them grew
 pub more_of : {X : Type 0} (n m a : ℕ) (f g p : ℕ → ℕ → List X) → ((s k : ℕ) → s < n → k < m → g s k ≡ f s k ++ p s k) → a ≤ sum_over n m (λ s k. length (f s k)) → a ≤ sum_over n m (λ s k. length (g s k))
 more_of n m a f g p h l = let e = over_grown n m f g p h in omega (arith, e, l)
 

@@ -1,4 +1,4 @@
--- The scan of all events, and what a driven core does.
+-- The search through all events, and what a driven core does.
 use Rattle.std.proofs.Common.{◌≡◌, ℕ, zero, suc, ◌+◌, ◌-◌, ◌%◌, ◌<◌, ◌≤◌, List, [], ◌∷◌, length, drop, get_or, Bool, true, false, MatchBool, inl, inr, refl, sym, ap, ◌∙◌, subst, arith}
 use Rattle.req_table.specs.Wave.{Wave}
 use Rattle.wave_core.specs.declared.Event.{Event}
@@ -15,11 +15,11 @@ use Rattle.wave_core.proofs.MeasureDecreases.{step_falls}
 use Rattle.req_table.proofs.Keyed.{key_decides}
 use Rattle.req_table.specs.contracts.KeyPartialEq.TheImpl.{eq-value}
 
--- what is counted so far, of the events of which xs are left
+-- what was counted so far, if the events xs are left
 abbrev pub CountsOn : Wave → State → List Event → List Event → ℕ → Type 0
 CountsOn w c events xs count = (k : ℕ) → CountsAllowed w c xs k → CountsAllowed w c events (count + k)
 
--- what is passed so far
+-- what was skipped so far
 abbrev pub NumbersOn : Wave → State → List Event → List Event → ℕ → ℕ → Type 0
 NumbersOn w c events xs number left = (e : Event) → IsNthAllowed w c xs left e → IsNthAllowed w c events number e
 
@@ -84,7 +84,7 @@ numbered_allowed w c (x ∷ xs) n e (inr (a, inr b)) = numbered_allowed w c xs b
 pub is_allowed : (w : Wave) (c : State) (xs : List Event) (n : ℕ) (e : Event) → IsNthAllowed w c xs n e → ¬ IsAllowed w c e → ⊥
 is_allowed w c xs n e h bar = bar (numbered_allowed w c xs n e h)
 
--- ---- what is done so far, of the choices of which xs are left
+-- ---- what was done so far, if the choices xs are left
 abbrev pub DrivesOn : CoreView → CoreView → List ℕ → List ℕ → Type 0
 DrivesOn v x choices xs = (d : State) → IsDriven (core_wave v) (core_state x) xs d → IsDriven (core_wave v) (core_state v) choices d
 
@@ -122,7 +122,7 @@ events_same v x events same e = e ∙ ap all_events (sym (same_wave v x same))
 pub driven_both : (v x y : CoreView) (choices : List ℕ) → IsSameWave v x → DrivesOn v x choices [] → IsDriven (core_wave x) (core_state x) [] (core_state y) → IsDriven (core_wave v) (core_state v) choices (core_state y)
 driven_both v x y choices same h d = h (core_state y) (subst (λ w. IsDriven w (core_state x) [] (core_state y)) (same_wave v x same) d)
 
--- ---- the scan at a place
+-- ---- the search at a place
 pub of_true : (b : Bool) (P Q : Type 0) → b ≡ true → MatchBool b P Q → P
 of_true true P Q e m = m
 of_true false P Q e m = absurd (cc)

@@ -23,7 +23,7 @@ use Rattle.wave_core.proofs.Places.{eqb_comm, at_pair_is}
 use Rattle.wave_core.proofs.Grid.{place, pair_grows, got, set_twice, read_back}
 use Rattle.wave_core.proofs.Machines.{still}
 
--- what a child adds to the due list of a pair
+-- what a child adds to what is due for a pair of workers
 only_owned : (a b c : Bool) (x : Key) → b ≡ c → only (a && b) x ≡ cond a (cond c (x ∷ []) []) []
 only_owned true true c x e = ap (λ t. cond t (x ∷ []) []) e
 only_owned true false c x e = ap (λ t. cond t (x ∷ []) []) e
@@ -63,7 +63,7 @@ due_with_children_is S n w by r d bb size s k kb =
     ∙ ap (λ l. by_place w d s k ++ l) (cond_join (eqb s by) (filter P (asked r.low)) (filter P (asked r.high)))
     ∙ ap (λ l. by_place w d s k ++ cond (eqb s by) l []) (sym (filter-append P (asked r.low) (asked r.high)) ∙ ap (λ l. filter P l) (sym (append-nil (asked r.low ++ asked r.high))))
 
--- a child that was owed is taken back
+-- a child that became due is removed again
 pub due_removed_again : (w by o : ℕ) (x : Key) (d D : List (List Key)) (old new : List Key) → by < w → o < w → length d ≡ w * w
     → D ≡ set d (by * w + o) (get_or d (by * w + o) [] ++ x ∷ []) → old ≡ get_or D (by * w + o) old → ((xs : List Key) (y : Key) → old ≡ xs ++ y ∷ [] → new ≡ xs) → set D (by * w + o) new ≡ d
 due_removed_again w by o x d D old new bb ob size D-is is undo =
@@ -73,7 +73,7 @@ due_removed_again w by o x d D old new bb ob size D-is is undo =
     let back = read_back d p (a ++ x ∷ []) old room (is ∙ ap (λ l. get_or l p old) D-is) in
     ap (λ l. set l p new) D-is ∙ set_twice d p a (a ++ x ∷ []) new (get_or_default d p [] a room) (undo a x back)
 
--- the key of a table at the place that its row has come to
+-- the key of a table at the place after those that the row has
 pub next_at : (row rest : List Key) (x : Key) → length row < length (row ++ rest) → get_or (row ++ rest) (length row) x ≡ x → (more : List Key) × (rest ≡ x ∷ more)
 next_at [] [] x l e = absurd (omega arith)
 next_at [] (y ∷ rest) x l e = (rest, ap (λ z. z ∷ rest) e)
@@ -91,14 +91,14 @@ module _ (S : Nodes) (v : MachineView) (h : IsConsistent v) (by l : ℕ) (bb : b
   pub open_of_ended : (s : ℕ) → s < v.workers → number_of v.workers v.ends_taken by s ≤ l → IsClosed (wave_of_view S v).scope l (list_of v.taken by) → ⊥
   open_of_ended s sb e closed = let a = counted_of_closed (wave_of_view S v).scope l (list_of v.taken by) fair closed s sb in let c = h.ends_taken by s bb sb in omega (arith, a, c, e)
 
--- a table whose row has all its keys
+-- a table of which the row has all keys
 pub all_known : (v : MachineView) (h : IsConsistent v) (by l : ℕ) (bb : by < v.workers) (lb : l < v.levels) → by_place v.levels v.tables by l ≡ map key_of (by_place v.levels v.rows by l)
     → All (Contains (map key_of (by_place v.levels v.rows by l))) (asks_at l (list_of v.taken by))
 all_known v h by l bb lb e =
     let row = map key_of (by_place v.levels v.rows by l) in
     all_of (Contains row) (asks_at l (list_of v.taken by)) (λ x i. contains_of row x (subst (λ t. Has t x) e (Admits-admitted [] (asks_at l (list_of v.taken by)) (by_place v.levels v.tables by l) x (h.tables by l bb lb).distinct i)))
 
--- a table whose row lacks a key
+-- a table with a key that the row does not have
 pub left_over : (v : MachineView) (h : IsConsistent v) (by : ℕ) (bb : by < v.workers) (lb : get_or v.at by 0 < v.levels) (x : Key) (more : List Key)
     → by_place v.levels v.tables by (get_or v.at by 0) ≡ map key_of (by_place v.levels v.rows by (get_or v.at by 0)) ++ x ∷ more
     → ¬ All (Contains (row_here (state_of v) by)) (asks_here (state_of v) by)
@@ -184,7 +184,7 @@ noted v h by l r more old new bb lb front is e =
           ∙ ap (λ n. map key_of (by_place v.levels v.rows by n) ++ r.key ∷ more) (sym q) ∙ ap (λ n. map key_of (by_place v.levels v.rows n m) ++ r.key ∷ more) (sym p)));
     }
 
--- what is read of a table and its row when a key is left
+-- what a table and its row say if a key is left
 pub next_found : (v : MachineView) (h : IsConsistent v) (by l : ℕ) (bb : by < v.workers) (lb : l < v.levels) (row : List Record) (t u : List Key) (x : Key) (done n : ℕ)
     → row ≡ get_or v.rows (by * v.levels + l) row → done ≡ length row → t ≡ get_or v.tables (by * v.levels + l) t → n ≡ length t → u ≡ get_or v.tables (by * v.levels + l) u → done < n → ((e : Key) → get_or u done e ≡ x)
     → (more : List Key) × (by_place v.levels v.tables by l ≡ map key_of (by_place v.levels v.rows by l) ++ x ∷ more)
@@ -218,7 +218,7 @@ none_found v h by l bb lb row t done n row-is done-is t-is n-is less =
     let full : length (keys ++ rest) ≤ length keys = subst (λ k. length k ≤ length keys) f (subst (λ k. length k ≤ length keys) (sym e) (omega (arith, m, less, n-is))) in
     f ∙ ap (λ k. keys ++ k) (none_at keys rest full) ∙ append-nil keys
 
--- the children of a record that were owed are taken back
+-- the children of a record that became due are removed again
 pub due_removed_one : (v u1 u2 u3 : MachineView) (by : ℕ) (low : Child) → (let r : MachineView = record v { due = due_with_child v.workers by low v.due } in u1 ≡ r) → u2 ≡ u1
     → ((d : List (List Key)) → u2.due ≡ due_with_child u2.workers by low d → (let r : MachineView = record u2 { due = d } in u3 ≡ r)) → u3 ≡ v
 due_removed_one v u1 u2 u3 by low e1 e2 f =
@@ -235,7 +235,7 @@ due_removed_both v u1 u2 by r d e f g =
     let w-is : u1.workers ≡ v.workers = ap (λ (u : MachineView). u.workers) e1 in
     g d (ap (λ (u : MachineView). u.due) e1 ∙ ap (λ n. due_with_child n by r.low d) (sym w-is)) ∙ ap (λ (u : MachineView). let r : MachineView = record u { due = d } in r) e1
 
--- what an Expand leaves
+-- the state after an Expand
 pub expanded : (v u1 u2 : MachineView) (by l l' : ℕ) (r r' : Record) → (let x : MachineView = record v { due = due_with_children v.workers by r v.due } in u1 ≡ x)
     → (let x : MachineView = record u1 { rows = set u1.rows (by * u1.levels + l) (by_place u1.levels u1.rows by l ++ r ∷ []) } in u2 ≡ x) → r ≡ r' → l ≡ l'
     → (let x : MachineView = record v { due = due_with_children v.workers by r' v.due; rows = set v.rows (by * v.levels + l') (by_place v.levels v.rows by l' ++ r' ∷ []) } in u2 ≡ x)

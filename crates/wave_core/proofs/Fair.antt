@@ -1,13 +1,12 @@
--- Fair lists, lists by sender and counted Ends under joins.
-use Rattle.std.proofs.Common.{◌≡◌, ℕ, ◌+◌, ◌<◌, ◌≤◌, Bool, true, false, cond, eqb, List, [], ◌∷◌, ◌++◌, inl, inr, refl, sym, ap, ◌∙◌, subst, arith, eqb-true, eq-eqb}
-use Rattle.std.proofs.lemmas.List.Elements.{filter-append, All-head}
+-- Fair lists, lists by sender and numbers of Ends, of lists that are joined.
+use Rattle.std.proofs.Common.{◌≡◌, ℕ, ◌+◌, ◌<◌, ◌≤◌, List, [], ◌∷◌, ◌++◌, refl, ap, subst, arith}
 use Rattle.req_table.specs.declared.Key.{Key}
 use Rattle.req_table.specs.declared.Item.{Item}
 use Rattle.req_table.specs.declared.Item.TheVariants.{Ask, End}
 use Rattle.req_table.specs.Wave.{Scope}
-use Rattle.req_table.specs.Lanes.{sender_of, is_from, sent_by, ends, asks, asks_at, count_end, IsFairFrom, IsFair, HasSenders, LaneLaw, IsClosed}
-use Rattle.req_table.proofs.Lists.{Has, has_of, contains_of}
-use Rattle.req_table.proofs.Items.{sent_by_has, sent_by_of}
+use Rattle.req_table.specs.Lanes.{sent_by, ends, asks, IsFairFrom, IsFair, LaneLaw, IsClosed}
+use Rattle.req_table.proofs.Lists.{has_of}
+use Rattle.req_table.proofs.Items.{sent_by_of}
 use Rattle.req_table.proofs.Fair.{fair_back, fair_end, fair_front, sent_by-self, taken_prefix}
 
 pub asks-append : (xs ys : List Item) → asks (xs ++ ys) ≡ asks xs ++ asks ys
@@ -20,7 +19,7 @@ fair_ends w e [] f l = omega arith
 fair_ends w e (Ask t m y ∷ xs) f l = fair_ends w e xs f.1 l
 fair_ends w e (End t m ∷ xs) f l = let a = f.0.0 in let b = f.0.1 in let i = fair_ends w (e + 1) xs f.1 (omega arith) in omega arith
 
--- an Ask at the front of a lane is not of a closed level
+-- an Ask at the front of a lane is of no closed level
 pub front_open : (w : Scope) (sent : ℕ → List Item) (taken rest : List Item) (s l : ℕ) (x : Key)
     → LaneLaw w sent taken (Ask s l x ∷ rest) → s < w.workers → IsFair w (sent s) → ¬ IsClosed w l taken
 front_open w sent taken rest s l x law sb fair closed =

@@ -23,14 +23,14 @@ use Rattle.wave_core.proofs.Machines.{still, in_sent, in_due, in_waiting}
 use Rattle.wave_core.proofs.Places.{ends_only_ask}
 use Rattle.wave_core.proofs.Taking.{ask_counted, ask_offered}
 
--- nothing of a worker waits for it where it has taken all that it sent to itself
+-- nothing of a worker waits on its own lane if it has taken all that it has sent to itself
 pub own_taken : (v : MachineView) (by : ℕ) → IsOwnInOrder v by → sent_by by (list_of v.waiting by) ≡ [] → sent_by by (list_of v.taken by) ≡ by_place v.workers v.sent by by
 own_taken v by o none = sym (o ∙ ap (λ l. sent_by by (list_of v.taken by) ++ l) none ∙ append-nil (sent_by by (list_of v.taken by)))
 
 pub none_waits : (v : MachineView) (by : ℕ) → IsOwnInOrder v by → sent_by by (list_of v.taken by) ≡ by_place v.workers v.sent by by → sent_by by (list_of v.waiting by) ≡ []
 none_waits v by o all = append_none (sent_by by (list_of v.taken by)) (sent_by by (list_of v.waiting by)) (sym o ∙ sym all)
 
--- a worker may keep a request where one is due from it to itself and nothing of its own waits for it
+-- a worker may keep a request if one is due from it to itself and nothing of its own waits
 pub may_keep : (S : Nodes) (v : MachineView) (h : IsConsistent v) (by : ℕ) (d : List Key) (q : List Item) (b : Bool) → by < v.workers → IsOwnInOrder v by → d ≡ get_or v.due (by * v.workers + by) d → ¬ (d ≡ []) → q ≡ get_or v.waiting by q
     → MatchBool b (¬ (sent_by by q ≡ [])) (sent_by by q ≡ []) → MatchBool (not b) (IsAllowed (wave_of_view S v) (state_of v) (Keep by)) (¬ IsAllowed (wave_of_view S v) (state_of v) (Keep by))
 may_keep S v h by d q true bb o is some waits m = λ a. m (subst (λ l. sent_by by l ≡ []) (got v.waiting by q [] (in_waiting v h by by bb bb) waits) (none_waits v by o a.2))
@@ -42,7 +42,7 @@ may_keep S v h by d q false bb o is some waits m =
 pub some_from : (s : ℕ) (xs : List Item) (p : ℕ) (d : Item) → p < length xs → is_from s (get_or xs p d) ≡ true → ¬ (sent_by s xs ≡ [])
 some_from s xs p d l e none = subst (λ ys. Has ys (get_or xs p d)) none (sent_by_of s xs (get_or xs p d) (Has-get_or xs p d l) (eqb-true (sender_of (get_or xs p d)) s e))
 
--- an item that was put on both lists and was not kept is taken back
+-- an item that was added to both lists and not kept is removed again
 pub kept_back : (v : MachineView) (h : IsConsistent v) (by : ℕ) (bb : by < v.workers) (i : Item) (m : ℕ) (s-old s-put s-back s-new t-old t-put t-back t-new : List Item) (k-old k-new : List Key)
     → s-old ≡ get_or v.sent (by * v.workers + by) s-old → s-put ≡ s-old ++ i ∷ [] → s-back ≡ get_or (set v.sent (by * v.workers + by) s-put) (by * v.workers + by) s-back
     → ((xs : List Item) (x : Item) → s-back ≡ xs ++ x ∷ [] → s-new ≡ xs)
@@ -57,12 +57,12 @@ kept_back v h by bb i m s-old s-put s-back s-new t-old t-put t-back t-new k-old 
     ap₂ (λ (l n : List (List Item)). let r : MachineView = record v { sent = l; taken = n; tables = set v.tables m k-new } in r) s-is t-is
     ∙ ap (λ (k : List (List Key)). let r : MachineView = record v { tables = k } in r) (set_same v.tables m k-old k-new ko kn)
 
--- the first request that is due has a level of the machine
+-- the level of the first due request is one of the machine's
 pub first_below : (S : Nodes) (v : MachineView) (h : IsConsistent v) (by n : ℕ) (x : Key) (rest d : List Key) → by < v.workers → All (λ y. level_of S y < v.levels) (by_place v.workers v.due by by) → d ≡ get_or v.due (by * v.workers + by) d → d ≡ x ∷ rest → n ≡ level_of S x → n < v.levels
 first_below S v h by n x rest d bb all is first level = subst (λ m. m < v.levels) (sym level)
     (All-head (λ y. level_of S y < v.levels) x rest (subst (All (λ y. level_of S y < v.levels)) (got v.due (by * v.workers + by) d [] (in_due v h by by bb bb) is ∙ first) all))
 
--- one request more is counted in so many bits
+-- the number of kept requests still fits after one more
 pub kept_fits : (v : MachineView) (h : IsConsistent v) (n : ℕ) → n ≡ sum_by length v.sent → n ≤ length v.sent * 2 ^ 64 → v.kept + 1 < 2 ^ 128
 kept_fits v h n is few =
     let all = sum_grid v.workers v.workers v.sent h.shape.sent in

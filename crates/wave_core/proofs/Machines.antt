@@ -1,4 +1,4 @@
--- The fields of a machine, and what its events make of them.
+-- The fields of a machine, and how its events change them.
 use Rattle.std.proofs.Common.{◌≡◌, ℕ, ◌+◌, ◌*◌, ◌<◌, ◌≤◌, true, false, cond, eqb, ◌&&◌, List, [], ◌∷◌, ◌++◌, length, get_or, set, refl, sym, ap, ◌∙◌, subst, arith, append-nil, ap₂}
 use Rattle.std.proofs.lemmas.List.{length-set}
 use Rattle.dd_store.specs.Nodes.{Nodes}
@@ -32,7 +32,7 @@ view_in m = record {
   kept = m.kept;
 }
 
--- a list changes its elements alone
+-- writing an element keeps the length of a list
 pub still : {X : Type 0} (xs : List X) (i : ℕ) (x : X) (n : ℕ) → length xs ≡ n → length (set xs i x) ≡ n
 still xs i x n e = length-set xs i x ∙ e
 
@@ -49,7 +49,7 @@ module _ (v : MachineView) (h : IsConsistent v) (by to : ℕ) (bb : by < v.worke
   pub in_waiting : to < length v.waiting
   in_waiting = subst (λ n. to < n) (sym h.shape.waiting) tb
 
--- an item that was put on the sent list and not on the lane is taken back
+-- an item that was added to the sent list and not to the lane is removed again
 pub undone : (v : MachineView) (h : IsConsistent v) (by to : ℕ) (bb : by < v.workers) (tb : to < v.workers) (i : Item) (s-old s-put s-back s-new q-old q-new : List Item)
     → s-old ≡ get_or v.sent (by * v.workers + to) s-old → s-put ≡ s-old ++ i ∷ [] → s-back ≡ get_or (set v.sent (by * v.workers + to) s-put) (by * v.workers + to) s-back
     → ((xs : List Item) (x : Item) → s-back ≡ xs ++ x ∷ [] → s-new ≡ xs) → q-old ≡ get_or v.waiting to q-old → q-new ≡ q-old

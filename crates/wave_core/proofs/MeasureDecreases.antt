@@ -43,7 +43,7 @@ pairs_none n = sum_none n (λ s. sum_below n (λ k. 0)) (λ s sb. sum_none n (λ
 pub sums_none : (n : ℕ) → sum_below n (λ k. 0) ≡ 0
 sums_none n = sum_none n (λ k. 0) (λ k kb. refl)
 
--- twice the Ends
+-- twice the number of Ends
 abbrev pub end_cost : Item → ℕ
 end_cost (Ask s l x) = 0
 end_cost (EndOf s l) = 2
@@ -118,7 +118,7 @@ module _ (same : Key → Key → Bool) (same_is : (x y : Key) → Decides (same 
         sum_same w.workers (λ k. w.levels - c.at k) (λ k. (w.levels - d.at k) + f.level_added k) (λ k kb. (let e = a.at k kb in let m = p.limited k kb in omega (arith, e, m)))
         ∙ sum_add w.workers (λ k. w.levels - d.at k) f.level_added
 
-    -- a key that its row lacks after the event it lacked before
+    -- a key that its row does not have after the event it did not have before
     pub lacked : (k : ℕ) (x : Key) → k < w.workers → Has (asks (c.taken k)) x → lacks same (map key_of (d.rows k (w.level x))) x ≡ true → lacks same (map key_of (c.rows k (w.level x))) x ≡ true
     lacked k x kb h t =
         let e = ap (map key_of) (a.rows k (w.level x) kb (laws.bounded x (taken_ask w roots c k x o kb h))) ∙ map-append_lem (c.rows k (w.level x)) (f.rows_added k (w.level x)) in
@@ -248,7 +248,7 @@ module _ (same : Key → Key → Bool) (same_is : (x y : Key) → Decides (same 
       let on_at = at_delta roots c d f a o p in
       omega (arith, pos, on_due, z1, p1, on_waiting, z2, on_open, got, on_ends, e4, on_at)
 
-  -- the children of a key cost less than half of what it did
+  -- the children of a key together cost less than the key did
   pub child_cost : (x y : Key) (b : Bool) (l : ℕ) (m : Bool) → w.HasKey x → w.child x b ≡ AskOf l y m → 2 * due_cost w y + 3 ≤ due_cost w x
   child_cost x y b l m h e =
       let less = laws.deeper x y b l m h e in

@@ -1,4 +1,4 @@
--- The lists of all workers at the start.
+-- The lists of all workers before any event.
 use Rattle.std.proofs.Common.{◌≡◌, ℕ, ◌+◌, ◌*◌, ◌<◌, ◌≤◌, ◌%◌, Bool, true, false, cond, eqb, nat_lt, ◌&&◌, List, [], ◌∷◌, ◌++◌, length, get_or, set, take, map, filter, replicate, refl, sym, ap, ◌∙◌, subst, arith, mod-lt}
 use Rattle.std.proofs.lemmas.List.{get_or-replicate, get_or_past, length-replicate, length-set, length-take-le, take_more}
 use Rattle.std.proofs.lemmas.List.Elements.{filter-append}
@@ -63,7 +63,7 @@ dealt_next w i to roots x due old new some size distributed l x-is to-is is e =
           (one_dealt w (take i roots) x due old new some size distributed (is ∙ ap (λ p. get_or due p old) at) e)),
     )
 
--- the lists of the start are kept together
+-- the lists before any event are consistent
 pub starts_kept : (w n : ℕ) (sent : List (List Item)) (ends_sent : List ℕ) (due : List (List Key)) (waiting taken : List (List Item)) (ends_taken : List ℕ) (tables : List (List Key)) (rows : List (List Record)) (at' : List ℕ) → w ≤ 16 → n ≤ 4096
     → sent ≡ replicate (w * w) [] → ends_sent ≡ replicate (w * w) 0 → length due ≡ w * w → waiting ≡ replicate w [] → taken ≡ replicate w [] → ends_taken ≡ replicate (w * w) 0 → tables ≡ replicate (w * n) [] → rows ≡ replicate (w * n) [] → at' ≡ replicate w 0
     → IsConsistent (record { workers = w; levels = n; sent = sent; ends_sent = ends_sent; due = due; waiting = waiting; taken = taken; ends_taken = ends_taken; tables = tables; rows = rows; at = at'; kept = 0 })

@@ -24,14 +24,14 @@ use Rattle.wave_core.proofs.Runs.{sound_prefix, once_in_row, recorded_place}
 use Rattle.wave_core.proofs.Takes.{open_front}
 use Rattle.wave_core.proofs.Keeps.{keep_open}
 
--- an event is allowed exactly where some state follows by it
+-- an event is allowed exactly if some state follows by it
 pub none_follows : (v : CoreView) (e : Event) → ¬ IsAllowed (core_wave v) (core_state v) e → ¬ HasStep v e
 none_follows v e bar s = bar (allowed_of_step (core_wave v) (core_state v) s.0 e s.1)
 
 pub one_follows : (v : CoreView) (e : Event) → IsAllowed (core_wave v) (core_state v) e → HasStep v e
 one_follows v e may = step_of_allowed eq-value.it key_decides (core_wave v) (core_state v) e may
 
--- a taken Ask is of a level that is not closed
+-- an Ask that was taken is of no closed level
 pub takes_open : (v : CoreView) (d : State) (e : Event) → IsSoundCore v → IsStep (core_wave v) (core_state v) e d → TakesOpen v e
 takes_open v d (Send by to) h s = tt
 takes_open v d (End by to) h s = tt
@@ -96,7 +96,7 @@ module _ (x v : CoreView) (e : x ≡ v) (h : IsSoundCore x) (by l : ℕ) (bb : b
   pub records_once : AllPairs (λ (a b : Record). ¬ (a.key ≡ b.key)) rs
   records_once = pairs_of_distinct key_of rs (subst (λ xs. IsDistinct (map key_of xs)) (sym is) (once_in_row (core_wave v) v.roots (core_state v) by l (subst IsSoundCore e h).sound bb lb))
 
--- what the machine says of a closed level, of a core
+-- what the machine says of a closed level holds of the core
 pub closed_at : (x v : CoreView) → x ≡ v → x.machine.levels ≡ x.store.levels → (by l : ℕ) (b : Bool)
     → MatchBool b (IsClosed (wave_of_view x.store x.machine).scope l (list_of x.machine.taken by)) (¬ IsClosed (wave_of_view x.store x.machine).scope l (list_of x.machine.taken by))
     → MatchBool b (IsClosed (core_wave v).scope l ((core_state v).taken by)) (¬ IsClosed (core_wave v).scope l ((core_state v).taken by))

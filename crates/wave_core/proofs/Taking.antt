@@ -33,7 +33,7 @@ ends_end : (c : Bool) (f l : ℕ) → ends (cond c (End f l ∷ []) []) ≡ cond
 ends_end true f l = refl
 ends_end false f l = refl
 
--- an End counts for its sender
+-- an End counts for its sender only
 pub ends_by_end : (s : ℕ) (b : Bool) (f l : ℕ) → ends (sent_by s (only b (End f l))) ≡ cond b (cond (eqb f s) 1 0) 0
 ends_by_end s true f l = ends_end (eqb f s) f l
 ends_by_end s false f l = refl
@@ -70,7 +70,7 @@ both_one true true e f = refl
 both_one true false e f = absurd (cc)
 both_one false q e f = absurd (cc)
 
--- the table of a list with one Ask more
+-- the table of a list with one more Ask
 pub table_offer : (xs table new : List Key) (row : List Record) (x : Key) (b : Bool) → IsTable xs table row → AdmitsKey table x b new → IsTable (xs ++ x ∷ []) new row
 table_offer xs table new row x true t o = record {
   distinct = Admits-offer [] xs table new x t.distinct (inr o);
@@ -136,7 +136,7 @@ module _ (v : MachineView) (h : IsConsistent v) (by : ℕ) (bb : by < v.workers)
       let o = h.ends_taken k s kb sb in
       omega (arith, a, z, o)
 
-  -- an Ask of no level of the machine leaves the tables
+  -- an Ask of a level that the machine does not have leaves the tables
   pub ask_beyond : v.levels ≤ m → (k l : ℕ) → k < v.workers → l < v.levels → IsTable (asks_at l (list_of v.taken k ++ at_one by (Ask f m x) k)) (by_place v.levels v.tables k l) (by_place v.levels v.rows k l)
   ask_beyond far k l kb lb =
       let lm : l < m = omega arith in
@@ -174,7 +174,7 @@ module _ (v : MachineView) (h : IsConsistent v) (by : ℕ) (bb : by < v.workers)
       (sym (asks_at-append l (list_of v.taken k) (at_one by (End f m) k) ∙ ap (λ xs. asks_at l (list_of v.taken k) ++ xs) (asks_end_at l (eqb k by) f m) ∙ append-nil (asks_at l (list_of v.taken k))))
       (h.tables k l kb lb)
 
-  -- an End of no worker leaves the counts
+  -- an End of a worker that does not exist leaves the counts
   pub end_beyond : v.workers ≤ f → (k s : ℕ) → k < v.workers → s < v.workers → number_of v.workers v.ends_taken k s ≡ ends (sent_by s (list_of v.taken k ++ at_one by (End f m) k))
   end_beyond far k s kb sb =
       let a = ends_by-append s (list_of v.taken k) (at_one by (End f m) k) in
@@ -209,7 +209,7 @@ one_le : (b : Bool) → one_or_none b ≤ 1
 one_le true = omega arith
 one_le false = omega arith
 
--- no more Ends of a sender than items
+-- a sender has no more Ends than items
 pub ends_by_le : (s : ℕ) (xs : List Item) → ends (sent_by s xs) ≤ length xs
 ends_by_le s [] = omega arith
 ends_by_le s (Ask f l x ∷ xs) = let a = ends_by-append s (Ask f l x ∷ []) xs in let z = ends_by_ask s true f l x in let r = ends_by_le s xs in omega (arith, a, z, r)

@@ -1,4 +1,4 @@
--- The number that falls with every event of a core.
+-- The number that decreases with every event of a core.
 use Rattle.std.specs.Prelude.{ℕ}
 use Rattle.req_table.specs.contracts.KeyPartialEq.TheImpl.{eq-value}
 use Rattle.wave_core.specs.Measure.{measure}

@@ -1,4 +1,4 @@
--- What contracts see of a core: its store, its roots, and the lists of all workers.
+-- What contracts see of a core: its store, its roots, and the state of its workers.
 use Rattle.std.specs.Prelude.{◌≡◌, ℕ, ◌+◌, List, ◌∷◌, ◌++◌, length}
 use Rattle.dd_store.specs.Nodes.{Nodes}
 use Rattle.req_table.specs.declared.Key.{Key}
@@ -27,20 +27,20 @@ core_wave v = wave_of v.store v.machine.workers
 abbrev pub core_state : CoreView → State
 core_state v = state_of v.machine
 
--- what holds of every core
+-- the invariant of every core
 pub record IsSoundCore (v : CoreView) : Type 0 where
   pub levels : v.machine.levels ≡ v.store.levels
   pub laws : IsWave (core_wave v)
   pub sound : IsSoundState (core_wave v) v.roots (core_state v)
 
--- a core at the start
+-- a core before any event
 pub record IsNew (S : Nodes) (workers' : ℕ) (roots' : List Key) (v : CoreView) : Type 0 where
   pub store : v.store ≡ S
   pub roots : v.roots ≡ roots'
   pub workers : v.machine.workers ≡ workers'
   pub start : IsStart (core_wave v) v.roots (core_state v)
 
--- two cores of one wave
+-- two cores with the same store, roots and workers
 pub record IsSameWave (old new : CoreView) : Type 0 where
   pub store : new.store ≡ old.store
   pub roots : new.roots ≡ old.roots
@@ -49,7 +49,7 @@ pub record IsSameWave (old new : CoreView) : Type 0 where
 abbrev pub IsSettledCore : CoreView → Type 0
 IsSettledCore v = IsSettled (core_wave v) v.roots (core_state v).sent (core_state v).taken (core_state v).rows
 
--- The number of events done.
+-- The number of events that were done.
 abbrev pub events_done : CoreView → ℕ
 events_done v = done_of v.machine
 
@@ -57,13 +57,13 @@ events_done v = done_of v.machine
 abbrev pub HasStep : CoreView → Event → Type 0
 HasStep v e = (d : State) × IsStep (core_wave v) (core_state v) e d
 
--- Why an event was refused: no state follows by it, after so many events of this core; or one does, and memory was
--- refused.
+-- Why an event was refused: no state follows by it, and `place` is the number of events that were done; or a state
+-- follows, and memory was refused.
 abbrev pub IsRefusal : CoreView → Event → CoreFault → Type 0
 IsRefusal v e (NotAllowed place) = (place ≡ events_done v) × ¬ HasStep v e
 IsRefusal v e OutOfMemory = HasStep v e
 
--- an Ask that the event takes, or keeps, is of a level that is not closed
+-- an Ask that the event takes or keeps is of a level that is not closed
 abbrev pub TakesOpen : CoreView → Event → Type 0
 TakesOpen v (Take by) = (s l : ℕ) (x : Key) (rest : List Item) → (core_state v).waiting by ≡ Ask s l x ∷ rest
     → ¬ IsClosed (core_wave v).scope l ((core_state v).taken by)
@@ -71,7 +71,7 @@ TakesOpen v (Keep by) = (x : Key) (rest : List Key) → (core_state v).due by by
     → ¬ IsClosed (core_wave v).scope ((core_wave v).level x) ((core_state v).taken by)
 TakesOpen v e = Unit {0}
 
--- some events lead from one core to another
+-- some events, in turn, lead from one core to another
 abbrev pub Reaches : CoreView → CoreView → Type 0
 Reaches v u = (es : List Event) × IsRun (core_wave v) (core_state v) es (core_state u)
 

@@ -1,5 +1,5 @@
--- What contracts see of a machine: lists by place. The pair of s and k has the place s * workers + k; the level v of
--- the worker k has the place k * levels + v.
+-- What contracts see of a machine: lists by place. The pair of s and k is at the place s * workers + k, and level v of
+-- worker k at k * levels + v.
 use Rattle.std.specs.Prelude.{◌≡◌, ℕ, ◌+◌, ◌-◌, ◌*◌, ◌<◌, ◌≤◌, List, [], ◌∷◌, ◌++◌, length, map, filter, ◌==◌, slice_index_or, slice_set}
 use Rattle.dd_store.specs.Nodes.{Nodes}
 use Rattle.req_table.specs.declared.Key.{Key}
@@ -16,8 +16,8 @@ use Rattle.wave_core.specs.declared.Event.{Event}
 use Rattle.wave_core.specs.Step.{State, IsStep, IsAllowed}
 use Rattle.wave_core.specs.Counting.{sum_over, noted}
 
--- `ends_sent` counts the Ends that s sent to k; `ends_taken`, at the pair of k and s, those of s that k took; `tables` has
--- the distinct keys that k took at each level; `kept` counts the requests that a worker kept.
+-- `ends_sent` counts the Ends that s has sent to k; `ends_taken`, at the pair of k and s, those of s that k has taken;
+-- `tables` has the distinct keys that k has taken at each level; `kept` counts the requests that were kept.
 pub record MachineView : Type 0 where
   pub workers : ℕ
   pub levels : ℕ
@@ -54,15 +54,15 @@ state_of v = record {
 abbrev pub wave_of_view : Nodes → MachineView → Wave
 wave_of_view S v = wave_at S v.levels v.workers
 
--- by this event a machine comes from one view to the other
+-- the event leads a machine from one view to the other
 abbrev pub Does : Nodes → MachineView → Event → MachineView → Type 0
 Does S old event new = IsStep (wave_of_view S old) (state_of old) event (state_of new)
 
--- a machine may do this event
+-- the event is allowed
 abbrev pub Allows : Nodes → MachineView → Event → Type 0
 Allows S v event = IsAllowed (wave_of_view S v) (state_of v) event
 
--- what `by` took of each worker is fair
+-- what `by` has taken of each worker is fair
 abbrev pub TookFairly : Nodes → MachineView → ℕ → Type 0
 TookFairly S v by = (s : ℕ) → s < v.workers → IsFair (wave_of_view S v).scope (sent_by s (list_of v.taken by))
 
@@ -79,7 +79,7 @@ pub record IsShaped (v : MachineView) : Type 0 where
   pub rows : length v.rows ≡ v.workers * v.levels
   pub at : length v.at ≡ v.workers
 
--- a table is the distinct keys asked for, and the row's keys are a front of it
+-- a table has the distinct keys that were asked for, and the row has the first of them
 pub record IsTable (xs table : List Key) (row : List Record) : Type 0 where
   pub distinct : IsDistinctOf xs table
   pub rest : List Key
@@ -93,16 +93,16 @@ pub record IsConsistent (v : MachineView) : Type 0 where
   pub tables : (k l : ℕ) → k < v.workers → l < v.levels → IsTable (asks_at l (list_of v.taken k)) (by_place v.levels v.tables k l)
       (by_place v.levels v.rows k l)
 
--- How many events were done: each sent an item, took one, made a record or passed a level, and one that kept a request both
--- sent it and took it.
+-- The number of events that were done. Each has sent an item, taken one, made a record or passed a level; an event that
+-- kept a request has both sent and taken it, and counts once.
 abbrev pub done_of : MachineView → ℕ
 done_of v = noted v.workers v.levels (state_of v) - v.kept
 
--- of itself, `by` took and has waiting what it sent, in order
+-- of itself, `by` has taken and has waiting what it has sent, in order
 abbrev pub IsOwnInOrder : MachineView → ℕ → Type 0
 IsOwnInOrder v by = by_place v.workers v.sent by by ≡ sent_by by (list_of v.taken by) ++ sent_by by (list_of v.waiting by)
 
--- the due lists after the child of a record of `by` was added to them; after both children
+-- the due lists after a child of a record of `by` was added, and after both children were
 abbrev pub due_with_child : ℕ → ℕ → Child → List (List Key) → List (List Key)
 due_with_child w by (Done r) d = d
 due_with_child w by (Ask l x m) d = slice_set d (by * w + owner_of x.op x.f x.g w)
@@ -111,6 +111,6 @@ due_with_child w by (Ask l x m) d = slice_set d (by * w + owner_of x.op x.f x.g 
 abbrev pub due_with_children : ℕ → ℕ → Record → List (List Key) → List (List Key)
 due_with_children w by r d = due_with_child w by r.high (due_with_child w by r.low d)
 
--- each root is due from the worker that it is dealt to, to its owner
+-- root i is due from worker i modulo their number, to the root's owner
 abbrev pub AreDistributed : ℕ → List Key → List (List Key) → Type 0
 AreDistributed w roots due = (s k : ℕ) → s < w → k < w → by_place w due s k ≡ filter (λ x. owner w x == k) (round_robin_from w s 0 roots)

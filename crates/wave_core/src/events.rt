@@ -35,7 +35,8 @@ fn add_events(events: &mut Vec<Event>, workers: u32, by: u32) -> Result<(), Allo
     Ok(())
 }
 
-/// The events of all workers.
+/// Returns the events of all workers: by worker, and then by kind in the order Send, End, Take, Expand, Advance, Keep.
+/// Fails if memory is refused.
 pub fn all_events(alloc: Global, workers: u32) -> Result<Vec<Event>, AllocError>
     ensures { IfOk result (λ events. events.items ≡ events_below workers workers) }
 {

@@ -1,15 +1,20 @@
-//! The workers of a wave as a state machine on one thread. The program does not link it: it is a model of its workers,
-//! for every list of events.
+//! The workers of a wave as a state machine on one thread, for every list of events. The program
+//! does not link it: it is a model of the program's workers, which shows their protocol without
+//! threads.
 //!
-//! **Promises.** `Core::step` does exactly a step of the relation (`ok`), of an open level (`open`), and is refused
-//! exactly where there is none (`refused`), unchanged (`unchanged`) and counted (`counts`). `run` does events in turn
-//! (`ok`, `refused`); `drive` ends finished (`driven`, `finished`, `reached`). At each time the lane law holds
-//! (`taken`: `lane`), lists are fair (`sent`: `fair`) and no key stands twice (`records`: `once`); a finished core has
-//! exactly the requests reached from the roots, each once (`into_records`: `closure`).
+//! **Promises.** `Core::step` does exactly a step of the relation `IsStep` (`ok`); what it takes is
+//! of no closed level (`open`). It fails exactly if no state follows by the event, or if memory is
+//! refused (`refused`), and then changes nothing (`unchanged`); it counts what it does (`counts`).
+//! `run` does events one after the other (`ok`, `refused`), and `drive` ends with a finished core
+//! (`driven`, `finished`, `reached`). At any time the law of each lane holds (`taken`: `lane`),
+//! what is sent is fair (`sent`: `fair`), and no key has two records (`records`: `once`). A
+//! finished core has exactly the requests that the roots reach, each once (`into_records`:
+//! `closure`).
 //!
-//! **Only tests show** that ample memory suffices (`wave_tests`).
+//! **Only tests show** that nothing is refused if there is ample memory (`wave_tests`).
 //!
-//! **Begin** with `specs/Step`, the relation, and `specs/Cores`, what contracts see; then `waves` and `machine`.
+//! **Begin** with `specs/Step`, which is the relation, and `specs/Cores`, which is what contracts
+//! see; then read `waves` and `machine`.
 #![tactic(auto)]
 
 mod events;
@@ -23,9 +28,10 @@ mod waves;
 pub use records::Records;
 pub use waves::Core;
 
-/// A step of one worker: it sends the first request that is due to a worker, ends its next level on a worker's lane, takes
-/// the first item of its own lane, expands the next request of its level, goes on to the next level, or keeps the first request
-/// that is due to itself: sends and takes it at once, past its lane, where it has taken all that it sent to itself.
+/// A step of the worker `by`. Send: it sends the first request that is due from it to `to`. End: it puts its next End
+/// on the lane of `to`. Take: it takes the first item of its own lane. Expand: it expands the next request of its
+/// level. Advance: it goes on to the next level. Keep: it keeps the first request that is due from it to itself, that
+/// is, sends and takes it at once without its lane; for that it must have taken all that it has sent to itself.
 #[derive(Clone, Copy, Debug)]
 pub enum Event {
     Send { by: u32, to: u32 },
@@ -36,7 +42,8 @@ pub enum Event {
     Keep { by: u32 },
 }
 
-/// Why an event was not done: it is not allowed in this state, after so many events of this core, or memory was refused.
+/// Why an event was not done: no state follows by it, and `place` events were done by this core before; or memory was
+/// refused.
 #[derive(Clone, Copy, Debug, PartialEq, Eq)]
 pub enum CoreFault {
     NotAllowed { place: u128 },

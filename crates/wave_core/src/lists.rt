@@ -1,4 +1,4 @@
-//! Lists that grow at the end.
+//! Lists that grow at their end.
 ghost use Rattle.std.specs.Prelude.{◌≡◌, List, [], ◌∷◌, ◌++◌, length, replicate, sum, ◌≤◌, ◌*◌, ◌^◌, IfOk, OnOk, OnErr};
 ghost use Rattle.std.specs.List.{sum_by};
 ghost use Rattle.req_table.specs.declared.Item.{Item as ItemValue};
@@ -24,7 +24,7 @@ impl Model for ItemList {
 }
 
 impl ItemList {
-    /// An empty list.
+    /// Returns an empty list.
     pub fn new(alloc: Global) -> ItemList
         ensures { result ≡ [] }
     {
@@ -33,7 +33,7 @@ impl ItemList {
         }
     }
 
-    /// So many empty lists.
+    /// Returns `count` empty lists.
     pub fn many(alloc: Global, count: usize) -> Result<Vec<ItemList>, AllocError>
         ensures { IfOk result (λ lists. lists.items ≡ replicate count []) }
     {
@@ -44,21 +44,21 @@ impl ItemList {
         Ok(lists)
     }
 
-    /// How many there are.
+    /// Returns the number of items.
     pub fn len(&self) -> usize
         ensures { result ≡ length self.now }
     {
         self.items.len()
     }
 
-    /// All of them, in order.
+    /// Returns all items, in order.
     pub fn as_slice(&self) -> &[Item]
         ensures { result.now ≡ self.now }
     {
         self.items.as_slice()
     }
 
-    /// Puts one at the end. After want of memory the list is as before.
+    /// Adds an item at the end. If memory is refused, the list is as before.
     pub fn put(&mut self, item: &Item) -> Result<(), AllocError>
         ensures ok { OnOk result (self.new ≡ self.old ++ item.now ∷ []) }
         ensures err { OnErr result (self.new ≡ self.old) }
@@ -67,7 +67,7 @@ impl ItemList {
         Ok(())
     }
 
-    /// Takes the last item back.
+    /// Removes the last item, if there is one.
     pub fn undo(&mut self)
         ensures { (xs : List ItemValue) (x : ItemValue) → self.old ≡ xs ++ x ∷ [] → self.new ≡ xs }
     {
@@ -75,7 +75,7 @@ impl ItemList {
     }
 }
 
-/// Records of one worker and level, in order.
+/// The records of one worker and level, in order.
 #[derive(Drop)]
 pub struct RecordList {
     records: Vec<Record>,
@@ -91,7 +91,7 @@ impl Model for RecordList {
 }
 
 impl RecordList {
-    /// An empty list.
+    /// Returns an empty list.
     pub fn new(alloc: Global) -> RecordList
         ensures { result ≡ [] }
     {
@@ -100,7 +100,7 @@ impl RecordList {
         }
     }
 
-    /// So many empty lists.
+    /// Returns `count` empty lists.
     pub fn many(alloc: Global, count: usize) -> Result<Vec<RecordList>, AllocError>
         ensures { IfOk result (λ lists. lists.items ≡ replicate count []) }
     {
@@ -111,21 +111,21 @@ impl RecordList {
         Ok(lists)
     }
 
-    /// How many there are.
+    /// Returns the number of records.
     pub fn len(&self) -> usize
         ensures { result ≡ length self.now }
     {
         self.records.len()
     }
 
-    /// All of them, in order.
+    /// Returns all records, in order.
     pub fn as_slice(&self) -> &[Record]
         ensures { result.now ≡ self.now }
     {
         self.records.as_slice()
     }
 
-    /// Puts one at the end. After want of memory the list is as before.
+    /// Adds a record at the end. If memory is refused, the list is as before.
     pub fn put(&mut self, added: &Record) -> Result<(), AllocError>
         ensures ok { OnOk result (self.new ≡ self.old ++ added.now ∷ []) }
         ensures err { OnErr result (self.new ≡ self.old) }
@@ -136,7 +136,7 @@ impl RecordList {
     }
 }
 
-/// Puts an item at the end of both lists. After want of memory both are as before.
+/// Adds an item at the end of both lists. If memory is refused, both are as before.
 pub fn put_both(first: &mut ItemList, second: &mut ItemList, item: &Item) -> Result<(), AllocError>
     ensures first { OnOk result (first.new ≡ first.old ++ item.now ∷ []) }
     ensures second { OnOk result (second.new ≡ second.old ++ item.now ∷ []) }
@@ -152,7 +152,7 @@ pub fn put_both(first: &mut ItemList, second: &mut ItemList, item: &Item) -> Res
     }
 }
 
-/// Puts records behind others.
+/// Adds the records of a row at the end of a list.
 pub fn append(records: &mut Vec<Record>, row: &[Record]) -> Result<(), AllocError>
     ensures { OnOk result (records.new.items ≡ records.old.items ++ row.now) }
 {
@@ -163,7 +163,7 @@ pub fn append(records: &mut Vec<Record>, row: &[Record]) -> Result<(), AllocErro
     Ok(())
 }
 
-/// How many items all lists have.
+/// Returns the number of items of all lists.
 pub fn count_items(lists: &[ItemList]) -> u128
     ensures value { result ≡ sum_by length lists.now }
     ensures bound { result ≤ length lists.now * 2 ^ 64 }
@@ -175,7 +175,7 @@ pub fn count_items(lists: &[ItemList]) -> u128
     count
 }
 
-/// How many records all rows have.
+/// Returns the number of records of all rows.
 pub fn count_records(rows: &[RecordList]) -> u128
     ensures value { result ≡ sum_by length rows.now }
     ensures bound { result ≤ length rows.now * 2 ^ 64 }
@@ -187,7 +187,7 @@ pub fn count_records(rows: &[RecordList]) -> u128
     count
 }
 
-/// How many levels all workers have passed.
+/// Returns the sum of the workers' levels, which is how many levels they have passed.
 pub fn count_levels(levels: &[u16]) -> u128
     ensures value { result ≡ sum levels.now }
     ensures bound { result ≤ length levels.now * 2 ^ 64 }

@@ -1,4 +1,4 @@
-//! The lists of all workers, and what is read of them.
+//! The state of all workers, and what is read of it.
 ghost use Rattle.std.specs.Prelude.{◌≡◌, ℕ, ◌<◌, ◌≤◌, length, slice_index_or, IfOk, MatchBool};
 ghost use Rattle.req_table.specs.Keys.{wave_at};
 ghost use Rattle.wave_core.specs.MachineView.{MachineView, IsConsistent, state_of, list_of, by_place, done_of};
@@ -18,9 +18,9 @@ use req_table::{Item, Key, Record, Table};
 use std::alloc::{AllocError, Global};
 use std::marker::Model;
 
-/// What each worker has sent, taken and recorded, what is due from it and waits for it, its level, and how many requests were
-/// kept. A list of pairs of workers has the pair (s, k) at the place s * workers + k; a list by worker and level has (k, v) at
-/// k * levels + v.
+/// The state of all workers: what each has sent, taken and recorded, what is due from it and what waits on its lane,
+/// its level, and how many requests were kept. A list of pairs of workers has the pair (s, k) at s * workers + k; a
+/// list by worker and level has (k, v) at k * levels + v.
 #[derive(Drop)]
 pub struct Machine {
     workers: u32,
@@ -74,7 +74,7 @@ impl Model for Machine {
 }
 
 impl Machine {
-    /// The start for these roots.
+    /// Returns the state before any event, for these roots. Fails if memory is refused.
     pub fn new(
         alloc: Global,
         store: &Store,
@@ -106,7 +106,7 @@ impl Machine {
         })
     }
 
-    /// Whether each worker is past the last level.
+    /// Whether every worker is past the last level.
     pub fn is_finished(&self) -> bool
         ensures { MatchBool result ((k : ℕ) → k < self.now.workers → slice_index_or self.now.at k 0 ≡ self.now.levels)
             ((k : ℕ) × (k < self.now.workers) × ¬ (slice_index_or self.now.at k 0 ≡ self.now.levels)) }
@@ -119,7 +119,7 @@ impl Machine {
         true
     }
 
-    /// How many workers there are.
+    /// Returns the number of workers.
     pub fn workers(&self) -> u32
         ensures count { result ≡ self.now.workers }
         ensures kept { IsConsistent self.now }
@@ -127,7 +127,7 @@ impl Machine {
         self.workers
     }
 
-    /// The records of a level, worker by worker.
+    /// Returns the records of a level, worker by worker.
     fn level_records(&self, alloc: Global, level: u16) -> Result<Vec<Record>, AllocError>
         requires { level < self.now.levels }
         ensures { IfOk result (λ records. records.items ≡ level_of_rows self.now.workers (by_place self.now.levels self.now.rows) level) }
@@ -140,7 +140,7 @@ impl Machine {
         Ok(records)
     }
 
-    /// The records of all levels.
+    /// Returns the records of all levels.
     pub fn records_by_level(&self, alloc: Global) -> Result<Records, AllocError>
         ensures levels { IfOk result (λ r. length r ≡ self.now.levels) }
         ensures rows { IfOk result (λ r. (v : ℕ) → v < self.now.levels
@@ -153,8 +153,8 @@ impl Machine {
         Ok(Records::of(rows))
     }
 
-    /// How many events were done: each sent an item, took one, made a record or passed a level, and one that kept a request both
-    /// sent it and took it.
+    /// Returns how many events were done. Each has sent an item, taken one, made a record or passed a level; an event
+    /// that kept a request has both sent and taken it, and counts once.
     pub fn events_done(&self) -> u128
         ensures { result ≡ done_of self.now }
     {
@@ -163,7 +163,7 @@ impl Machine {
         noted - self.kept
     }
 
-    /// What `by` has sent to `to`.
+    /// Returns what `by` has sent to `to`.
     pub fn sent(&self, by: u32, to: u32) -> &[Item]
         requires by { by < self.now.workers }
         requires to { to < self.now.workers }
@@ -172,7 +172,7 @@ impl Machine {
         self.sent[(by * self.workers + to) as usize].as_slice()
     }
 
-    /// The records of `by` at a level.
+    /// Returns the records of `by` at a level.
     pub fn records(&self, by: u32, level: u16) -> &[Record]
         requires by { by < self.now.workers }
         requires level { level < self.now.levels }
@@ -182,7 +182,7 @@ impl Machine {
         self.rows[place].as_slice()
     }
 
-    /// What `by` has taken.
+    /// Returns what `by` has taken.
     pub fn taken(&self, by: u32) -> &[Item]
         requires { by < self.now.workers }
         ensures { result.now ≡ list_of self.now.taken by }

@@ -1,4 +1,4 @@
-//! Lists that grow at the end and shrink at the front.
+//! Lists that grow at their end and shrink at their front.
 ghost use Rattle.std.specs.Prelude.{◌≡◌, List, [], ◌∷◌, ◌++◌, replicate, MatchOption, MatchBool, IfOk, OnOk, OnErr};
 ghost use Rattle.req_table.specs.Lanes.{sent_by, is_from};
 ghost use Rattle.req_table.specs.declared.Item.{Item as ItemValue};
@@ -9,7 +9,7 @@ use std::alloc::{AllocError, Global};
 use std::collections::VecDeque;
 use std::marker::Model;
 
-/// KeyQueue that are due from one worker to another, in order.
+/// The requests that are due from one worker to another, in order.
 #[derive(Drop)]
 pub struct KeyQueue {
     keys: VecDeque<Key>,
@@ -25,7 +25,7 @@ impl Model for KeyQueue {
 }
 
 impl KeyQueue {
-    /// An empty list.
+    /// Returns an empty list.
     pub fn new(alloc: Global) -> KeyQueue
         ensures { result ≡ [] }
     {
@@ -34,7 +34,7 @@ impl KeyQueue {
         }
     }
 
-    /// So many empty lists.
+    /// Returns `count` empty lists.
     pub fn many(alloc: Global, count: usize) -> Result<Vec<KeyQueue>, AllocError>
         ensures { IfOk result (λ lists. lists.items ≡ replicate count []) }
     {
@@ -45,7 +45,7 @@ impl KeyQueue {
         Ok(lists)
     }
 
-    /// The one at the front.
+    /// Returns the first request, or none.
     pub fn first(&self) -> Option<Key>
         ensures { MatchOption result (self.now ≡ []) (λ x. (rest : List KeyValue) × (self.now ≡ x ∷ rest)) }
     {
@@ -59,14 +59,14 @@ impl KeyQueue {
         self.keys.is_empty()
     }
 
-    /// Takes the one at the front away.
+    /// Removes the first request, if there is one.
     pub fn pop(&mut self)
         ensures { (xs : List KeyValue) (x : KeyValue) → self.old ≡ x ∷ xs → self.new ≡ xs }
     {
         let _ = self.keys.pop_front();
     }
 
-    /// Puts one at the end. After want of memory the list is as before.
+    /// Adds a request at the end. If memory is refused, the list is as before.
     pub fn put(&mut self, key: Key) -> Result<(), AllocError>
         ensures ok { OnOk result (self.new ≡ self.old ++ key ∷ []) }
         ensures err { OnErr result (self.new ≡ self.old) }
@@ -75,7 +75,7 @@ impl KeyQueue {
         Ok(())
     }
 
-    /// Takes the last key back.
+    /// Removes the last request, if there is one.
     pub fn undo(&mut self)
         ensures { (xs : List KeyValue) (x : KeyValue) → self.old ≡ xs ++ x ∷ [] → self.new ≡ xs }
     {
@@ -92,7 +92,7 @@ fn is_from(item: &Item, sender: u32) -> bool
     }
 }
 
-/// Items that wait on one lane, in order.
+/// The items that wait on one lane, in order.
 #[derive(Drop)]
 pub struct ItemQueue {
     items: VecDeque<Item>,
@@ -108,7 +108,7 @@ impl Model for ItemQueue {
 }
 
 impl ItemQueue {
-    /// An empty list.
+    /// Returns an empty list.
     pub fn new(alloc: Global) -> ItemQueue
         ensures { result ≡ [] }
     {
@@ -117,7 +117,7 @@ impl ItemQueue {
         }
     }
 
-    /// So many empty lists.
+    /// Returns `count` empty lists.
     pub fn many(alloc: Global, count: usize) -> Result<Vec<ItemQueue>, AllocError>
         ensures { IfOk result (λ lists. lists.items ≡ replicate count []) }
     {
@@ -128,14 +128,14 @@ impl ItemQueue {
         Ok(lists)
     }
 
-    /// The one at the front.
+    /// Returns the first item, or none.
     pub fn first(&self) -> Option<Item>
         ensures { MatchOption result (self.now ≡ []) (λ x. (rest : List ItemValue) × (self.now ≡ x ∷ rest)) }
     {
         self.items.front().copied()
     }
 
-    /// Whether one is of this sender.
+    /// Whether one of the items is of this sender.
     pub fn has_from(&self, sender: u32) -> bool
         ensures { MatchBool result (¬ (sent_by sender self.now ≡ [])) (sent_by sender self.now ≡ []) }
     {
@@ -147,14 +147,14 @@ impl ItemQueue {
         false
     }
 
-    /// Takes the one at the front away.
+    /// Removes the first item, if there is one.
     pub fn pop(&mut self)
         ensures { (xs : List ItemValue) (x : ItemValue) → self.old ≡ x ∷ xs → self.new ≡ xs }
     {
         let _ = self.items.pop_front();
     }
 
-    /// Puts one at the end. After want of memory the list is as before.
+    /// Adds an item at the end. If memory is refused, the list is as before.
     pub fn put(&mut self, item: &Item) -> Result<(), AllocError>
         ensures ok { OnOk result (self.new ≡ self.old ++ item.now ∷ []) }
         ensures err { OnErr result (self.new ≡ self.old) }

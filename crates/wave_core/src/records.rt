@@ -5,7 +5,7 @@ ghost use Rattle.req_table.specs.Tables.{row_at};
 use req_table::Record;
 use std::marker::Model;
 
-/// The records of a wave, a row for each level.
+/// The records of a wave, in a row for each level.
 #[derive(Drop)]
 pub struct Records {
     rows: Vec<Vec<Record>>,
@@ -21,28 +21,28 @@ impl Model for Records {
 }
 
 impl Records {
-    /// The records of these rows.
+    /// Returns the records of these rows.
     pub fn of(rows: Vec<Vec<Record>>) -> Records
         ensures { result ≡ map (λ row. row.items) rows.items }
     {
         Records { rows }
     }
 
-    /// The rows.
+    /// Returns the rows.
     pub fn into_rows(self) -> Vec<Vec<Record>>
         ensures { map (λ row. row.items) result.items ≡ self }
     {
         self.rows
     }
 
-    /// The number of levels.
+    /// Returns the number of levels.
     pub fn levels(&self) -> usize
         ensures { result ≡ length self.now }
     {
         self.rows.len()
     }
 
-    /// The records of a level.
+    /// Returns the records of a level.
     pub fn level(&self, level: u16) -> &[Record]
         requires { level < length self.now }
         ensures { result.now ≡ row_at self.now level }

@@ -1,4 +1,4 @@
-//! What the lists of all workers are at the start.
+//! The lists of all workers before any event.
 ghost use Rattle.std.specs.Prelude.{◌≡◌, ◌*◌, ◌<◌, ◌≤◌, [], length, replicate, IfOk};
 ghost use Rattle.wave_core.specs.MachineView.{AreDistributed};
 
@@ -7,7 +7,7 @@ use req_table::requests::owner;
 use req_table::{Key, Table};
 use std::alloc::{AllocError, Global};
 
-/// So many empty tables.
+/// Returns `count` empty tables.
 pub fn tables(alloc: Global, count: usize) -> Result<Vec<Table>, AllocError>
     ensures { IfOk result (λ tables. tables.items ≡ replicate count []) }
 {
@@ -18,7 +18,8 @@ pub fn tables(alloc: Global, count: usize) -> Result<Vec<Table>, AllocError>
     Ok(tables)
 }
 
-/// The roots: each is due from the worker that it is dealt to, to its owner.
+/// Returns, for each pair of workers, the roots that are due from the one to the other: root i is due from worker i
+/// modulo their number, to the root's owner.
 pub fn distribute_roots(
     alloc: Global,
     workers: u32,

@@ -20,7 +20,8 @@ use req_table::{Item, Key, Record};
 use std::alloc::{AllocError, Global};
 use std::marker::Model;
 
-/// The workers of one wave: what each has sent, taken and recorded, and what is due from it.
+/// The workers of one wave: the store and the roots of the wave, and what each worker has sent, taken and recorded, and
+/// what is due from it.
 #[derive(Drop)]
 pub struct Core<'a> {
     alloc: Global,
@@ -40,7 +41,8 @@ impl<'a> Model for Core<'a> {
 }
 
 impl<'a> Core<'a> {
-    /// The start of a wave: each root is due from the worker that its place is dealt to, to its owner.
+    /// Returns the workers before any event: root i is due from worker i modulo their number, to the root's owner.
+    /// Fails if memory is refused.
     pub fn new(
         alloc: Global,
         store: &'a Store,
@@ -53,7 +55,7 @@ impl<'a> Core<'a> {
         ensures new { IfOk result (λ c. IsNew store.now workers roots.now c) }
         ensures counts { IfOk result (λ c. events_done c ≡ 0) }
     {
-        let _ = store.levels();
+        let _ = store.levels(); // For the proof.
         let machine = Machine::new(alloc, store, workers, roots)?;
         Ok(Core {
             alloc,
@@ -63,7 +65,7 @@ impl<'a> Core<'a> {
         })
     }
 
-    /// Does an event, and says whether it was allowed.
+    /// Does an event, and returns true; or returns false, and changes nothing, if the event is not allowed.
     fn try_event(&mut self, event: Event) -> Result<bool, AllocError>
         ensures same { IsSameWave self.old self.new }
         ensures ok { IfOk result (λ b. MatchBool b (IsStep (core_wave self.old) (core_state self.old) event (core_state self.new))
@@ -72,7 +74,7 @@ impl<'a> Core<'a> {
             (events_done self.new ≡ events_done self.old)) }
         ensures err { OnErr result (self.new ≡ self.old) }
     {
-        let _ = self.machine.workers();
+        let _ = self.machine.workers(); // For the proof.
         match event {
             Event::Send { by, to } => self.machine.send(self.store, by, to),
             Event::End { by, to } => self.machine.end(self.store, by, to),
@@ -83,14 +85,14 @@ impl<'a> Core<'a> {
         }
     }
 
-    /// The number of events that this core has done.
+    /// Returns the number of events that this core has done.
     fn events_done(&self) -> u128
         ensures { result ≡ events_done self.now }
     {
         self.machine.events_done()
     }
 
-    /// Does an event. Where it is not allowed, the fault has the number of events that this core has done.
+    /// Does an event. If it is not allowed, the fault has the number of events that this core has done.
     pub fn step(&mut self, event: Event) -> Result<(), CoreFault>
         ensures same { IsSameWave self.old self.new }
         ensures ok { OnOk result (IsStep (core_wave self.old) (core_state self.old) event (core_state self.new)) }
@@ -99,7 +101,7 @@ impl<'a> Core<'a> {
         ensures refused { IfErr result (λ fault. IsRefusal self.old event fault) }
         ensures unchanged { OnErr result (self.new ≡ self.old) }
     {
-        let _ = &self.machine;
+        let _ = &self.machine; // For the proof.
         if !self.allows(event) {
             let place = self.events_done();
             return Err(CoreFault::NotAllowed { place });
@@ -111,7 +113,7 @@ impl<'a> Core<'a> {
         }
     }
 
-    /// Does events in turn, up to the first that is refused, and says how many they were.
+    /// Does events one after the other, up to the first that fails. Returns how many they are.
     pub fn run(&mut self, events: &[Event]) -> Result<usize, CoreFault>
         ensures same { IsSameWave self.old self.new }
         ensures count { IfOk result (λ n. n ≡ length events.now) }
@@ -125,7 +127,7 @@ impl<'a> Core<'a> {
         Ok(events.len())
     }
 
-    /// Whether each worker is past the last level; the core is then settled for its roots.
+    /// Whether every worker is past the last level. The core is then settled for its roots.
     pub fn finished(&self) -> bool
         ensures value { MatchBool result (IsFinished (core_wave self.now) (core_state self.now))
             (¬ IsFinished (core_wave self.now) (core_state self.now)) }
@@ -134,7 +136,7 @@ impl<'a> Core<'a> {
         self.machine.is_finished()
     }
 
-    /// Whether an event is allowed.
+    /// Whether an event is allowed, so that some state follows by it.
     fn allows(&self, event: Event) -> bool
         ensures { MatchBool result (IsAllowed (core_wave self.now) (core_state self.now) event)
             (¬ IsAllowed (core_wave self.now) (core_state self.now) event) }
@@ -149,7 +151,7 @@ impl<'a> Core<'a> {
         }
     }
 
-    /// What a worker has sent to another, in order.
+    /// Returns what a worker has sent to another, in order.
     pub fn sent(&self, by: u32, to: u32) -> &[Item]
         requires by { by < self.now.machine.workers }
         requires to { to < self.now.machine.workers }
@@ -159,7 +161,7 @@ impl<'a> Core<'a> {
         self.machine.sent(by, to)
     }
 
-    /// What a worker has taken from its lane, in order.
+    /// Returns what a worker has taken from its lane, in order.
     pub fn taken(&self, by: u32) -> &[Item]
         requires { by < self.now.machine.workers }
         ensures value { result.now ≡ (core_state self.now).taken by }
@@ -171,7 +173,8 @@ impl<'a> Core<'a> {
         self.machine.taken(by)
     }
 
-    /// What a worker has recorded at a level, in order. A key has one level and one owner, so it has no second record.
+    /// Returns what a worker has recorded at a level, in order. A key has one level and one owner, so it has no second
+    /// record.
     pub fn records(&self, by: u32, level: u16) -> &[Record]
         requires by { by < self.now.machine.workers }
         requires level { level < self.now.store.levels }
@@ -183,7 +186,7 @@ impl<'a> Core<'a> {
         self.machine.records(by, level)
     }
 
-    /// Whether a worker has taken an End of the level from every worker.
+    /// Whether a level is closed for a worker: it has taken an End of the level from every worker.
     pub fn closed(&self, by: u32, level: u16) -> bool
         requires { by < self.now.machine.workers }
         ensures { MatchBool result (IsClosed (core_wave self.now).scope level ((core_state self.now).taken by))
@@ -192,7 +195,8 @@ impl<'a> Core<'a> {
         self.machine.is_closed(self.store, by, level)
     }
 
-    /// The records of all workers by level, as they stand; of a finished core those of exactly the reached requests.
+    /// Returns the records of all workers by level. If the core is finished, they are exactly those of the reached
+    /// requests.
     pub fn into_records(self) -> Result<Records, AllocError>
         ensures levels { IfOk result (λ r. length r ≡ self.entry.store.levels) }
         ensures rows { IfOk result (λ r. (v : ℕ) → v < self.entry.store.levels

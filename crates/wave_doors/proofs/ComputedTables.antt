@@ -1,4 +1,4 @@
--- What requests come to where what a computed table holds is done.
+-- What requests come to if a held answer counts as known.
 use Rattle.std.proofs.Common.{◌≡◌, Bool, List, length, Option, Some, None, refl, ◌∙◌, ap, IfSome}
 use Rattle.dd_store.specs.declared.reference.Ref.{Ref}
 use Rattle.req_table.specs.declared.Key.{Key}
@@ -27,16 +27,16 @@ module _ (S : Nodes) (m : ComputedView) (right : IsRight S m) (op : Op) (f g : R
   child_in_known None None e h a = (is_key S op f g hf hg e, refl)
   child_in_known (Some r) None e h a = absurd (cc)
 
-  -- and is of the store
+  -- what an operation comes to is of the store
   pub child_known_in : IsChildIn S (child_with_computed S m op f g)
   child_known_in = child_in_known (terminal_of op f g) (terminal_or_computed_of m op f g) refl refl (known_value S m right op f g hf hg (terminal_of op f g) refl)
 
--- the operation on the cofactors, where what is held is done, is the key's child
+-- the operation on the cofactors, with held answers, is the key's child
 pub computed_cofactors : (S : Nodes) (m : ComputedView) (k : Key) (b : Bool) {op : Op} {low high : Ref} {c : Child} → op ≡ k.op → low ≡ cofactor_of S k.f (level_of S k) b → high ≡ cofactor_of S k.g (level_of S k) b → c ≡ child_with_computed S m op low high → c ≡ child_with_computed_of S m k b
 computed_cofactors S m k b {op} {low} {high} {c} eo el eh e =
     e ∙ ap (λ o. child_with_computed S m o low high) eo ∙ ap (λ r. child_with_computed S m k.op r high) el ∙ ap (λ r. child_with_computed S m k.op (cofactor_of S k.f (level_of S k) b) r) eh
 
--- a child of a key is its half
+-- a child of a key has the function of its cofactor
 pub computed_cofactor_child : (S : Nodes) → IsSound S → (m : ComputedView) → IsRight S m → (k : Key) → IsKey S k → (b : Bool) (c : Child) → c ≡ child_with_computed_of S m k b → IsCofactorChildOf S k b c
 computed_cofactor_child S w m right k i b c e x hx at =
     ap (λ z. child_value S z x) e

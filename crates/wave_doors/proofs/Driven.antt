@@ -1,4 +1,4 @@
--- The records of a driven core are those of all requests that its roots ask for.
+-- The records of a driven core are exactly those of the requests that its roots reach.
 use Rattle.std.proofs.Common.{◌≡◌, ℕ, List, length, ◌∙◌, ap, subst}
 use Rattle.std.specs.Prelude.{Result, Ok, Err, IfOk}
 use Rattle.dd_store.specs.Nodes.{Nodes}

@@ -1,4 +1,4 @@
--- From the parts of all workers to their records, put together.
+-- From the parts of all workers to their records, level by level.
 use Rattle.std.proofs.Common.{◌≡◌, ℕ, suc, ◌+◌, ◌<◌, List, [], ◌∷◌, ◌++◌, map, length, All, refl, sym, ap, ◌∙◌, subst, arith}
 use Rattle.std.proofs.lemmas.List.{get_or-map, length-map}
 use Rattle.std.proofs.lemmas.List.Elements.{All-contains}
@@ -17,14 +17,14 @@ use Rattle.reduce_up.proofs.Numbering.{in_team}
 use Rattle.reduce_up.proofs.Rooted.{all_of}
 use Rattle.wave_doors.specs.Merging.{MayMerge}
 
--- the records of keys that are split are the same again
+-- records of keys that are made again are the same
 again : (S : Nodes) (n : ℕ) (rs : List Record) → All (IsSplit (wave_of S n)) rs → records_of S (map key_of rs) ≡ rs
 again S n [] h = refl
 again S n (r ∷ rs) h =
     let s : IsSplit (wave_of S n) r = h 0 r (omega arith) in
     λ j. record { key = r.key; low = sym s.0 j; high = sym s.1 j } ∷ again S n rs (λ i d b. h (suc i) d (omega (arith, b))) j
 
--- what is said of the records is said of their keys
+-- what holds of records' keys holds of their keys as a list
 of_keys : (P : Key → Type 0) (rs : List Record) → All (λ (r : Record). P r.key) rs → All P (map key_of rs)
 of_keys P rs h = λ i d b.
     let long : i < length rs = (let e = length-map rs key_of in omega (arith, b, e)) in

@@ -1,4 +1,4 @@
--- Diagrams by level: what the levels hold together, and what is found by place.
+-- Diagrams by level: what all levels have together, and what is found by place.
 use Rattle.std.proofs.Common.{◌≡◌, ℕ, zero, suc, ◌<◌, ◌≤◌, inl, inr, List, [], ◌∷◌, ◌++◌, length, get_or, set, Some, None, refl, sym, ◌∙◌, ap, subst, arith, Contains}
 use Rattle.std.specs.Prelude.{Option, MatchOption, IsSome, Result, Ok, Err, OnOk, OnErr, All, min}
 use Rattle.std.specs.declared.alloc.AllocError.{AllocError}
@@ -16,7 +16,7 @@ use Rattle.reduce_up.specs.AnswersByLevel.{place_of, paired, joined, ArePlaced}
 use Rattle.reduce_up.proofs.Noting.{nothing, head_in, in_cases}
 use Rattle.reduce_up.proofs.Placing.{in_either, in_joined, in_left, in_right, notes_row, paired_place, placed_set}
 
--- an empty row more
+-- one more empty row
 pub joined_more : (rows : List (List (Key × Ref))) → joined (rows ++ [] ∷ []) ≡ joined rows
 joined_more [] = refl
 joined_more (row ∷ rows) = ap (λ l. row ++ l) (joined_more rows)
@@ -30,14 +30,14 @@ placed_more rows h i k r c = h i k r (at rows i c)
     at (row ∷ rows) zero c = c
     at (row ∷ rows) (suc i) c = at rows i c
 
--- ---- keys with what stands beside them
+-- ---- keys with the references at the same places
 pub paired_more : (ks : List Key) (rs : List Ref) (k : Key) (r : Ref) → length ks ≡ length rs → paired (ks ++ k ∷ []) (rs ++ r ∷ []) ≡ paired ks rs ++ (k, r) ∷ []
 paired_more [] [] k r e = refl
 paired_more [] (s ∷ rs) k r e = absurd (omega (arith, e))
 paired_more (l ∷ ks) [] k r e = absurd (omega (arith, e))
 paired_more (l ∷ ks) (s ∷ rs) k r e = ap (λ z. (l, s) ∷ z) (paired_more ks rs k r (omega (arith, e)))
 
--- a key that stands nowhere has no answer
+-- a key that is in no list has no answer
 pub none_paired : (ks : List Key) (rs : List Ref) (k : Key) → (¬ Contains ks k) → HasAnswer (paired ks rs) k → ⊥
 none_paired ks rs k out h = let (i, lt, f, g) = paired_place ks rs k h.0 h.1 in out (i, lt, get_or_from_slice_get ks i k k f)
 
@@ -52,7 +52,7 @@ notes_last old k r = record {
   more = λ l h. (h.0, in_left old ((k, r) ∷ []) (l, h.0) h.1);
 }
 
--- one that has an answer has been noted
+-- a key that has an answer keeps it
 pub notes_known : (old : List (Key × Ref)) (k : Key) (r : Ref) → HasAnswer old k → NotesAnswer old k r old
 notes_known old k r h = record { noted = h; only = λ l a c. inl c; more = λ l i. i }
 
@@ -70,7 +70,7 @@ some_found (Some r) row k h m = refl
 pub found_in : (found : Option Ref) (row : List (Key × Ref)) (k : Key) (r : Ref) → found ≡ Some r → MatchOption found (HasAnswer row k → ⊥) (λ r. Contains {X = Key × Ref} row (k, r)) → Contains {X = Key × Ref} row (k, r)
 found_in found row k r e m = subst (λ o. MatchOption o (HasAnswer row k → ⊥) (λ r. Contains {X = Key × Ref} row (k, r))) e m
 
--- a row that was read is the one that stands there
+-- a row that was read is the one at its place
 pub row_read : (rows : List (List (Key × Ref))) (i : ℕ) (row : List (Key × Ref)) → i < length rows → row ≡ get_or rows i row → get_or rows i [] ≡ row
 row_read rows i row lt e = get_or_default rows i [] row lt ∙ sym e
 
@@ -85,7 +85,7 @@ module _ (rows : List (List (Key × Ref))) (i : ℕ) (old new : List (Key × Ref
       (λ l a c. elim (n.only l a c) [ inl o ↦ h i l a (subst (λ z. Contains {X = Key × Ref} z (l, a)) (sym (row_read rows i old lt read)) o) | inr s ↦ ap place_of s.0 ∙ at ])
   placed_in (Err x) n e h at = subst ArePlaced (sym (ap (λ z. set rows i z) (e ∙ read) ∙ set-get_or rows i old)) h
 
--- the level of a key of the store is that of its operands alone
+-- the level of a key of the store depends only on its operands
 tops : (n v : ℕ) (f g : Ref) → n ≤ 4096 → v < n → min (top n f) (top n g) ≡ v → min (top 4096 f) (top 4096 g) ≡ v
 tops n v False False s l e = absurd (omega (arith, l, e))
 tops n v False True s l e = absurd (omega (arith, l, e))

@@ -22,7 +22,7 @@ pub ready_more : (before pairs : List (Key × Ref)) → ((k : Key) → HasAnswer
 ready_more before pairs m (Done r) i = i
 ready_more before pairs m (Ask l k b) i = m k i
 
--- described nodes on described nodes
+-- described nodes, added after described nodes
 adds_on : (a b c : Nodes) (v : ℕ) (row : List Record) (entry : Record) → IsSound a → IsSound b → Contains row entry → IsKeyAt a v entry.key → AddsDescribed a b (AskedBy a v row) → AddsDescribed b c (AskedBy b v (entry ∷ [])) → AddsDescribed a c (AskedBy a v row)
 adds_on a b c v row entry S T member key i j = record { keeps = keeps-trans a b c i.keeps j.keeps; described = λ m h. later m (j.described m h) }
   where
@@ -56,8 +56,8 @@ answers_more s pairs k r pairs' a i n l m c = by (n.only l m c)
     by (inl c) = a l m c
     by (inr e) = subst (λ z. IsAnswer s z m) (sym e.0) (subst (λ z. IsAnswer s k z) (sym e.1) i)
 
--- a refused record leaves a row that is reduced up to nothing more
--- an element that a loop reads
+-- ---- a refused record leaves the row reduced up to the records before it
+-- an element that a loop reads is one of the list
 pub member : (row : List Record) (i : ℕ) (entry : Record) → i < length row → entry ≡ get_or row i entry → Contains row entry
 member row i entry lt at = (i, lt, sym at)
 

@@ -14,7 +14,7 @@ requests_on [] e = append-nil (request_of (terminal_of e.0 e.1 e.2) e)
 requests_on (d ∷ es) e =
     ap (λ z. request_of (terminal_of d.0 d.1 d.2) d ++ z) (requests_on es e) ∙ sym (append_assoc (request_of (terminal_of d.0 d.1 d.2) d) (requests_of es) (request_of (terminal_of e.0 e.1 e.2) e))
 
--- one more entry's request, or none
+-- the request of one more entry, if it has one
 pub request_none : (o : Option Ref) (b : Bool) (e : Entry) → is_some o ≡ not b → b ≡ true → request_of o e ≡ (normal_of e.0 e.1 e.2).0 ∷ []
 request_none None b e s t = refl
 request_none (Some r) b e s t = absurd (true≢false (s ∙ ap not t))

@@ -1,4 +1,5 @@
--- A level whose shards several threads share: what they leave, seen through references, and what it is for the level's records.
+-- A level whose shards several threads share: what they leave, seen through references, and what this is for the
+-- level's records.
 use Rattle.std.proofs.Common.{◌≡◌, ℕ, ◌+◌, ◌*◌, ◌<◌, ◌≤◌, inl, inr, List, length, get_or, Some, None, refl, sym, ◌∙◌, ap, subst, arith, Contains, All}
 use Rattle.std.specs.Prelude.{slice_index_or, Result, Ok, Err, MatchResult, OnOk, IfErr}
 use Rattle.std.specs.List.{AllZip}
@@ -25,7 +26,7 @@ use Rattle.wave_doors.specs.Sharing.{AddsPairs, HasPair, IsPairsFault}
 use Rattle.reduce_up.proofs.Naming.{grown_of_pair}
 use Rattle.reduce_up.proofs.Shared.{added, noted, refused, stands, zip_right, zip_through}
 
--- pairs that can stand at a level may be added to it
+-- pairs that can be children of nodes of a level may be added to it
 pub ready : (S : Nodes) (v : ℕ) (pairs : List Pair) (lists : ℕ → List Pair) → v < S.levels → All (CanBeNode S v) pairs → AreDivided pairs lists → AreReady S v lists
 ready S v pairs lists lt can d = record {
   level = lt;
@@ -46,14 +47,14 @@ adds_pairs S T v pairs lists g d = record {
   only = λ m h. elim (grown_of_pair S T v lists g m h) [ inl old ↦ inl old | inr new ↦ (let o = d.only new.0 new.1 new.2 in inr (new.1, o.0, o.1, new.3)) ];
 }
 
--- where no pair is missing, each has its reference
+-- if no pair is missing, each has its reference
 pub has_pairs : (T : Nodes) (v : ℕ) (pairs : List Pair) (lists : ℕ → List Pair) → AreDivided pairs lists → IsLevelFault T v (regular_lists lists) None → (p : Pair) → Contains pairs p → HasPair T v p
 has_pairs T v pairs lists d f p c = elim (same_ref p.0 p.1) [
   | yes e ↦ (p.0, inl (e, refl))
   | no n ↦ added_there T v lists f (shard_of_pair p.0 p.1) p (small_shard p.0 p.1) (d.all p c n) n
 ]
 
--- where one is missing at a shard that is full, the store is full
+-- if a pair is missing from a full shard, the store is full
 pub pairs_fault : (T : Nodes) (v : ℕ) (pairs : List Pair) (lists : ℕ → List Pair) (f : StoreFault) → IsSound T → AreDivided pairs lists → IsLevelFault T v (regular_lists lists) (Some f) → IsPairsFault T v pairs f
 pairs_fault T v pairs lists OutOfMemory w d h = tt
 pairs_fault T v pairs lists Full w d (s, lt, full, lacks) =
@@ -62,7 +63,7 @@ pairs_fault T v pairs lists Full w d (s, lt, full, lacks) =
     let o = d.only s m.0 m.1 in
     (m.0, o.0, (omega (arith, full, enough), o.1, absent T v m.0.0 m.0.1 m.2))
 
--- both by the answer of the store
+-- ---- what was added, or why nothing was, by the result of the store
 pub pairs_there : (T : Nodes) (v : ℕ) (pairs : List Pair) (lists : ℕ → List Pair) (r : Result (Unit {0}) StoreFault) → AreDivided pairs lists →
     MatchResult r (λ _. IsLevelFault T v (regular_lists lists) None) (λ f. IsLevelFault T v (regular_lists lists) (Some f)) → OnOk r (All (HasPair T v) pairs)
 pairs_there T v pairs lists (Ok u) d h = λ k e lt. has_pairs T v pairs lists d h (get_or pairs k e) (Contains-get_or pairs k e lt)
@@ -73,7 +74,7 @@ pub pairs_refused : (T : Nodes) (v : ℕ) (pairs : List Pair) (lists : ℕ → L
 pairs_refused T v pairs lists (Ok u) w d h = tt
 pairs_refused T v pairs lists (Err f) w d h = pairs_fault T v pairs lists f w d h
 
--- the same, where the pairs of all records stand in a list
+-- ---- pairs of all records of a row, in a list
 module _ (S : Nodes) (before : List (Key × Ref)) (v : ℕ) (row : List Record) (pairs : List Pair) (held : IsSound S) (answers : AreAnswers S before) (is_row : IsRow S before v row) (are : AllZip (IsPairOf before) row pairs) where
   pub can_stand : (p : Pair) → Contains pairs p → CanBeNode S v p
   can_stand p c = let w = zip_right (IsPairOf before) row pairs are p c in stands S before v row held answers is_row w.0 p w.1 w.2
@@ -102,14 +103,14 @@ module _ (S : Nodes) (before : List (Key × Ref)) (v : ℕ) (row : List Record) 
     row_noted found there i after n = noted S before v row held answers is_row T sound row_adds found
         (zip_through (IsPairOf before) (λ (p : Pair) r. IsThere T v p.0 p.1 r) row pairs found are there) i after n
 
--- no answer is noted yet
+-- no answer was noted yet
 pub notes_none : (old : List (Key × Ref)) (row : List Record) (found : List Ref) → NotesFirst old row found 0 old
 notes_none old row found = record { only = λ k a c. inl c; more = λ k h. h; done = λ j d lt. absurd (omega arith) }
 
 pub notes_fewer : (old : List (Key × Ref)) (row : List Record) (found : List Ref) (i : ℕ) (new : List (Key × Ref)) → NotesFirst old row found i new → NotesFirst old row found 0 new
 notes_fewer old row found i new n = record { only = n.only; more = n.more; done = λ j d lt. absurd (omega arith) }
 
--- one more is
+-- one more answer is noted
 pub notes_next : (old : List (Key × Ref)) (row : List Record) (found : List Ref) (i : ℕ) (mid : List (Key × Ref)) (entry : Record) (answer : Ref) (new : List (Key × Ref)) →
     i < length row → ((d : Record) → entry ≡ get_or row i d) → ((d : Ref) → answer ≡ get_or found i d) → NotesFirst old row found i mid → NotesAnswer mid entry.key answer new → NotesFirst old row found (i + 1) new
 notes_next old row found i mid entry answer new lt at beside n m = record {

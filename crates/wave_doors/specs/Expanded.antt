@@ -13,8 +13,8 @@ pub record ExpandedView : Type 0 where
   pub records : List (List Record)
   pub ports : List PortView
 
--- What the ports sent and took is a settled wave with some rows of the workers, and the records of each level are these
--- rows', worker by worker.
+-- What the ports have sent and taken is a settled wave with some rows of the workers, and the records of each level are
+-- those of these rows, worker by worker.
 pub record IsSettledFor (w : Wave) (roots : List Key) (e : ExpandedView) : Type 0 where
   pub rows : ℕ → ℕ → List Record
   pub settled : IsSettled w roots (λ s k. sent_from e.ports k s) (taken_by e.ports) rows

@@ -6,7 +6,8 @@ use Rattle.req_table.specs.Keys.{IsKey, level_of, child_of}
 use Rattle.req_table.specs.Tables.{row_at}
 use Rattle.reduce_up.specs.Levels.{IsAsked}
 
--- a row for each level, of keys of the store at their level with the children that requests have, whose requests are recorded
+-- a row for each level, of keys of the store at their level with their children, in which each child that is a request
+-- has a record
 pub record AreSplits (s : Nodes) (rows : List (List Record)) : Type 0 where
   pub levels : length rows ≡ s.levels
   pub keys : (v : ℕ) → v < s.levels → All (λ r. IsKey s r.key) (row_at rows v)

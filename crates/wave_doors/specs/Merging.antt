@@ -1,4 +1,4 @@
--- The parts of a wave whose records are made again from their keys.
+-- The parts of a wave, whose records are made again from their keys.
 use Rattle.std.specs.Prelude.{◌≡◌, ℕ, ◌<◌, [], length, slice_index_or, map, All}
 use Rattle.dd_store.specs.Nodes.{Nodes}
 use Rattle.req_table.specs.Keys.{IsKey}

@@ -1,4 +1,4 @@
-//! All requests that the roots of a wave ask for, found by workers in threads.
+//! The records of all requests that the roots of a wave ask for, found by workers in threads.
 ghost use Rattle.std.specs.Prelude.{◌≡◌, ◌≢◌, ◌+◌, ◌*◌, ◌<◌, ◌≤◌, length, All, IfOk, IfErr};
 ghost use Rattle.req_table.specs.Keys.{IsKey, wave_of};
 ghost use Rattle.req_table.specs.Settled.{IsClosure};
@@ -18,7 +18,7 @@ use std::sync::Wait;
 use std::thread::Threads;
 use wave_core::Records;
 
-/// What the workers of a wave end with.
+/// What the workers of a wave have at their end.
 #[derive(Drop)]
 pub struct Expanded {
     records: Records,
@@ -34,15 +34,15 @@ impl Model for Expanded {
 }
 
 impl Expanded {
-    /// The records of all requests, by level. Those of a level stand worker by worker, and a worker's in order of
-    /// admission, which depends on the schedule.
+    /// Returns the records of all requests, by level. Those of a level are worker by worker, and those of a worker in
+    /// the order of their admission, which depends on the schedule.
     pub fn records(&self) -> &Records
         ensures { result.now ≡ self.now.records }
     {
         &self.records
     }
 
-    /// The ports by worker. They go with no lanes any more, and only tell what was sent and taken.
+    /// Returns the ports by worker. They have no lanes any more; contracts see what was sent and taken.
     pub fn ports(&self) -> &[Port]
         ensures { result.now ≡ self.now.ports }
     {
@@ -50,12 +50,13 @@ impl Expanded {
     }
 }
 
-/// The records of all requests that the roots ask for, directly or through children. Each of the 1 to 16 workers is a
-/// thread of its own, and root i is sent by worker i modulo their number (Ochi, Yasuoka and Yajima 1993 for the levels,
-/// van Dijk 2016 for the workers).
+/// Returns the records of all requests that the roots ask for, directly or through children. The caller's thread does
+/// the last worker's part, each other of the 1 to 16 workers has a thread of its own, and root i is sent by worker i
+/// modulo their number (Ochi, Yasuoka and Yajima 1993 for the levels, van Dijk 2016 for the workers).
 ///
-/// NoWorker: a thread could not be started; then those that run are told to stop. OutOfMemory: a growth was refused, and
-/// every thread was started. All threads have ended before any answer is given.
+/// Fails with NoWorker if a thread could not be started, after the others were stopped; with OutOfMemory if memory was
+/// refused and every thread was started; and with Stopped if the monitor says that the run has stopped. All threads
+/// have ended before the call returns.
 pub fn expand_all<R: Threads + Wait + Sync, G: Monitor>(
     rt: &R,
     alloc: Global,
@@ -75,7 +76,7 @@ pub fn expand_all<R: Threads + Wait + Sync, G: Monitor>(
     ensures fault { IfErr result (λ f. f ≢ WaveFault.Full) }
     ensures never_too_many_requests { IfErr result (λ f. f ≢ WaveFault.TooManyRequests) }
 {
-    let _ = store.levels();
+    let _ = store.levels(); // For the proof.
     let crew = Crew {
         rt,
         alloc,

@@ -1,5 +1,5 @@
-//! Reduction of the records of a wave, from the last level up.
-ghost use Rattle.std.specs.Prelude.{◌≡◌, ◌<◌, IfOk, IfErr, OnOk, [], ◌∷◌};
+//! Reduction of records, from the last level up.
+ghost use Rattle.std.specs.Prelude.{◌<◌, IfOk, IfErr, OnOk, [], ◌∷◌};
 ghost use Rattle.dd_store.specs.Nodes.{IsSound};
 ghost use Rattle.reduce_up.specs.Reducing.{IsReady, IsRecordAt, AreAnswers, IsAnswer, AddsDescribed, AskedBy, MayReduceRow, ReducesRow};
 ghost use Rattle.reduce_up.specs.Reducing.{IsRowWithin, IsRecordFault};
@@ -14,11 +14,11 @@ use std::alloc::Global;
 use std::thread::Threads;
 use wave_core::Records;
 
-/// A level with fewer records is reduced on the caller's thread: a map over it would start no thread, and to start those that share it
-/// takes longer than the level.
+/// A level with fewer records is reduced on the caller's thread: a map over it would start no thread, and to start
+/// those that share it takes longer than the level.
 const FEWEST_SHARED: usize = 2048;
 
-/// The diagram of a record's request, which adds at most its node.
+/// Returns the diagram of a record's request. At most its node is added.
 fn reduce_record(
     store: &mut Store,
     results: &Results,
@@ -62,7 +62,7 @@ fn reduce_row(
     Ok(())
 }
 
-/// Notes the diagrams of a row, by several threads where it has many records.
+/// Notes the diagrams of a row, by several threads if it has many records.
 fn reduce_row_by_size<R: Threads + Sync, H: Watch + Sync>(
     rt: &R,
     store: &mut Store,
@@ -84,7 +84,7 @@ fn reduce_row_by_size<R: Threads + Sync, H: Watch + Sync>(
     }
 }
 
-/// Notes the diagrams of a row, and sees that the store is within its limit where the row has records.
+/// Notes the diagrams of a row, and checks that the store is within its limit if the row has records.
 fn reduce_level<R: Threads + Sync, H: Watch + Sync>(
     rt: &R,
     store: &mut Store,
@@ -108,10 +108,11 @@ fn reduce_level<R: Threads + Sync, H: Watch + Sync>(
     Ok(())
 }
 
-/// The diagram of each record's request.
+/// Returns the diagram of each record's request.
 ///
-/// A level with many records is shared by several threads, and the watch is told of its shards; what no thread could be started for, the
-/// caller's thread does. The answer Full may also come at the first refused node, before all of a level are tried. NoWorker never comes.
+/// A level with many records is shared by several threads, and `watch` is notified of its shards; if a thread cannot be
+/// started, the caller's thread does its work. Fails with Full, perhaps at the first node that is refused, before all
+/// of the level were tried, and with OutOfMemory.
 pub fn reduce<R: Threads + Sync, H: Watch + Sync>(
     rt: &R,
     alloc: Global,

@@ -1,16 +1,19 @@
-//! Doors for callers of their own, which the program does not link: the records of a wave by threads, the reduction of
-//! records, a wave on the caller's thread by the state machine of the workers, and what requests come to where what a
-//! computed table holds is done.
+//! Calls for other programs, which this project's program does not link: the records of a wave by
+//! threads, the reduction of records, a wave on the caller's thread by any schedule, and children
+//! of requests with a computed table.
 //!
-//! **Promises.** `expand_all` answers the records of exactly the reached requests, each once (`closure`, `settled`),
-//! with as many loads as that takes (`put`). `reduce` gives each record's key its diagram (`answers`), adds nodes of
-//! these alone (`adds`) and says why it is Full (`fault`). `wave_on_one_thread` is a wave by any choices, with a computed table (`wave`,
-//! `kept`, `refused`, `right`). `child_with_computed` and `split_with_computed` have their key's meaning where the computed table is right
-//! (`means`, `low`, `high`).
+//! **Promises.** `expand_all` returns the records of exactly the reached requests, each once
+//! (`closure`, `settled`), and puts no more loads than that needs (`put`). `reduce` gives the key
+//! of each record its diagram (`answers`), adds only nodes of these (`adds`), and says why it fails
+//! (`fault`). `wave_on_one_thread` does a wave by any list of choices, with a computed table
+//! (`wave`, `kept`, `refused`, `right`). What `child_with_computed` and `split_with_computed`
+//! return has the function of the operation, or of the key's cofactor, if the computed table is
+//! right (`means`, `low`, `high`).
 //!
-//! **Only tests show** that ample memory suffices, and when threads share a level (`wave_tests`).
+//! **Only tests show** that nothing is refused if there is ample memory, and when threads share a
+//! level (`wave_tests`).
 //!
-//! **Begin** with the door that you need: `expand`, `levels`, `waves` or `with_computed`.
+//! **Begin** with the call that you need: `expand`, `levels`, `waves` or `with_computed`.
 #![tactic(auto)]
 
 mod expand;

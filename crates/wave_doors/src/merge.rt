@@ -1,4 +1,4 @@
-//! The records of all workers, put together.
+//! The records of all workers, in one row for each level.
 ghost use Rattle.std.specs.Prelude.{◌≡◌, ℕ, ◌<◌, length, All, IfOk};
 ghost use Rattle.req_table.specs.Keys.{IsKey};
 ghost use Rattle.req_table.specs.Settled.{level_of_rows};
@@ -15,7 +15,7 @@ use req_table::{Key, Record, Table};
 use std::alloc::{AllocError, Global};
 use wave_core::Records;
 
-/// The records of the keys.
+/// Returns the records of these keys.
 fn split_all(alloc: Global, store: &Store, keys: &Table) -> Result<Vec<Record>, AllocError>
     requires { All (IsKey store.now) keys.now }
     ensures { IfOk result (λ records. records.items ≡ records_of store.now keys.now) }
@@ -29,7 +29,7 @@ fn split_all(alloc: Global, store: &Store, keys: &Table) -> Result<Vec<Record>, 
     Ok(records)
 }
 
-/// The records of a level, worker by worker.
+/// Returns the records of a level, worker by worker.
 fn level_records(
     alloc: Global,
     store: &Store,
@@ -41,11 +41,11 @@ fn level_records(
     requires parts { MayMerge store.now workers parts.now }
     ensures { IfOk result (λ records. records.items ≡ level_of_rows workers (row_of parts.now.rows) level) }
 {
-    let _ = store.levels();
+    let _ = store.levels(); // For the proof.
     let mut records = Vec::new(alloc);
     for worker in 0..workers {
         let Some(keys) = parts.notes().keys(worker, level) else {
-            // The spaces of the wave keep each table with its level.
+            // This does not happen: the memory of the wave keeps each table with its level.
             return Err(AllocError);
         };
         let more = split_all(alloc, store, keys)?;
@@ -54,7 +54,8 @@ fn level_records(
     Ok(records)
 }
 
-/// The records of all levels, those of a level worker by worker. They are made again: a worker keeps none.
+/// Returns the records of all levels, those of a level worker by worker. They are made again from the keys, because
+/// workers keep only keys and packed children.
 pub(crate) fn merge_rows(
     alloc: Global,
     store: &Store,
@@ -67,7 +68,7 @@ pub(crate) fn merge_rows(
     ensures levels { IfOk result (λ r. length r ≡ store.now.levels) }
     ensures rows { IfOk result (λ r. (v : ℕ) → v < store.now.levels → row_at r v ≡ level_of_rows workers (row_of parts.now.rows) v) }
 {
-    let _ = roots.len();
+    let _ = roots.len(); // For the proof.
     let mut merged = Vec::new(alloc);
     for level in 0..store.levels() {
         merged.push(level_records(alloc, store, parts, workers, level)?)?;

@@ -1,6 +1,6 @@
-//! A level with many records, which several threads share: two maps over its records, and the nodes between them, shard by
-//! shard (van Dijk 2016).
-ghost use Rattle.std.specs.Prelude.{◌≡◌, ◌<◌, ℕ, length, All, IfOk, IfErr, OnOk};
+//! A level with many records, which several threads share: two maps over its records, and between
+//! them the nodes, shard by shard (van Dijk 2016).
+ghost use Rattle.std.specs.Prelude.{◌≡◌, ◌<◌, length, All, IfOk, IfErr, OnOk};
 ghost use Rattle.std.specs.List.{AllZip};
 ghost use Rattle.dd_store.specs.Levels.{list_at};
 ghost use Rattle.dd_store.specs.Nodes.{IsSound, IsThere};
@@ -18,7 +18,7 @@ use req_table::{Record, Table};
 use std::alloc::{AllocError, Global};
 use std::thread::Threads;
 
-/// The diagrams of a record's children.
+/// Returns the diagrams of a record's children.
 fn pair_of(results: &Results, entry: Record) -> (Ref, Ref)
     requires low_ready { IsReady results.now entry.low }
     requires high_ready { IsReady results.now entry.high }
@@ -27,7 +27,7 @@ fn pair_of(results: &Results, entry: Record) -> (Ref, Ref)
     (results.resolve(entry.low), results.resolve(entry.high))
 }
 
-/// The diagrams of each record's children, in the order of the records.
+/// Returns the diagrams of each record's children, in the order of the records.
 fn pairs_of<R: Threads + Sync>(
     rt: &R,
     alloc: Global,
@@ -61,7 +61,7 @@ fn list_pair(lists: &mut Vec<Vec<(Ref, Ref)>>, pair: (Ref, Ref)) -> Result<(), A
     Ok(())
 }
 
-/// The pairs of different children, divided by the shards of their nodes.
+/// Returns the pairs of different children, divided by the shards of their nodes.
 fn divide(alloc: Global, pairs: &[(Ref, Ref)]) -> Result<Vec<Vec<(Ref, Ref)>>, AllocError>
     ensures sixteen { IfOk result (λ lists. length lists.items ≡ 16) }
     ensures divided { IfOk result (λ lists. AreDivided pairs.now (list_at lists.items)) }
@@ -96,7 +96,7 @@ fn add_pairs<R: Threads + Sync, H: Watch + Sync>(
     }
 }
 
-/// The reference that stands for a pair: the child, where both are equal, or the node of the level.
+/// Returns the reference for a pair: the child if both are equal, and otherwise the node of the level.
 fn reference(store: &Store, level: u16, pair: (Ref, Ref)) -> Ref
     requires level { level < store.now.levels }
     requires there { HasPair store.now level pair }
@@ -108,7 +108,7 @@ fn reference(store: &Store, level: u16, pair: (Ref, Ref)) -> Ref
     store.find(level, pair.0, pair.1).unwrap()
 }
 
-/// The references that stand for pairs, in the order of the pairs.
+/// Returns the references for pairs, in the order of the pairs.
 fn references<R: Threads + Sync>(
     rt: &R,
     alloc: Global,
@@ -147,8 +147,8 @@ pub(crate) fn note_all(
     Ok(())
 }
 
-/// The diagrams of each record's children, and the keys of the row as a table by which they are found: the one by several threads,
-/// and meanwhile the other by one more.
+/// Returns the diagrams of each record's children, found by several threads, and the keys of the row as a table, which
+/// one more thread makes meanwhile.
 fn gather<R: Threads + Sync>(
     rt: &R,
     alloc: Global,
@@ -174,8 +174,8 @@ fn gather<R: Threads + Sync>(
 
 /// Notes the diagrams of a row, whose records and shards several threads share.
 ///
-/// What no thread could be started for, the caller's thread does. After a refusal some of the nodes may stand, and some diagrams may
-/// be noted.
+/// If a thread cannot be started, the caller's thread does its work. After a failure some of the nodes may have been
+/// added, and some diagrams noted.
 pub(crate) fn reduce_row_parallel<R: Threads + Sync, H: Watch + Sync>(
     rt: &R,
     store: &mut Store,

@@ -1,7 +1,6 @@
 //! The diagrams of a wave's requests, by level.
-ghost use Rattle.std.specs.Prelude.{◌≡◌, ◌<◌, ◌≤◌, OnOk, OnErr, IfOk, MatchOption, IsTrue, Contains, All, [], length};
+ghost use Rattle.std.specs.Prelude.{◌≡◌, ◌<◌, OnOk, OnErr, IfOk, MatchOption, IsTrue, Contains, All, [], length};
 ghost use Rattle.dd_store.specs.Graph.{top};
-ghost use Rattle.req_table.specs.declared.Key.{Key as KeyValue};
 ghost use Rattle.reduce_up.specs.Reducing.{HasAnswer, IsReady, IsResolved, NotesAnswer};
 ghost use Rattle.reduce_up.specs.Sharing.{NotesFirst};
 ghost use Rattle.reduce_up.specs.AnswersByLevel.{place_of, paired, joined, ArePlaced};
@@ -13,10 +12,10 @@ use req_table::{Child, Key, Record, Table};
 use std::alloc::{AllocError, Global};
 use std::marker::Model;
 
-/// The level of a terminal: past all levels that a store can have.
+/// The level that a terminal counts as here: one after all levels that a store can have.
 const BELOW_ALL_LEVELS: usize = 4096;
 
-/// The level of what a reference refers to.
+/// Returns the level of what a reference refers to.
 fn level_of_ref(reference: Ref) -> usize
     ensures { result ≡ top 4096 reference }
 {
@@ -26,7 +25,7 @@ fn level_of_ref(reference: Ref) -> usize
     }
 }
 
-/// The level of a request.
+/// Returns the level of a request.
 fn level_of_request(key: Key) -> usize
     ensures { result ≡ place_of key }
 {
@@ -56,7 +55,7 @@ impl Model for LevelAnswers {
 }
 
 impl LevelAnswers {
-    /// None.
+    /// Returns no diagrams.
     fn new(alloc: Global) -> LevelAnswers
         ensures { result ≡ [] }
     {
@@ -66,7 +65,7 @@ impl LevelAnswers {
         }
     }
 
-    /// Those of keys, in their order.
+    /// Returns the diagrams of these keys, in their order.
     fn of(keys: Table, answers: Vec<Ref>) -> LevelAnswers
         requires { length keys ≡ length answers.items }
         ensures { result ≡ paired keys answers.items }
@@ -81,7 +80,7 @@ impl LevelAnswers {
         self.keys.len() == 0
     }
 
-    /// The diagram of a request.
+    /// Returns the diagram of a request, or none.
     fn find(&self, key: Key) -> Option<Ref>
         ensures { MatchOption result (HasAnswer self.now key → ⊥) (λ r. Contains self.now (key, r)) }
     {
@@ -91,7 +90,7 @@ impl LevelAnswers {
         }
     }
 
-    /// Notes the diagram of a request that has none.
+    /// Notes the diagram of a request, if it has none yet.
     fn note(&mut self, key: Key, answer: Ref) -> Result<(), AllocError>
         ensures noted { OnOk result (NotesAnswer self.old key answer self.new) }
         ensures refused { OnErr result (self.new ≡ self.old) }
@@ -105,7 +104,7 @@ impl LevelAnswers {
     }
 }
 
-/// The keys of a row, each once, in order, as a table by which they are found.
+/// Returns the keys of a row, each once, in order, as a table.
 pub(crate) fn index_of(alloc: Global, row: &[Record]) -> Result<Table, AllocError>
     ensures { IfOk result (λ keys. IsIndexOf row.now keys) }
 {
@@ -116,7 +115,7 @@ pub(crate) fn index_of(alloc: Global, row: &[Record]) -> Result<Table, AllocErro
     Ok(keys)
 }
 
-/// Makes a row for each level up to this one.
+/// Makes an empty list for each level up to this one that has none.
 fn grow(rows: &mut Vec<LevelAnswers>, place: usize) -> Result<(), AllocError>
     requires { ArePlaced rows.old.items }
     ensures same { joined rows.new.items ≡ joined rows.old.items }
@@ -130,7 +129,7 @@ fn grow(rows: &mut Vec<LevelAnswers>, place: usize) -> Result<(), AllocError>
     Ok(())
 }
 
-/// The diagram of each request.
+/// The diagram of each request of a wave, by level.
 #[derive(Drop)]
 pub struct Results {
     rows: Vec<LevelAnswers>,
@@ -150,7 +149,7 @@ impl Model for Results {
 }
 
 impl Results {
-    /// No diagrams.
+    /// Returns no diagrams.
     pub(crate) fn new(alloc: Global) -> Results
         ensures { result ≡ [] }
     {
@@ -164,7 +163,7 @@ impl Results {
         *self.rows.allocator()
     }
 
-    /// Notes the diagram of a request, if it has none.
+    /// Notes the diagram of a request, if it has none yet.
     pub(crate) fn note(&mut self, key: Key, answer: Ref) -> Result<(), AllocError>
         ensures noted { OnOk result (NotesAnswer self.old key answer self.new) }
         ensures refused { OnErr result (self.new ≡ self.old) }
@@ -174,7 +173,8 @@ impl Results {
         self.rows[place].note(key, answer)
     }
 
-    /// Notes the diagrams of a row of records of a level, whose keys these are where they are as many.
+    /// Notes the diagrams of a row of records of a level. `keys` is the table of the row's keys, which becomes the
+    /// level's if they are distinct and the level has none yet.
     pub(crate) fn put_row(
         &mut self,
         level: u16,
@@ -197,7 +197,7 @@ impl Results {
         note_all(self, row, answers.as_slice())
     }
 
-    /// The diagram of a request.
+    /// Returns the diagram of a request, which must have one.
     pub fn get(&self, key: &Key) -> Ref
         requires { HasAnswer self.now key.now }
         ensures { Contains self.now (key.now, result) }
@@ -206,7 +206,7 @@ impl Results {
         self.rows[place].find(*key).unwrap()
     }
 
-    /// The diagram of a child.
+    /// Returns the diagram of a child: its answer, or that of its request, complemented if the child is.
     pub(crate) fn resolve(&self, child: Child) -> Ref
         requires { IsReady self.now child }
         ensures { IsResolved self.now child result }

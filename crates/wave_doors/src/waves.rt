@@ -1,10 +1,11 @@
-//! Waves on the caller's thread: the diagrams of a list of operations by the state machine of the workers.
+//! Waves on the caller's thread, by the state machine of `wave_core`: the diagrams of a list of
+//! operations.
 ghost use Rattle.std.specs.Prelude.{◌≡◌, ◌≢◌, ℕ, ◌<◌, ◌≤◌, All, IfOk, IfErr, OnErr, None};
 ghost use Rattle.std.specs.List.{AllZip};
 ghost use Rattle.req_table.specs.TerminalCase.{terminal_of};
 ghost use Rattle.req_table.specs.Keys.{normal_of, IsKey};
 ghost use Rattle.req_table.specs.ComputedTables.{IsRight};
-ghost use Rattle.reduce_up.specs.CacheProbe.{unknown, IsKeptWave};
+ghost use Rattle.wave_engine.specs.CacheProbe.{unknown, IsKeptWave};
 ghost use Rattle.reduce_up.specs.Reducing.{HasAnswer};
 ghost use Rattle.reduce_up.specs.Waves.{IsEntry, AnswersWave, IsClosureOf, requests_of, IsTakenFrom};
 
@@ -12,14 +13,14 @@ use crate::levels::reduce;
 use crate::results::Results;
 use dd_store::{Ref, Store, Watch};
 use expand_work::{Crew, Monitor, WaveFault};
-use reduce_up::CacheProbe;
 use req_table::requests::{normal, terminal_case};
 use req_table::{ComputedTable, Key, Op};
 use std::alloc::{AllocError, Global};
 use std::thread::Threads;
 use wave_core::{Core, Records};
+use wave_engine::CacheProbe;
 
-/// The requests of the entries that have no terminal case.
+/// Returns the requests of the entries that have no terminal case.
 fn requests_of(alloc: Global, entries: &[(Op, Ref, Ref)]) -> Result<Vec<Key>, AllocError>
     ensures { IfOk result (λ keys. keys.items ≡ requests_of entries.now) }
 {
@@ -34,7 +35,7 @@ fn requests_of(alloc: Global, entries: &[(Op, Ref, Ref)]) -> Result<Vec<Key>, Al
     Ok(keys)
 }
 
-/// The diagram of an entry: its terminal case, or that of its request.
+/// Returns the diagram of an entry: its terminal case, or that of its request.
 fn answer_of(op: Op, f: Ref, g: Ref, results: &Results) -> Ref
     requires { terminal_of op f g ≡ None → HasAnswer results.now (normal_of op f g).0 }
     ensures { IsTakenFrom results.now (terminal_of op f g) (op, f, g) result }
@@ -48,7 +49,7 @@ fn answer_of(op: Op, f: Ref, g: Ref, results: &Results) -> Ref
     }
 }
 
-/// The diagrams of the entries.
+/// Returns the diagrams of the entries.
 fn answers_of(
     alloc: Global,
     entries: &[(Op, Ref, Ref)],
@@ -65,7 +66,7 @@ fn answers_of(
     Ok(answers)
 }
 
-/// The records of all requests that the roots ask for, by the state machine of the workers, which the choices drive.
+/// Returns the records of all requests that the roots ask for, by the state machine, which the choices drive.
 fn closure_of(
     alloc: Global,
     store: &Store,
@@ -84,7 +85,7 @@ fn closure_of(
     core.into_records()
 }
 
-/// The diagram of each operation, by reduction of the records of all requests that they ask for.
+/// Returns the diagram of each operation, by reducing the records of all requests that they ask for.
 fn answer_closure<R: Threads + Sync, H: Watch + Sync>(
     rt: &R,
     alloc: Global,
@@ -99,7 +100,7 @@ fn answer_closure<R: Threads + Sync, H: Watch + Sync>(
     ensures never_no_worker { IfErr result (λ e. e ≢ WaveFault.NoWorker) }
     ensures never_too_many_requests { IfErr result (λ e. e ≢ WaveFault.TooManyRequests) }
 {
-    let _ = store.levels();
+    let _ = store.levels(); // For the proof.
     let results = match reduce(rt, alloc, store, records, watch) {
         Ok(results) => results,
         Err(fault) => return Err(fault),
@@ -110,7 +111,7 @@ fn answer_closure<R: Threads + Sync, H: Watch + Sync>(
     }
 }
 
-/// The diagram of each operation on its two operands, of which nothing is known.
+/// Returns the diagram of each operation, if nothing is known of them.
 fn wave_without_computed<R: Threads + Sync, G: Monitor>(
     crew: &Crew<'_, R, G>,
     store: &mut Store,
@@ -122,7 +123,7 @@ fn wave_without_computed<R: Threads + Sync, G: Monitor>(
     ensures never_no_worker { IfErr result (λ e. e ≢ WaveFault.NoWorker) }
     ensures never_too_many_requests { IfErr result (λ e. e ≢ WaveFault.TooManyRequests) }
 {
-    let _ = store.levels();
+    let _ = store.levels(); // For the proof.
     let (rt, alloc, monitor) = (crew.rt, crew.alloc, crew.monitor);
     let workers = crew.workers.count();
     let Ok(roots) = requests_of(alloc, entries) else {
@@ -134,11 +135,12 @@ fn wave_without_computed<R: Threads + Sync, G: Monitor>(
     answer_closure(rt, alloc, store, entries, &records, monitor)
 }
 
-/// The diagram of each operation on its two operands.
+/// Returns the diagram of each operation on its two operands.
 ///
-/// What has a terminal case or is held in the computed table is answered at once. The requests of all other operations together are
-/// expanded by the state machine of the workers on the caller's thread, which the choices drive, and reduced from the last level up.
-/// The computed table then keeps them with their answers. The monitor is told of shared levels alone.
+/// An operation that has a terminal case or a held answer is answered at once. The requests of all others together are
+/// expanded on the caller's thread by the state machine of the workers, whose next event each choice chooses, and
+/// reduced from the last level up. Afterwards the computed table has their answers. The monitor is only notified of the
+/// shards of levels that threads share. Fails with Full and OutOfMemory.
 pub fn wave_on_one_thread<R: Threads + Sync, G: Monitor>(
     crew: &Crew<'_, R, G>,
     store: &mut Store,
@@ -155,7 +157,7 @@ pub fn wave_on_one_thread<R: Threads + Sync, G: Monitor>(
     ensures refused { OnErr result (computed.new ≡ computed.old) }
     ensures right { IsRight store.new computed.new }
 {
-    let _ = store.levels();
+    let _ = store.levels(); // For the proof.
     let mut cache_probe = CacheProbe::new(crew.alloc);
     let Ok(_) = cache_probe.probe(computed, entries) else {
         return Err(WaveFault::OutOfMemory);

@@ -1,4 +1,5 @@
-//! What an operation, and a request's record, come to where what a computed table holds is done.
+//! What an operation comes to, and the children of a request, if a held answer counts as known.
+//! Waves do not look children up; this is what they would be if they did.
 ghost use Rattle.std.specs.Prelude.{◌≡◌, Bool, List, length, true, false};
 ghost use Rattle.dd_store.specs.Nodes.{den};
 ghost use Rattle.dd_store.specs.View.{Has};
@@ -11,7 +12,8 @@ use dd_store::{Ref, Store};
 use req_table::requests::{child, level_of, terminal_or_computed};
 use req_table::{Child, ComputedTable, Key, Op, Record};
 
-/// What an operation comes to where what the computed table holds is done: its answer, or else its request.
+/// Returns what an operation comes to: its answer if it has a terminal case or the computed table holds it, and
+/// otherwise its request.
 pub fn child_with_computed(store: &Store, computed: &ComputedTable, op: Op, f: Ref, g: Ref) -> Child
     requires first { Has store.now f }
     requires second { Has store.now g }
@@ -27,7 +29,7 @@ pub fn child_with_computed(store: &Store, computed: &ComputedTable, op: Op, f: R
     }
 }
 
-/// The record of a request where what the computed table holds is done.
+/// Returns a request with its children, each by `child_with_computed`.
 pub fn split_with_computed(store: &Store, computed: &ComputedTable, key: Key) -> Record
     requires key { IsKey store.now key }
     requires right { IsRight store.now computed.now }
@@ -38,7 +40,7 @@ pub fn split_with_computed(store: &Store, computed: &ComputedTable, key: Key) ->
 {
     let op = key.op();
     let level = level_of(store, key);
-    let _ = store.levels();
+    let _ = store.levels(); // For the proof.
     let first = store.cofactors(key.f(), level);
     let second = store.cofactors(key.g(), level);
     Record {

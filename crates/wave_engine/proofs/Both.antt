@@ -1,4 +1,4 @@
--- What the caller's thread and the workers have expanded, taken together, and what of that the caller's thread has reduced.
+-- What the caller's thread and the workers have expanded together, and what of it the caller's thread has reduced.
 use Rattle.std.proofs.Common.{◌≡◌, ◌∙◌, ℕ, ◌+◌, ◌-◌, ◌%◌, ◌^◌, ◌<◌, ◌≤◌, inl, inr, List, ◌++◌, length, Option, Some, None, refl, sym, ap, subst, arith, Contains, All}
 use Rattle.std.proofs.lemmas.List.{length-append}
 use Rattle.std.proofs.lemmas.List.Elements.{Contains-append_left, Contains-append_right, Contains-append_cases}
@@ -14,7 +14,7 @@ use Rattle.req_table.proofs.Waved.{deeper}
 use Rattle.expand_work.specs.Bounds.{AreFew, most_of}
 use Rattle.expand_work.specs.WaveParts.{HaveExpanded}
 use Rattle.expand_work.proofs.Once.{once_append}
-use Rattle.reduce_up.specs.CacheProbe.{unknown}
+use Rattle.wave_engine.specs.CacheProbe.{unknown}
 use Rattle.reduce_up.specs.Waves.{Entry, IsEntry, requests_of}
 use Rattle.reduce_up.proofs.Closed.{reached_key}
 use Rattle.reduce_up.specs.ByPlace.{AreExpanded}
@@ -33,12 +33,13 @@ contains_of xs x h = (h.0, slice_get_within xs h.0 x h.1, get_or_from_slice_get 
 in_of : {X : Type 0} (xs : List X) (x : X) → Contains xs x → IsIn xs x
 in_of xs x m = (m.0, slice_get-get_or xs m.0 x m.1 ∙ ap (λ z. Some z) m.2)
 
--- Of a wave over the store S whose levels before v the caller's thread has expanded: what stands further down is handed to n workers.
+-- A wave over the store S whose levels before v the caller's thread has expanded; the requests of deeper levels are
+-- handed over to n workers.
 module _ (S : Nodes) (w : IsSound S) (entries : List Entry) (good : All (IsEntry S) entries) (T : List (List Key)) (rows : List (List (PackedChild × PackedChild))) (roots : List PackedChild) (v : ℕ) (x : AreExpanded S entries roots v T rows) (n : ℕ) where
   abbrev Over : Key → Type 0
   Over k = IsReached (wave_of S n) (keys_from v T) k
 
-  -- it stands further down
+  -- a request that is reached from those handed over is at level v or deeper
   over_below : (k : Key) → Over k → v ≤ level_of S k
   over_below k (root_of c) = let p = key_from T v k c in let at : level_of S k ≡ p.0 = (x.admitted.keys p.0 p.1 k p.3).level in let le = p.2 in omega (arith, at, le)
   over_below k (child_from {x = above} b l m r asks) =
@@ -47,12 +48,12 @@ module _ (S : Nodes) (w : IsSound S) (entries : List Entry) (good : All (IsEntry
       let a = over_below above r in
       omega (arith, d, a)
 
-  -- and the entries reach it, however many workers there are
+  -- a request that is reached from those handed over is reached from the entries, however many workers there are
   over_reached : (k : Key) → Over k → IsReached (wave_of S 1) (requests_of entries) k
   over_reached k (root_of c) = let p = key_from T v k c in (x.admitted.keys p.0 p.1 k p.3).reached
   over_reached k (child_from {x = above} b l m r asks) = child_from b l m (over_reached above r) asks
 
-  -- what stands further down is handed over
+  -- a request at a place of a deeper level is handed over
   stands_over : (u q : ℕ) (k : Key) → v ≤ u → IsAtPlace T u q k → Over k
   stands_over u q k le h = root_of (contains_of (keys_from v T) k (_, key_before T v u q k le h))
 
@@ -70,7 +71,8 @@ module _ (S : Nodes) (w : IsSound S) (entries : List Entry) (good : All (IsEntry
     count = let l : length (c.requests ++ h.requests) ≡ length c.requests + length h.requests = length-append c.requests h.requests in let a = c.count in let b = h.count in omega (arith, l, a, b);
   }
 
-  -- if at most so many were split as a bound allows, and at most so many handed over as are left of it, all of them are within the bound
+  -- if the requests that were split are within the bound, and those handed over within what is left of it, all are
+  -- within the bound
   pub at_most_both : (split split' : ℕ) (c : HaveSplit S entries T v split split') (most left : ℕ) → length c.requests ≤ most → left ≡ most - length c.requests → AreFew S n (keys_from v T) left
       → (shared shared' : ℕ) → HaveExpanded S n (keys_from v T) shared shared' → AreAtMost most S entries
   at_most_both split split' c most left le is few shared shared' h requests once reached =
@@ -87,7 +89,7 @@ module _ (S : Nodes) (w : IsSound S) (entries : List Entry) (good : All (IsEntry
             | inr o ↦ in_of (c.requests ++ h.requests) k (Contains-append_right c.requests h.requests k (h.all k o))
           ]
 
-  -- what stands before level v was reduced: these are the requests above that level
+  -- the requests before level v were reduced: these are those above this level
   pub have_reduced : (before after : ℕ) → AreCounted T 0 v before after → HaveReduced S (requests_of entries) v before after
   have_reduced before after m = record {
     requests = m.requests;
@@ -102,7 +104,7 @@ module _ (S : Nodes) (w : IsSound S) (entries : List Entry) (good : All (IsEntry
     count = m.count;
   }
 
-  -- and what was handed over was expanded by the workers: these are the requests from that level on
+  -- the requests that were handed over were expanded by the workers: these are those from this level on
   pub have_shared : (before after : ℕ) → HaveExpanded S n (keys_from v T) before after → HaveShared S (requests_of entries) v before after
   have_shared before after h = record {
     requests = h.requests;
@@ -151,7 +153,7 @@ module _ (before after told told' more old new : ℕ) (a : told ≡ before % 2 ^
     count = count_on (length h.requests) h.count;
   }
 
--- The same, of an engine that is seen in two ways.
+-- The same of an engine that is seen in two ways.
 module _ (S : Nodes) (entries : List Entry) (new : ℕ) (v w : EngineView) (e : v ≡ w) where
   pub counted_view : HaveExpanded S 1 (requests_of (unknown v.held entries)) v.expanded new → HaveExpanded S 1 (requests_of (unknown w.held entries)) w.expanded new
   counted_view h = subst (λ (z : EngineView). HaveExpanded S 1 (requests_of (unknown z.held entries)) z.expanded new) e h
@@ -159,7 +161,7 @@ module _ (S : Nodes) (entries : List Entry) (new : ℕ) (v w : EngineView) (e : 
   pub divided_view : (shared : ℕ) → AreDivided S (requests_of (unknown v.held entries)) v.reduced new v.by_workers shared → AreDivided S (requests_of (unknown w.held entries)) w.reduced new w.by_workers shared
   divided_view shared h = subst (λ (z : EngineView). AreDivided S (requests_of (unknown z.held entries)) z.reduced new z.by_workers shared) e h
 
--- requests that are more than the number of a bound are past the bound
+-- if there are more requests than the number of a bound, they are past the bound
 pub past_bound : (S : Nodes) (entries : List Entry) (o : Option ℕ) (n : ℕ) → n ≡ most_of o → n < 2 ^ 64 - 1 → AreMoreThan n S entries → ArePast o S entries
 past_bound S entries None n is lt more = absurd (omega (arith, is, lt))
 past_bound S entries (Some m) n is lt more = subst (λ z. AreMoreThan z S entries) is more

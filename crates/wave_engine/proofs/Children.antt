@@ -1,4 +1,4 @@
--- Children that are placed while the table of their requests' level is taken out.
+-- Children that are placed while the table of their requests' level is moved out.
 use Rattle.std.proofs.Common.{◌≡◌, ◌∙◌, ℕ, ◌+◌, ◌<◌, inl, inr, Bool, true, false, suc, List, [], ◌∷◌, ◌++◌, length, set, slice_get, Some, All, refl, sym, ap, subst, arith}
 use Rattle.std.proofs.Math.Seq.{get_or-append_seam}
 use Rattle.std.proofs.lemmas.List.{length-set, length-append, set-set, set-get_or}
@@ -20,7 +20,7 @@ use Rattle.reduce_up.specs.ByPlace.{AreAdmitted}
 use Rattle.wave_engine.specs.ExpansionPhase.{IsRowExpanded}
 use Rattle.wave_engine.proofs.Placing.{child_below, row_start, row_more}
 
--- Of tables whose list of level v is put back: a child that asks for nothing of that level is placed there as it was.
+-- The list of level v is put back into the tables: a child that asks for nothing of this level is still placed.
 module _ (v : ℕ) (keys : List Key) (T U : List (List Key)) (c : Child) (none : (k : Key) → AsksAt c v k → ⊥) (fits : v < length T) (m : AdmitsChild T c U) where
   within : v < length U
   within = let l : length U ≡ length T = m.levels in omega (arith, l, fits)
@@ -58,13 +58,13 @@ module _ (v : ℕ) (keys : List Key) (T U : List (List Key)) (c : Child) (none :
   pub none_back : row T v ≡ [] → row U v ≡ []
   none_back e = m.others v none ∙ e
 
--- what stands behind the first elements of a list
+-- the element after the first elements of a list
 stands_behind : (ks rest all : List Key) (k : Key) → ks ++ k ∷ rest ≡ all → slice_get all (length ks) ≡ Some k
 stands_behind ks rest all k e =
     let long : length ks < length (ks ++ k ∷ rest) = simp length-append (omega arith) in
     subst (λ (z : List Key). slice_get z (length ks) ≡ Some k) e (slice_get-get_or (ks ++ k ∷ rest) (length ks) k long ∙ ap Some (get_or-append_seam ks k rest k))
 
--- Level v of the tables W is expanded while its table is taken out.
+-- Level v of the tables W is expanded while its table is moved out.
 module _ (S : Nodes) (sound : IsSound S) (es : List Entry) (W : List (List Key)) (v : ℕ) (fits : v < length W) (admitted : AreAdmitted S es W) where
   pub record IsUnderWay (ks : List Key) (ds : List (PackedChild × PackedChild)) (m : List (List Key)) : Type 0 where
     pub expanded : IsRowExpanded S es W v (length ks) (set m v (row W v)) ds
@@ -110,14 +110,14 @@ module _ (S : Nodes) (sound : IsSound S) (es : List Entry) (W : List (List Key))
       more : length ks + 1 ≡ length (ks ++ k ∷ [])
       more = simp length-append (omega arith)
 
-  -- where all its requests' children are taken, the level is expanded once its table is put back
+  -- if the children of all its requests were taken, the level is expanded after its table is put back
   pub row_taken : (m : List (List Key)) (keys : List Key) → m ≡ set W v [] → keys ≡ row W v → (ds : List (PackedChild × PackedChild)) (U : List (List Key)) → AreTaken (λ w c p u. IsPlaced u p c × AdmitsChild w c u) S m keys ds U
       → IsUnderWay (row W v) ds U
   row_taken m keys out all ds U t =
       let takes : List (List Key) → Child → PackedChild → List (List Key) → Type 0 = λ w c p u. IsPlaced u p c × AdmitsChild w c u in
       along takes S (row W v) IsUnderWay next (set W v []) ds U start (subst (λ (z : List (List Key)). AreTaken takes S z (row W v) ds U) out (subst (λ (z : List Key). AreTaken takes S m z ds U) all t))
 
--- what holds of what stands at each place holds of all
+-- what holds of the element at each place holds of all
 of_places : (P : Key → Type 0) (ks : List Key) → ((q : ℕ) (k : Key) → slice_get ks q ≡ Some k → P k) → All P ks
 of_places P [] h = All-nil P
 of_places P (k ∷ ks) h = All-cons P k ks (h 0 k refl) (of_places P ks (λ q x e. h (suc q) x e))

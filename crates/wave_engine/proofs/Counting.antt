@@ -1,4 +1,4 @@
--- How many requests are split on the way down, and that none is missed.
+-- The number of requests that are split on the way down: none is missed.
 use Rattle.std.proofs.Common.{◌≡◌, ◌∙◌, ℕ, ◌+◌, ◌-◌, ◌%◌, ◌^◌, ◌<◌, ◌≤◌, ◌⊎◌, inl, inr, Bool, true, false, List, [], ◌++◌, length, slice_get, Some, None, refl, sym, ap, subst, arith}
 use Rattle.std.proofs.lemmas.Bool.{cases_lt}
 use Rattle.std.proofs.lemmas.List.{length-append}
@@ -24,12 +24,12 @@ use Rattle.req_table.proofs.AtPlace.{in_lists, at_place_some}
 use Rattle.reduce_up.proofs.Answering.{root_for}
 use Rattle.slot_table.proofs.Listing.{in_back}
 
--- what was split before level v, and how many requests more there may be where they are bounded
+-- what was split before level v, and, if there is a bound, what is left of it
 pub record IsCounted (s : Nodes) (entries : List Entry) (tables : List (List Key)) (bound left before after v : ℕ) : Type 0 where
   pub split : HaveSplit s entries tables v before after
   pub sum : bound < 2 ^ 64 - 1 → left + length split.requests ≡ bound
 
--- before the first level nothing is split
+-- before the first level nothing was split
 pub none_counted : (s : Nodes) (entries : List Entry) (T : List (List Key)) (bound count : ℕ) → IsCounted s entries T bound bound count count 0
 none_counted s entries T bound count = record {
   split = record {
@@ -43,7 +43,7 @@ none_counted s entries T bound count = record {
   sum = λ b. omega arith;
 }
 
--- Of the requests split before level v, and those of a level u behind them.
+-- The requests that were split before level v, and then those of a level u.
 module _ (s : Nodes) (entries : List Entry) (T : List (List Key)) (admitted : AreAdmitted s entries T) (bound left before after v : ℕ) (c : IsCounted s entries T bound left before after v) (u : ℕ) (behind : v ≤ u) (own : IsOnce (row T u)) where
   abbrev old : List Key
   old = c.split.requests
@@ -77,7 +77,7 @@ module _ (s : Nodes) (entries : List Entry) (T : List (List Key)) (admitted : Ar
         ]
       ]
 
-  -- those of the level are counted too, in tables that have the same of it and of the levels before
+  -- the requests of the level are counted too, in tables that agree on it and on the levels before
   pub more_counted : AreNone T v u → (U : List (List Key)) → ((w : ℕ) → w ≤ u → row U w ≡ row T w) → (count rest later : ℕ) → count ≡ length (row T u) → (bound < 2 ^ 64 - 1 → rest + count ≡ left)
       → later % 2 ^ 64 ≡ (after + length (row T u)) % 2 ^ 64 → IsCounted s entries U bound rest before later (u + 1)
   more_counted none U still count rest later e f n = record {
@@ -92,7 +92,7 @@ module _ (s : Nodes) (entries : List Entry) (T : List (List Key)) (admitted : Ar
     sum = λ b. let l = long in let m = c.sum b in let g = f b in omega (arith, e, g, l, m);
   }
 
-  -- or are too many
+  -- if the requests of the level are more than are left of the bound, the entries reach more than it
   pub too_many : bound < 2 ^ 64 - 1 → (count : ℕ) → count ≡ length (row T u) → left < count → AreMoreThan bound s entries
   too_many b count e lt = record {
     requests = all;
@@ -101,7 +101,7 @@ module _ (s : Nodes) (entries : List Entry) (T : List (List Key)) (admitted : Ar
     more = let l = long in let m = c.sum b in omega (arith, e, lt, l, m);
   }
 
--- what was counted before level v was counted before level u, where no request stands between
+-- what was counted before level v was counted before level u, if there are no requests between them
 pub counted_passed : (s : Nodes) (entries : List Entry) (T : List (List Key)) (bound left before after v u : ℕ) → IsCounted s entries T bound left before after v → v ≤ u → AreNone T v u → IsCounted s entries T bound left before after u
 counted_passed s entries T bound left before after v u c le none = record {
   split = record {
@@ -115,7 +115,7 @@ counted_passed s entries T bound left before after v u c le none = record {
   sum = c.sum;
 }
 
--- Of tables whose levels before v are expanded, and what holds of each request that stands further down, and of its children.
+-- Tables whose levels before v are expanded, and a property F of each request from there on, and of its children.
 module _ (s : Nodes) (entries : List Entry) (roots : List PackedChild) (T : List (List Key)) (rows : List (List (PackedChild × PackedChild))) (v : ℕ) (x : AreExpanded s entries roots v T rows) (F : Key → Type 0) (start : (w q : ℕ) (k : Key) → v ≤ w → IsAtPlace T w q k → F k)
     (next : (k c : Key) (b : Bool) (l : ℕ) (m : Bool) → F k → child_of s k b ≡ child.Ask l c m → F c) where
   abbrev pub Above : Key → Type 0
@@ -141,7 +141,7 @@ module _ (s : Nodes) (entries : List Entry) (roots : List PackedChild) (T : List
       by false e = asked_sorted pair.0.0 l c m (subst (IsPlaced T pair.0.0) e split.0)
       by true e = asked_sorted pair.0.1 l c m (subst (IsPlaced T pair.0.1) e split.1)
 
-  -- each request that is reached stands before level v, or it holds of it
+  -- each reached request is before level v, or F holds of it
   pub reached_sorted : (k : Key) → IsReached (wave_of s 1) (requests_of entries) k → Above k ⊎ F k
   reached_sorted k (root_of c) =
       let e = of_entry entries k c in
@@ -150,7 +150,7 @@ module _ (s : Nodes) (entries : List Entry) (roots : List PackedChild) (T : List
       subst (λ z. Above z ⊎ F z) (sym e.3) asked
   reached_sorted k (child_from {x = above} b l m r asks) = elim (reached_sorted above r) [ inl a ↦ children_sorted above a b l k m asks | inr f ↦ inr (next above k b l m f asks) ]
 
--- Of tables whose levels are all expanded: the requests are within the bound, where all were counted.
+-- Tables whose levels are all expanded: if all requests were counted, they are within the bound.
 pub all_counted : (s : Nodes) (entries : List Entry) (roots : List PackedChild) (T : List (List Key)) (rows : List (List (PackedChild × PackedChild))) → AreExpanded s entries roots s.levels T rows →
     (bound left before after v : ℕ) → bound < 2 ^ 64 - 1 → IsCounted s entries T bound left before after v → IsNextLevel T v None → AreAtMost bound s entries
 all_counted s entries roots T rows x bound left before after v bounded c none requests once reached =

@@ -1,4 +1,4 @@
--- Lists that are emptied, and the requests that are handed to the workers.
+-- Lists that are emptied, and the requests that are handed over to the workers.
 use Rattle.std.proofs.Common.{◌≡◌, ℕ, zero, suc, ◌+◌, ◌-◌, ◌<◌, ◌≤◌, inl, inr, List, [], ◌∷◌, ◌++◌, length, set, take, drop, Some, slice_get, refl, sym, ◌∙◌, ap, subst, arith, append_assoc, Contains, All}
 use Rattle.std.specs.List.{AllZip}
 use Rattle.std.proofs.Math.ListN.{length-drop}
@@ -38,7 +38,7 @@ row_drop xs zero n = ap (row xs) (let e : n ≡ 0 + n = omega arith in e)
 row_drop [] (suc v) n = refl
 row_drop (x ∷ xs) (suc v) n = row_drop xs v n ∙ ap (row (x ∷ xs)) (let e : suc (v + n) ≡ suc v + n = omega arith in e)
 
--- what stands in one of them stands in all together
+-- what is in one of them is in all together
 joined_at : {X : Type 0} (xs : List (List X)) (n q : ℕ) (x : X) → IsAtPlace xs n q x → slice_get (joined xs) (length (joined (take n xs)) + q) ≡ Some x
 joined_at [] n q x h = absurd (at_place_none [] q x refl h)
 joined_at (y ∷ ys) zero q x h = subst (λ z. slice_get (y ++ joined ys) z ≡ Some x) (let e : q ≡ 0 + q = omega arith in e) (slice_get-append y (joined ys) q x h)
@@ -49,7 +49,7 @@ joined_at {X = X} (y ∷ ys) (suc n) q x h = later y (joined ys) (length (joined
     later (z ∷ a) b i x h zero e = absurd (omega (arith, e))
     later (z ∷ a) b i x h (suc j) e = later a b i x h j (omega (arith, e))
 
--- and the other way round
+-- what is in all together is in one of them
 joined_from : {X : Type 0} (xs : List (List X)) (x : X) → Contains (joined xs) x → (n : ℕ) × (q : ℕ) × IsAtPlace xs n q x
 joined_from [] x c = absurd (nothing x c)
 joined_from (y ∷ ys) x c = elim (Contains-append_cases y (joined ys) x c) [
@@ -86,7 +86,7 @@ module _ (tables : List (List Key)) (v : ℕ) where
       let m = joined_from (drop v tables) k c in
       (v + m.0, m.1, omega arith, subst (λ (z : List Key). slice_get z m.1 ≡ Some k) (row_drop tables v m.0) m.2)
 
-  -- one level more has its answers
+  -- one more level has its answers
   pub put_more : (found : List Ref) (u : ℕ) (A : List (List Ref)) → ArePut tables v found u A → v ≤ u → u < length tables → (new : List Ref) → IsCopied found (count_before v u tables) (length (row tables u)) new → ArePut tables v found (u + 1) (set A u new)
   put_more found u A p le lt new c = record {
     levels = length-set A u new ∙ p.levels;
@@ -103,7 +103,7 @@ module _ (tables : List (List Key)) (v : ℕ) where
       own : row (set A u new) u ≡ new
       own = row_own A u new (let e : length A ≡ length tables = p.levels in omega (arith, e, lt))
 
--- the list of requests that are handed over, as it grows
+-- the list of requests that are handed over, after one more level
 pub front_more : (tables : List (List Key)) (v w : ℕ) (F G : List Key) → v ≤ w → w < length tables → F ≡ joined (take (w - v) (drop v tables)) → G ≡ F ++ row tables w → G ≡ joined (take ((w + 1) - v) (drop v tables))
 front_more tables v w F G le lt f g =
     let n : ℕ = w - v in
@@ -136,7 +136,7 @@ zip_length D [] (y ∷ rs) z = absurd z
 zip_length D (x ∷ ks) [] z = absurd z
 zip_length D (x ∷ ks) (y ∷ rs) z = ap suc (zip_length D ks rs z.1)
 
--- Of a wave over the store S: what stands in the tables from level v on is handed over.
+-- A wave over the store S: the requests from level v on are handed over.
 module _ (S : Nodes) (w : IsSound S) (entries : List Entry) (good : All (IsEntry S) entries) (T : List (List Key)) (adm : AreAdmitted S entries T) (v : ℕ) where
   pub front_reached : AreReachedBy S w entries good (entries_for (keys_from v T))
   front_reached e c =
@@ -164,7 +164,7 @@ module _ (S : Nodes) (w : IsSound S) (entries : List Entry) (good : All (IsEntry
   pub none_within : keys_from v T ≡ [] → IsWithinBelow S T v S
   none_within e = inr (λ u q k le h. none_stands e u q k le h, refl)
 
-  -- what the workers found is put in place
+  -- the workers' answers are put into the lists of their levels
   module _ (U : Nodes) (sU : IsSound U) (adds : AddsDescribed S U (IsWanted S (entries_for (keys_from v T)))) where
     pub over_adds : AddsDescribed S U (IsWanted S entries)
     over_adds = adds_through S w entries good U (entries_for (keys_from v T)) front_reached adds
@@ -186,6 +186,7 @@ module _ (S : Nodes) (w : IsSound S) (entries : List Entry) (good : All (IsEntry
     over_fault wave_faults.OutOfMemory x = tt
     over_fault wave_faults.NoWorker x = tt
     over_fault wave_faults.TooManyRequests x = tt
+    over_fault wave_faults.Stopped x = tt
     over_fault wave_faults.Full x =
         let a = front_reached x.0.0 x.0.1 in
         (has_request_of S w entries good a.0 a.1 a.2, elim x.1 [ inl o ↦ inl o | inr f ↦ inr (f.0, lacks_through S w entries good U (entries_for (keys_from v T)) front_reached f.1) ])

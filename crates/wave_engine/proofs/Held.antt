@@ -1,5 +1,5 @@
--- What an engine holds was reached from requests that it has counted: so a wave over what is not held is within a bound with all its
--- requests, as long as it is within what is left of the bound.
+-- What an engine holds was reached from requests that it has counted. So if a wave over the unknown entries is within
+-- what is left of the bound, all requests of all entries are within the bound.
 use Rattle.std.proofs.Common.{◌≡◌, ◌∙◌, ℕ, zero, suc, ◌+◌, ◌-◌, ◌%◌, ◌^◌, ◌<◌, ◌≤◌, ◌⊎◌, inl, inr, Bool, true, false, List, [], ◌∷◌, ◌++◌, length, take, Option, Some, None, refl, sym, ap, subst, arith, Contains, All}
 use Rattle.std.specs.Map.{remove_entry}
 use Rattle.std.specs.Prelude.{Result}
@@ -22,21 +22,21 @@ use Rattle.req_table.specs.Keys.{IsKey, normal_of, wave_of}
 use Rattle.req_table.specs.ComputedTables.{ComputedView, computed_answer, rest, KeepsAnswer, or_computed}
 use Rattle.req_table.specs.Reached.{IsReached, root as root_of, child as child_from}
 use Rattle.req_table.proofs.ComputedTables.{found_in}
-use Rattle.expand_work.specs.Bounds.{most_of}
+use Rattle.expand_work.specs.Bounds.{WaveBound, most_of}
 use Rattle.expand_work.specs.WaveParts.{HaveExpanded}
 use Rattle.expand_work.specs.declared.fault.WaveFault.{WaveFault}
-use Rattle.reduce_up.specs.CacheProbe.{known_entry, unless_known, unknown, AreKept, found_of, IsKeptWave}
+use Rattle.wave_engine.specs.CacheProbe.{known_entry, unless_known, unknown, AreKept, found_of, IsKeptWave}
 use Rattle.reduce_up.specs.Waves.{Entry, IsEntry, request_of, requests_of}
 use Rattle.reduce_up.proofs.Closed.{reached_key}
 use Rattle.reduce_up.proofs.Noting.{nothing, head_in, tail_in, in_cases}
-use Rattle.reduce_up.proofs.Probing.{unknown_is, unknown_good, unknown_long}
+use Rattle.wave_engine.proofs.Probing.{unknown_is, unknown_good, unknown_long}
 use Rattle.reduce_up.proofs.Rooted.{all_of, of_entry, to_request, requests_good}
 use Rattle.wave_engine.specs.Bounds.{AreAtMost, AreMoreThan}
 use Rattle.wave_engine.specs.EngineView.{EngineView, AreHeldCounted, AnswersByHeld, CountsAll}
 use Rattle.wave_engine.proofs.WholeWave.{child_kept}
 
 -- ---- what is reached from one root
--- what is reached is reached from one of the roots
+-- each reached request is reached from one of the roots
 from_root : (s : Nodes) (roots : List Key) (x : Key) → IsReached (wave_of s 1) roots x → (k : Key) × Contains roots k × IsReached (wave_of s 1) (k ∷ []) x
 from_root s roots x (root_of c) = (x, c, root_of (head_in x []))
 from_root s roots x (child_from {x = above} b l m r asks) = let p = from_root s roots above r in (p.0, p.1, child_from b l m p.2 asks)
@@ -52,8 +52,8 @@ more_roots s roots more f x (child_from {x = above} b l m r asks) = child_from b
 one_good : (S : Nodes) (k : Key) → IsKey S k → All (IsKey S) (k ∷ [])
 one_good S k i = all_of (IsKey S) (k ∷ []) (λ z c. elim (in_cases k z [] c) [ inl same ↦ subst (IsKey S) same i | inr none ↦ absurd (nothing z none) ])
 
--- ---- roots of which something is known
--- the requests of the entries of which nothing is known are requests of the entries
+-- ---- entries of which nothing is known
+-- the requests of unknown entries are requests of the entries
 unknown_requests : (m : ComputedView) (es : List Entry) (k : Key) → Contains (requests_of (unknown m es)) k → Contains (requests_of es) k
 unknown_requests m es k c =
     let e = of_entry (unknown m es) k c in
@@ -69,7 +69,7 @@ still_unknown m (d ∷ es) e c h =
       | inr i ↦ Contains-append_right (unless_known (known_entry m d) d) (unknown m es) e (still_unknown m es e i h)
     ]
 
--- a request of the entries is one of those of which nothing is known, or its answer is held
+-- a request of the entries is one of the unknown ones, or its answer is held
 root_known : (m : ComputedView) (es : List Entry) (k : Key) → Contains (requests_of es) k → Contains (requests_of (unknown m es)) k ⊎ ((r : Ref) × Contains {X = Key × Ref} m.pairs (k, r))
 root_known m es k c = let e = of_entry es k c in by e.0 e.1 e.2 e.3 (computed_answer m (normal_of e.0.0 e.0.1 e.0.2).0) refl
   where
@@ -99,7 +99,7 @@ in_others {V = V} test (f ∷ es) e c = (elim (test f.0) as (λ y. test f.0 ≡ 
   ]
 ]) refl
 
--- after an answer was kept a key is held that was held before, or whose answer it is
+-- after an answer was kept, a key is held that was held before, or whose answer it is
 with_key : (old : ComputedView) (n : Key) (a : Ref) (new : ComputedView) → KeepsAnswer old n a new → (k : Key) (r : Ref) → Contains {X = Key × Ref} new.pairs (k, r) → Contains {X = Key × Ref} old.pairs (k, r) ⊎ (n ≡ k)
 with_key old n a new (inr (none, same)) k r c = inl (subst (λ (m : ComputedView). Contains {X = Key × Ref} m.pairs (k, r)) same c)
 with_key old n a new (inl first) k r c = by (computed_answer old n) (subst (λ (m : ComputedView). Contains {X = Key × Ref} m.pairs (k, r)) first c)
@@ -125,7 +125,7 @@ held_after (e ∷ es) (a ∷ found) old new long kept k r c =
     ]
 
 -- ---- a wave of an engine
--- what holds nothing counts all
+-- an engine that holds nothing counts all
 pub none_held : (S : Nodes) (e : EngineView) → e.held.pairs ≡ [] → e.since ≡ 0 → CountsAll S e
 none_held S e none start = λ bounded. record {
   requests = [];
@@ -135,7 +135,7 @@ none_held S e none start = λ bounded. record {
   reached = λ k r x c i. absurd (nothing {X = Key × Ref} (k, r) (subst (λ (z : List (Key × Ref)). Contains z (k, r)) none c));
 }
 
--- a wave that was done by what was held after everything was forgotten was done by nothing
+-- a wave with what was held after everything was forgotten was done with nothing
 pub by_nothing : (S : Nodes) (entries : List Entry) (result : Result (Vec Ref Global) WaveFault) (new : Nodes) (none before after : ComputedView) → none.pairs ≡ [] → AnswersByHeld S entries result new none after → AnswersByHeld S entries result new before after
 by_nothing S entries result new none before after empty a = record {
   held = a.held;
@@ -144,7 +144,7 @@ by_nothing S entries result new none before after empty a = record {
   kept = a.kept;
 }
 
--- requests that are more without those that are held are more with them
+-- if the unknown entries reach more than n requests, all entries do
 pub more_of_all : (n : ℕ) (S : Nodes) (m : ComputedView) (es : List Entry) → AreMoreThan n S (unknown m es) → AreMoreThan n S es
 more_of_all n S m es more = record {
   requests = more.requests;
@@ -171,7 +171,7 @@ module _ (S : Nodes) (w : IsSound S) (entries : List Entry) (good : All (IsEntry
         | inr held ↦ Contains-append_left counted.requests h.requests x (counted.reached p.0 held.0 x held.1 p.2)
       ]
 
-  -- with what is left of a bound, all requests are within the bound
+  -- within what is left of a bound, all requests are within the bound
   pub all_within : (most bound : ℕ) → most + e.since ≡ bound → AreAtMost most S (unknown e.held entries) → AreAtMost bound S entries
   all_within most bound sum few requests once reached =
       let fits : length requests ≤ length both = pigeons (λ j k. j ≡ k) requests both once (λ i k at. (k, refl, in_of both k (in_both k (reached k (contained requests k (i, at)))))) (λ j k l a b. a ∙ sym b) in
@@ -180,7 +180,7 @@ module _ (S : Nodes) (w : IsSound S) (entries : List Entry) (good : All (IsEntry
       let old = counted.few in
       omega (arith, fits, own, l, old, sum)
 
-  -- and what is held after the wave is counted
+  -- ---- what is held after the wave was counted
   module _ (U : Nodes) (K : Keeps S U) (answers : List Ref) (new : ComputedView) (kept : IsKeptWave e.held entries answers new) where
     reached_back : (k : Key) → IsKey S k → (x : Key) → IsReached (wave_of U 1) (k ∷ []) x → IsReached (wave_of S 1) (k ∷ []) x
     reached_back k i x (root_of c) = root_of c
@@ -202,12 +202,12 @@ module _ (S : Nodes) (w : IsSound S) (entries : List Entry) (good : All (IsEntry
     held_key k r c = elim (now_held k r c) [ inl old ↦ counted.keys k r old | inr asked ↦ asked_key k asked ]
 
     -- the number since nothing was held grows by as many as were expanded
-    pub counted_after : (f : EngineView) → f.held ≡ new → f.bound ≡ e.bound → (most more : ℕ) → most + e.since ≡ most_of e.bound → AreAtMost most S (unknown e.held entries) → most_of e.bound < 2 ^ 64 - 1
+    pub counted_after : (f : EngineView) → f.held ≡ new → f.bound ≡ e.bound → (most more : ℕ) → most + e.since ≡ most_of e.bound.requests → AreAtMost most S (unknown e.held entries) → most_of e.bound.requests < 2 ^ 64 - 1
         → (told told' mid : ℕ) → told ≡ before → told' ≡ after → told < 2 ^ 64 → told' < 2 ^ 64 → more ≡ (told' + (2 ^ 64 - told)) % 2 ^ 64 → mid ≡ e.since → (mid + more < 2 ^ 64 → f.since ≡ mid + more) → AreHeldCounted U f
     counted_after f held bound most more sum few limited told told' mid is is' low high count since_is grown = record {
       requests = both;
       few = let l = length-append counted.requests h.requests in let old = counted.few in omega (arith, l, old, since, exact);
-      within = let own = few h.requests h.once h.reached in subst (λ z. f.since ≤ most_of z) (sym bound) (omega (arith, own, since, exact, sum));
+      within = let own = few h.requests h.once h.reached in subst (λ (z : WaveBound). f.since ≤ most_of z.requests) (sym bound) (omega (arith, own, since, exact, sum));
       keys = λ k r c. key_kept k (held_key k r (subst (λ (m : ComputedView). Contains {X = Key × Ref} m.pairs (k, r)) held c));
       reached = λ k r x c d.
           let there = subst (λ (m : ComputedView). Contains {X = Key × Ref} m.pairs (k, r)) held c in

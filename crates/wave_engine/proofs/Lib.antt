@@ -7,3 +7,4 @@ pub mod Counting
 pub mod Both
 pub mod Held
 pub mod TwoStores
+pub mod Probing

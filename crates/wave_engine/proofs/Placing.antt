@@ -40,7 +40,7 @@ admitted_more S es T c U a m new = record {
   keys = λ w q k h. elim (m.only w q k h) [ inl o ↦ a.keys w q k o | inr e ↦ new w k e ];
 }
 
--- what an entry asks for
+-- the request of an entry
 asked_entry : (S : Nodes) (e : Entry) (l : ℕ) (k : Key) (t : Option Ref) → AsksAt (answer_of S e.0 e.1 e.2 t) l k → (t ≡ None) × ((normal_of e.0 e.1 e.2).0 ≡ k)
 asked_entry S e l k None (m, h) = (refl, cc)
 asked_entry S e l k (Some r) (m, h) = absurd (cc)
@@ -51,7 +51,7 @@ root_admitted S es e c i l k h =
     let in_store : IsKey S k × (l ≡ level_of S k) = subst (IsChildIn S) h.1 i in
     record { key = in_store.0; level = sym in_store.1; reached = root_of (subst (Contains (requests_of es)) a.1 (to_request es e c a.0)) }
 
--- what a key's child asks for
+-- the request of a key's child
 pub child_admitted : (S : Nodes) → IsSound S → (es : List Entry) (w : ℕ) (k : Key) (b : Bool) → IsAdmitted S es w k → (l : ℕ) (c : Key) → AsksAt (child_of S k b) l c → IsAdmitted S es l c
 child_admitted S sound es w k b a l c h = record {
   key = held S sound k c b l h.0 a.key h.1;
@@ -59,7 +59,7 @@ child_admitted S sound es w k b a l c h = record {
   reached = child_from b l h.0 a.reached h.1;
 }
 
--- and that it is further down
+-- is deeper than the key
 pub child_below : (S : Nodes) → IsSound S → (es : List Entry) (v : ℕ) (k : Key) (b : Bool) → IsAdmitted S es v k → (l : ℕ) (c : Key) → AsksAt (child_of S k b) l c → v < l
 child_below S sound es v k b a l c h =
     let d : level_of S k < level_of S c = deeper S sound k c b l h.0 a.key h.1 in
@@ -70,7 +70,7 @@ child_below S sound es v k b a l c h =
 pub row_start : (S : Nodes) (es : List Entry) (T : List (List Key)) (v : ℕ) → AreAdmitted S es T → IsRowExpanded S es T v 0 T []
 row_start S es T v a = record { admitted = a; grown = λ w q k h. h; above = λ w le. refl; count = refl; split = λ q k d h g. absurd (at_place_none [] q d refl g) }
 
--- one request more is expanded
+-- one more request is expanded
 pub row_more : (S : Nodes) → IsSound S → (es : List Entry) (T0 : List (List Key)) (v i : ℕ) (T : List (List Key)) (pairs : List (PackedChild × PackedChild)) → IsRowExpanded S es T0 v i T pairs →
     (k : Key) → IsAtPlace T v i k → (low high : PackedChild) (T1 T2 : List (List Key)) → AdmitsChild T (child_of S k false) T1 → IsPlaced T1 low (child_of S k false) →
     AdmitsChild T1 (child_of S k true) T2 → IsPlaced T2 high (child_of S k true) → IsRowExpanded S es T0 v (i + 1) T2 (pairs ++ (low, high) ∷ [])
@@ -106,7 +106,7 @@ row_more S sound es T0 v i T pairs so k at low high T1 T2 m1 p1 m2 p2 = record {
         subst (λ z. IsSplitAt S T2 z d) same
         (subst (λ (z : PackedChild × PackedChild). IsSplitAt S T2 k z) (sym g.1) (placed_kept T1 T2 m2.kept low (child_of S k false) p1, p2))
 
--- one level more is expanded
+-- one more level is expanded
 pub level_more : (S : Nodes) (es : List Entry) (roots : List PackedChild) (v : ℕ) (T : List (List Key)) (rows : List (List (PackedChild × PackedChild))) → v < S.levels → AreExpanded S es roots v T rows →
     (U : List (List Key)) (pairs : List (PackedChild × PackedChild)) → IsRowExpanded S es T v (length (row T v)) U pairs → AreExpanded S es roots (v + 1) U (set rows v pairs)
 level_more S es roots v T rows lt e U pairs r = record {
@@ -138,7 +138,7 @@ level_more S es roots v T rows lt e U pairs r = record {
         (subst (λ (z : List (PackedChild × PackedChild)). slice_get z q ≡ Some d) (row_other rows v pairs w m) g) in
         (placed_kept T U r.grown d.0 (child_of S k false) s.0, placed_kept T U r.grown d.1 (child_of S k true) s.1)
 
--- levels without requests are passed over
+-- levels without requests are skipped
 pub levels_passed : (S : Nodes) (es : List Entry) (roots : List PackedChild) (v u : ℕ) (T : List (List Key)) (rows : List (List (PackedChild × PackedChild))) → AreExpanded S es roots v T rows → AreNone T v u → ((w : ℕ) → v ≤ w → row rows w ≡ [])
     → AreExpanded S es roots u T rows
 levels_passed S es roots v u T rows e none later = record {

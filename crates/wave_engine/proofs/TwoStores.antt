@@ -1,4 +1,4 @@
--- What entries reach is the same in each store: requests of two stores that ask for the same functions come in pairs.
+-- Entries reach as many requests in each store: requests of two stores with the same functions come in pairs.
 use Rattle.std.proofs.Common.{◌≡◌, ◌∙◌, ℕ, zero, suc, ◌+◌, ◌<◌, ◌≤◌, ◌⊎◌, inl, inr, Bool, true, false, not, cond, min, List, [], ◌∷◌, ◌++◌, length, set, slice_get, Option, Some, None, refl, sym, ap, subst, arith, Contains, true≢false}
 use Rattle.std.specs.Option.{option_map}
 use Rattle.std.proofs.lemmas.Bool.{cases_lt}
@@ -69,7 +69,7 @@ names_apart (Node a b) (Node c d) h e =
     let s : a ≡ c = one_name a c (sym (regular_node a b) ∙ e ∙ regular_node c d) in
     true≢false (sym (node_itself a) ∙ ap (node_eq a) s ∙ h)
 
--- and nodes with different names are two
+-- nodes with different names are two
 are_two : (a c : NodeId) (b d : Bool) → (regular_of (Node a b) ≡ regular_of (Node c d) → ⊥) → AreTwoNodes (Node a b) (Node c d)
 are_two a c b d apart = by (node_eq a c) refl
   where
@@ -175,7 +175,7 @@ module _ (S T : Nodes) (w : IsSound S) (z : IsSound T) (L : T.levels ≡ S.level
   same_true : IsSame S T True True
   same_true = (tt, tt, λ x hx. den-true S x ∙ sym (den-true T x))
 
-  -- what is not constant in the one store is a node in the other
+  -- a function that is not constant is that of a node in the other store too
   a_node_too : (a : NodeId) (b : Bool) (g : Ref) → IsSame S T (Node a b) g → (c : NodeId) × (d : Bool) × (g ≡ Node c d)
   a_node_too a b False s = absurd (let e : ◌≡◌ {A = Ref} (Node a b) False = same_one (Node a b) False False s same_false in cc)
   a_node_too a b True s = absurd (let e : ◌≡◌ {A = Ref} (Node a b) True = same_one (Node a b) True True s same_true in cc)
@@ -338,7 +338,7 @@ module _ (S T : Nodes) (w : IsSound S) (z : IsSound T) (L : T.levels ≡ S.level
   asks_for op f g None e = refl
   asks_for op f g (Some r) e = absurd (cc)
 
-  -- l asks for a request that asks for the same as c
+  -- l has a child with the same functions as c
   pub record AsksToo (l : Key) (b : Bool) (c : Key) : Type 0 where
     pub level : ℕ
     pub other : Key
@@ -346,7 +346,7 @@ module _ (S T : Nodes) (w : IsSound S) (z : IsSound T) (L : T.levels ≡ S.level
     pub asks : child_of T l b ≡ Ask level other complement
     pub same : IsMatch c other
 
-  -- what a request asks for, its partner asks for
+  -- what a request has as a child, its partner has too
   match_child : (k l : Key) → IsKey S k → IsKey T l → IsMatch k l → (b : Bool) (v : ℕ) (c : Key) (m : Bool) → child_of S k b ≡ Ask v c m → AsksToo l b c
   match_child k l i j p b v c m e = record {
     level = level_of T (normal_of l.op f' g').0;
@@ -426,7 +426,7 @@ module _ (S T : Nodes) (w : IsSound S) (z : IsSound T) (L : T.levels ≡ S.level
     other_at (k ∷ ks) f zero l e = record { one = k; at = refl; partner_of = reached_partner k (f k (head_in k ks)); is = let d : Some (reached_partner k (f k (head_in k ks))).other ≡ Some l = e in cc }
     other_at (k ∷ ks) f (suc i) l e = let p = other_at ks (λ x c. f x (tail_in k x ks c)) i l e in record { one = p.one; at = p.at; partner_of = p.partner_of; is = p.is }
 
-    -- of two requests with one partner each is the other
+    -- two requests with the same partner are equal
     match_one : (k l m : Key) → IsKey S k → IsKey S l → IsMatch k m → IsMatch l m → k ≡ l
     match_one k l m i j p q = by p.operands q.operands
       where
@@ -447,7 +447,7 @@ module _ (S T : Nodes) (w : IsSound S) (z : IsSound T) (L : T.levels ≡ S.level
         by (inr a) (inl b) = crossed (same_one S T w z L k.f l.g m.g a.0 b.1) (same_one S T w z L k.g l.f m.f a.1 b.0)
         by (inr a) (inr b) = straight (same_one S T w z L k.f l.f m.g a.0 b.0) (same_one S T w z L k.g l.g m.f a.1 b.1)
 
-    -- requests that are more in the one store are not at most so many in the other
+    -- if one store has more than n requests, the other does not have at most n
     pub more_in_both : (n : ℕ) (ks : List Key) → IsOnce ks → ((k : Key) → Contains ks k → IsReached (wave_of S 1) roots k) → n < length ks
         → ((ls : List Key) → IsOnce ls → ((l : Key) → Contains ls l → IsReached (wave_of T 1) others l) → length ls ≤ n) → ⊥
     more_in_both n ks once f more few =
@@ -475,7 +475,7 @@ module _ (S T : Nodes) (w : IsSound S) (z : IsSound T) (L : T.levels ≡ S.level
     pub first : IsSame S T e.1 other.1
     pub second : IsSame S T e.2 other.2
 
-  -- entries that ask for the same reach as many requests
+  -- entries for the same functions reach as many requests
   pub no_more : (n : ℕ) (entries others : List Entry) → ((e : Entry) → Contains entries e → AsksSame others e) → AreMoreThan n S entries → AreAtMost n T others → ⊥
   no_more n entries others f more few = more_in_both (requests_of entries) (requests_of others) root n more.requests more.once more.reached more.more few
     where

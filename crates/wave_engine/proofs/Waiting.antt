@@ -1,4 +1,4 @@
--- Requests of levels that are expanded are kept no longer: what holds of all goes on from those that wait.
+-- The requests of expanded levels are not kept: what holds of all tables follows from those that wait.
 use Rattle.std.proofs.Common.{◌≡◌, ◌∙◌, ℕ, ◌+◌, ◌-◌, ◌%◌, ◌^◌, ◌<◌, ◌≤◌, inl, inr, true, false, List, [], ◌∷◌, ◌++◌, zero, suc, length, set, take, drop, slice_get, Some, refl, sym, ap, subst, arith}
 use Rattle.std.proofs.Math.ListN.{length-drop}
 use Rattle.std.proofs.Math.Nat.{eq-or-lt_of_le}
@@ -40,7 +40,7 @@ splice_length v T W fits same =
     let d : length (drop v W) ≡ length W - v = length-drop v W in
     simp length-append (omega (arith, t, d, same, fits))
 
--- lists that are the same from a place on
+-- lists that are equal from a place on
 drop_same : {X : Type 0} (v : ℕ) (a b : List (List X)) → length a ≡ length b → ((w : ℕ) → v ≤ w → row a w ≡ row b w) → drop v a ≡ drop v b
 drop_same zero [] [] l e = refl
 drop_same zero [] (y ∷ b) l e = absurd (omega (arith, l))
@@ -54,7 +54,7 @@ drop_same (suc v) [] (y ∷ b) l e = absurd (omega (arith, l))
 drop_same (suc v) (x ∷ a) [] l e = absurd (omega (arith, l))
 drop_same (suc v) (x ∷ a) (y ∷ b) l e = drop_same v a b (let n : length a ≡ length b = omega (arith, l) in n) (λ w le. e (suc w) (omega (arith, le)))
 
--- Of what waits from level v on.
+-- The tables that wait from level v on.
 module _ (T : List (List Key)) (v : ℕ) (W : List (List Key)) (a : AreWaiting T v W) where
   to_all : (w q : ℕ) (k : Key) → IsAtPlace W w q k → IsAtPlace T w q k
   to_all w q k h = elim (cases_lt w v) [
@@ -88,7 +88,7 @@ module _ (T : List (List Key)) (v : ℕ) (W : List (List Key)) (a : AreWaiting T
     within = waiting_within start s r.within;
   }
 
-  -- levels where nothing waits are passed over
+  -- levels without waiting requests are skipped
   pub waits_on : (u : ℕ) → v ≤ u → AreNone W v u → AreWaiting T u W
   waits_on u le none = record {
     levels = a.levels;
@@ -96,7 +96,7 @@ module _ (T : List (List Key)) (v : ℕ) (W : List (List Key)) (a : AreWaiting T
     same = λ w ge. a.same w (omega (arith, le, ge));
   }
 
-  -- Level v is expanded, from what waits there.
+  -- Level v is expanded, from the requests that wait there.
   module _ (s : Nodes) (entries : List Entry) (d : AreAdmitted s entries T) (fits : v ≤ length T) (U : List (List Key)) (pairs : List (PackedChild × PackedChild)) (r : IsRowExpanded s entries W v (length (row W v)) U pairs) where
     abbrev all : List (List Key)
     all = splice v T U
@@ -143,7 +143,7 @@ module _ (T : List (List Key)) (v : ℕ) (W : List (List Key)) (a : AreWaiting T
       same = λ w le. row_other U v [] w (λ e. omega (arith, e, le)) ∙ sym (splice_from v T U w fits (omega (arith, le)));
     }
 
--- The levels before v are expanded, and their requests are all of T before that level; further down all of T wait.
+-- The levels before v are expanded, and T has their requests; from v on T has those that wait.
 pub record IsGoing (s : Nodes) (entries : List Entry) (roots : List PackedChild) (v : ℕ) (waiting : List (List Key)) (rows : List (List (PackedChild × PackedChild))) (bound left before after : ℕ) (T : List (List Key)) : Type 0 where
   pub expanded : AreExpanded s entries roots v T rows
   pub once : (w : ℕ) → w < v → IsOnce (row T w)
@@ -161,9 +161,9 @@ going_start s entries roots W rows n bound count e empty = record {
   later = λ w le. empty.empty w;
 }
 
--- Of a wave whose levels before v are expanded.
+-- A wave whose levels before v are expanded.
 module _ (s : Nodes) (entries : List Entry) (roots : List PackedChild) (v : ℕ) (W : List (List Key)) (rows : List (List (PackedChild × PackedChild))) (bound left before after : ℕ) (T : List (List Key)) (g : IsGoing s entries roots v W rows bound left before after T) where
-  -- levels where nothing waits are passed over
+  -- levels without waiting requests are skipped
   pub going_passed : (u : ℕ) → v ≤ u → AreNone W v u → IsGoing s entries roots u W rows bound left before after T
   going_passed u le none =
       let all : AreNone T v u = none_waits T v W g.waits u none in record {
@@ -177,7 +177,7 @@ module _ (s : Nodes) (entries : List Entry) (roots : List PackedChild) (v : ℕ)
         later = λ w ge. g.later w (omega (arith, le, ge));
       }
 
-  -- one level more is expanded
+  -- one more level is expanded
   pub going_next : v < s.levels → IsOnce (row W v) → (U : List (List Key)) (pairs : List (PackedChild × PackedChild)) → IsRowExpanded s entries W v (length (row W v)) U pairs → (count rest more : ℕ) → count ≡ length (row W v) →
       (bound < 2 ^ 64 - 1 → rest + count ≡ left) → more % 2 ^ 64 ≡ (after + length (row W v)) % 2 ^ 64 → IsGoing s entries roots (v + 1) (set U v []) (set rows v pairs) bound rest before more (splice v T U)
   going_next lt own U pairs r count rest more c sum n = record {
@@ -203,7 +203,7 @@ module _ (s : Nodes) (entries : List Entry) (roots : List PackedChild) (v : ℕ)
       same : length (row W v) ≡ length (row T v)
       same = ap length (g.waits.same v (omega arith))
 
-  -- and within a bound at most so many requests were split
+  -- with a bound at most so many requests were split
   pub going_within : v ≤ s.levels → bound < 2 ^ 64 - 1 → IsExpandedWithin bound s entries v W rows roots before after
   going_within le b = (record { tables = T; bound = le; expanded = g.expanded; once = g.once; split = g.counted.split; waits = g.waits }, let e = g.counted.sum b in omega (arith, e))
 

@@ -1,4 +1,4 @@
--- A wave as a whole: the store moves on where the workers were called in, and the roots' answers are those of the entries.
+-- A whole wave: the store has changed when the workers were called in, and the roots' answers are those of the entries.
 use Rattle.std.proofs.Common.{◌≡◌, ℕ, inl, inr, true, false, Bool, cond, List, [], ◌∷◌, Option, Some, None, refl, sym, ◌∙◌, ap, subst, All}
 use Rattle.std.specs.Prelude.{nat_eq, unwrap_or}
 use Rattle.std.specs.Option.{option_map}
@@ -38,7 +38,7 @@ use Rattle.wave_engine.specs.ExpansionPhase.{IsExpandedTo}
 use Rattle.reduce_up.specs.ReductionPhase.{AreReducedBelow, AreReady}
 use Rattle.wave_engine.proofs.Waiting.{waiting_reduced}
 
--- Of a store S and a later one, U.
+-- A store S and a later one, U.
 module _ (S : Nodes) (w : IsSound S) (entries : List Entry) (good : All (IsEntry S) entries) (U : Nodes) (K : Keeps S U) where
   same_pair : (m : NodeId) (p q : Pair) → ◌≡◌ {A = Part Ref} (node m.level p.0 p.1) (node m.level q.0 q.1) → p ≡ q
   same_pair m p q e = let a : p.0 ≡ q.0 = cc in let b : p.1 ≡ q.1 = cc in λ i. (a i, b i)
@@ -94,7 +94,7 @@ module _ (S : Nodes) (w : IsSound S) (entries : List Entry) (good : All (IsEntry
   pub entries_kept : All (IsEntry U) entries
   entries_kept = all_of (IsEntry U) entries (λ e c. let i : IsEntry S e = All-contains (IsEntry S) entries e good c in (K.has e.1 i.0, K.has e.2 i.1))
 
-  -- what is expanded for the one is expanded for the other
+  -- what is expanded for S is expanded for U
   pub expanded_kept : (roots : List PackedChild) (v : ℕ) (T : List (List Key)) (rows : List (List (PackedChild × PackedChild))) → AreExpanded S entries roots v T rows → AreExpanded U entries roots v T rows
   expanded_kept roots v T rows x = record {
     admitted = all_admitted_kept T x.admitted;
@@ -113,7 +113,7 @@ module _ (S : Nodes) (w : IsSound S) (entries : List Entry) (good : All (IsEntry
       all (e ∷ es) [] z = z
       all (e ∷ es) (p ∷ ps) z = (subst (IsPlaced T p) (sym (child_same e.0 e.1 e.2)) z.0, all es ps z.1)
 
-  -- what was handed over has its answers, so the levels above can be reduced
+  -- the requests that were handed over have their answers, so the levels above can be reduced
   pub down_ready : (v : ℕ) (W : List (List Key)) (rows : List (List (PackedChild × PackedChild))) (roots : List PackedChild) (before after : ℕ) (d : IsExpandedTo S entries v W rows roots before after) (A : List (List Ref)) →
       AreReducedBelow U entries W v U A → AreReady U entries v rows A d.tables
   down_ready v W rows roots before after d A r = record {
@@ -123,7 +123,7 @@ module _ (S : Nodes) (w : IsSound S) (entries : List Entry) (good : All (IsEntry
     reduced = waiting_reduced d.tables v W d.waits U entries U A r;
   }
 
-  -- what the entries want of the one, they want of the other
+  -- what the entries want of U, they want of S
   pub wanted_back : (v : ℕ) (f : List Bool → Bool) → IsWanted U entries v f → IsWanted S entries v f
   wanted_back v f u =
       let i : IsEntry S u.entry = All-contains (IsEntry S) entries u.entry good u.is_entry in record {
@@ -138,6 +138,7 @@ module _ (S : Nodes) (w : IsSound S) (entries : List Entry) (good : All (IsEntry
   fault_back s wave_faults.OutOfMemory x = tt
   fault_back s wave_faults.NoWorker x = tt
   fault_back s wave_faults.TooManyRequests x = tt
+  fault_back s wave_faults.Stopped x = tt
   fault_back s wave_faults.Full x = (x.0, elim x.1 [ inl o ↦ inl o | inr f ↦ inr (f.0, (f.1.0, f.1.1, wanted_back f.1.0 f.1.1 f.1.2, f.1.3)) ])
 
   -- what is added in two steps

@@ -2,3 +2,4 @@ pub mod ExpansionPhase
 pub mod Front
 pub mod EngineView
 pub mod Bounds
+pub mod CacheProbe

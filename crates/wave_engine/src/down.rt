@@ -1,5 +1,6 @@
-//! Expansion on the caller's thread, from the first level down: each request's children are placed in the tables of their levels at once.
-ghost use Rattle.std.specs.Prelude.{◌≡◌, ◌≢◌, ◌<◌, ◌≤◌, ◌+◌, ◌-◌, ◌^◌, ℕ, [], length, replicate, Err, IfOk, IfErr, OnOk, All};
+//! The way down on the caller's thread, from the first level: the children of each request are
+//! placed in the tables of their levels at once.
+ghost use Rattle.std.specs.Prelude.{◌≡◌, ◌≢◌, ◌<◌, ◌≤◌, ◌+◌, ◌-◌, ◌^◌, ℕ, true, [], length, replicate, Err, IfOk, IfErr, OnOk, All};
 ghost use Rattle.std.specs.List.{AllZip};
 ghost use Rattle.req_table.specs.Keys.{child as child_spec};
 ghost use Rattle.reduce_up.specs.Waves.{IsEntry};
@@ -10,12 +11,14 @@ ghost use Rattle.wave_engine.specs.ExpansionPhase.{IsExpandedTo, IsExpandedWithi
 
 use crate::workspace::ExpansionPhase;
 use dd_store::{Ref, Store};
-use expand_work::{ChildSink, WaveFault, expand_row};
+use expand_work::{ChildSink, Monitor, WaveFault, expand_row};
 use req_table::requests::child;
 use req_table::{Op, PackedChild, Table, Waiting};
 use std::alloc::AllocError;
 
-/// Places what the entries come to.
+/// Places the request of each entry, or notes its answer if it has a terminal case. An entry is
+/// looked at as a child of a request is: both come to an answer, or to a request of some level,
+/// with a complement bit.
 pub(crate) fn place_roots(
     store: &Store,
     entries: &[(Op, Ref, Ref)],
@@ -41,14 +44,16 @@ pub(crate) fn place_roots(
 /// How far the caller's thread goes down.
 #[derive(Clone, Copy, Drop)]
 pub(crate) struct Limits {
-    /// The most requests that one level may have.
+    /// The most requests of one level; before a level with more, the workers are called in.
     pub(crate) level: usize,
-    /// The most requests that all levels together may have, where they are bounded.
+    /// The most requests of all levels together, or the greatest number if there is no bound. A
+    /// wave with more is refused.
     pub(crate) wave: usize,
 }
 
 impl Limits {
-    /// How many requests the workers may expand after the caller's thread has split so many; the greatest number if there is no bound.
+    /// Returns how many requests the workers may expand after the caller's thread has split `split`, or the greatest
+    /// number if there is no bound.
     pub(crate) fn left(self, split: usize) -> usize
         ensures { self.wave < 2 ^ 64 - 1 → result ≡ self.wave - split }
     {
@@ -60,14 +65,21 @@ impl Limits {
     }
 }
 
-/// Where the caller may have so many requests of a level, workers are called in only where levels are wide on average.
+/// If the caller may have so many requests of a level, workers are called in only if the levels
+/// that are left are wide on average. A monitor that lets the caller have fewer wants workers at
+/// narrow levels too, and the average does not matter. (`WIDE` of `expand_work::monitor` is another
+/// number: the limit of `NoMonitor` itself.)
 const WIDE: usize = 1 << 10;
 
-/// How many requests that is. Workers meet at each level, and where all processors are busy a meeting takes as long as thousands of
-/// requests.
+/// Levels are wide on average if each has so many requests. Workers wait for one another at each
+/// level, and if all processors are busy such a meeting takes as long as thousands of requests.
+/// `NARROW` in `sizes` is the same number for the same reason, but for what is expected of a wave
+/// before it begins; this one is for what waits in it.
 const AVERAGE: usize = 1 << 7;
 
-/// The most requests that a level may have which has so many: its limit, or any number where few requests wait from there on.
+/// Returns the most requests that the caller's thread may expand of a level with `count`: the
+/// limit, or no limit if few requests wait from there on. These are counted only if the other two
+/// conditions leave it open, since that visits each level that is left.
 fn most_at(limits: Limits, requests: &Waiting, level: u16, count: usize) -> usize
     ensures least { limits.level ≤ result }
 {
@@ -78,14 +90,20 @@ fn most_at(limits: Limits, requests: &Waiting, level: u16, count: usize) -> usiz
     }
 }
 
-/// Expands level after level, of those that have requests, and stops before the first with more than its limit, where the levels from
-/// there on are wide on average: all levels before the one that is answered are expanded, and their requests are not kept. Where the
-/// levels that it comes to have more than the wave's limit together, it refuses.
-pub(crate) fn expand(
+/// Expands one level after the other, of those that have requests, and stops before the first with more than its limit
+/// if the levels from there on are wide on average. Returns this level, or the number of levels: all before it are
+/// expanded, and their requests are not kept. A level's table is taken out while the children of its requests
+/// are placed in the tables of deeper levels, and its memory may serve one of these. Only the contract speaks of
+/// `entries`.
+///
+/// Fails with TooManyRequests before a level with which there would be more
+/// requests than the wave's limit, with Stopped before a level if the run has stopped, and with OutOfMemory.
+pub(crate) fn expand<G: Monitor>(
     store: &Store,
     entries: &[(Op, Ref, Ref)],
     down: &mut ExpansionPhase,
     limits: Limits,
+    monitor: &G,
 ) -> Result<u16, WaveFault>
     requires start { AreExpanded store.now entries.now down.old.roots.items 0 down.old.requests down.old.rows }
     requires rows { down.old.rows ≡ replicate store.now.levels [] }
@@ -101,14 +119,20 @@ pub(crate) fn expand(
     ensures past { result ≡ Err WaveFault.TooManyRequests → AreMoreThan limits.wave store.now entries.now }
     ensures within_bound { limits.wave < 2 ^ 64 - 1 → IfOk result (λ v. v ≡ store.now.levels
         → AreAtMost limits.wave store.now entries.now) }
+    ensures stopped { result ≡ Err WaveFault.Stopped → (G.bound monitor.now).stops ≡ true }
 {
-    let _ = entries.len();
+    let _ = entries.len(); // For the proof.
     let levels = store.levels();
     let mut keys = Table::new(*down.roots.allocator());
     let mut level = 0;
     let mut left = limits.wave;
     while let Some(next) = down.requests.next_level(level) {
+        if monitor.has_stopped() {
+            return Err(WaveFault::Stopped);
+        }
         let count = down.requests.count(next);
+        // Before a wide level is left to the workers: so the caller's own count refuses whatever it
+        // can.
         if limits.wave < usize::MAX && count > left {
             return Err(WaveFault::TooManyRequests);
         }

@@ -1,5 +1,5 @@
-//! What is handed to the workers at a wide level, and their answers.
-ghost use Rattle.std.specs.Prelude.{◌≡◌, ◌≢◌, ◌<◌, ◌≤◌, ◌-◌, ◌^◌, [], length, Err, All, IfOk, IfErr, OnOk, map, ◌+◌, ◌++◌};
+//! The requests that are handed over to the workers at a wide level, and their answers.
+ghost use Rattle.std.specs.Prelude.{◌≡◌, ◌≢◌, ◌<◌, ◌≤◌, ◌-◌, ◌^◌, true, length, Err, All, IfOk, IfErr, OnOk, ◌+◌, ◌++◌};
 ghost use Rattle.dd_store.specs.Nodes.{IsSound, count_of};
 ghost use Rattle.expand_work.specs.Bounds.{AreFew};
 ghost use Rattle.expand_work.specs.WaveParts.{HaveExpanded};
@@ -17,7 +17,8 @@ use std::alloc::{AllocError, Global};
 use std::sync::Wait;
 use std::thread::Threads;
 
-/// The requests from a level on, and the most that the workers may expand, or the greatest number if there is no bound.
+/// The requests of the levels from `from` on, and the most that the workers may expand, or the greatest number if there
+/// is no bound.
 #[derive(Drop)]
 pub(crate) struct Frontier<'a> {
     pub(crate) requests: &'a Waiting,
@@ -25,7 +26,7 @@ pub(crate) struct Frontier<'a> {
     pub(crate) most: usize,
 }
 
-/// Puts the requests of a table behind others.
+/// Adds the requests of a table at the end of a list.
 fn push_all(front: &mut Vec<Key>, keys: &Table) -> Result<(), AllocError>
     ensures { OnOk result (front.new.items ≡ front.old.items ++ keys.now) }
 {
@@ -37,7 +38,8 @@ fn push_all(front: &mut Vec<Key>, keys: &Table) -> Result<(), AllocError>
     Ok(())
 }
 
-/// The requests from a level on, in one list.
+/// Returns the requests of the levels from `from` on, in one list: by level, and those of one level by place. The
+/// workers answer in this order, and `put_answers` takes their answers apart by it.
 fn frontier_of(alloc: Global, requests: &Waiting, from: u16) -> Result<Vec<Key>, AllocError>
     requires { from ≤ length requests.now }
     ensures { IfOk result (λ ks. ks.items ≡ keys_from from requests.now) }
@@ -49,7 +51,8 @@ fn frontier_of(alloc: Global, requests: &Waiting, from: u16) -> Result<Vec<Key>,
     Ok(front)
 }
 
-/// Puts so many of the answers, from a place on, into a list. The answer is the place behind them.
+/// Replaces the diagrams of a level by `count` of the workers' answers, from the place `at` on. Returns the place after
+/// them.
 fn put_level(
     answers: &mut Refs,
     count: usize,
@@ -67,7 +70,7 @@ fn put_level(
     Ok(at + count)
 }
 
-/// Puts answers in their places, from a level on.
+/// Puts the workers' answers into the lists of their levels.
 fn put_answers(
     answers: &mut Vec<Refs>,
     requests: &Waiting,
@@ -87,9 +90,16 @@ fn put_answers(
     Ok(())
 }
 
-/// Has the requests from a level on answered by the workers, in one wave, and puts the answers in their places. The workers work in
-/// the memory of an earlier wave as far as there is some. It answers how many requests they expanded. NoWorker is answered if a thread
-/// could not be started, and if the requests are more than the workers may expand; then the store is as it was.
+/// Has the requests of the levels from `from` on answered by the workers, in one wave, and puts the
+/// answers into the lists of their levels. Returns how many requests the workers have expanded. If
+/// no request waits there, it is 0, and no thread is started. The memory of earlier waves is used.
+/// `entries` are those of the whole wave; only the contract speaks of them. The requests are copied
+/// into one list because `wave_by_workers` takes a list, from any caller.
+///
+/// Fails with NoWorker if a thread could not be started or if there are more requests than the
+/// workers may expand: with a bound, `Workspace::wave` does the same in both cases. Fails with
+/// Stopped if the run has stopped. In all these cases the store is as before. It also fails with
+/// Full and OutOfMemory, as `wave_by_workers` does.
 pub(crate) fn hand_over<R: Threads + Wait + Sync, G: Monitor>(
     crew: &Crew<'_, R, G>,
     wave_memory: &mut WaveMemory,
@@ -115,11 +125,12 @@ pub(crate) fn hand_over<R: Threads + Wait + Sync, G: Monitor>(
     ensures wave_memory { result ≡ Err WaveFault.NoWorker → wave_memory.new ≡ wave_memory.old }
     ensures fault { IfErr result (λ e. IsWaveFault store.old entries.now store.new e) }
     ensures never_too_many_requests { IfErr result (λ e. e ≢ WaveFault.TooManyRequests) }
+    ensures stopped { result ≡ Err WaveFault.Stopped → (G.bound crew.now.monitor.now).stops ≡ true }
     ensures memory { count_of store.old ≤ store.old.limit → result ≡ Err WaveFault.OutOfMemory → count_of store.new ≤ store.new.limit }
     ensures idle { frontier.now.from ≡ store.old.levels → result ≢ Err WaveFault.NoWorker }
 {
-    let _ = store.levels();
-    let _ = entries.len();
+    let _ = store.levels(); // For the proof.
+    let _ = entries.len(); // For the proof.
     let Ok(front) = frontier_of(crew.alloc, frontier.requests, frontier.from) else {
         return Err(WaveFault::OutOfMemory);
     };

@@ -1,5 +1,5 @@
 -- Diagrams of a window's nodes: those of leaves, of complements and of operations, and in later stores.
-use Rattle.std.proofs.Common.{◌≡◌, ◌≢◌, ℕ, ◌<◌, ◌≤◌, Bool, true, false, not, List, [], ◌∷◌, ◌++◌, length, Some, slice_get, refl, sym, ap, subst, ◌∙◌, inl, inr}
+use Rattle.std.proofs.Common.{◌≡◌, ℕ, ◌<◌, ◌≤◌, Bool, true, false, not, List, [], ◌∷◌, ◌++◌, length, Some, slice_get, refl, sym, ap, subst, ◌∙◌, inl, inr}
 use Rattle.std.specs.Prelude.{Result, Ok, Err, IfOk}
 use Rattle.std.proofs.lemmas.List.{length-take-le}
 use Rattle.slot_table.specs.Lists.{IsIn, IsOnce}
@@ -77,7 +77,7 @@ constant-diagram g w S n sound zero_is absent = (
       (ap (slice_get g) zero_is ∙ sound.constant)),
 )
 
--- what a wave answers for the references of two literals
+-- the answer of a wave for the references of two literals is the diagram of the operation on the literals
 pub operation-diagram : (g : List Node) (w : WindowParts) (S T : Nodes) (op : Op) (a b : Parts) (p q r : Ref) → T.levels ≡ S.levels → IsDiagramOver g w S a p
     → IsDiagramOver g w S b q → IsDiagram T r (entry_value S (op, p, q)) → IsOperationOver g w T op a b r
 operation-diagram g w S T op a b p q r levels is_a is_b answer = (

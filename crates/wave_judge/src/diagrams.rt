@@ -1,4 +1,4 @@
-//! The diagrams of the nodes above the leaves.
+//! The diagrams of the nodes of a window above its leaves.
 ghost use Rattle.std.specs.Prelude.{◌≡◌, ◌≤◌, IfOk, OnOk, Some, length, slice_get};
 ghost use Rattle.dd_store.specs.Nodes.{IsDiagram};
 ghost use Rattle.dd_store.specs.View.{Keeps};
@@ -12,15 +12,16 @@ use crate::fault::WindowFault;
 use crate::leaves::literal_diagram;
 use cut_window::Window;
 use dd_store::{Ref, Store};
+use expand_work::Monitor;
 use pair_graph::{Graph, Literal, Node};
 use req_table::Op;
 use std::sync::Wait;
 use std::thread::Threads;
 use wave_engine::Engine;
 
-/// The diagram of one operation, by a wave of its own.
-fn operate<R: Threads + Wait + Sync>(
-    engine: &mut Engine<'_, R, WindowBound>,
+/// Returns the diagram of one operation, by a wave of its own.
+fn operate<R: Threads + Wait + Sync, G: Monitor>(
+    engine: &mut Engine<'_, R, WindowBound<'_, G>>,
     store: &mut Store,
     entry: (Op, Ref, Ref),
 ) -> Result<Ref, WindowFault>
@@ -30,14 +31,14 @@ fn operate<R: Threads + Wait + Sync>(
     ensures keeps { Keeps store.old store.new }
     ensures answer { IfOk result (λ r. IsDiagram store.new r (entry_value store.old entry)) }
 {
-    let _ = store.levels();
+    let _ = store.levels(); // For the proof.
     let answers = engine.wave(store, &[entry])?;
     Ok(answers[0])
 }
 
-/// The diagram of an operation on two literals whose nodes have diagrams.
-fn build_operation<R: Threads + Wait + Sync>(
-    engine: &mut Engine<'_, R, WindowBound>,
+/// Returns the diagram of an operation on two literals whose nodes have diagrams.
+fn build_operation<R: Threads + Wait + Sync, G: Monitor>(
+    engine: &mut Engine<'_, R, WindowBound<'_, G>>,
     store: &mut Store,
     graph: &Graph,
     window: &Window,
@@ -61,9 +62,9 @@ fn build_operation<R: Threads + Wait + Sync>(
     Ok(answer)
 }
 
-/// The diagram of the node at a place above the leaves, whose operands have diagrams.
-fn build_node<R: Threads + Wait + Sync>(
-    engine: &mut Engine<'_, R, WindowBound>,
+/// Returns the diagram of the node at the next place, whose operands have diagrams.
+fn build_node<R: Threads + Wait + Sync, G: Monitor>(
+    engine: &mut Engine<'_, R, WindowBound<'_, G>>,
     store: &mut Store,
     graph: &Graph,
     window: &Window,
@@ -78,7 +79,7 @@ fn build_node<R: Threads + Wait + Sync>(
     ensures keeps { Keeps store.old store.new }
     ensures built { IfOk result (IsDiagramOver graph.now window.now store.new (node_literal node)) }
 {
-    let _ = window.leaves();
+    let _ = window.leaves(); // For the proof.
     if node as usize >= graph.len() {
         return Err(WindowFault::Incomplete);
     }
@@ -90,9 +91,10 @@ fn build_node<R: Threads + Wait + Sync>(
     }
 }
 
-/// Builds the diagrams of the nodes above the leaves, each after its operands, by at most so many requests.
-pub(crate) fn build_above<R: Threads + Wait + Sync>(
-    engine: &mut Engine<'_, R, WindowBound>,
+/// Builds the diagrams of the nodes above the leaves, each after its operands. Fails with OverBudget if more than
+/// `most_requests` requests were expanded.
+pub(crate) fn build_above<R: Threads + Wait + Sync, G: Monitor>(
+    engine: &mut Engine<'_, R, WindowBound<'_, G>>,
     store: &mut Store,
     graph: &Graph,
     window: &Window,
@@ -108,7 +110,7 @@ pub(crate) fn build_above<R: Threads + Wait + Sync>(
     let cut = window.leaves();
     let nodes = window.nodes();
     for place in cut..nodes.len() {
-        let _ = store.levels();
+        let _ = store.levels(); // For the proof.
         let built = build_node(engine, store, graph, window, refs.as_slice(), nodes[place])?;
         let Ok(()) = refs.push(built) else {
             return Err(WindowFault::OutOfMemory);

@@ -1,17 +1,20 @@
-//! Why the diagrams of a window are not there.
+//! Why a window has no diagrams.
 use dd_store::StoreFault;
 use expand_work::WaveFault;
 use std::alloc::AllocError;
 
-/// Why the diagrams of a window are not there.
+/// Why a window has no diagrams.
 #[derive(Clone, Copy, Debug, PartialEq, Eq)]
 pub(crate) enum WindowFault {
-    /// A node has an operand that the window lacks, or is a variable, or there are more leaves than a store may have levels.
+    /// A node has an operand that is not in the window, or is a variable, or there are more leaves than a store can
+    /// have levels.
     Incomplete,
-    /// More nodes or requests are needed than the budget allows.
+    /// More nodes or requests are needed than the budget has.
     OverBudget,
-    /// A growth was refused.
+    /// Memory was refused.
     OutOfMemory,
+    /// The run has stopped.
+    Stopped,
 }
 
 impl From<WaveFault> for WindowFault {
@@ -21,6 +24,7 @@ impl From<WaveFault> for WindowFault {
             WaveFault::Full | WaveFault::TooManyRequests | WaveFault::NoWorker => {
                 WindowFault::OverBudget
             }
+            WaveFault::Stopped => WindowFault::Stopped,
         }
     }
 }

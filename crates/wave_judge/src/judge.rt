@@ -1,5 +1,5 @@
 //! The judge.
-ghost use Rattle.std.specs.Prelude.{◌≡◌, ◌<◌, ◌^◌, IfOk};
+ghost use Rattle.std.specs.Prelude.{◌≡◌, ◌<◌, IfOk};
 ghost use Rattle.cut_window.specs.WindowParts.{leaves_of};
 ghost use Rattle.cut_window.specs.Windows.{Holds, HoldsOver};
 ghost use Rattle.wave_judge.specs.OverLeaves.{AreDiagramsOver};
@@ -11,6 +11,7 @@ use crate::leaves::{build_leaves, literal_diagram};
 use counter_walk::least_difference;
 use cut_window::{Finding, Window};
 use dd_store::{Ref, Store};
+use expand_work::Monitor;
 use pair_graph::{Graph, Literal};
 use std::alloc::{AllocError, Global};
 use std::marker::Model;
@@ -18,13 +19,14 @@ use std::sync::Wait;
 use std::thread::Threads;
 use wave_engine::Engine;
 
-/// The most leaves of a window: as many as a store has levels.
+/// The most leaves of a window, since each is a level of a store.
 const MAX_LEAVES: usize = 4096;
 
-/// What a node of a window counts as work, in nodes of diagrams.
+/// The work that each node of a window counts as, in nodes of diagrams.
 const WORK_PER_NODE: u64 = 4;
 
-/// What the diagrams of two literals show.
+/// Returns what the diagrams of two literals show: the literals are equal, complementary or different over the leaves,
+/// or `GivenUp` if one has no diagram.
 fn compare(
     alloc: Global,
     graph: &Graph,
@@ -36,7 +38,7 @@ fn compare(
     requires { AreDiagramsOver graph.now window.now store.now refs.now }
     ensures { IfOk result (HoldsOver graph.now (leaves_of window.now) pair.0 pair.1) }
 {
-    let _ = window.leaves();
+    let _ = window.leaves(); // For the proof.
     let (first, second) = pair;
     let Some(f) = literal_diagram(graph, store, window, refs, first) else {
         return Ok(Finding::GivenUp);
@@ -56,9 +58,10 @@ fn compare(
     }
 }
 
-/// What a window shows of two literals, by diagrams in a store of its own with at most `nodes` nodes. What it takes is added to `work`.
-fn judge_window<R: Threads + Wait + Sync>(
-    engine: &mut Engine<'_, R, WindowBound>,
+/// Returns what a window shows of two literals, by diagrams in a new store with at most `nodes` nodes. Adds the work to
+/// `work`.
+fn judge_window<R: Threads + Wait + Sync, G: Monitor>(
+    engine: &mut Engine<'_, R, WindowBound<'_, G>>,
     nodes: u32,
     work: &mut u64,
     graph: &Graph,
@@ -68,7 +71,7 @@ fn judge_window<R: Threads + Wait + Sync>(
     ensures over { IfOk result (HoldsOver graph.now (leaves_of window.now) pair.0 pair.1) }
     ensures everywhere { IfOk result (Holds graph.now pair.0 pair.1) }
 {
-    let _ = graph.len();
+    let _ = graph.len(); // For the proof.
     let leaves = window.leaves();
     if leaves > MAX_LEAVES {
         return Err(WindowFault::Incomplete);
@@ -95,16 +98,16 @@ fn judge_window<R: Threads + Wait + Sync>(
     Ok(finding)
 }
 
-/// A judge of windows by diagrams. It is seen as its budget: how many nodes the diagrams of one window may have. A window may also have
-/// eight requests for each of these nodes.
+/// Judges windows by diagrams over their leaves. Contracts see only the budget: how many nodes the diagrams of one
+/// window may have. A window may also have eight requests for each of these nodes.
 #[derive(Drop)]
-pub struct WaveJudge<'a, R> {
-    engine: Engine<'a, R, WindowBound>,
+pub struct WaveJudge<'a, R, G: Monitor> {
+    engine: Engine<'a, R, WindowBound<'a, G>>,
     nodes: u32,
     work: u64,
 }
 
-impl<'a, R> Model for WaveJudge<'a, R> {
+impl<'a, R, G: Monitor> Model for WaveJudge<'a, R, G> {
     ghost use Rattle.std.specs.Prelude.{ℕ};
 
     ghost Value = { ℕ };
@@ -112,9 +115,9 @@ impl<'a, R> Model for WaveJudge<'a, R> {
     ghost view = { λ j. j.nodes };
 }
 
-impl<'a, R: Threads + Wait + Sync> WaveJudge<'a, R> {
-    /// A judge by an engine, whose crew has the `WindowBound` of this budget.
-    pub fn new(engine: Engine<'a, R, WindowBound>, nodes: u32) -> Self
+impl<'a, R: Threads + Wait + Sync, G: Monitor> WaveJudge<'a, R, G> {
+    /// Returns a judge that uses this engine, whose crew must have the `WindowBound` of the same budget.
+    pub fn new(engine: Engine<'a, R, WindowBound<'a, G>>, nodes: u32) -> Self
         ensures { result ≡ nodes }
     {
         WaveJudge {
@@ -124,20 +127,22 @@ impl<'a, R: Threads + Wait + Sync> WaveJudge<'a, R> {
         }
     }
 
-    /// How much all its windows have taken so far: the nodes of their diagrams, and four for each node of a window.
+    /// Returns the work of all its windows so far: the nodes of their diagrams, and four for each node of a window. It
+    /// is the greatest number after the run has stopped in a window.
     pub fn work(&self) -> u64 {
         self.work
     }
 
-    /// How many nodes the diagrams of one window may have.
+    /// Returns how many nodes the diagrams of one window may have.
     pub fn nodes(&self) -> u32
         ensures { result ≡ self.now }
     {
         self.nodes
     }
 
-    /// What a window shows of two literals, by diagrams of at most so many nodes, and not more than the budget. Any window will do: if it
-    /// lacks a node, or needs more, it shows nothing.
+    /// Returns what a window shows of two literals, by diagrams of at most `nodes` nodes, and not more than the budget.
+    /// Every window is allowed: if it lacks a node, or needs more nodes, it shows nothing (`GivenUp`). Nothing is shown
+    /// either if the run has stopped. Fails only if memory is refused.
     pub fn judge(
         &mut self,
         nodes: u32,
@@ -161,6 +166,11 @@ impl<'a, R: Threads + Wait + Sync> WaveJudge<'a, R> {
         ) {
             Ok(finding) => Ok(finding),
             Err(WindowFault::OutOfMemory) => Err(AllocError),
+            Err(WindowFault::Stopped) => {
+                // The greatest number makes a caller that limits the work begin no other window.
+                self.work = u64::MAX;
+                Ok(Finding::GivenUp)
+            }
             Err(_) => Ok(Finding::GivenUp),
         }
     }

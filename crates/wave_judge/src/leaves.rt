@@ -9,7 +9,7 @@ use cut_window::Window;
 use dd_store::{Ref, Store};
 use pair_graph::{Graph, Literal};
 
-/// Builds the diagrams of a window's leaves, each the variable of its place.
+/// Builds the diagrams of a window's leaves: leaf i is the variable of level i.
 pub(crate) fn build_leaves(
     store: &mut Store,
     window: &Window,
@@ -21,7 +21,7 @@ pub(crate) fn build_leaves(
     ensures each { OnOk result (length refs.new.items ≡ window.now.cut) }
     ensures sound { IsSound store.new }
 {
-    let _ = store.levels();
+    let _ = store.levels(); // For the proof.
     let leaves = window.leaves();
     for level in 0..leaves {
         let built = store.variable(level as u16)?;
@@ -32,7 +32,7 @@ pub(crate) fn build_leaves(
     Ok(())
 }
 
-/// The diagram of a literal whose node has one, or is the constant and no node of the window.
+/// Returns the diagram of a literal, if its node has one or is the constant and not in the window; otherwise none.
 pub(crate) fn literal_diagram(
     graph: &Graph,
     store: &Store,
@@ -43,7 +43,7 @@ pub(crate) fn literal_diagram(
     requires { AreDiagramsOver graph.now window.now store.now refs.now }
     ensures { IfSome result (IsDiagramOver graph.now window.now store.now literal) }
 {
-    let _ = (graph.len(), store.levels());
+    let _ = (graph.len(), store.levels()); // For the proof.
     match window.place(literal.node()) {
         Some(place) if (place as usize) < refs.len() => {
             Some(refs[place as usize].complement_if(literal.is_complemented()))

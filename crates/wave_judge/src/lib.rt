@@ -1,13 +1,15 @@
-//! A judge of windows: the leaves of a window are variables, each node above them gets its diagram by a wave, and two literals are
-//! compared by their references.
+//! A judge of windows: the leaves of a window are variables, each node above them gets its diagram
+//! by a wave, and two literals are compared by their references.
 //!
-//! **Promises.** What `WaveJudge::judge` finds holds over the leaves, whatever bits these have (`over`); so, if it finds two literals
-//! equal or complementary, they are at every assignment (`everywhere`). Any window will do. Each has the whole budget (`budget`). Only
-//! want of memory is an error.
+//! **Promises.** What `WaveJudge::judge` finds holds over the leaves, whatever bits these have
+//! (`over`). So if it finds two literals equal or complementary, they are so at every assignment
+//! (`everywhere`). Every window is allowed, and each has the whole budget (`budget`). The only
+//! error is want of memory.
 //!
-//! **Only tests show** that ample memory and a large enough budget suffice (`merge_tests`).
+//! **Only tests show** that nothing is refused if there is ample memory, and that a large enough
+//! budget suffices (`merge_tests`).
 //!
-//! **Begin** with `specs/OverLeaves`; then `judge`, and `diagrams` for what is built.
+//! **Begin** with `specs/OverLeaves`; then read `judge`, and `diagrams` for what is built.
 #![tactic(auto)]
 
 mod bound;

@@ -10,7 +10,7 @@ use Rattle.dd_store.specs.Complements.{complement_both}
 use Rattle.dd_store.specs.Nodes.{Nodes, node}
 use Rattle.dd_store.proofs.CanBeNode.{CanBeNode, CanBeNode-complemented, ready}
 
--- one of two pairs, or its complements
+-- the pair is one of two, or its complements
 can_both : (S : Nodes) (shard : ℕ) (one two p : Pair) → CanBeNode S 0 shard one → CanBeNode S 0 shard two
     → (b : Bool) × ((p ≡ complement_both b one) ⊎ (p ≡ complement_both b two)) → CanBeNode S 0 shard p
 can_both S shard one two p can_one can_two (b, inl e) = subst (CanBeNode S 0 shard) (sym e) (CanBeNode-complemented S 0 shard b one can_one)

@@ -1,12 +1,12 @@
-//! Waves whose requests are bounded.
-ghost use Rattle.std.specs.Prelude.{Option, Some, ℕ, ◌<◌, ◌≤◌, All};
+//! Waves with a bound on their requests.
+ghost use Rattle.std.specs.Prelude.{Some, false, ◌<◌, ◌≤◌, All};
 ghost use Rattle.reduce_up.specs.Waves.{IsEntry};
 
 use crate::plans::{NamingModel, built, read};
 use crate::waves::{How, Way, crew_of, entries_of, run, start};
 use dd_store::{Ref, Store, Watch};
 use expand_work::{Monitor, WaveFault};
-use net_order::order::{Match, Order};
+use net_names::order::{Match, Order};
 use net_order::pairing::pair;
 use req_table::{ComputedTable, Op};
 use std::alloc::{AllocError, Global};
@@ -17,8 +17,8 @@ use std::test::Fail;
 use std::thread::Threads;
 use wave_engine::{Engine, wave};
 
-/// Bounds a wave by so many requests, lets the caller's thread have so many of a level, and counts those that it is told of, and how
-/// often a worker comes to a level.
+/// Bounds a wave by `most` requests, lets the caller's thread have `caller_limit` requests of a level, and counts the
+/// requests that it is notified of, and how often a worker comes to a level.
 #[derive(Drop)]
 struct Bound {
     most: usize,
@@ -32,7 +32,7 @@ impl Watch for Bound {
 }
 
 impl Monitor for Bound {
-    ghost bound = { λ b. Some b.most };
+    ghost bound = { λ b. record { requests = Some b.most; stops = false } };
 
     fn at_level(&self, _worker: u32, _level: u16) {
         self.workers.fetch_add(1, Ordering::SeqCst);
@@ -51,19 +51,19 @@ impl Monitor for Bound {
     }
 }
 
-/// What a wave within a bound comes to.
+/// The outcome of a wave with a bound.
 #[derive(Drop)]
 struct Seen {
     fault: Option<WaveFault>,
     reported: usize,
     workers: usize,
-    /// How many nodes it has added.
+    /// How many nodes the wave has added.
     added: u64,
 }
 
-/// The entry for And of two sums of two variables each, which has one request at the first level, two at the second and four at the third,
-/// in a store that gets the sums.
-fn product_of_sums<R: Threads + Wait + Abort + Sync>(
+/// Makes the sums of two variables each, and returns the entry for And of both sums, which has one request at the first
+/// level, two at the second and four at the third.
+pub(crate) fn product_of_sums<R: Threads + Wait + Abort + Sync>(
     rt: &R,
     alloc: Global,
     store: &mut Store,
@@ -81,8 +81,8 @@ fn product_of_sums<R: Threads + Wait + Abort + Sync>(
     entries_of(rt, alloc, store, known.as_slice(), &steps)
 }
 
-/// That wave by so many workers, who are called in at a level of more requests than the caller's thread may have. It fails if memory is
-/// refused.
+/// Does this wave by `workers` workers, who are called in at a level with more requests than `caller_limit`. Fails if
+/// memory is refused.
 fn within<R: Threads + Wait + Abort + Sync>(
     rt: &R,
     alloc: Global,
@@ -121,13 +121,14 @@ fn is_done(seen: &Seen) -> bool {
     seen.fault.is_none() && seen.reported == 7 && seen.added > 0
 }
 
-/// Whether a wave was refused for its requests before a node was made, and none were expanded past this bound.
+/// Whether a wave has failed because of its requests before a node was made, and no more requests than the bound were
+/// expanded.
 fn is_refused(seen: &Seen, most: usize) -> bool {
     seen.fault == Some(WaveFault::TooManyRequests) && seen.reported <= most && seen.added == 0
 }
 
-// A wave of seven requests is done within a bound of seven and refused within less, by any number of workers, whichever level they are
-// called in at.
+// A wave of seven requests is done within a bound of seven, and fails within a lower one, by any number of workers,
+// whichever level they are called in at.
 #[test]
 fn bound_of_a_wave(rt: HostRuntime) -> Result<(), Fail> {
     for workers in 1..17 {
@@ -146,7 +147,8 @@ fn bound_of_a_wave(rt: HostRuntime) -> Result<(), Fail> {
     Ok(())
 }
 
-/// That wave two hundred times within exactly its bound and within one less, by this number of workers and by the three numbers above it.
+/// Does this wave two hundred times within exactly its bound and within one less, by `least` workers and by each of the
+/// three next numbers.
 fn two_hundred_rounds<R: Threads + Wait + Abort + Sync>(
     rt: &R,
     alloc: Global,
@@ -166,7 +168,7 @@ fn two_hundred_rounds<R: Threads + Wait + Abort + Sync>(
     Ok(())
 }
 
-// However the threads run, a wave of exactly its bound is done, and one of one more is refused.
+// In every schedule, a wave of exactly as many requests as its bound is done, and a wave of one more fails.
 #[test]
 fn bound_by_up_to_four(rt: HostRuntime) -> Result<(), Fail> {
     two_hundred_rounds(&rt, rt.alloc(), 1)
@@ -187,7 +189,8 @@ fn bound_by_up_to_sixteen(rt: HostRuntime) -> Result<(), Fail> {
     two_hundred_rounds(&rt, rt.alloc(), 13)
 }
 
-// Within a bound a thread that cannot be started changes no answer: tests/growths.py refuses each start in turn, and each growth.
+// With a bound a thread that cannot be started changes no result: tests/growths.py refuses each start in turn, and each
+// growth.
 #[test]
 fn bound_without_a_thread(rt: HostRuntime) -> Result<(), Fail> {
     let done = within(&rt, rt.alloc(), 4, 7, 0)?;
@@ -197,8 +200,8 @@ fn bound_without_a_thread(rt: HostRuntime) -> Result<(), Fail> {
     Ok(())
 }
 
-// Whoever expands them, the monitor is told of each of seven requests once: workers from the first, the second or the third level that has
-// any, or the caller's thread alone. One worker is called in for the whole wave or never.
+// Whoever expands them, the monitor is notified of each of seven requests once: workers from the first, the second or
+// the third level that has any, or only the caller's thread. A single worker is called in for a whole wave or never.
 #[test]
 fn each_request_is_reported_once(rt: HostRuntime) -> Result<(), Fail> {
     for workers in [1, 2, 4] {
@@ -213,7 +216,8 @@ fn each_request_is_reported_once(rt: HostRuntime) -> Result<(), Fail> {
     Ok(())
 }
 
-/// How many requests of that wave the caller's thread reduces, where four workers are called in likewise. All seven are expanded.
+/// Returns how many requests of this wave the caller's thread reduces if four workers are called in at a level with
+/// more than `caller_limit`. All seven are expanded.
 fn reduced_by_caller<R: Threads + Wait + Abort + Sync>(
     rt: &R,
     alloc: Global,
@@ -234,7 +238,8 @@ fn reduced_by_caller<R: Threads + Wait + Abort + Sync>(
     Ok(engine.reduced())
 }
 
-// The caller's thread reduces each of seven requests once where no worker is called in, else those of the levels before.
+// The caller's thread reduces each of seven requests once if no worker is called in, and otherwise those of the levels
+// before.
 #[test]
 fn each_request_is_reduced_once(rt: HostRuntime) -> Result<(), Fail> {
     for (caller_limit, reduced) in [(4, 7), (2, 3), (1, 1), (0, 0)] {
@@ -244,11 +249,12 @@ fn each_request_is_reduced_once(rt: HostRuntime) -> Result<(), Fail> {
     Ok(())
 }
 
-/// The gates p and q ask for one conjunction, q two ranks after p, since m is x again. In the rank of q there is also r.
+/// The gates p and q have the same conjunction, q two ranks after p, since m is x again. In the rank of q there is also
+/// r.
 static TWICE: &str =
     "INPUT(x)\nINPUT(y)\nOUTPUT(p)\nOUTPUT(q)\nOUTPUT(r)\nn = NOT(x)\nm = NOT(n)\np = AND(x, y)\nq = AND(m, y)\nr = XOR(m, y)\n";
 
-/// The fault of a build of that netlist, beside itself, whose waves have so many requests at most.
+/// Returns the fault of a build of this netlist, against itself, whose waves have at most `most` requests.
 fn build_within<R: Threads + Wait + Abort + Sync>(
     rt: &R,
     alloc: Global,
@@ -279,7 +285,7 @@ fn build_within<R: Threads + Wait + Abort + Sync>(
     Ok(built(&crew, &mut store, both).err())
 }
 
-// The last rank comes to two requests, of which the first rank has left the answer of one.
+// The last rank reaches two requests, and the first rank has left the answer of one of them.
 #[test]
 fn build_counts_what_is_held(rt: HostRuntime) -> Result<(), Fail> {
     let refused = build_within(&rt, rt.alloc(), 1)?;

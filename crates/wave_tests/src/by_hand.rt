@@ -1,5 +1,5 @@
-//! The wave of rank 2 of C17 and of its wrong copy, which docs/ARCHITECTURE.md works by hand: the rows of the page's two tables are
-//! what this trace writes.
+//! The wave of rank 2 of C17 and its wrong copy, which docs/ARCHITECTURE.md works by hand: the rows
+//! of the page's two tables are what this trace writes.
 ghost use Rattle.std.specs.Prelude.{◌≡◌, ◌<◌, length, All};
 ghost use Rattle.dd_store.specs.View.{Has};
 ghost use Rattle.req_table.specs.Keys.{IsKey};
@@ -9,7 +9,7 @@ use crate::waves::{How, Step, Way, known_at, request, run, start};
 use dd_store::{Ref, Store};
 use expand_work::NoMonitor;
 use gate_plan::Plan;
-use net_order::order::{Match, Order};
+use net_names::order::{Match, Order};
 use net_order::pairing::pair;
 use req_table::requests::owner;
 use req_table::{Child, Key, Op, Record};
@@ -22,7 +22,8 @@ use wave_doors::expand_all;
 /// The inputs by level.
 const INPUTS: [&str; 5] = ["1", "2", "3", "6", "7"];
 
-/// The gates 10 and 11 of both netlists. A reference is named by its place: the constants, the inputs by level, the answers so far.
+/// The gates 10 and 11 of both netlists. Operands are places in the list of known references: the constants, the inputs
+/// by level, and the answers so far.
 const RANK_ONE: [Step; 4] = [
     (Op::Nand, 2, 4),
     (Op::Nand, 4, 5),
@@ -38,7 +39,7 @@ const RANK_TWO: [Step; 4] = [
     (Op::Nand, 10, 5),
 ];
 
-/// Places with the names of what stands there.
+/// Places in the list of known references, and the names of the signals there.
 const NAMES: [(usize, &str); 7] = [
     (0, "False"),
     (2, "1"),
@@ -56,14 +57,14 @@ static DOWN: &str = "| 1 | AND(2, 11) | False | 11 |
 | 3 | AND(¬6, 7) | 7 | False |
 ";
 
-/// The rows of the way up: level, request, and the children of the node of which its diagram is the complement.
+/// The rows of the way up: level, request, and the children of the node whose complement is the request's diagram.
 static UP: &str = "| 3 | AND(¬6, 7) | ¬7 | ¬False |
 | 2 | AND(11, 7) | ¬7 | ¬AND(¬6, 7) |
 | 2 | AND(11, 6) | ¬6 | ¬False |
 | 1 | AND(2, 11) | ¬False | ¬11 |
 ";
 
-/// Rows, the names of references in them, and the diagrams of the requests so far.
+/// The rows that were written, the names of references in them, and the diagrams of the requests so far.
 #[derive(Drop)]
 struct Trace {
     rows: String,
@@ -72,7 +73,7 @@ struct Trace {
 }
 
 impl Trace {
-    /// No rows. The constants, the inputs and gate 11 have names.
+    /// Returns a trace without rows, in which the constants, the inputs and gate 11 have names.
     fn new(alloc: Global, known: &[Ref]) -> Result<Trace, AllocError> {
         let mut named = Vec::new(alloc);
         for (place, name) in NAMES {
@@ -87,7 +88,7 @@ impl Trace {
         })
     }
 
-    /// Gives the diagram of AND(¬6, 7) its name, by its children.
+    /// Gives the diagram of AND(¬6, 7) its name. It is found by its children.
     fn name_inner(
         &mut self,
         rt: &impl Abort,
@@ -103,7 +104,7 @@ impl Trace {
         Ok(())
     }
 
-    /// Writes the name of a reference, or of its complement.
+    /// Writes the name of a reference, or of its complement after a ¬.
     fn write_name(&mut self, reference: Ref) -> Result<(), AllocError> {
         for (known, name) in self.named.as_slice() {
             if *known == reference {
@@ -145,7 +146,7 @@ impl Trace {
         self.rows.push_str(" |\n")
     }
 
-    /// The diagram of a child, by those of the requests so far.
+    /// Returns the diagram of a child, by those of the requests so far.
     fn diagram_of(&self, child: Child) -> Option<Ref> {
         match child {
             Child::Done(answer) => Some(answer),
@@ -164,7 +165,7 @@ impl Trace {
         }
     }
 
-    /// Writes the row of a request on the way up. The store has its node, of which the request's diagram is the complement.
+    /// Writes the row of a request on the way up. The store has the node whose complement is the request's diagram.
     fn write_up(
         &mut self,
         rt: &impl Abort,
@@ -190,7 +191,7 @@ impl Trace {
     }
 }
 
-/// The requests of the entries of rank 2.
+/// Returns the requests of the entries of rank 2.
 fn roots_of(rt: &impl Abort, store: &Store, known: &[Ref]) -> [Key; 4]
     requires { All (Has store.now) known.now }
     ensures { All (IsKey store.now) result }
@@ -203,7 +204,7 @@ fn roots_of(rt: &impl Abort, store: &Store, known: &[Ref]) -> [Key; 4]
     ]
 }
 
-/// Sees that the rows of the way down are those of the page.
+/// Checks that the rows of the way down are those of the page.
 fn see_down(
     rt: &impl Abort,
     mut trace: Trace,
@@ -221,7 +222,7 @@ fn see_down(
     Ok(())
 }
 
-/// Sees that the rows of the way up are those of the page.
+/// Checks that the rows of the way up are those of the page.
 fn see_up(
     rt: &impl Abort,
     mut trace: Trace,
@@ -241,13 +242,13 @@ fn see_up(
     Ok(())
 }
 
-// Two workers come to four requests. Each puts one bundle and, at each of 5 levels, an End on both lanes. The same wave on the caller's
-// thread makes a node for each request.
+// Two workers reach four requests. Each puts one bundle, and at each of 5 levels an End on both lanes. The same wave on
+// the caller's thread makes a node for each request.
 #[test]
 fn rank_two_of_c17(rt: HostRuntime) -> Result<(), Fail> {
     let mut store = Store::new(rt.alloc(), 5, 100)?;
     let mut known = start(&rt, rt.alloc(), &mut store);
-    // A wave as the program does a small one: on the caller's thread.
+    // The program does so small a wave on the caller's thread.
     let how = How {
         workers: 1,
         way: Way::Threads,
@@ -284,7 +285,7 @@ fn rank_two_of_c17(rt: HostRuntime) -> Result<(), Fail> {
     Ok(())
 }
 
-// Both netlists' gates of rank 2 are the operations of this wave, over variables in declared order.
+// The gates of rank 2 of both netlists are the operations of this wave, over the variables in declared order.
 #[test]
 fn rank_two_is_planned(rt: HostRuntime) -> Result<(), Fail> {
     let first = read(&rt, rt.alloc(), C17);

@@ -1,4 +1,4 @@
-//! What children say, and those that the caller's thread asks for, where it expands a level and one by one.
+//! Packed children, and the children that the caller's thread places when it expands a level.
 ghost use Rattle.std.specs.Prelude.{◌≡◌};
 ghost use Rattle.req_table.specs.Keys.{IsKey};
 
@@ -11,7 +11,8 @@ use std::alloc::{AllocError, Global};
 use std::process::Abort;
 use std::test::Fail;
 
-/// What a child says, to be compared: its answer, or its level and owner, and whether it is the complement of what is asked for.
+/// Returns a child in a form that can be compared: its answer, or its level, its number and whether it is the
+/// complement.
 pub fn placed_value(child: PackedChild) -> Result<Ref, (u16, u32, bool)> {
     match child.view() {
         PlacedChild::Done(answer) => Ok(answer),
@@ -23,7 +24,7 @@ pub fn placed_value(child: PackedChild) -> Result<Ref, (u16, u32, bool)> {
     }
 }
 
-/// A store of the variables a, b, c at the levels 0, 1, 2 and the functions `a or b` and `a or c`.
+/// Returns a store of the variables a, b, c at the levels 0, 1, 2 and the functions `a or b` and `a or c`.
 pub fn row_store(rt: &impl Abort, alloc: Global) -> Store
     ensures { result.levels ≡ 3 }
 {
@@ -33,7 +34,7 @@ pub fn row_store(rt: &impl Abort, alloc: Global) -> Store
     store
 }
 
-/// The request for the conjunction of `a or b` and `a or c`.
+/// Returns the request for the conjunction of `a or b` and `a or c`.
 pub fn root_of(rt: &impl Abort, store: &Store) -> Key
     requires { store.now.levels ≡ 3 }
     ensures { IsKey store.now result }
@@ -43,7 +44,7 @@ pub fn root_of(rt: &impl Abort, store: &Store) -> Key
     request_for(rt, store, Op::And, first, second)
 }
 
-/// The children of one request, the requests that wait once it was expanded, and how many were split.
+/// Returns the children of one request, the requests that wait after it was expanded, and how many were split.
 fn expand_single(
     alloc: Global,
     store: &Store,

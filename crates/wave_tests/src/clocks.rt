@@ -1,5 +1,5 @@
-//! Level clocks.
-use level_close::EndCounts;
+//! The counts of Ends by which levels are closed.
+use expand_work::EndCounts;
 use std::test::Fail;
 
 #[test]

@@ -1,5 +1,5 @@
-//! Waves that know of earlier ones by a computed table.
-ghost use Rattle.std.specs.Prelude.{◌≡◌, ◌≤◌, IfOk};
+//! Waves with a computed table, which has the answers of earlier ones.
+ghost use Rattle.std.specs.Prelude.{◌≤◌, IfOk};
 ghost use Rattle.dd_store.specs.View.{Has, Keeps};
 ghost use Rattle.req_table.specs.ComputedTables.{IsRight};
 ghost use Rattle.reduce_up.specs.Waves.{IsEntry};
@@ -10,7 +10,7 @@ use crate::requests::request_for;
 use crate::waves::{WAYS, Way, crew_of};
 use dd_store::{Ref, Store};
 use expand_work::{NoMonitor, WaveFault};
-use net_order::order::{Match, Order};
+use net_names::order::{Match, Order};
 use net_order::pairing::pair;
 use req_table::{Child, ComputedTable, Op};
 use std::alloc::Global;
@@ -22,7 +22,7 @@ use std::thread::Threads;
 use wave_doors::{child_with_computed, wave_on_one_thread};
 use wave_engine::wave;
 
-/// The first two variables of a store.
+/// Makes the variables of both levels of a store, and returns that of level 0 first.
 fn variables<R: Abort>(rt: &R, store: &mut Store) -> (Ref, Ref)
     requires { 2 ≤ store.old.levels }
     ensures first { Has store.new result.0 }
@@ -33,7 +33,7 @@ fn variables<R: Abort>(rt: &R, store: &mut Store) -> (Ref, Ref)
     (a, b)
 }
 
-/// The answer of a wave to one operation.
+/// Returns the answer of a wave for one operation.
 fn ask<R: Threads + Wait + Sync>(
     rt: &R,
     alloc: Global,
@@ -66,7 +66,7 @@ fn ask<R: Threads + Wait + Sync>(
     Ok(answers[0])
 }
 
-/// Whether this answer is held of an operation, as its child has it.
+/// Whether this answer of an operation is held, by the operation's child.
 fn is_known(store: &Store, computed: &ComputedTable, op: Op, f: Ref, g: Ref, wanted: Ref) -> bool
     requires first { Has store.now f }
     requires second { Has store.now g }
@@ -78,7 +78,7 @@ fn is_known(store: &Store, computed: &ComputedTable, op: Op, f: Ref, g: Ref, wan
     }
 }
 
-/// Asks twice for one operation, with the operands both ways round.
+/// Asks twice for one operation, the second time with its operands exchanged.
 fn twice<R: Abort + Threads + Wait + Sync>(rt: &R, alloc: Global, way: Way) -> Result<(), Fail> {
     let mut store = Store::new(alloc, 2, 100)?;
     let mut computed = ComputedTable::new(alloc, 8)?;
@@ -100,11 +100,11 @@ fn memo_in_wave(rt: HostRuntime) -> Result<(), Fail> {
     Ok(())
 }
 
-/// C17 behind buffers, so that each gate has the next rank.
+/// C17 with a buffer after each input, so that each gate has the next rank.
 static BUFFERED: &str =
     "INPUT(1)\nINPUT(2)\nINPUT(3)\nINPUT(6)\nINPUT(7)\nOUTPUT(22)\nOUTPUT(23)\na = BUFF(1)\nb = BUFF(2)\nc = BUFF(3)\nf = BUFF(6)\ng = BUFF(7)\n10 = NAND(a, c)\n11 = NAND(c, f)\n16 = NAND(b, 11)\n19 = NAND(11, g)\n22 = NAND(10, 16)\n23 = NAND(16, 19)\n";
 
-/// How often a worker comes to a level in the building of two netlists, each request of which is the workers'.
+/// Returns how often a worker comes to a level in a build of two netlists in which the workers expand each request.
 fn reported<R: Abort + Threads + Wait + Sync>(
     rt: &R,
     alloc: Global,
@@ -127,7 +127,8 @@ fn reported<R: Abort + Threads + Wait + Sync>(
     Ok(monitor.reported.load(Ordering::SeqCst))
 }
 
-// What both netlists have at other ranks is asked for once: no level more is come to than where both are one text.
+// What both netlists have, at different ranks, is asked for once: workers come to no more levels than for two equal
+// texts.
 #[test]
 fn other_ranks(rt: HostRuntime) -> Result<(), Fail> {
     let same = reported(&rt, rt.alloc(), C17, C17)?;

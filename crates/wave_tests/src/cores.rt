@@ -1,5 +1,5 @@
-//! The workers of a wave on one thread: single events, what is refused, and driven cores.
-ghost use Rattle.std.specs.Prelude.{◌≡◌, ◌≤◌, ◌<◌, All};
+//! The workers of a wave as a state machine: single events, refused events, and driven cores.
+ghost use Rattle.std.specs.Prelude.{◌≡◌, ◌<◌, All};
 ghost use Rattle.req_table.specs.Keys.{IsKey};
 
 use crate::requests::{request, store_of};
@@ -9,8 +9,8 @@ use std::process::Abort;
 use std::test::Fail;
 use wave_core::{Core, CoreFault, Event};
 
-/// The roots of the walk: a conjunction of the variables of the levels 0 and 2, of worker 0 among two, and one of those of the levels 2
-/// and 3, of worker 1.
+/// Returns the roots of this test's wave: a conjunction of the variables of levels 0 and 2, which worker 0 of two owns,
+/// and one of those of levels 2 and 3, which worker 1 owns.
 fn roots_of(rt: &impl Abort, store: &Store) -> [Key; 2]
     requires { store.now.levels ≡ 4 }
     ensures { All (IsKey store.now) result }
@@ -28,24 +28,24 @@ fn does(rt: &impl Abort, core: &mut Core, events: &[Event])
     assert!(rt; core.run(events) == Ok(events.len()));
 }
 
-/// Does an event that has to be refused after so many events.
+/// Does an event that has to be refused, after `place` events were done.
 fn refuses(rt: &impl Abort, core: &mut Core, event: Event, place: u128)
     ensures { core.new.machine.workers ≡ core.old.machine.workers }
 {
     assert!(rt; core.step(event) == Err(CoreFault::NotAllowed { place }));
 }
 
-/// Whether an item asks for this key, from a worker and at a level.
+/// Whether an item asks for this key, from this worker and at this level.
 fn is_ask(item: &Item, sender: u32, at: u16, wanted: Key) -> bool {
     matches!(*item, Item::Ask { from, level, key } if from == sender && level == at && key == wanted)
 }
 
-/// Whether an item ends a level, from a worker.
+/// Whether an item ends this level, from this worker.
 fn is_end(item: &Item, sender: u32, at: u16) -> bool {
     matches!(*item, Item::End { from, level } if from == sender && level == at)
 }
 
-/// Drives a core of the walk to its end: it has one record at the first level and one at the third.
+/// Drives a core of this wave to its end: it has one record at the first level and one at the third.
 fn finishes(rt: &impl Abort, mut core: Core) -> Result<(), Fail> {
     assert!(rt; core.drive(&[]).is_ok());
     let records = core.into_records()?;
@@ -55,7 +55,7 @@ fn finishes(rt: &impl Abort, mut core: Core) -> Result<(), Fail> {
     Ok(())
 }
 
-// A worker expands a request only behind the Ends of all, and goes on when all is expanded.
+// A worker expands a request only after the Ends of all workers, and goes on when all are expanded.
 #[test]
 fn core_walk(rt: HostRuntime) -> Result<(), Fail> {
     let store = store_of(&rt, rt.alloc(), 4);
@@ -97,7 +97,7 @@ fn core_walk(rt: HostRuntime) -> Result<(), Fail> {
     finishes(&rt, core)
 }
 
-// What a fresh core refuses, and that it does its events as before.
+// A new core refuses some events, and does others as before.
 #[test]
 fn core_refusals(rt: HostRuntime) -> Result<(), Fail> {
     let store = store_of(&rt, rt.alloc(), 4);
@@ -125,7 +125,7 @@ fn core_refusals(rt: HostRuntime) -> Result<(), Fail> {
     Ok(())
 }
 
-// A worker keeps a request that is due from it to itself: it is sent and taken at once, which is one event.
+// A worker keeps a request that is due from it to itself: the request is sent and taken at once, which is one event.
 #[test]
 fn core_keep(rt: HostRuntime) -> Result<(), Fail> {
     let store = store_of(&rt, rt.alloc(), 4);

@@ -1,4 +1,4 @@
-//! Waves of one engine, whose workers are called in by how large the waves before were.
+//! Waves of one engine, which calls workers in by the sizes of the waves before.
 ghost use Rattle.std.specs.Prelude.{◌<◌, ◌≤◌};
 
 use crate::waves::{crew_of, start};
@@ -15,7 +15,7 @@ use std::test::Fail;
 use std::thread::Threads;
 use wave_engine::Engine;
 
-/// Calls in workers as `NoMonitor` does, and hears whether any were.
+/// Calls workers in as `NoMonitor` does, and notes whether any were.
 #[derive(Drop)]
 struct CallWatcher {
     called: AtomicBool,
@@ -39,13 +39,14 @@ impl Monitor for CallWatcher {
     }
 }
 
-/// The sums stand behind the constants, 66 variables and 65 products.
+/// The place of the first sum: before the sums are the constants, 66 variables and 65 products.
 const SUMS: usize = 133;
 
-/// Waves that ask, at one level, for the difference of each two of so many sums, the first so many places behind the first sum; and
-/// whether four workers are called in. 92 sums have 4,186 differences, 140 have 9,730, 223 have 24,753, 362 have 65,341 and 370 have
-/// 68,265. Each comes to two requests at least. So those of 223 come to over 49,152, and those of 370 with all before to over 262,144.
-/// 66 levels with 128 requests each have 8,448.
+/// Each wave asks, at one level, for the difference of each two of some sums: of how many places after the first sum
+/// they begin, how many there are, and whether four workers are called in. 92 sums have 4,186 differences, 140 have
+/// 9,730, 223 have 24,753, 362 have 65,341 and 370 have 68,265. Each reaches two requests at least. So those of 223
+/// reach over 49,152, and those of 370, with all waves before, over 262,144. 66 levels with 128 requests each have
+/// 8,448.
 const WAVES: [(u16, u16, bool); 9] = [
     (0, 362, false),
     (362, 140, false),
@@ -58,7 +59,7 @@ const WAVES: [(u16, u16, bool); 9] = [
     (1636, 92, false),
 ];
 
-/// Does the waves by an engine that has so many workers, and compares whether any are called in.
+/// Does the waves by an engine with `workers` workers, and compares whether any are called in.
 fn call_in<R: Threads + Wait + Abort + Sync>(
     rt: &R,
     alloc: Global,
@@ -91,9 +92,9 @@ fn call_in<R: Threads + Wait + Abort + Sync>(
     Ok(())
 }
 
-// Four workers are called in at a level of more than 65,536 requests, and at one of more than 4,096 where the engine has done 262,144
-// requests and one of its last two waves had more than 49,152, where the levels from there on have 128 on average: 4,186 at one level
-// never do it here. So are two, and one never is.
+// Four workers are called in at a level of more than 65,536 requests; and at one of more than 4,096 if the engine has
+// done 262,144 requests, one of its last two waves had more than 49,152, and the levels from there on have 128 on
+// average: 4,186 at one level never suffice here. Two workers are called in at the same levels, and a single one never.
 #[test]
 fn workers_after_large_waves(rt: HostRuntime) -> Result<(), Fail> {
     call_in(&rt, rt.alloc(), 4, &WAVES)?;
@@ -109,7 +110,8 @@ fn workers_after_large_waves(rt: HostRuntime) -> Result<(), Fail> {
     Ok(())
 }
 
-// Two workers who share a level of 150,975 requests each have lists of more than 4,096 pairs for a shard, and there is memory for them.
+// Two workers who share a level of 150,975 requests each have lists of more than 4,096 pairs for a shard, and there is
+// memory for them.
 #[test]
 fn long_lists_for_a_shard(rt: HostRuntime) -> Result<(), Fail> {
     call_in(&rt, rt.alloc(), 2, &[(0, 550, true)])?;

@@ -1,5 +1,6 @@
-//! Waves expanded by threads: their records, how many loads were put, and workers that meet at a level.
-ghost use Rattle.std.specs.Prelude.{◌≡◌, ◌≤◌, ◌<◌, All};
+//! Waves that are expanded by threads: their records, how many loads were put, and workers that are
+//! at one level at the same time.
+ghost use Rattle.std.specs.Prelude.{◌≡◌, ◌<◌, All};
 ghost use Rattle.reduce_up.specs.Waves.{IsEntry};
 ghost use Rattle.req_table.specs.Keys.{IsKey};
 
@@ -18,7 +19,7 @@ use std::test::Fail;
 use wave_doors::expand_all;
 use wave_engine::wave;
 
-/// How many loads the ports put together.
+/// Returns how many loads the ports have put together.
 fn put_by(ports: &[Port]) -> u128 {
     let mut total: u128 = 0;
     for port in ports {
@@ -27,7 +28,7 @@ fn put_by(ports: &[Port]) -> u128 {
     total
 }
 
-/// Whether each of so many ports stands at the place of its number.
+/// Whether there are `workers` ports, each at the place of its number.
 fn are_numbered(ports: &[Port], workers: u32) -> bool {
     let mut place: u32 = 0;
     for port in ports {
@@ -47,7 +48,7 @@ fn is_answer(child: Child, wanted: Ref) -> bool {
     }
 }
 
-/// Whether these are the one record of this request, whose children are answers.
+/// Whether these are a single record, of this request, whose children are these answers.
 fn is_record(records: &[Record], key: Key, low: Ref, high: Ref) -> bool {
     records.len() == 1
         && records[0].key == key
@@ -55,7 +56,7 @@ fn is_record(records: &[Record], key: Key, low: Ref, high: Ref) -> bool {
         && is_answer(records[0].high, high)
 }
 
-/// The conjunction of the variables a and b, asked for both ways round.
+/// Returns the conjunction of the variables a and b twice, with the operands in either order.
 fn both_ways(rt: &impl Abort, store: &Store) -> [Key; 2]
     requires { store.now.levels ≡ 2 }
     ensures { All (IsKey store.now) result }
@@ -66,7 +67,8 @@ fn both_ways(rt: &impl Abort, store: &Store) -> [Key; 2]
     ]
 }
 
-// Two roots of one key make one record, whose owner gets one and keeps its own: 1 bundle, and 4 x 4 x 2 Ends.
+// Two roots of one key make one record. Its owner gets one of them and keeps its own, so there is 1 bundle, and there
+// are 4 x 4 x 2 Ends.
 #[test]
 fn merged_roots(rt: HostRuntime) -> Result<(), Fail> {
     let store = store_of(&rt, rt.alloc(), 2);
@@ -81,7 +83,7 @@ fn merged_roots(rt: HostRuntime) -> Result<(), Fail> {
     Ok(())
 }
 
-/// The conjunctions of the variables a and c, and of c and d, which different workers of two own.
+/// Returns the conjunctions of the variables a and c, and of c and d, which different workers of two own.
 fn two_roots(rt: &impl Abort, store: &Store) -> [Key; 2]
     requires { store.now.levels ≡ 4 }
     ensures { All (IsKey store.now) result }
@@ -92,7 +94,7 @@ fn two_roots(rt: &impl Abort, store: &Store) -> [Key; 2]
     ]
 }
 
-/// Workers who meet at level 0.
+/// A monitor with which workers meet at level 0.
 #[derive(Drop)]
 struct AtFirst(Meeting);
 
@@ -112,7 +114,7 @@ impl Monitor for AtFirst {
     }
 }
 
-/// The operations of the same two requests.
+/// Returns the operations of the same two requests.
 fn two_entries(rt: &impl Abort, store: &Store) -> [(Op, Ref, Ref); 2]
     requires { store.now.levels ≡ 4 }
     ensures { All (IsEntry store.now) result }
@@ -124,7 +126,7 @@ fn two_entries(rt: &impl Abort, store: &Store) -> [(Op, Ref, Ref); 2]
     ]
 }
 
-// Two workers are at one level at once, keep their root each, and put 2 x 2 x 4 Ends.
+// Two workers are at one level at the same time, each keeps its root, and they put 2 x 2 x 4 Ends.
 #[test]
 fn two_at_a_level(rt: HostRuntime) -> Result<(), Fail> {
     let store = store_of(&rt, rt.alloc(), 4);
@@ -142,7 +144,7 @@ fn two_at_a_level(rt: HostRuntime) -> Result<(), Fail> {
     Ok(())
 }
 
-// The same in a wave.
+// In a wave of the program, too, two workers are at one level at the same time.
 #[test]
 fn two_at_a_level_of_a_wave(rt: HostRuntime) -> Result<(), Fail> {
     let mut store = store_of(&rt, rt.alloc(), 4);
@@ -159,7 +161,7 @@ fn two_at_a_level_of_a_wave(rt: HostRuntime) -> Result<(), Fail> {
     Ok(())
 }
 
-/// Holds worker 1 at level 0, and sees whether anyone is told of a further level meanwhile.
+/// Delays worker 1 at level 0, and notes whether a worker comes to a deeper level meanwhile.
 #[derive(Drop)]
 struct Holder {
     other: AtomicBool,
@@ -191,7 +193,8 @@ impl Monitor for Holder {
     }
 }
 
-// A worker is told of a level when it is closed, which the next is not before both workers have left this one.
+// The monitor is notified of a level when it is closed; the next level is not closed before both workers have left this
+// one.
 #[test]
 fn levels_are_reported_when_closed(rt: HostRuntime) -> Result<(), Fail> {
     let store = store_of(&rt, rt.alloc(), 4);
@@ -209,7 +212,7 @@ fn levels_are_reported_when_closed(rt: HostRuntime) -> Result<(), Fail> {
     Ok(())
 }
 
-/// The request so many times.
+/// Returns the request `count` times.
 fn copies(rt: &impl Abort, alloc: Global, store: &Store, key: Key, count: usize) -> Vec<Key>
     requires { IsKey store.now key }
     ensures { All (IsKey store.now) result.items }
@@ -235,8 +238,8 @@ fn many_equal_roots(rt: HostRuntime) -> Result<(), Fail> {
     Ok(())
 }
 
-// However the threads run, the records are as many, and the Ends are put, and a bundle for each two different workers
-// of whom one asks the other at a level: 3 of 2 workers, 4 of 3, and of 16 one for each of 5 roots and 2 children.
+// In every schedule there are as many records, all Ends, and a bundle for each two different workers of whom one asks
+// the other at a level: 3 for 2 workers, 4 for 3, and for 16 one for each of 5 roots and 2 children.
 #[test]
 fn any_schedule(rt: HostRuntime) -> Result<(), Fail> {
     let store = store_of_six(&rt, rt.alloc());

@@ -1,11 +1,11 @@
-//! A thread for each place of a list.
-use reduce_up::fork_each;
+//! A map by a thread for each place of a list.
 use std::alloc::Global;
 use std::process::Abort;
 use std::test::Fail;
 use std::thread::Threads;
+use thread_map::fork_each;
 
-/// Has each place of a list hold its number and what it held, by a thread for each, and compares.
+/// Adds to each element of a list its place, by a thread for each, and compares.
 fn forked<R: Threads + Sync + Abort>(rt: &R, alloc: Global, count: u64) -> Result<(), Fail> {
     let mut held = Vec::new(alloc);
     for place in 0..count {
@@ -20,7 +20,7 @@ fn forked<R: Threads + Sync + Abort>(rt: &R, alloc: Global, count: u64) -> Resul
     Ok(())
 }
 
-// Each place is worked at once, with its number, by as many threads as there are places.
+// Each place is worked on once, with its number, for each length of the list.
 #[test]
 fn each_place_by_a_thread(rt: HostRuntime) -> Result<(), Fail> {
     for count in [0, 1, 2, 4, 7] {

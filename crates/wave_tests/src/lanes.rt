@@ -1,4 +1,5 @@
-//! Lanes on one thread and between threads: what was taken and left is what was put, in its order.
+//! Lanes on one thread and between threads: what was taken and what is left is what was put, in its
+//! order.
 ghost use Rattle.std.specs.Prelude.{◌≡◌, ◌≤◌, ◌<◌, [], ◌∷◌, All, IfOk, length};
 ghost use Rattle.req_table.specs.Sizes.{sizes_of, IsKeyOf};
 ghost use Rattle.lane_queue.specs.PortView.{IsPortOf};
@@ -16,7 +17,7 @@ use std::test::Fail;
 use std::thread;
 use std::thread::Threads;
 
-/// Whether a load is a bundle of this one request of level 0, from a worker.
+/// Whether a load is a bundle of only this request, of level 0, from this worker.
 fn is_ask(load: &Load, sender: u32, wanted: Key) -> bool {
     match load {
         Load::Bundle { from, asks } => {
@@ -27,12 +28,12 @@ fn is_ask(load: &Load, sender: u32, wanted: Key) -> bool {
     }
 }
 
-/// Whether a load ends level 0, from a worker.
+/// Whether a load ends level 0, from this worker.
 fn is_end(load: &Load, sender: u32) -> bool {
     matches!(*load, Load::End { from, level } if from == sender && level == 0)
 }
 
-/// Lanes for so many workers, with their ports, none of which was used.
+/// Returns new lanes for `workers` workers, with their ports.
 pub(crate) fn open(
     alloc: Global,
     store: &Store,
@@ -47,7 +48,7 @@ pub(crate) fn open(
     Ok((lanes, ports))
 }
 
-/// A bundle of one request.
+/// Returns a bundle of one request.
 fn one(rt: &impl Abort, alloc: Global, level: u16, key: Key) -> Bundle
     ensures { result ≡ (level, key) ∷ [] }
 {
@@ -56,7 +57,7 @@ fn one(rt: &impl Abort, alloc: Global, level: u16, key: Key) -> Bundle
     asks
 }
 
-/// Puts a bundle of one request on the lane of the worker 1, where the port has put no End yet.
+/// Puts a bundle of one request on the lane of worker 1, on which the port has put no End yet.
 fn ask<R: Wait + Abort>(
     rt: &R,
     alloc: Global,
@@ -79,7 +80,7 @@ fn ask<R: Wait + Abort>(
     assert!(rt; lanes.send(rt, port, 1, Load::Bundle { from, asks }).is_ok());
 }
 
-/// Puts the next End on a lane.
+/// Puts the port's next End on a lane.
 pub(crate) fn end<R: Wait + Abort>(rt: &R, store: &Store, lanes: &Lanes, port: &mut Port, to: u32)
     requires store { lanes.now.sizes ≡ sizes_of store.now }
     requires port { IsPortOf lanes.now port.old }
@@ -108,7 +109,7 @@ fn settle<R: Wait + Abort>(
     lanes.settle(rt, ports)
 }
 
-/// Settles lanes between two workers.
+/// Settles the lanes of two workers.
 fn settle_both<R: Wait + Abort>(
     rt: &R,
     alloc: Global,
@@ -152,7 +153,7 @@ struct Sender {
     odd: Key,
 }
 
-/// Puts 1,000 requests on the lane of the worker 1, and then the first End.
+/// Puts 1,000 requests on the lane of worker 1, and then the first End.
 fn send_in_turn<R: Wait + Abort>(
     rt: &R,
     alloc: Global,
@@ -179,7 +180,7 @@ fn send_in_turn<R: Wait + Abort>(
     port
 }
 
-/// Takes up to the first End.
+/// Takes loads up to the first End.
 fn take_to_end<R: Wait + Abort>(
     rt: &R,
     alloc: Global,
@@ -205,7 +206,7 @@ fn take_to_end<R: Wait + Abort>(
     (port, loads)
 }
 
-/// Takes so many items, each at the first call.
+/// Takes `count` loads, each at the first call.
 fn take_at_once<R: Wait + Abort>(rt: &R, lanes: &Lanes, port: &mut Port, count: usize)
     requires { IsPortOf lanes.now port.old }
     ensures { IsPortOf lanes.now port.new }
@@ -216,7 +217,7 @@ fn take_at_once<R: Wait + Abort>(rt: &R, lanes: &Lanes, port: &mut Port, count: 
     assert!(rt; lanes.take(rt, port).is_none());
 }
 
-// Where nobody else steps on a lane, None comes only once it is empty.
+// If no other thread steps on a lane, `take` returns None only if the lane is empty.
 #[test]
 fn what_waits_is_taken_at_once(rt: HostRuntime) -> Result<(), Fail> {
     let store = store_of(&rt, rt.alloc(), 2);
@@ -239,7 +240,7 @@ fn what_waits_is_taken_at_once(rt: HostRuntime) -> Result<(), Fail> {
     Ok(())
 }
 
-/// One port sends in a thread, another takes in a second one.
+/// One port sends in a thread, and another one takes in a second thread.
 fn send_and_take<R: Threads + Wait + Abort + Sync>(
     rt: &R,
     alloc: Global,

@@ -1,4 +1,4 @@
-//! The least assignment in declared order.
+//! The least difference in declared order.
 ghost use Rattle.std.specs.Prelude.{All};
 ghost use Rattle.dd_store.specs.View.{Has};
 ghost use Rattle.counter_walk.specs.DeclaredOrder.{IsOrder};
@@ -10,7 +10,7 @@ use std::alloc::Global;
 use std::process::Abort;
 use std::test::Fail;
 
-/// Ends the test where this is no order of so many levels.
+/// Fails the test if this is no order of `levels` levels.
 fn assert_order<R: Abort>(rt: &R, order: &[u16], levels: u16)
     ensures { IsOrder levels order.now }
 {
@@ -43,18 +43,18 @@ fn add_node<R: Abort>(
     known.push(made).expect(rt, "memory");
 }
 
-/// The functions that are 0 and 1 everywhere.
+/// Returns the functions that are 0 and 1 everywhere.
 fn constants<R: Abort>(rt: &R, alloc: Global, store: &Store) -> Vec<Ref>
     ensures { All (Has store.now) result.items }
 {
-    let _ = store.levels();
+    let _ = store.levels(); // For the proof.
     let mut known = Vec::new(alloc);
     known.push(Ref::FALSE).expect(rt, "memory");
     known.push(Ref::TRUE).expect(rt, "memory");
     known
 }
 
-/// Ends the test where another assignment was found than is wanted.
+/// Fails the test if another assignment was found than the wanted one.
 fn assert_found<R: Abort>(rt: &R, found: Option<Vec<bool>>, wanted: Option<&[bool]>) {
     match (found, wanted) {
         (Some(bits), Some(wanted)) => assert!(rt; bits.as_slice() == wanted),
@@ -63,8 +63,8 @@ fn assert_found<R: Abort>(rt: &R, found: Option<Vec<bool>>, wanted: Option<&[boo
     }
 }
 
-// Level 0 has the variable that is declared last, and level 2 the one before it: where one of these two has to be 1, it is the one that is
-// declared last, although it stands above the other.
+// Level 0 has the variable that is declared last, and level 2 the one that is declared before it. If one of these two
+// has to be 1, it is the one that is declared last, although its level is above the other's.
 #[test]
 fn as_declared(rt: HostRuntime) -> Result<(), Fail> {
     let alloc = rt.alloc();

@@ -1,9 +1,13 @@
-//! Tests of the store, of workers, of waves and of plans, by their public calls alone.
+//! Tests of the store, of workers, of waves and of plans, by their public calls only.
 //!
-//! They show what no contract can: that calls with ample memory succeed (`refused`: what a refused wave leaves), that
-//! threads meet in a level and in its shards (`meeting`, `stores`, `wide`), when workers are called in (`earlier`),
-//! that each request is reported once, and a wave refused exactly if it has more than its bound (`bounds`), and that each
-//! number of workers answers the same (`workers`, `widths`); `by_hand` traces a wave that docs/ARCHITECTURE.md works by hand.
+//! **Only these tests show** what no contract can: that calls succeed if there is ample memory
+//! (`refused` also shows what a failed wave leaves), that threads are at one level and in its
+//! shards at the same time (`meeting`, `stores`, `wide`), when workers are called in (`earlier`),
+//! that each request is reported once, and that a wave fails exactly if it has more requests than
+//! its bound (`bounds`), that a wave is stopped before any of its levels (`stopped`), and that each
+//! number of workers gives the same answers (`workers`, `widths`). `by_hand` traces the wave that
+//! docs/ARCHITECTURE.md works by hand.
+//!
 //! **Begin** with `waves`.
 #![tactic(auto)]
 
@@ -43,6 +47,8 @@ mod refused;
 mod requests;
 #[cfg(test)]
 mod same_store;
+#[cfg(test)]
+mod stopped;
 #[cfg(test)]
 mod stores;
 #[cfg(test)]

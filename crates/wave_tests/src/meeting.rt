@@ -1,11 +1,11 @@
-//! Threads that are at one place at once, in tests.
+//! Meetings, by which a test finds out that threads are at one place at the same time.
 use std::sync::atomic::{AtomicBool, AtomicU32, Ordering};
 use std::thread;
 
-/// How often a thread lets others go on before it waits no longer.
+/// How often a thread yields before it gives up waiting.
 pub(crate) const MAX_YIELDS: u32 = 10_000_000;
 
-/// Lets others go on until the flag is set, for so many turns at most, and says whether it is.
+/// Yields to other threads until the flag is set, at most `yields` times. Returns whether it is set.
 pub(crate) fn wait_for(flag: &AtomicBool, yields: u32) -> bool {
     for _ in 0..yields {
         if flag.load(Ordering::SeqCst) {
@@ -16,7 +16,7 @@ pub(crate) fn wait_for(flag: &AtomicBool, yields: u32) -> bool {
     flag.load(Ordering::SeqCst)
 }
 
-/// Some threads, each of which waits where it comes until so many are there at once.
+/// A place at which each thread waits until `wanted` threads are there at the same time.
 #[derive(Drop)]
 pub(crate) struct Meeting {
     wanted: u32,
@@ -26,7 +26,7 @@ pub(crate) struct Meeting {
 }
 
 impl Meeting {
-    /// A place where so many threads are to be at once.
+    /// Returns a place at which `wanted` threads are to be at the same time.
     pub(crate) fn of(wanted: u32) -> Meeting {
         Meeting {
             wanted,
@@ -36,7 +36,7 @@ impl Meeting {
         }
     }
 
-    /// Comes, waits until all have met or one has waited in vain, and leaves.
+    /// Comes, waits until all have met or one thread has given up waiting, and leaves.
     pub(crate) fn come(&self) {
         let others = self.present.fetch_add(1, Ordering::SeqCst);
         if others.saturating_add(1) >= self.wanted {
@@ -49,7 +49,7 @@ impl Meeting {
         self.present.fetch_sub(1, Ordering::SeqCst);
     }
 
-    /// Whether so many were there at once.
+    /// Whether `wanted` threads were there at the same time.
     pub(crate) fn met(&self) -> bool {
         self.met.load(Ordering::SeqCst)
     }

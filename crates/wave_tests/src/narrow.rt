@@ -1,9 +1,9 @@
-//! A monitor that says at how many requests of a level workers are called in.
+//! A monitor that sets from how many requests of a level on workers are called in.
 use dd_store::Watch;
 use expand_work::Monitor;
 use std::sync::atomic::{AtomicU32, AtomicUsize, Ordering};
 
-/// Lets the caller's thread have so many requests of a level, and counts how often a worker comes to a level.
+/// Lets the caller's thread have `most` requests of a level, and counts how often a worker comes to a level.
 #[derive(Drop)]
 pub(crate) struct Narrow {
     pub(crate) most: AtomicUsize,
@@ -11,7 +11,7 @@ pub(crate) struct Narrow {
 }
 
 impl Narrow {
-    /// Levels of at most so many requests are the caller's.
+    /// Returns a monitor that leaves levels of at most `most` requests to the caller's thread.
     pub(crate) fn new(most: usize) -> Narrow {
         Narrow {
             most: AtomicUsize::new(most),

@@ -1,4 +1,4 @@
-//! Plans of netlists, and the building of two netlists' diagrams.
+//! Plans of netlists, and the building of the diagrams of two netlists.
 ghost use Rattle.std.specs.Prelude.{◌≡◌, ◌<◌, ◌≤◌, length, None, IfOk};
 ghost use Rattle.net_bench.specs.Circuit.{circuit};
 ghost use Rattle.gate_plan.specs.Building.{AreDiagrams, IsPaired};
@@ -10,7 +10,7 @@ use expand_work::{Crew, Monitor, NoMonitor, WaveFault};
 use gate_plan::{CircuitDiagrams, Circuits, Plan, build};
 use net_bench::netlist::{Netlist, Signal};
 use net_bench::reader::parse_bench;
-use net_order::order::{Match, Order};
+use net_names::order::{Match, Order};
 use net_order::pairing::{Pairing, pair};
 use req_table::Op;
 use std::alloc::Global;
@@ -19,15 +19,15 @@ use std::sync::Wait;
 use std::test::Fail;
 use std::thread::Threads;
 
-/// The smallest circuit of ISCAS-85: six NAND gates.
+/// The smallest circuit of ISCAS-85, six NAND gates.
 pub(crate) static C17: &str =
     "INPUT(1)\nINPUT(2)\nINPUT(3)\nINPUT(6)\nINPUT(7)\nOUTPUT(22)\nOUTPUT(23)\n10 = NAND(1, 3)\n11 = NAND(3, 6)\n16 = NAND(2, 11)\n19 = NAND(11, 7)\n22 = NAND(10, 16)\n23 = NAND(16, 19)\n";
 
-/// Gate 19 reads 6 in place of 7.
+/// The same with an error: gate 19 has the operand 6 in place of 7.
 pub(crate) static C17B: &str =
     "INPUT(1)\nINPUT(2)\nINPUT(3)\nINPUT(6)\nINPUT(7)\nOUTPUT(22)\nOUTPUT(23)\n10 = NAND(1, 3)\n11 = NAND(3, 6)\n16 = NAND(2, 11)\n19 = NAND(11, 6)\n22 = NAND(10, 16)\n23 = NAND(16, 19)\n";
 
-/// The netlist of a text that is one.
+/// Returns the netlist of a text that is one.
 pub(crate) fn read<R: Abort>(rt: &R, alloc: Global, text: &str) -> Netlist {
     parse_bench(alloc, text.as_bytes()).expect(rt, "a netlist")
 }
@@ -40,7 +40,7 @@ fn signal<R: Abort>(rt: &R, netlist: &Netlist, name: &str) -> Signal
     signal
 }
 
-/// Sees that the only steps of a rank are these two, by Nand: each with its output and its operands.
+/// Checks that a rank has exactly these two steps, both by Nand: each with its output and its operands.
 pub(crate) fn are_nands<R: Abort>(
     rt: &R,
     netlist: &Netlist,
@@ -127,7 +127,7 @@ pub(crate) fn built<R: Threads + Wait + Sync, G: Monitor>(
     build(crew, store, &circuits)
 }
 
-/// The diagrams of a signal of both netlists.
+/// Returns the diagrams of a signal of both netlists.
 fn diagrams<R: Abort>(
     rt: &R,
     store: &Store,
@@ -143,14 +143,14 @@ fn diagrams<R: Abort>(
     (built.first(ours), built.second(theirs))
 }
 
-/// What the building of two netlists comes to: how many nodes they need, and whether their outputs 23 are the same.
+/// The expected outcome of a build of two netlists: how many nodes they need, and whether their outputs 23 are equal.
 #[derive(Clone, Copy)]
 struct Wanted {
     need: u64,
     same: bool,
 }
 
-/// Builds two netlists in a store of as many nodes as they need, and in one of a node less.
+/// Builds two netlists in a store with exactly as many nodes as they need, and in one with a node less.
 fn compare_builds<R: Abort + Threads + Wait + Sync>(
     rt: &R,
     alloc: Global,
@@ -186,7 +186,7 @@ fn compare_builds<R: Abort + Threads + Wait + Sync>(
     Ok(())
 }
 
-// The numbers of nodes are those of a program that counts subtables, of which one and its complement are one.
+// The numbers of nodes are from a program that counts distinct subtables, with a subtable and its complement as one.
 #[test]
 fn built_netlists(rt: HostRuntime) -> Result<(), Fail> {
     let first = read(&rt, rt.alloc(), C17);

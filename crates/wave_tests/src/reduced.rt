@@ -1,4 +1,4 @@
-//! The reduction of a core's records.
+//! The reduction of the records of a core.
 ghost use Rattle.std.specs.Prelude.{ℕ, All, Contains};
 ghost use Rattle.req_table.specs.declared.Record.{Record};
 ghost use Rattle.req_table.specs.Keys.{IsKey};
@@ -19,7 +19,7 @@ use wave_core::{Core, Records};
 use wave_doors::law::closures_are_records;
 use wave_doors::{Results, reduce};
 
-/// The records of all that the roots ask for, by a core of two workers.
+/// Returns the records of all that the roots ask for, by a core of two workers.
 fn closure_of<R: Abort>(
     rt: &R,
     alloc: Global,
@@ -35,7 +35,7 @@ fn closure_of<R: Abort>(
     core.into_records().expect(rt, "memory")
 }
 
-/// The diagram of the only record of a level, which has this key.
+/// Returns the diagram of the only record of a level, which has this key.
 pub(crate) fn only<R: Abort>(
     rt: &R,
     records: &Records,
@@ -53,7 +53,8 @@ pub(crate) fn only<R: Abort>(
     results.get(&record.key)
 }
 
-/// Reduces the records of a driven core in a store of so many nodes: at the first and at the third level a node.
+/// Reduces the records of a driven core in a store of at most `limit` nodes: at the first and at the third level one
+/// node is added.
 fn reduced_within<R: Threads + Wait + Abort + Sync>(
     rt: &R,
     alloc: Global,
@@ -69,7 +70,7 @@ fn reduced_within<R: Threads + Wait + Abort + Sync>(
         request(rt, &store, known.as_slice(), (Op::And, C, D)),
     ];
     let records = closure_of(rt, alloc, &store, &roots, choices);
-    closures_are_records(&store, &roots, &records);
+    closures_are_records(&store, &roots, &records); // For the proof.
     assert!(rt; store.count() == 4);
     let results = reduce(rt, alloc, &mut store, &records, &NoMonitor)?;
     let first = node(rt, &store, 0, Ref::FALSE, c);
@@ -80,7 +81,7 @@ fn reduced_within<R: Threads + Wait + Abort + Sync>(
     Ok(())
 }
 
-// Six nodes are just enough.
+// The four variables and the two added nodes need a limit of six nodes; with five the store is full.
 #[test]
 fn core_reduced(rt: HostRuntime) -> Result<(), Fail> {
     for choices in [[].as_slice(), [0, 1, 2].as_slice(), [255; 200].as_slice()] {

@@ -1,4 +1,4 @@
-//! What a refused wave leaves behind.
+//! What a failed wave leaves.
 ghost use Rattle.std.specs.Prelude.{All, IfOk};
 ghost use Rattle.dd_store.specs.View.{Has};
 ghost use Rattle.req_table.specs.Keys.{IsKey};
@@ -22,7 +22,7 @@ use wave_doors::{expand_all, reduce};
 /// The place of the first answer of a wave over three variables.
 const FIRST_ANSWER: usize = 5;
 
-/// Whether the variables of a store of two levels have their values.
+/// Checks that the variables of a store of two levels have their values.
 fn two_have_their_values<R: Abort>(rt: &R, store: &Store, a: Ref, b: Ref)
     requires first { Has store.now a }
     requires second { Has store.now b }
@@ -34,7 +34,7 @@ fn two_have_their_values<R: Abort>(rt: &R, store: &Store, a: Ref, b: Ref)
     }
 }
 
-/// Two variables fill a store but for one node, and a wave that needs two more is refused.
+/// Two variables leave room for one node in a store, and a wave that needs two more fails.
 fn full_store_keeps_its_nodes<R: Abort + Threads + Wait + Sync>(
     rt: &R,
     alloc: Global,
@@ -73,7 +73,7 @@ const ASSIGNMENTS: [[bool; 3]; 8] = [
     [true, true, true],
 ];
 
-/// Whether the variables of a store of three levels have their values.
+/// Checks that the variables of a store of three levels have their values.
 fn three_have_their_values<R: Abort>(rt: &R, store: &Store, known: &[Ref])
     requires known { All (Has store.now) known.now }
 {
@@ -86,7 +86,7 @@ fn three_have_their_values<R: Abort>(rt: &R, store: &Store, known: &[Ref])
     }
 }
 
-/// Whether a wave has answered the product of a and b, the sum of b and c, and the difference of a and c.
+/// Checks the answers of a wave: the product of a and b, the sum of b and c, and the difference of a and c.
 fn answers_are_right<R: Abort>(rt: &R, store: &Store, known: &[Ref])
     requires known { All (Has store.now) known.now }
 {
@@ -102,7 +102,7 @@ fn answers_are_right<R: Abort>(rt: &R, store: &Store, known: &[Ref])
     }
 }
 
-/// A wave of three steps, which is tried a second time where memory or a thread was refused to it.
+/// Does a wave of three steps, and does it again if memory or a thread was refused.
 fn again_if_refused<R: Abort + Threads + Wait + Sync>(
     rt: &R,
     alloc: Global,
@@ -121,7 +121,7 @@ fn again_if_refused<R: Abort + Threads + Wait + Sync>(
     Ok(())
 }
 
-// With ample memory no wave is refused; run with refused growths and starts this shows what a refusal leaves behind.
+// With ample memory no wave fails. If growths and starts are refused to this test, it shows what a failure leaves.
 #[test]
 fn refused_wave(rt: HostRuntime) -> Result<(), Fail> {
     for way in [Way::OneThread(&[]), Way::Threads, Way::Upto(0)] {
@@ -130,12 +130,12 @@ fn refused_wave(rt: HostRuntime) -> Result<(), Fail> {
     Ok(())
 }
 
-/// Whether these are one record, of this request.
+/// Whether these are a single record, of this request.
 fn is_of(records: &[Record], key: Key) -> bool {
     records.len() == 1 && records[0].key == key
 }
 
-// Two threads with a root each, which make one record each.
+// Two threads have a root each, and make one record each.
 #[test]
 fn refused_expansion(rt: HostRuntime) -> Result<(), Fail> {
     let mut store = Store::new(rt.alloc(), 4, 100)?;
@@ -153,7 +153,7 @@ fn refused_expansion(rt: HostRuntime) -> Result<(), Fail> {
     Ok(())
 }
 
-/// The records of all that the roots ask for, by a core of two workers.
+/// Returns the records of all that the roots ask for, by a core of two workers.
 fn recorded(alloc: Global, store: &Store, roots: &[Key]) -> Result<Records, Fail>
     requires { All (IsKey store.now) roots.now }
     ensures { IfOk result (IsClosureOf store.now 2 roots.now) }
@@ -163,7 +163,7 @@ fn recorded(alloc: Global, store: &Store, roots: &[Key]) -> Result<Records, Fail
     Ok(core.into_records()?)
 }
 
-// Two roots of one request. A reduction that is refused leaves the variables as they were.
+// Two roots are one request. A reduction that fails leaves the variables as they were.
 #[test]
 fn refused_reduction(rt: HostRuntime) -> Result<(), Fail> {
     let mut store = Store::new(rt.alloc(), 2, 100)?;
@@ -175,7 +175,7 @@ fn refused_reduction(rt: HostRuntime) -> Result<(), Fail> {
         request(&rt, &store, known.as_slice(), (Op::And, B, A)),
     ];
     let records = recorded(rt.alloc(), &store, &roots)?;
-    closures_are_records(&store, &roots, &records);
+    closures_are_records(&store, &roots, &records); // For the proof.
     let reduced = reduce(&rt, rt.alloc(), &mut store, &records, &NoMonitor);
     two_have_their_values(&rt, &store, a, b);
     let results = reduced?;

@@ -1,4 +1,4 @@
-//! Requests and their owners, the table of admitted keys, and a computed table.
+//! Requests and their owners, the table of requests, and the computed table.
 ghost use Rattle.std.specs.Prelude.{◌≡◌, ◌≤◌, ◌<◌, All};
 ghost use Rattle.dd_store.specs.View.{Has};
 ghost use Rattle.req_table.specs.Keys.{IsKey};
@@ -11,7 +11,7 @@ use std::alloc::Global;
 use std::process::Abort;
 use std::test::Fail;
 
-/// A store of so many levels that has all its variables.
+/// Returns a store of `levels` levels that has all its variables.
 pub fn store_of(rt: &impl Abort, alloc: Global, levels: u16) -> Store
     requires { levels ≤ 4 }
     ensures { result.levels ≡ levels }
@@ -23,7 +23,7 @@ pub fn store_of(rt: &impl Abort, alloc: Global, levels: u16) -> Store
     store
 }
 
-/// The variable of a level.
+/// Returns the variable of a level.
 pub fn variable(rt: &impl Abort, store: &Store, level: u16) -> Ref
     requires { level < store.now.levels }
     ensures { Has store.now result }
@@ -33,7 +33,7 @@ pub fn variable(rt: &impl Abort, store: &Store, level: u16) -> Ref
         .expect(rt, "no such variable")
 }
 
-/// The request for an operation on two references, which has no terminal case.
+/// Returns the request for an operation on two references, which has no terminal case.
 pub fn request_for(rt: &impl Abort, store: &Store, op: Op, f: Ref, g: Ref) -> Key
     requires first { Has store.now f }
     requires second { Has store.now g }
@@ -44,7 +44,7 @@ pub fn request_for(rt: &impl Abort, store: &Store, op: Op, f: Ref, g: Ref) -> Ke
     normal(op, f, g).0
 }
 
-/// The request for an operation on the variables of two levels.
+/// Returns the request for an operation on the variables of two levels.
 pub fn request(rt: &impl Abort, store: &Store, op: Op, first: u16, second: u16) -> Key
     requires first { first < store.now.levels }
     requires second { second < store.now.levels }
@@ -56,7 +56,8 @@ pub fn request(rt: &impl Abort, store: &Store, op: Op, first: u16, second: u16) 
     request_for(rt, store, op, f, g)
 }
 
-/// A store of four levels that has all its variables, and the disjunctions of the first one with the third and with the fourth.
+/// Returns a store of four levels that has all its variables, and the disjunctions of the first one with the third and
+/// with the fourth.
 pub fn store_of_six(rt: &impl Abort, alloc: Global) -> Store
     ensures { result.levels ≡ 4 }
 {
@@ -78,7 +79,7 @@ pub fn make_either(rt: &impl Abort, store: &mut Store, level: u16)
         .expect(rt, "a node is refused");
 }
 
-/// That disjunction.
+/// Returns this disjunction.
 pub fn either(rt: &impl Abort, store: &Store, level: u16) -> Ref
     requires { level < store.now.levels }
     ensures { Has store.now result }
@@ -87,7 +88,7 @@ pub fn either(rt: &impl Abort, store: &Store, level: u16) -> Ref
     store.find(0, other, Ref::TRUE).expect(rt, "no such node")
 }
 
-/// The request for both disjunctions, which asks for both of the other variables.
+/// Returns the request for the conjunction of both disjunctions, whose child is that of the two other variables.
 fn both_eithers(rt: &impl Abort, store: &Store) -> Key
     requires { store.now.levels ≡ 4 }
     ensures { IsKey store.now result }
@@ -97,7 +98,8 @@ fn both_eithers(rt: &impl Abort, store: &Store) -> Key
     request_for(rt, store, Op::And, third, fourth)
 }
 
-/// The request for neither the first disjunction nor the second variable, which asks for a further one.
+/// Returns the request for the Nor of the first disjunction and the second variable, which has another request as a
+/// child.
 fn neither(rt: &impl Abort, store: &Store) -> Key
     requires { store.now.levels ≡ 4 }
     ensures { IsKey store.now result }
@@ -107,7 +109,8 @@ fn neither(rt: &impl Abort, store: &Store) -> Key
     request_for(rt, store, Op::Nor, third, second)
 }
 
-/// Five roots. Two are one request, two ask for a further one each, and one of those is the last root.
+/// Returns five roots. Two are the same request, two have a request as a child, and one of these children is the last
+/// root.
 pub fn five_roots(rt: &impl Abort, store: &Store) -> [Key; 5]
     requires { store.now.levels ≡ 4 }
     ensures { All (IsKey store.now) result }
@@ -121,10 +124,10 @@ pub fn five_roots(rt: &impl Abort, store: &Store) -> [Key; 5]
     ]
 }
 
-/// How many requests they ask for at each level.
+/// How many requests they reach at each level.
 pub const REACHED: [usize; 4] = [3, 1, 1, 0];
 
-// Not both of a variable and itself is its complement, at once.
+// The Nand of a variable and itself is its complement, without a request.
 #[test]
 fn short_nand(rt: HostRuntime) {
     let store = store_of(&rt, rt.alloc(), 1);
@@ -132,7 +135,7 @@ fn short_nand(rt: HostRuntime) {
     assert!(rt; terminal_case(Op::Nand, a, a) == Some(a.negate()));
 }
 
-/// Sees who owns the conjunction of two variables, whichever stands first.
+/// Checks the owner of the conjunction of two variables, with the operands in either order.
 fn owned(rt: &impl Abort, store: &Store, first: u16, second: u16, workers: u32, wanted: u32)
     requires first { first < store.now.levels }
     requires second { second < store.now.levels }
@@ -143,7 +146,7 @@ fn owned(rt: &impl Abort, store: &Store, first: u16, second: u16, workers: u32, 
     assert!(rt; level_of(store, key) == first && owner(key, workers) == wanted);
 }
 
-// The owners of three requests, by hand from the codes of the variables.
+// The owners of three requests, found by hand from the hashes of the variables.
 #[test]
 fn owners(rt: HostRuntime) {
     let store = store_of(&rt, rt.alloc(), 4);
@@ -152,7 +155,7 @@ fn owners(rt: HostRuntime) {
     owned(&rt, &store, 2, 3, 2, 1);
 }
 
-// A request is admitted once; the table has the requests in the order of admission, and none when it was emptied.
+// A request is admitted once. The table has the requests in the order of admission, and none after it was emptied.
 #[test]
 fn table_admits_once(rt: HostRuntime) -> Result<(), Fail> {
     let store = store_of(&rt, rt.alloc(), 2);
@@ -171,7 +174,7 @@ fn table_admits_once(rt: HostRuntime) -> Result<(), Fail> {
     Ok(())
 }
 
-/// The first node of a level.
+/// Returns the first node of a level.
 fn first_node(level: u16) -> Ref {
     Ref::node(NodeId {
         level,
@@ -180,7 +183,7 @@ fn first_node(level: u16) -> Ref {
     })
 }
 
-/// The request for the conjunction of the first nodes of two levels.
+/// Returns the request for the conjunction of the first nodes of two levels.
 fn conjunction(rt: &impl Abort, first: u16, second: u16) -> Key {
     let f = first_node(first);
     let g = first_node(second);
@@ -188,7 +191,8 @@ fn conjunction(rt: &impl Abort, first: u16, second: u16) -> Key {
     normal(Op::And, f, g).0
 }
 
-// A request of the last level of 4,096 does not fit in eight bytes, so all of its table take sixteen, in the order of admission.
+// A request of the last level of 4,096 does not fit in eight bytes, so all requests of its table take sixteen, in the
+// order of admission.
 #[test]
 fn table_is_widened(rt: HostRuntime) -> Result<(), Fail> {
     let short = conjunction(&rt, 0, 1);
@@ -227,7 +231,7 @@ fn requests_wait_by_level(rt: HostRuntime) -> Result<(), Fail> {
     Ok(())
 }
 
-// A table keeps its memory for the next level, and gives it back where that is many times what is needed.
+// A table keeps its memory for another level, and gives it back if that is many times what is needed.
 #[test]
 fn spare_table_keeps_its_memory(rt: HostRuntime) -> Result<(), Fail> {
     let mut table = Table::new(rt.alloc());
@@ -248,7 +252,7 @@ fn spare_table_keeps_its_memory(rt: HostRuntime) -> Result<(), Fail> {
     Ok(())
 }
 
-// The second pair takes the place of the first.
+// The second pair replaces the first in a table of capacity 1.
 #[test]
 fn memo_of_one(rt: HostRuntime) -> Result<(), Fail> {
     let store = store_of(&rt, rt.alloc(), 2);

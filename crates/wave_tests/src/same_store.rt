@@ -1,4 +1,4 @@
-//! Pseudo-random calls of `Store::make`, told by an ordered map beside the store.
+//! Pseudo-random calls of `Store::make`, compared with an ordered map of the calls.
 ghost use Rattle.std.specs.Prelude.{◌<◌, ◌^◌, All};
 ghost use Rattle.dd_store.specs.Graph.{top};
 ghost use Rattle.dd_store.specs.View.{Has};
@@ -11,7 +11,7 @@ use std::test::Fail;
 /// A level with two children.
 type Made = (u16, Ref, Ref);
 
-/// The next number of a pseudo-random row.
+/// Returns the next number of a pseudo-random sequence.
 fn next(x: u64) -> u64
     requires { x < 2 ^ 31 }
     ensures { result < 2 ^ 31 }
@@ -19,7 +19,8 @@ fn next(x: u64) -> u64
     (1_103_515_245 * x + 12_345) % 2_147_483_648
 }
 
-/// The reference at a place, with its mark turned for every other place, or True where that is not below the level.
+/// Returns the reference at a place, complemented for every other round through the list, or True if that is not below
+/// the level.
 fn below<R: Abort>(rt: &R, store: &Store, known: &[Ref], place: u64, level: u16) -> Ref
     requires known { All (Has store.now) known.now }
     requires level { level < store.now.levels }

@@ -16,21 +16,21 @@ use std::sync::atomic::{AtomicBool, AtomicU64, Ordering};
 use std::test::Fail;
 use std::thread::Threads;
 
-/// The reference that a store has answered.
+/// Returns the reference that a store has returned, and fails the test if there is none.
 pub(crate) fn ok(rt: &impl Abort, answer: Result<Ref, StoreFault>) -> Ref
     ensures { answer ≡ Ok result }
 {
     answer.expect(rt, "refused")
 }
 
-/// The complement of a reference of a store.
+/// Returns the complement of a reference of a store.
 fn negated(store: &Store, reference: Ref) -> Ref
     requires { Has store.now reference }
     ensures value { result ≡ negate_of reference }
     ensures here { Has store.now result }
     ensures top { top store.now.levels result ≡ top store.now.levels reference }
 {
-    let _ = store;
+    let _ = store; // For the proof.
     reference.negate()
 }
 
@@ -67,7 +67,7 @@ fn slots_of_shards(rt: HostRuntime) -> Result<(), Fail> {
     Ok(())
 }
 
-/// Sixteen lists, of which one has a pair and then that of the complements, and the others have nothing.
+/// Returns sixteen lists, of which one has a pair and then the pair of the complements, and the others are empty.
 fn twice_in_one(
     alloc: Global,
     shard: usize,
@@ -90,7 +90,7 @@ fn twice_in_one(
     Ok(lists)
 }
 
-/// Two threads meet where they come to the shards 0 and 15 of a level. Another level is one that they miss.
+/// Two threads meet when they come to the shards 0 and 15 of a level. Another level than the wanted one is noted.
 #[derive(Drop)]
 struct AtEnds {
     level: u16,
@@ -138,7 +138,8 @@ fn two_at_shards(rt: HostRuntime) -> Result<(), Fail> {
     Ok(())
 }
 
-/// Parts that have a pair and that of its complements, the same of another pair, nothing, and the same of the first pair again.
+/// Returns four parts: with a pair and the pair of its complements, with the same of another pair, without pairs, and
+/// with the first again.
 fn four_parts(
     alloc: Global,
     shard: usize,
@@ -191,8 +192,8 @@ impl Watch for Visits {
     }
 }
 
-/// What makers make of four parts with two pairs of one shard and their complements: of True and the variable of level 1, and of the
-/// terminals.
+/// Makes the nodes of four parts, with two pairs of one shard and their complements: of True and the variable of level
+/// 1, and of the terminals.
 fn make_four<R: Threads + Sync, H: Watch + Sync>(
     alloc: Global,
     makers: &Makers<'_, R, H>,
@@ -214,7 +215,7 @@ fn make_four<R: Threads + Sync, H: Watch + Sync>(
     Ok(made)
 }
 
-/// Has makers make the four parts twice: the nodes that are missing are made once, and found where they are asked for again.
+/// Makes the nodes of the four parts twice: those that are missing are made the first time, and found the second time.
 fn made_by<R: Threads + Sync + Abort, H: Watch + Sync>(
     rt: &R,
     alloc: Global,
@@ -235,7 +236,8 @@ fn made_by<R: Threads + Sync + Abort, H: Watch + Sync>(
     Ok(())
 }
 
-/// Has makers make the four parts in a store whose limit is one node for a shard: that of the first pair stands after the refusal.
+/// Makes the nodes of the four parts in a store with a limit of one node for each shard: after the failure the node of
+/// the first pair is there.
 fn full_by<R: Threads + Sync + Abort, H: Watch + Sync>(
     rt: &R,
     alloc: Global,
@@ -253,7 +255,7 @@ fn full_by<R: Threads + Sync + Abort, H: Watch + Sync>(
     Ok(())
 }
 
-/// Both by so many threads.
+/// Does both by `count` threads.
 fn made_by_threads<R: Threads + Sync + Abort, H: Watch + Sync>(
     rt: &R,
     alloc: Global,

@@ -1,4 +1,4 @@
-//! Items found by slots, and the number that spreads two words.
+//! The slots of a table of items, and the hash of two words.
 use slot_table::{Admission, Refusal, SlotTable, mix};
 use std::test::Fail;
 

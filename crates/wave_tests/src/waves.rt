@@ -1,4 +1,4 @@
-//! Waves of steps on known references, in each way in which a wave is run.
+//! Waves of steps on known references, in each way in which a wave is done.
 ghost use Rattle.std.specs.Prelude.{◌<◌, ◌≤◌, All, IfOk};
 ghost use Rattle.dd_store.specs.View.{Has, Keeps};
 ghost use Rattle.req_table.specs.Keys.{IsKey};
@@ -33,8 +33,8 @@ pub(crate) const D: usize = 5;
 /// An operation on two known references.
 pub(crate) type Step = (Op, usize, usize);
 
-/// The way of a wave: on the test's thread by a core with these choices, as the program does it, or with workers who are called in at a
-/// level with more requests than this.
+/// The way of a wave: by a core with these choices on the test's thread; as the program does it; or with workers who
+/// are called in at a level with more requests than this.
 #[derive(Clone, Copy)]
 pub(crate) enum Way {
     OneThread(&'static [u8]),
@@ -42,7 +42,7 @@ pub(crate) enum Way {
     Upto(usize),
 }
 
-/// How a wave is run: by so many workers at most, and in which way.
+/// How a wave is done: by at most so many workers, and in which way.
 #[derive(Clone, Copy)]
 pub(crate) struct How {
     pub(crate) workers: u32,
@@ -64,7 +64,7 @@ pub(crate) const WAYS: [Way; 11] = [
     Way::Upto(usize::MAX),
 ];
 
-/// The constants and all variables of a store.
+/// Returns the constants and all variables of a store.
 pub(crate) fn start<R: Abort>(rt: &R, alloc: Global, store: &mut Store) -> Vec<Ref>
     ensures { All (Has store.new) result.items }
 {
@@ -78,7 +78,7 @@ pub(crate) fn start<R: Abort>(rt: &R, alloc: Global, store: &mut Store) -> Vec<R
     known
 }
 
-/// A known reference.
+/// Returns the known reference at a place.
 pub(crate) fn known_at<R: Abort>(rt: &R, store: &Store, known: &[Ref], place: usize) -> Ref
     requires { All (Has store.now) known.now }
     ensures { Has store.now result }
@@ -86,7 +86,7 @@ pub(crate) fn known_at<R: Abort>(rt: &R, store: &Store, known: &[Ref], place: us
     *known.get(place).expect(rt, "a known reference")
 }
 
-/// The entries of steps.
+/// Returns the entries of steps.
 pub(crate) fn entries_of<R: Abort>(
     rt: &R,
     alloc: Global,
@@ -106,7 +106,7 @@ pub(crate) fn entries_of<R: Abort>(
     entries
 }
 
-/// Who does a wave: so many workers at most, watched by a monitor.
+/// Returns a crew of `workers` workers with a monitor.
 pub(crate) fn crew_of<'a, R, G>(
     rt: &'a R,
     alloc: Global,
@@ -123,7 +123,7 @@ pub(crate) fn crew_of<'a, R, G>(
     }
 }
 
-/// The answers of a wave that knows of no earlier one.
+/// Returns the answers of a wave with an empty computed table.
 fn answers_of<R: Threads + Wait + Sync>(
     rt: &R,
     alloc: Global,
@@ -155,7 +155,7 @@ fn answers_of<R: Threads + Wait + Sync>(
     }
 }
 
-/// Runs a wave of steps, and adds its answers to the known references.
+/// Does a wave of steps, and adds its answers to the known references.
 pub(crate) fn run<R: Abort + Threads + Wait + Sync>(
     rt: &R,
     alloc: Global,
@@ -177,7 +177,7 @@ pub(crate) fn run<R: Abort + Threads + Wait + Sync>(
     Ok(())
 }
 
-/// The request of a step, which has no terminal case.
+/// Returns the request of a step, which has no terminal case.
 pub(crate) fn request<R: Abort>(rt: &R, store: &Store, known: &[Ref], step: Step) -> Key
     requires { All (Has store.now) known.now }
     ensures { IsKey store.now result }
@@ -189,7 +189,7 @@ pub(crate) fn request<R: Abort>(rt: &R, store: &Store, known: &[Ref], step: Step
     normal(op, f, g).0
 }
 
-/// The node of a level with two children, which has to be there.
+/// Returns the node of a level with two children, which has to be there.
 pub(crate) fn node<R: Abort>(rt: &R, store: &Store, level: u16, low: Ref, high: Ref) -> Ref {
     assert!(rt; level < store.levels());
     store.find(level, low, high).expect(rt, "no such node")
@@ -220,7 +220,7 @@ fn wave_entries(rt: HostRuntime) -> Result<(), Fail> {
     Ok(())
 }
 
-/// Each reference together with one more.
+/// Returns the conjunction of each reference with one more.
 fn with_all<R: Threads + Wait + Sync>(
     rt: &R,
     alloc: Global,
@@ -238,7 +238,7 @@ fn with_all<R: Threads + Wait + Sync>(
     conjoin(&crew, store, known, given)
 }
 
-// Each reference is taken together with b, by one wave.
+// Each reference is conjoined with b, by one wave.
 #[test]
 fn conjoined(rt: HostRuntime) -> Result<(), Fail> {
     for workers in [1, 2, 3, 16] {

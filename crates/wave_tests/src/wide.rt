@@ -1,12 +1,15 @@
-//! A level with so many records that several threads share it.
+//! Levels with requests enough for several threads to share them.
 ghost use Rattle.std.specs.Prelude.{◌<◌, ◌≤◌, All};
 ghost use Rattle.reduce_up.specs.Waves.{IsEntry};
 
 use crate::meeting::Meeting;
 use crate::narrow::Narrow;
+use crate::plans::{NamingModel, built, read};
 use crate::waves::{How, Step, Way, crew_of, entries_of, run, start};
 use dd_store::{Ref, Store, Watch};
 use expand_work::{Monitor, WaveFault};
+use net_names::order::{Match, Order};
+use net_order::pairing::pair;
 use req_table::{ComputedTable, Op};
 use std::alloc::Global;
 use std::process::Abort;
@@ -16,10 +19,11 @@ use std::test::Fail;
 use std::thread::Threads;
 use wave_engine::wave;
 
-// The first variable is the factor of all products; the constants stand before it, and the products behind all variables.
+// The place of the first variable, which is a factor of all products. The constants are before it, and the products
+// after all variables.
 const FACTOR: usize = 2;
 
-/// The products of the first variable with each other one.
+/// Returns the products of the first variable with each other one.
 pub(crate) fn products<R: Abort>(rt: &R, alloc: Global, variables: u16) -> Vec<Step> {
     let mut steps = Vec::new(alloc);
     for other in 1..variables as usize {
@@ -30,7 +34,7 @@ pub(crate) fn products<R: Abort>(rt: &R, alloc: Global, variables: u16) -> Vec<S
     steps
 }
 
-/// An operation on each two of so many references that are known from a place on.
+/// Returns an operation on each two of `count` known references, from the place `first` on.
 pub(crate) fn pairs<R: Abort>(rt: &R, alloc: Global, op: Op, first: usize, count: u16) -> Vec<Step>
     requires { first ≤ 100_000 }
 {
@@ -45,13 +49,14 @@ pub(crate) fn pairs<R: Abort>(rt: &R, alloc: Global, op: Op, first: usize, count
     steps
 }
 
-/// The sum of each two products of 66 variables: each asks for a node of the first level, and for the sum of two variables below it.
+/// Returns the sum of each two products of 66 variables. Each needs a node of the first level, and the sum of two
+/// variables below it.
 pub(crate) fn sums<R: Abort>(rt: &R, alloc: Global) -> Vec<Step> {
     pairs(rt, alloc, Op::Or, FACTOR + 66, 65)
 }
 
-/// Does the sums in a store that has the products and room for so many nodes, and is left with as many as are named. Where it is not
-/// refused, a second wave, by a core, adds nothing and answers the same.
+/// Does the sums in a store that has the products and is allowed `limit` nodes, and compares how many it has
+/// afterwards. If the wave has not failed, a second one, by a core, adds nothing and has the same answers.
 fn sums_within<R: Threads + Wait + Abort + Sync>(
     rt: &R,
     alloc: Global,
@@ -79,8 +84,9 @@ fn sums_within<R: Threads + Wait + Abort + Sync>(
     Ok(())
 }
 
-// 2,080 records at the first level, and as many nodes there and below it: with 66 variables and 65 products 4,291 nodes are just
-// enough. Where one less is allowed the caller's thread stops there, and the threads that share the level in `reduce` when it is done.
+// There are 2,080 requests at the first level, with as many nodes there and below it: with 66 variables and 65 products
+// 4,291 nodes are just enough. If one less is allowed, the caller's thread stops at the node that is too many; the
+// threads that share the level in `wave_doors::reduce` make it, and fail when the level is done.
 #[test]
 fn wide_level(rt: HostRuntime) -> Result<(), Fail> {
     for (way, left) in [(Way::Upto(0), 4_290), (Way::OneThread(&[]), 4_291)] {
@@ -91,10 +97,10 @@ fn wide_level(rt: HostRuntime) -> Result<(), Fail> {
     Ok(())
 }
 
-/// So many variables have enough products.
+/// The number of variables that have enough products.
 const MANY: u16 = 76;
 
-/// An operation on each two products of many variables, for three operations: 8,325 requests of the first level.
+/// Returns three operations on each two products of many variables: 8,325 requests of the first level.
 fn combinations<R: Abort>(rt: &R, alloc: Global) -> Vec<Step> {
     let mut steps = Vec::new(alloc);
     for op in [Op::Or, Op::And, Op::Xor] {
@@ -106,7 +112,7 @@ fn combinations<R: Abort>(rt: &R, alloc: Global) -> Vec<Step> {
     steps
 }
 
-/// The entries of so many combinations in a store that gets the products.
+/// Makes the products, and returns the entries of the first `count` combinations of them.
 fn combined<R: Threads + Wait + Abort + Sync>(
     rt: &R,
     alloc: Global,
@@ -128,7 +134,7 @@ fn combined<R: Threads + Wait + Abort + Sync>(
     entries_of(rt, alloc, store, known.as_slice(), steps)
 }
 
-/// A wave of these entries by so many workers, of which nothing is known before.
+/// Does a wave of these entries by `workers` workers, with an empty computed table.
 fn summed<R: Threads + Wait + Sync, G: Monitor>(
     rt: &R,
     alloc: Global,
@@ -146,7 +152,8 @@ fn summed<R: Threads + Wait + Sync, G: Monitor>(
     Ok(())
 }
 
-/// Counts how often each shard of the first level is come to, four bits for each, and sees whether another level's is.
+/// Counts how often a thread comes to each shard of the first level, in four bits for each, and notes whether one comes
+/// to another level.
 #[derive(Drop)]
 struct Shards {
     counts: AtomicU64,
@@ -171,7 +178,7 @@ impl Monitor for Shards {
     }
 }
 
-/// How often each shard is come to in a wave of so many records at one level, and whether another level's is.
+/// Returns these counts for a wave of `records` requests at one level, and whether a thread has come to another level.
 fn reported_shards<R: Threads + Wait + Abort + Sync>(
     rt: &R,
     alloc: Global,
@@ -193,7 +200,7 @@ fn reported_shards<R: Threads + Wait + Abort + Sync>(
     ))
 }
 
-// A level of 4,095 records is left to the caller's thread; of one with 4,096 each shard is told once.
+// A level of 4,095 requests is left to the caller's thread; for one with 4,096 a thread comes to each shard once.
 #[test]
 fn shards_of_a_wide_level(rt: HostRuntime) -> Result<(), Fail> {
     let few = reported_shards(&rt, rt.alloc(), 4_095, 2)?;
@@ -205,8 +212,8 @@ fn shards_of_a_wide_level(rt: HostRuntime) -> Result<(), Fail> {
     Ok(())
 }
 
-// The 8,325 records need twice as many nodes beside those of the products. Where one less is allowed the whole level is there before it is
-// refused.
+// The 8,325 requests need twice as many nodes besides those of the products. If one less is allowed, all nodes of the
+// level are made before the wave fails.
 #[test]
 fn refused_when_a_shared_level_is_done(rt: HostRuntime) -> Result<(), Fail> {
     let mut store = Store::new(rt.alloc(), MANY, 16_800)?;
@@ -219,7 +226,7 @@ fn refused_when_a_shared_level_is_done(rt: HostRuntime) -> Result<(), Fail> {
     Ok(())
 }
 
-/// Threads meet where they come to shards, and it is seen whether there are ever more than so many.
+/// Threads meet when they come to shards, and it is noted if there are ever more than `most`.
 #[derive(Drop)]
 struct AtShards {
     meeting: Meeting,
@@ -257,7 +264,7 @@ impl Monitor for AtShards {
     }
 }
 
-// As many threads as there are workers are at once in the shards of a level, and never more.
+// As many threads as there are workers are in the shards of a level at the same time, and never more.
 #[test]
 fn workers_at_shards(rt: HostRuntime) -> Result<(), Fail> {
     for workers in [2, 4] {
@@ -275,5 +282,67 @@ fn workers_at_shards(rt: HostRuntime) -> Result<(), Fail> {
         assert!(rt; monitor.meeting.met());
         assert!(rt; !monitor.too_many.load(Ordering::SeqCst));
     }
+    Ok(())
+}
+
+/// Returns a netlist of the sum of `count` products of two inputs, all first factors before all second ones.
+fn sum_of_products(alloc: Global, count: usize) -> Result<String, Fail> {
+    let mut text = String::new(alloc);
+    for place in 0..count {
+        text.push_str(&format!(in alloc; "INPUT(x{place})\n")?)?;
+    }
+    for place in 0..count {
+        text.push_str(&format!(in alloc;
+            "INPUT(y{place})\np{place} = AND(x{place}, y{place})\n"
+        )?)?;
+    }
+    text.push_str("OUTPUT(o)\no = OR(p0")?;
+    for place in 1..count {
+        text.push_str(&format!(in alloc; ", p{place}")?)?;
+    }
+    text.push_str(")\n")?;
+    Ok(text)
+}
+
+/// Builds a netlist, against itself, by two workers, and returns whether both were in the shards of one level at the
+/// same time.
+fn shares_a_level<R: Threads + Wait + Abort + Sync>(
+    rt: &R,
+    alloc: Global,
+    text: &str,
+) -> Result<bool, Fail> {
+    let netlist = read(rt, alloc, text);
+    let pairing = pair(
+        alloc,
+        &netlist,
+        &netlist,
+        None,
+        Match::Name,
+        &Order::Declared,
+    )?;
+    let both = NamingModel {
+        first: &netlist,
+        second: &netlist,
+        pairing: &pairing,
+    };
+    let monitor = AtShards::of(2, 2);
+    let crew = crew_of(rt, alloc, 2, &monitor);
+    let mut store = Store::new(alloc, pairing.names().len() as u16, 100_000)?;
+    let fault = built(&crew, &mut store, both).err();
+    assert!(rt; fault.is_none());
+    assert!(rt; !monitor.too_many.load(Ordering::SeqCst));
+    Ok(monitor.meeting.met())
+}
+
+// The last step of the sum has 4,095 requests at the level of the last first factor if there are 13 products, and 8,191
+// if there are 14: in the first build no level has 4,096 requests, from which on threads share it.
+#[test]
+fn shared_from_fourteen_products_on(rt: HostRuntime) -> Result<(), Fail> {
+    let few = sum_of_products(rt.alloc(), 13)?;
+    let is_shared = shares_a_level(&rt, rt.alloc(), few.as_str())?;
+    assert!(rt; !is_shared);
+    let many = sum_of_products(rt.alloc(), 14)?;
+    let is_shared = shares_a_level(&rt, rt.alloc(), many.as_str())?;
+    assert!(rt; is_shared);
     Ok(())
 }

@@ -1,4 +1,5 @@
-//! Waves that one engine does at every width, in stores that are large enough and in stores that are not.
+//! Waves of one engine that calls workers in at different widths of a level, in stores that are
+//! large enough and in stores that are not.
 ghost use Rattle.std.specs.Prelude.{All, IfOk};
 ghost use Rattle.dd_store.specs.View.{Has, Keeps};
 ghost use Rattle.req_table.specs.ComputedTables.{IsRight};
@@ -19,7 +20,7 @@ use wave_engine::Engine;
 
 const OPS: [Op; 6] = [Op::And, Op::Or, Op::Xor, Op::Nand, Op::Nor, Op::Xnor];
 
-/// Numbers that look random, from a seed.
+/// Pseudo-random numbers, from a seed.
 #[derive(Drop)]
 struct Random {
     state: u64,
@@ -39,7 +40,7 @@ impl Random {
     }
 }
 
-/// Steps on so many known references.
+/// Returns some steps on `known` known references.
 fn random_steps<R: Abort>(rt: &R, alloc: Global, random: &mut Random, known: usize) -> Vec<Step> {
     let mut steps = Vec::new(alloc);
     for _ in 0..=random.below(8) {
@@ -50,7 +51,7 @@ fn random_steps<R: Abort>(rt: &R, alloc: Global, random: &mut Random, known: usi
     steps
 }
 
-/// The answers of a wave of the engine.
+/// Returns the answers of a wave of the engine.
 fn answers_of<R: Threads + Wait + Sync, G: Monitor>(
     engine: &mut Engine<'_, R, G>,
     store: &mut Store,
@@ -65,7 +66,7 @@ fn answers_of<R: Threads + Wait + Sync, G: Monitor>(
     engine.wave(store, entries)
 }
 
-/// Runs a wave of steps by the engine, and adds its answers to the known references.
+/// Does a wave of steps by the engine, and adds its answers to the known references.
 pub(crate) fn run_engine<R: Abort + Threads + Wait + Sync, G: Monitor>(
     rt: &R,
     engine: &mut Engine<'_, R, G>,
@@ -86,9 +87,9 @@ pub(crate) fn run_engine<R: Abort + Threads + Wait + Sync, G: Monitor>(
     Ok(())
 }
 
-/// Does some waves of a seed in a new store, up to the first that is refused, each by the engine and then by the workers on one
-/// thread. These find all nodes there, answer the same, and are refused alike. Answers how many nodes the store has then, and
-/// whether a wave was refused.
+/// Does some waves of a seed in a new store, up to the first that fails, each by the engine and then by a core, which
+/// finds all nodes there, and has the same answers or the same fault. Returns how many nodes the store has then, and
+/// whether a wave has failed.
 fn waves_of<R: Abort + Threads + Wait + Sync>(
     rt: &R,
     engine: &mut Engine<'_, R, Narrow>,
@@ -121,7 +122,8 @@ fn waves_of<R: Abort + Threads + Wait + Sync>(
     (store.count(), false)
 }
 
-/// Does waves of seeds by one engine, on the caller's thread and by workers who are called in at each width. Whether some were refused.
+/// Does waves of seeds by one engine, on the caller's thread and by workers who are called in at each width. Returns
+/// whether some failed.
 fn at_each_width<R: Abort + Threads + Wait + Sync>(
     rt: &R,
     engine: &mut Engine<'_, R, Narrow>,
@@ -143,7 +145,7 @@ fn at_each_width<R: Abort + Threads + Wait + Sync>(
     refused
 }
 
-// One engine after the other width, and after each refused wave, as if it were new: what the workers on one thread answer, it answers.
+// One engine, at one width after the other and after each failed wave, has the same answers as a core.
 #[test]
 fn widths(rt: HostRuntime) -> Result<(), Fail> {
     for workers in [1, 2, 3] {

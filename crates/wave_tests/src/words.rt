@@ -1,11 +1,11 @@
-//! The words of references and of children, by hand, and lists of them.
+//! The words of references and of children, found by hand, and lists of them.
 
 use dd_store::{NodeId, Ref};
 use req_table::{PackedChild, PlacedChild, Refs, Row, Rows};
 use std::process::Abort;
 use std::test::Fail;
 
-/// The node of this name.
+/// Returns the node of this name.
 fn node(level: u16, shard: u8, index: u32) -> Ref {
     Ref::node(NodeId {
         level,
@@ -14,8 +14,8 @@ fn node(level: u16, shard: u8, index: u32) -> Ref {
     })
 }
 
-// A near node, a far one at the last place that fits, and one that is neither: its word is greater than the far one's, though its level is
-// above.
+// These are a near node, a far one at the last place that fits, and one that is neither: its word is greater than the
+// far one's, although its level is above.
 #[test]
 fn words_of_references(rt: HostRuntime) {
     let near = node(0, 3, 5);
@@ -28,7 +28,7 @@ fn words_of_references(rt: HostRuntime) {
     assert!(rt; near < long && long < far && !(far < long));
 }
 
-/// Ends the test where a child is not asked for so.
+/// Fails the test if a child does not ask for this request.
 fn assert_asked(rt: &impl Abort, child: PackedChild, wanted: (u16, u32, bool)) {
     match child.view() {
         PlacedChild::Ask {
@@ -40,7 +40,7 @@ fn assert_asked(rt: &impl Abort, child: PackedChild, wanted: (u16, u32, bool)) {
     }
 }
 
-// A request of a near level, of a far one and of one that is neither.
+// These are a request of a near level, one of a far level, and one that is neither.
 #[test]
 fn words_of_children(rt: HostRuntime) {
     let near = PackedChild::ask(255, 1, true);
@@ -54,7 +54,7 @@ fn words_of_children(rt: HostRuntime) {
     assert_asked(&rt, PackedChild::of_word(long.word()), (4_096, 1, false));
 }
 
-// The second pair does not fit in four bytes a word; what is put in the memory of both does.
+// The second pair does not fit in four bytes a word; what is put there after the row was cleared fits.
 #[test]
 fn lists_of_children(rt: HostRuntime) -> Result<(), Fail> {
     let near = PackedChild::ask(255, 1, true);
@@ -93,7 +93,7 @@ fn lists_of_references(rt: HostRuntime) -> Result<(), Fail> {
     Ok(())
 }
 
-// Of the first list all fit in four bytes, of the second one does not.
+// In the first list all references fit in four bytes, in the second one does not.
 #[test]
 fn lists_of_references_are_joined(rt: HostRuntime) -> Result<(), Fail> {
     let near = node(0, 3, 5);
@@ -112,7 +112,7 @@ fn lists_of_references_are_joined(rt: HostRuntime) -> Result<(), Fail> {
     Ok(())
 }
 
-// Of four levels the first but one gets two pairs and the next one; both leave them again.
+// Of four levels the second gets two pairs and the third one; both are then cleared.
 #[test]
 fn rows_by_level(rt: HostRuntime) -> Result<(), Fail> {
     let answer = PackedChild::done(Ref::TRUE);

@@ -1,9 +1,10 @@
-//! One worker of a wave: its records, what it put, when it tells its monitor, and where it stops.
-ghost use Rattle.std.specs.Prelude.{◌≡◌, ◌≤◌, ◌<◌, All, IfOk, length};
+//! One worker of a wave: its records, the loads that it puts, when it notifies its monitor, and
+//! when it stops.
+ghost use Rattle.std.specs.Prelude.{◌≡◌, ◌<◌, IfOk, length};
 ghost use Rattle.req_table.specs.Sizes.{sizes_of};
 ghost use Rattle.req_table.specs.Keys.{IsKey};
 ghost use Rattle.lane_queue.specs.PortView.{IsPortOf};
-ghost use Rattle.expand_work.specs.WorkerResult.{IsFresh, IsWorked};
+ghost use Rattle.expand_work.specs.WorkerResult.{IsFresh};
 
 use crate::children::{placed_value, root_of, row_store};
 use crate::lanes::{end, open};
@@ -21,8 +22,8 @@ use std::test::Fail;
 use std::thread;
 use std::thread::Threads;
 
-/// A monitor that sets the flag at one level, and remembers who told it what: of each call two digits, the worker's number
-/// and one more than the level.
+/// A monitor that sets the flag at one level, and remembers each call in two digits: the worker's number, and the level
+/// plus 1.
 #[derive(Drop)]
 struct Watcher<'a> {
     seen: AtomicU64,
@@ -49,14 +50,14 @@ impl<'a> Monitor for Watcher<'a> {
     }
 }
 
-/// What a worker does alone: one root, with tables that stay with their levels or that serve others.
+/// The task of a single worker: one root, and whether each table stays with its level.
 #[derive(Clone, Copy)]
 struct Task {
     root: Key,
     keeps: bool,
 }
 
-/// Runs the worker of the first of so many ports alone, on one root.
+/// Does the part of a single worker, on one root.
 fn work_single<R: Wait + Abort, G: Monitor>(
     rt: &R,
     alloc: Global,
@@ -84,7 +85,7 @@ fn work_single<R: Wait + Abort, G: Monitor>(
     work(rt, context, port, None, monitor)
 }
 
-/// Whether a level has this one request with these children.
+/// Whether a level has only this request, with these children.
 fn is_row(
     keys: Option<&Table>,
     row: &Row,
@@ -149,7 +150,8 @@ fn the_table_of_an_expanded_level_serves_others(rt: HostRuntime) -> Result<(), F
     Ok(())
 }
 
-/// Where the flag is set, what the monitor is told, and whether the worker comes to its end.
+/// Whether the flag is set before the wave, the level at which the monitor sets it, the calls of the monitor, and
+/// whether the worker reaches its end.
 const STOPS: [(bool, u16, u64, bool); 5] = [
     (true, 9, 0, false),
     (false, 0, 1, false),
@@ -177,14 +179,14 @@ fn a_flag_is_read_where_a_level_begins(rt: HostRuntime) -> Result<(), Fail> {
     Ok(())
 }
 
-/// What two workers say to each other beside their lanes: that one is to stop, and that it has ended.
+/// The flags between two workers besides their lanes: that one is to stop, and that it has ended.
 #[derive(Clone, Copy)]
 struct Flags<'a> {
     stop: &'a AtomicBool,
     ended: &'a AtomicBool,
 }
 
-/// Works on no roots, and says how that ended once it has.
+/// Does a worker's part without roots, and returns its fault after it has ended.
 fn work_until_stopped<R: Wait>(
     rt: &R,
     alloc: Global,
@@ -212,7 +214,7 @@ fn work_until_stopped<R: Wait>(
     fault
 }
 
-/// Waits until an item comes, for so many turns at most.
+/// Waits until a load was taken, for at most `MAX_YIELDS` yields.
 fn wait_for_item<R: Wait>(rt: &R, lanes: &Lanes, port: &mut Port)
     requires { IsPortOf lanes.now port.old }
     ensures { IsPortOf lanes.now port.new }
@@ -225,8 +227,8 @@ fn wait_for_item<R: Wait>(rt: &R, lanes: &Lanes, port: &mut Port)
     }
 }
 
-/// Sets the flag once the other worker has ended its level, and so waits for this one's End. Where it goes on waiting, it
-/// gets that End, and so comes to the end of its last level.
+/// Sets the flag after the other worker has ended its level, which then waits for this one's End. If the other goes on
+/// waiting, it gets this End, and so reaches the end of its last level.
 fn stop_in_a_wait<R: Wait + Abort>(
     rt: &R,
     lanes: &Lanes,
@@ -244,7 +246,8 @@ fn stop_in_a_wait<R: Wait + Abort>(
     }
 }
 
-/// Runs the first worker of two in a thread of its own, while another plays the second. How the first ended.
+/// Does the first worker's part of two in a thread, and in another one what the second does to it. Returns the first
+/// one's fault.
 fn stop_one_of_two<R: Threads + Wait + Abort + Sync>(
     rt: &R,
     alloc: Global,
@@ -272,7 +275,7 @@ fn stop_one_of_two<R: Threads + Wait + Abort + Sync>(
     fault
 }
 
-// A worker that waits for an End reads the flag, and is told to stop though the End never comes.
+// A worker that waits for an End reads the flag, and stops although the End never comes.
 #[test]
 fn a_flag_is_read_in_a_wait(rt: HostRuntime) -> Result<(), Fail> {
     let store = Store::new(rt.alloc(), 1, 1)?;

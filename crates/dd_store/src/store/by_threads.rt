@@ -1,4 +1,5 @@
-//! The nodes of many pairs of children at one level, made at once by threads that share its shards.
+//! The nodes of many pairs of children at one level, made at once by threads that share the level's
+//! shards.
 ghost use Rattle.std.specs.Prelude.{None, Some, ◌≡◌, ◌<◌, ◌≤◌, ℕ, [], length, All, IfOk, IfErr, IfSome, IfNone, MatchResult, vec_capacity};
 ghost use Rattle.std.specs.List.{AllZip};
 ghost use Rattle.dd_store.specs.Levels.{list_at, all_at, refs_at, regular_lists};
@@ -13,7 +14,7 @@ use crate::store::Store;
 use std::thread::Threads;
 
 impl Store {
-    /// Adds lists to the shards of a level, and says why pairs are missing.
+    /// Adds lists to the shards of a level, and returns why pairs are missing, if any are.
     fn grow_level<R: Threads + Sync, H: Watch + Sync>(
         &mut self,
         rt: &R,
@@ -38,10 +39,12 @@ impl Store {
         fault
     }
 
-    /// Adds to a level a node for each pair of children that has none, by sixteen lists, one for each shard. Where a second child has a
-    /// mark, the node is that of both complements. Four threads share the shards. Full is answered only where a shard alone holds as
-    /// many nodes as the limit and lacks a pair of its list, and OutOfMemory only where a shard lacks one, also where both befall. After
-    /// a refusal some of the nodes may stand.
+    /// Adds to a level a node for each pair of children that has none. The pairs are in 16 lists, one for each shard
+    /// (`shard_of`); if a second child has a complement bit, the node is that of both complements. Four threads share
+    /// the shards. Fails with `Full` only if one shard by itself has as many nodes as the limit and lacks a pair of its
+    /// list, and with `OutOfMemory` only if a shard lacks a pair, also if both befell. After a failure some of the
+    /// nodes may have been added. The store may have more nodes than its limit, since each thread sees only its own
+    /// shards; the caller tests that.
     pub fn add_all<R: Threads + Sync, H: Watch + Sync>(
         &mut self,
         rt: &R,
@@ -63,7 +66,8 @@ impl Store {
         }
     }
 
-    /// Adds the lists of several parts to the shards of a level, and says why references are missing.
+    /// Adds the lists of all parts to the shards of a level, moves the noted references into `refs`, and returns why
+    /// references are missing, if any are.
     fn make_level_parts<R: Threads + Sync, H: Watch + Sync>(
         &mut self,
         makers: &Makers<'_, R, H>,
@@ -94,12 +98,14 @@ impl Store {
         halted
     }
 
-    /// The references of pairs of different children at a level; missing nodes are made. Where a second child has a mark, the node is
-    /// that of both complements, and the reference has the mark. Each part has sixteen lists, one for each shard. The answer has a list
-    /// for each shard: the references of the first part's pairs, then those of the second's, and so on. The makers' threads share the
-    /// shards, each some neighbouring ones, where they stand; what no thread could be started for, the caller's does, and each pair is
-    /// sought once. Full is answered only where a shard alone holds as many nodes as the limit and lacks a pair of its lists. After a
-    /// refusal some of the nodes may stand.
+    /// Returns the references of pairs of different children at a level, and makes the nodes that are missing. Each
+    /// part has 16 lists of pairs, one for each shard (`shard_of`). The result has a list for each shard: the
+    /// references of the first part's pairs, then those of the second's, and so on. If a second child has a complement
+    /// bit, the node is that of both complements, and the reference has the bit. Each thread of the makers has some
+    /// neighbouring shards, without moving them; if a thread cannot be started, the caller's thread does its work. Each
+    /// pair is searched for once. Fails with `Full` only if one shard by itself has as many nodes as the limit and
+    /// lacks a pair of its lists, and with `OutOfMemory` if memory was refused. After a failure some of the nodes may
+    /// have been added.
     pub fn make_all<R: Threads + Sync, H: Watch + Sync>(
         &mut self,
         makers: &Makers<'_, R, H>,

@@ -1,4 +1,4 @@
-//! What is read of a store: levels, children, cofactors, and the node that a pair of children has.
+//! What is read of a store: levels, children, cofactors, and the node that has a pair of children.
 ghost use Rattle.std.specs.Prelude.{Some, ◌≡◌, ◌<◌, ◌≤◌, length, true, false, IsSome};
 ghost use Rattle.dd_store.specs.Graph.{top, IsRef, Pair};
 ghost use Rattle.dd_store.specs.Complements.{is_complement};
@@ -10,7 +10,7 @@ use crate::reference::{NodeId, Ref, Reference, SHARDS, complement_pair};
 use crate::store::Store;
 
 impl Store {
-    /// The level of a reference; that of a terminal is the number of levels.
+    /// Returns the level of a reference; that of a terminal is the number of levels.
     pub fn top(&self, reference: Ref) -> u16
         ensures { result ≡ top self.now.levels reference }
     {
@@ -20,7 +20,7 @@ impl Store {
         }
     }
 
-    /// The children of a node, low and high.
+    /// Returns the children of a node, low and high.
     pub(crate) fn pair(&self, id: NodeId) -> (Ref, Ref)
         requires { (p : Pair) × (node self.now id ≡ Some p) }
         ensures { node self.now id ≡ Some result }
@@ -30,7 +30,8 @@ impl Store {
         shard_state.nodes.at(id.index as usize)
     }
 
-    /// The children of a reference, low and high, in one read: those of its node, complemented where it has a mark.
+    /// Returns the children of a reference to a node, low and high: those of its node, complemented if the reference
+    /// has a complement bit. It reads memory once.
     pub fn children(&self, reference: Ref) -> (Ref, Ref)
         requires { IsSome (children self.now reference) }
         ensures { children self.now reference ≡ Some result }
@@ -41,7 +42,7 @@ impl Store {
         }
     }
 
-    /// The child of a node for the bit 0.
+    /// Returns the child of a reference to a node for the bit 0.
     pub fn low(&self, reference: Ref) -> Ref
         requires { IsSome (children self.now reference) }
         ensures { result ≡ low_of self.now reference }
@@ -52,7 +53,7 @@ impl Store {
         }
     }
 
-    /// The child of a node for the bit 1.
+    /// Returns the child of a reference to a node for the bit 1.
     pub fn high(&self, reference: Ref) -> Ref
         requires { IsSome (children self.now reference) }
         ensures { result ≡ high_of self.now reference }
@@ -63,8 +64,8 @@ impl Store {
         }
     }
 
-    /// The cofactor: a reference's function with the bit of a level fixed. A reference that stands below the level is
-    /// its own cofactor.
+    /// Returns the cofactor of a reference: the reference to its function with the bit of a level fixed. A reference
+    /// below the level is its own cofactor.
     pub fn cofactor(&self, reference: Ref, level: u16, bit: bool) -> Ref
         requires in_store { IsRef (node self.now) reference }
         requires not_above { level ≤ top self.now.levels reference }
@@ -81,7 +82,7 @@ impl Store {
         }
     }
 
-    /// Both cofactors for the bit of a level, 0 and 1, in one read.
+    /// Returns both cofactors of a reference for the bit of a level, first for 0. It reads memory once.
     pub fn cofactors(&self, reference: Ref, level: u16) -> (Ref, Ref)
         requires in_store { IsRef (node self.now) reference }
         requires not_above { level ≤ top self.now.levels reference }
@@ -98,7 +99,7 @@ impl Store {
         }
     }
 
-    /// How many slots the unique table of a shard has.
+    /// Returns the number of slots of a shard's unique table.
     pub fn slots(&self, level: u16, shard: u8) -> u64
         requires level { level < self.now.levels }
         requires shard { shard < 16 }
@@ -109,7 +110,7 @@ impl Store {
         shard_state.nodes.slots() as u64
     }
 
-    /// The reference of a level with these children, where there is one.
+    /// Returns the reference of a level with these children, or none if the store has no such node. Nothing is made.
     pub fn find(&self, level: u16, lo: Ref, hi: Ref) -> Option<Ref>
         requires { level < self.now.levels }
         ensures { IsFound self.now level lo hi result }
@@ -122,7 +123,7 @@ impl Store {
         }
     }
 
-    /// The node of a level with these children, the second without a mark, where there is one.
+    /// Returns the node of a level with these children, of which `hi` has no complement bit, or none.
     fn find_regular(&self, level: u16, lo: Ref, hi: Ref) -> Option<Ref>
         requires level { level < self.now.levels }
         requires regular { is_complement hi ≡ false }

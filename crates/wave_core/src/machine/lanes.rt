@@ -1,4 +1,6 @@
-//! The events on lanes: a request or an End is sent, the first item of a lane is taken, a request is kept.
+//! The events on lanes: a request or an End is sent, the first item of a lane is taken, a request
+//! is kept. Each returns false, and changes nothing, if the event is not allowed; and if memory is
+//! refused, nothing changes either.
 ghost use Rattle.std.specs.Prelude.{◌≡◌, ◌+◌, ◌<◌, All, IfOk, OnErr, MatchBool, IsTrue};
 ghost use Rattle.req_table.specs.Keys.{level_of};
 ghost use Rattle.wave_core.specs.MachineView.{Does, Allows, by_place, IsOwnInOrder};
@@ -12,7 +14,7 @@ use req_table::requests::level_of;
 use std::alloc::AllocError;
 
 impl Machine {
-    /// Sends the first item that is due from `by` to `to`.
+    /// Sends the first request that is due from `by` to `to`.
     pub fn send(&mut self, store: &Store, by: u32, to: u32) -> Result<bool, AllocError>
         ensures same { (self.new.workers ≡ self.old.workers) × (self.new.levels ≡ self.old.levels) }
         ensures kept { self.new.kept ≡ self.old.kept }
@@ -46,7 +48,7 @@ impl Machine {
         }
     }
 
-    /// Sends the next End from `by` to `to`.
+    /// Puts the next End of `by` on the lane of `to`.
     pub fn end(&mut self, store: &Store, by: u32, to: u32) -> Result<bool, AllocError>
         ensures same { (self.new.workers ≡ self.old.workers) × (self.new.levels ≡ self.old.levels) }
         ensures kept { self.new.kept ≡ self.old.kept }
@@ -123,7 +125,7 @@ impl Machine {
                     self.waiting[lane].pop();
                     return Ok(true);
                 }
-                let _ = self.taken[lane].len();
+                let _ = self.taken[lane].len(); // For the proof.
                 let place = (by * self.workers + from) as usize;
                 self.ends_taken[place] += 1;
                 self.waiting[lane].pop();
@@ -158,7 +160,7 @@ impl Machine {
             level,
             key,
         };
-        let _ = count_items(&self.sent);
+        let _ = count_items(&self.sent); // For the proof.
         put_both(&mut self.sent[own], &mut self.taken[lane], &item)?;
         match self.tables[place].admit(key) {
             Ok(_) => {
@@ -174,7 +176,7 @@ impl Machine {
         }
     }
 
-    /// Whether an item is due from `by` to `to`.
+    /// Whether a request is due from `by` to `to`.
     pub fn can_send(&self, store: &Store, by: u32, to: u32) -> bool
         ensures { MatchBool result (Allows store.now self.now (Send by to)) (¬ Allows store.now self.now (Send by to)) }
     {
@@ -184,7 +186,7 @@ impl Machine {
         !self.due[(by * self.workers + to) as usize].is_empty()
     }
 
-    /// Whether `by` may end its next level on the lane of `to`.
+    /// Whether `by` may put its next End on the lane of `to`.
     pub fn can_end(&self, store: &Store, by: u32, to: u32) -> bool
         ensures { MatchBool result (Allows store.now self.now (End by to)) (¬ Allows store.now self.now (End by to)) }
     {
@@ -206,7 +208,7 @@ impl Machine {
         self.waiting[by as usize].first().is_some()
     }
 
-    /// Whether a request is due from `by` to itself, and `by` has taken all that it sent to itself.
+    /// Whether a request is due from `by` to itself, and `by` has taken all that it has sent to itself.
     pub fn can_keep(&self, store: &Store, by: u32) -> bool
         requires { by < self.now.workers → IsOwnInOrder self.now by }
         ensures { MatchBool result (Allows store.now self.now (Keep by)) (¬ Allows store.now self.now (Keep by)) }

@@ -1,4 +1,5 @@
-//! The events of a level: a key of a closed level is expanded, and a worker goes on to the next level.
+//! The events of a level: a request of a closed level is expanded, and a worker goes on to the next
+//! level.
 ghost use Rattle.std.specs.Prelude.{◌≡◌, ℕ, ◌+◌, ◌*◌, ◌<◌, ◌≤◌, List, [], ◌∷◌, ◌++◌, slice_index_or, slice_set, map, All, Contains};
 ghost use Rattle.std.specs.Prelude.{MatchOption, IfSome, IfOk, OnOk, OnErr, MatchBool};
 ghost use Rattle.req_table.specs.Lanes.{IsClosed};
@@ -17,7 +18,7 @@ use req_table::{Child, Key, Record};
 use std::alloc::AllocError;
 
 impl Machine {
-    /// Whether each worker has sent more Ends to `by` than the level, and `by` has taken them.
+    /// Whether `by` has taken more Ends of each worker than the level's number.
     fn is_ended(&self, by: u32, level: u16) -> bool
         requires { by < self.now.workers }
         ensures { MatchBool result ((s : ℕ) → s < self.now.workers → level < number_of self.now.workers self.now.ends_taken by s)
@@ -32,21 +33,21 @@ impl Machine {
         true
     }
 
-    /// Whether `by` has taken an End of the level from every worker.
+    /// Whether the level is closed for `by`: it has taken an End of the level from every worker.
     pub fn is_closed(&self, store: &Store, by: u32, level: u16) -> bool
         requires by { by < self.now.workers }
         requires fair { TookFairly store.now self.now by }
         ensures { MatchBool result (IsClosed (wave_of_view store.now self.now).scope level (list_of self.now.taken by))
             (¬ IsClosed (wave_of_view store.now self.now).scope level (list_of self.now.taken by)) }
     {
-        let _ = &self.workers;
+        let _ = &self.workers; // For the proof.
         if !self.is_ended(by, level) {
             return false;
         }
         true
     }
 
-    /// The level of `by`, where `by` has taken an End of it from every worker.
+    /// Returns the level of `by` if it is closed for `by`, and otherwise none.
     fn closed_level(&self, store: &Store, by: u32) -> Option<u16>
         requires fair { by < self.now.workers → TookFairly store.now self.now by }
         ensures kept { IsConsistent self.now }
@@ -66,7 +67,7 @@ impl Machine {
         Some(level)
     }
 
-    /// Adds a child to what is due from `by`.
+    /// Adds a child that is a request to what is due from `by` to the request's owner.
     fn add_due(&mut self, by: u32, child: &Child) -> Result<(), AllocError>
         requires { by < self.old.workers }
         ensures ok { OnOk result (let r : MachineView = record self.old { due = due_with_child self.old.workers by child.now self.old.due } in
@@ -82,7 +83,7 @@ impl Machine {
         }
     }
 
-    /// Takes such a child back.
+    /// Removes such a child again, which has to be the last one that was added.
     fn remove_due(&mut self, by: u32, child: &Child)
         requires { by < self.old.workers }
         ensures same { self.new.workers ≡ self.old.workers }
@@ -115,7 +116,7 @@ impl Machine {
         }
     }
 
-    /// Takes both children of a record back.
+    /// Removes both children of a record again.
     fn remove_due_children(&mut self, by: u32, added: &Record)
         requires { by < self.old.workers }
         ensures { (d : List (List KeyValue)) → self.old.due ≡ due_with_children self.old.workers by added.now d
@@ -125,7 +126,7 @@ impl Machine {
         self.remove_due(by, &added.low);
     }
 
-    /// The first key of the level of `by` that is not yet expanded.
+    /// Returns the first request of the level of `by` that was not expanded yet, or none.
     fn next_key(&self, by: u32, level: u16) -> Option<Key>
         requires by { by < self.now.workers }
         requires level { level < self.now.levels }
@@ -144,7 +145,7 @@ impl Machine {
         Some(self.tables[place].key_at(done))
     }
 
-    /// Puts the record of the next key into its row.
+    /// Adds the record of the next request to its row.
     fn note(&mut self, by: u32, level: u16, added: &Record) -> Result<(), AllocError>
         requires by { by < self.old.workers }
         requires level { level < self.old.levels }
@@ -161,7 +162,8 @@ impl Machine {
         Ok(())
     }
 
-    /// Expands the first key of the level of `by` that is not yet expanded.
+    /// Expands the first request of the level of `by` that was not expanded yet. Returns false, and changes nothing, if
+    /// that is not allowed.
     pub fn expand(&mut self, store: &Store, by: u32) -> Result<bool, AllocError>
         requires fair { by < self.old.workers → TookFairly store.now self.old by }
         requires held { by < self.old.workers → All (IsKey store.now) (asks_here (state_of self.old) by) }
@@ -203,7 +205,7 @@ impl Machine {
         true
     }
 
-    /// Moves `by` to the next level.
+    /// Moves `by` to the next level. Returns false, and changes nothing, if that is not allowed.
     pub fn advance(&mut self, store: &Store, by: u32) -> bool
         requires fair { by < self.old.workers → TookFairly store.now self.old by }
         ensures same { (self.new.workers ≡ self.old.workers) × (self.new.levels ≡ self.old.levels) }
@@ -224,7 +226,7 @@ impl Machine {
         true
     }
 
-    /// Whether the level of `by` is closed and a key of it is not yet expanded.
+    /// Whether the level of `by` is closed, and a request of it was not expanded yet.
     pub fn can_expand(&self, store: &Store, by: u32) -> bool
         requires fair { by < self.now.workers → TookFairly store.now self.now by }
         ensures { MatchBool result (Allows store.now self.now (Expand by)) (¬ Allows store.now self.now (Expand by)) }
@@ -235,7 +237,7 @@ impl Machine {
         }
     }
 
-    /// Whether the level of `by` is closed, all its keys are expanded and nothing is due from `by`.
+    /// Whether the level of `by` is closed, all its requests were expanded, and nothing is due from `by`.
     pub fn can_advance(&self, store: &Store, by: u32) -> bool
         requires fair { by < self.now.workers → TookFairly store.now self.now by }
         ensures { MatchBool result (Allows store.now self.now (Advance by)) (¬ Allows store.now self.now (Advance by)) }

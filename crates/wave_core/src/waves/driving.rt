@@ -1,4 +1,4 @@
-//! A core that is driven: which allowed event comes next, by choices.
+//! Driving a core: which allowed event is next, by a list of choices.
 ghost use Rattle.std.specs.Prelude.{◌≡◌, ℕ, ◌<◌, [], IfErr, OnOk, OnErr};
 ghost use Rattle.wave_core.specs.Cores.{core_wave, core_state, IsSameWave, Reaches};
 ghost use Rattle.wave_core.specs.Step.{State, IsFinished};
@@ -11,7 +11,7 @@ use crate::{CoreFault, Event};
 use std::alloc::AllocError;
 
 impl<'a> Core<'a> {
-    /// How many of the events are allowed.
+    /// Returns how many of the events are allowed.
     fn count_allowed(&self, events: &[Event]) -> usize
         ensures { CountsAllowed (core_wave self.now) (core_state self.now) events.now result }
     {
@@ -24,7 +24,7 @@ impl<'a> Core<'a> {
         count
     }
 
-    /// The allowed one of a number, from 0.
+    /// Returns the allowed event with this number, from 0, among the allowed ones.
     fn nth_allowed(&self, events: &[Event], number: usize) -> Event
         requires { (m : ℕ) × (number < m) × CountsAllowed (core_wave self.now) (core_state self.now) events.now m }
         ensures { IsNthAllowed (core_wave self.now) (core_state self.now) events.now number result }
@@ -41,7 +41,7 @@ impl<'a> Core<'a> {
         unreachable!()
     }
 
-    /// Does the allowed event that a choice numbers.
+    /// Does the allowed event whose number is `choice` modulo their count.
     fn step_by_choice(&mut self, events: &[Event], choice: usize) -> Result<(), AllocError>
         requires events { events.now ≡ all_events (core_wave self.old) }
         requires more { ¬ IsFinished (core_wave self.old) (core_state self.old) }
@@ -50,7 +50,7 @@ impl<'a> Core<'a> {
         ensures measure_decreases { OnOk result (core_measure self.new < core_measure self.old) }
         ensures err { OnErr result (self.new ≡ self.old) }
     {
-        let _ = &self.machine;
+        let _ = &self.machine; // For the proof.
         let count = self.count_allowed(events);
         let event = self.nth_allowed(events, choice % count);
         match self.try_event(event) {
@@ -60,7 +60,7 @@ impl<'a> Core<'a> {
         }
     }
 
-    /// Does what each choice numbers, until the core is finished or no choice is left.
+    /// Does one event for each choice, until the core is finished or no choice is left.
     fn choose(&mut self, events: &[Event], choices: &[u8]) -> Result<(), AllocError>
         requires { events.now ≡ all_events (core_wave self.old) }
         ensures same { IsSameWave self.old self.new }
@@ -77,7 +77,7 @@ impl<'a> Core<'a> {
         Ok(())
     }
 
-    /// Does the first allowed event until the core is finished.
+    /// Does the first allowed event again and again until the core is finished.
     fn finish(&mut self, events: &[Event]) -> Result<(), AllocError>
         requires { events.now ≡ all_events (core_wave self.old) }
         ensures same { IsSameWave self.old self.new }
@@ -91,8 +91,9 @@ impl<'a> Core<'a> {
         Ok(())
     }
 
-    /// Does, for each choice, the allowed event that it numbers modulo their count, in the order by worker and then by kind
-    /// of event; then always the first allowed one, until the core is finished.
+    /// Drives the core until it is finished. For each choice it does the allowed event whose number is the choice
+    /// modulo the count of allowed events, which are numbered by worker and then by kind; after the last choice always
+    /// the first allowed event. Fails only if memory is refused.
     pub fn drive(&mut self, choices: &[u8]) -> Result<(), CoreFault>
         ensures same { IsSameWave self.old self.new }
         ensures driven { OnOk result (IsDriven (core_wave self.old) (core_state self.old) choices.now (core_state self.new)) }

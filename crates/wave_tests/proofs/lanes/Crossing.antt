@@ -1,4 +1,4 @@
--- What the closures of the tests' threads hold may go to other threads.
+-- What the closures of the tests' threads capture may be moved to other threads.
 use mathlib.Core.List.{[], ◌∷◌}
 use base.Fml.{Lft}
 use mir.Syntax.{Lifetime}
@@ -31,7 +31,7 @@ sender_send ν ℓ ℓ' ℓ'' κ κ' κ'' R r = search (sendable, crosses, lanes
 flag_sync : IsSync AtomicBool.the_row
 flag_sync = search (sendable, crosses, frees) depth 30
 
--- the thread of a worker that another stops
+-- the thread of a worker that another one stops
 pub worker_send : (ν : _) (ℓ ℓ' ℓ'' ℓ'3 ℓ'4 : Lifetime) (κ κ' κ'' κ'3 κ'4 : Lft) (R : RattleType) → IsSync R
     → IsSend (TupleAt ν (ShrRef ℓ κ R ∷ Heap.the_row ∷ ShrRef ℓ' κ' Lanes.the_row ∷ Port.the_row ∷ ShrRef ℓ'' κ'' Store.the_row ∷ ShrRef ℓ'3 κ'3 AtomicBool.the_row ∷ ShrRef ℓ'4 κ'4 AtomicBool.the_row ∷ []))
 worker_send ν ℓ ℓ' ℓ'' ℓ'3 ℓ'4 κ κ' κ'' κ'3 κ'4 R r = search (sendable, crosses, lanes_sync, port_send, store_sync, flag_sync, heap_send) depth 30

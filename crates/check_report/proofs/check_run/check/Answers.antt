@@ -18,6 +18,14 @@ pub returns-clause-unwritten : goal.returns-clause-unwritten
 returns-clause-unwritten g c = λ _.
     (c.in_ok-texts.outcome, c.in_ok-texts.tried, c.in_ok-texts.texts.report.items, c.in_ok-texts.texts.vcd, c.in_ok-texts.ensures.report, subst (AppendsFront _ _ _ _) c.as_slice.ensures.value c.in-Err.ensures.err)
 
+pub returns-clause-names_first : goal.returns-clause-names_first
+returns-clause-names_first g c = λ after. c.in_ok-texts.ensures.names_known
+
+pub returns-in_err-texts-clause-names_first : goal.returns-in_err-texts-clause-names_first
+returns-in_err-texts-clause-names_first g c =
+    let r = err_from_is_err_and c.from_residual.result c.from_residual.ensures.1 in
+    rw (r.1, r.2) c.in_err-texts.ensures.names_first
+
 pub returns-in_err-texts-clause-answer : goal.returns-in_err-texts-clause-answer
 returns-in_err-texts-clause-answer g c =
     let r = err_from_is_err_and c.from_residual.result c.from_residual.ensures.1 in

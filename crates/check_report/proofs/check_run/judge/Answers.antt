@@ -1,6 +1,6 @@
 use Rattle.std.proofs.Common.{IfErr, IfOk, subst}
 use Rattle.std.proofs.lemmas.Result.{err_from_is_err_and}
-use Rattle.report_text.specs.Findings.{found_of}
+use Rattle.compare_built.specs.Findings.{found_of}
 use Rattle.compare_built.specs.Devices.{device_text, device_texts}
 use Rattle.compare_built.specs.declared.settings.Settings.{Settings}
 use Rattle.explain_report.proofs.Trying.{some_order}

@@ -8,7 +8,7 @@ use Rattle.explain_report.specs.Explaining.{IsReportFault}
 use Rattle.explain_report.proofs.Explaining.{early_report_fault, none_failed_report}
 use Rattle.explain_report.proofs.Trying.{some_order}
 use Rattle.check_report.specs.Refusals.{MayAnswer}
-use Rattle.check_report.proofs.Findings.{given_of}
+use Rattle.check_report.proofs.Findings.{before_names, given_of, known_if_err, known_if_ok, targets_of}
 use Rattle.check_report.proofs.Refusing.{early}
 use Rattle.check_report.proofs.check_run.reported.Goals as goal
 
@@ -24,6 +24,23 @@ returns-in_err-netlists-clause-fault g c =
     let o = some_order s.order in
     let e = err_from_is_err_and c.from_residual.result c.from_residual.ensures.1 in
     rw (e.1, e.2) (early_report_fault _ _ _ _ s c.in_err-netlists.field-0.0 o.0 o.1 (c.in_err-netlists.ensures.fault s.order s.matching o.0))
+
+pub returns-in_err-netlists-clause-names_first : goal.returns-in_err-netlists-clause-names_first
+returns-in_err-netlists-clause-names_first g c =
+    let e = err_from_is_err_and c.from_residual.result c.from_residual.ensures.1 in
+    rw (e.1, e.2) (λ after. absurd (before_names c.in_err-netlists.field-0.0 c.in_err-netlists.ensures.early after))
+
+pub returns-clause-names_known : goal.returns-clause-names_known
+returns-clause-names_known g c =
+    let input = device_texts (g.R1.Source.remaining c.args.first.now) (g.R2.Source.remaining c.args.second.now) (device_text g.R3.Source.remaining c.args.given.now) in
+    known_if_ok input c.args.context.now.settings.now.explain.items c.task_report.result
+    (λ other. targets_of input _ _ _ _ _ c.task-task.ensures c.in_ok-netlists.ensures.read (c.task_report.ensures.names_first other))
+
+pub returns-clause-names_first : goal.returns-clause-names_first
+returns-clause-names_first g c =
+    let input = device_texts (g.R1.Source.remaining c.args.first.now) (g.R2.Source.remaining c.args.second.now) (device_text g.R3.Source.remaining c.args.given.now) in
+    known_if_err input c.args.context.now.settings.now.explain.items c.task_report.result
+    (λ other. targets_of input _ _ _ _ _ c.task-task.ensures c.in_ok-netlists.ensures.read (c.task_report.ensures.names_first other))
 
 pub returns-clause-report : goal.returns-clause-report
 returns-clause-report g c =

@@ -1,17 +1,17 @@
-use Rattle.std.proofs.Common.{◌∙◌, ap, sym, subst, refl, inr, Some}
+use Rattle.std.proofs.Common.{◌∙◌, ap, sym, subst, refl, inl, inr, Some}
 use Rattle.std.proofs.lemmas.Result.{err_from_is_err_and}
 use Rattle.net_bench.specs.Circuit.{circuit}
-use Rattle.net_order.specs.declared.order.Order.TheVariants as orders
+use Rattle.net_names.specs.declared.order.Order.TheVariants as orders
 use Rattle.net_order.specs.Order.{NamingModel, condition}
-use Rattle.report_text.specs.Findings.{VerdictsModel, found_of}
+use Rattle.compare_built.specs.Findings.{VerdictsModel, found_of}
 use Rattle.compare_built.specs.declared.strategy.Attempt.{Attempt}
 use Rattle.compare_built.specs.declared.strategy.AttemptOrder.TheVariants.{Computed}
-use Rattle.compare_built.specs.Attempts.{AreGivenUp, AreTried, InEachOrder, IsAllowed, IsChosen, IsGivenUpWithin, MayGoByCones, last_budget}
+use Rattle.compare_built.specs.Attempts.{AreGivenUp, AreTried, InEachOrder, InSomeOrder, IsAllowed, IsChosen, IsGivenUpOtherwise, IsGivenUpWithin, MayGoByCones, last_budget}
 use Rattle.compare_built.specs.Limits.{AreBeyond}
 use Rattle.explain_report.specs.Deciding.IsFoundBy.{in_order}
 use Rattle.explain_report.specs.Explaining.{IsReportedOrder}
 use Rattle.order_search.specs.Trials.{EndsSearch, IsNamingIn}
-use Rattle.order_search.proofs.Rounds.{beyond_in_input, earlier_in_input, given_up_in_input, judged, order_in_input, within}
+use Rattle.order_search.proofs.Rounds.{beyond_in_input, earlier_in_input, given_up_in_input, judged, order_in_input, otherwise_in_input, within}
 use Rattle.check_report.proofs.Refusing.{from_each}
 use Rattle.check_report.proofs.decision.compare_in_best_order.Goals as goal
 
@@ -59,12 +59,16 @@ returns-in_err-decided-clause-no_decision g c = λ input ga.
         given_up = λ left. (
           subst AreTried (sym c.requires.best) tt,
           subst (λ choice. InEachOrder input s.matching choice (IsGivenUpWithin input s.matching s.limit bound)) (sym c.requires.best)
-              (λ k. given_up_in_input task input ga s.limit bound (Computed k) (has.given_up (inr left) s.limit (inr refl) k)),
+              (λ k. given_up_in_input task input ga s.limit bound (Computed k) (has.given_up (inr (inl left)) s.limit (inr refl) k)),
+          (let other = has.others left in
+              subst (λ choice. InSomeOrder input s.matching choice (IsGivenUpOtherwise input s.matching s.limit bound)) (sym c.requires.best)
+              (other.0, otherwise_in_input task input ga s.limit bound (Computed other.0) other.1)),
         );
         by_cones = λ may. absurd (subst MayGoByCones c.requires.best may);
         any_number_of_inputs = λ may. absurd (subst MayGoByCones c.requires.best may);
         only = λ none. absurd (subst EndsSearch none has.ends);
         past = λ none. absurd (subst EndsSearch none has.ends);
+        stopped = λ stopped. (λ may. subst MayGoByCones c.requires.best may, has.stopped stopped);
         needs_no_thread = λ _ none. subst EndsSearch none has.ends;
         thread_for_named_order = λ none. absurd (subst EndsSearch none has.ends);
       });

@@ -1,9 +1,9 @@
 use Rattle.std.proofs.Common.{◌∙◌, ap, sym, subst, refl, Err, None}
 use Rattle.std.proofs.lemmas.Result.{err_from_is_err_and}
 use Rattle.net_bench.specs.Circuit.{circuit}
-use Rattle.net_order.specs.declared.order.Order.TheVariants as orders
+use Rattle.net_names.specs.declared.order.Order.TheVariants as orders
 use Rattle.net_order.specs.Order.{NamingModel, condition}
-use Rattle.report_text.specs.Findings.{VerdictsModel, found_of}
+use Rattle.compare_built.specs.Findings.{VerdictsModel, found_of}
 use Rattle.compare_built.specs.declared.strategy.AttemptOrder.{AttemptOrder}
 use Rattle.compare_built.specs.declared.strategy.AttemptOrder.TheVariants.{Computed}
 use Rattle.compare_built.specs.Attempts.{InEachOrder, IsAllowed, IsChosen, IsNamedIn, MayGoByCones, NamesOrder}
@@ -84,8 +84,9 @@ returns-in_err-verdicts-clause-no_decision g c = λ input ga.
         past = λ past. (
           o,
           subst (λ choice. IsNamedIn input s.matching choice o) (sym c.requires.computed) (order_in_input task input ga by o is.1),
-          wide_given input s.matching o (circuit task.first.now) (circuit task.second.now) (condition task.given) p (record { netlists = ga; pairing = is.2 }) bound (has.past (ap Err past)),
+          wide_given input s.matching o (circuit task.first.now) (circuit task.second.now) (condition task.given) p (record { netlists = ga; pairing = is.2 }) bound.requests (has.past (ap Err past)),
         );
+        stopped = λ stopped. (λ may. subst MayGoByCones c.requires.computed may, has.stopped (ap Err stopped));
         needs_no_thread = λ less none. has.needs_no_thread less (ap Err none);
         thread_for_named_order = λ _. subst NamesOrder (sym c.requires.computed) tt;
       });

@@ -1,8 +1,8 @@
-use Rattle.std.proofs.Common.{◌≡◌, ◌∙◌, ap, sym, subst, refl, Err, None}
+use Rattle.std.proofs.Common.{◌∙◌, ap, sym, subst, refl, Err, None}
 use Rattle.std.proofs.lemmas.Result.{err_from_is_err_and}
 use Rattle.net_bench.specs.Circuit.{circuit}
 use Rattle.net_order.specs.Order.{NamingModel, condition}
-use Rattle.report_text.specs.Findings.{VerdictsModel, found_of}
+use Rattle.compare_built.specs.Findings.{VerdictsModel, found_of}
 use Rattle.compare_built.specs.Attempts.{InEachOrder, IsAllowed, IsChosen, IsNamedIn, MayGoByCones, NamesOrder}
 use Rattle.compare_built.specs.Check.{IsComparisonFault}
 use Rattle.compare_built.specs.Limits.{AreBeyond}
@@ -72,8 +72,9 @@ returns-in_err-verdicts-clause-no_decision g c = λ input ga.
         past = λ past. (
           o,
           subst (λ choice. IsNamedIn input s.matching choice o) (sym c.requires.named) refl,
-          wide_given input s.matching o (circuit task.first.now) (circuit task.second.now) (condition task.given) p (record { netlists = ga; pairing = is }) bound (has.past (ap Err past)),
+          wide_given input s.matching o (circuit task.first.now) (circuit task.second.now) (condition task.given) p (record { netlists = ga; pairing = is }) bound.requests (has.past (ap Err past)),
         );
+        stopped = λ stopped. (λ may. subst MayGoByCones c.requires.named may, has.stopped (ap Err stopped));
         needs_no_thread = λ less none. has.needs_no_thread less (ap Err none);
         thread_for_named_order = λ _. subst NamesOrder (sym c.requires.named) tt;
       });

@@ -1,6 +1,6 @@
 use Rattle.std.proofs.Common.{◌≡◌, inr}
 use Rattle.std.proofs.lemmas.Result.{err_from_is_err_and}
-use Rattle.report_text.specs.Findings.{found_of}
+use Rattle.compare_built.specs.Findings.{found_of}
 use Rattle.compare_built.specs.declared.fault.CheckFault.TheVariants.{Write}
 use Rattle.explain_report.proofs.Trying.{found_accepted}
 use Rattle.check_report.proofs.full_report.task_report.Goals as goal
@@ -15,6 +15,8 @@ returns-clause-report g c = λ input ga.
         counts = c.outcome.ensures;
         causes = text.0;
         caused = text.1;
+        stopped = c.was_stopped-stopped.result;
+        may_stop = c.was_stopped-stopped.ensures.stops;
         explanations = text.2;
         explained = text.3;
         text = text.4;

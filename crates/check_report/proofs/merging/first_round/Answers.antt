@@ -1,7 +1,3 @@
-use Rattle.std.proofs.Common.{sym, subst}
-use Rattle.std.specs.List.{AllZip}
-use Rattle.net_bench.specs.Circuit.{circuit}
-use Rattle.cone_check.specs.ConeRounds.{IsEqualIf}
 use Rattle.check_report.proofs.Flags.{no_flags}
 use Rattle.check_report.proofs.merging.first_round.Goals as goal
 

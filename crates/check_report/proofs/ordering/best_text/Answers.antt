@@ -1,7 +1,7 @@
 use Rattle.std.proofs.Common.{subst, ◌≡◌, ◌∙◌, ap}
 use Rattle.std.proofs.lemmas.Result.{err_from_is_err_and}
-use Rattle.net_order.specs.OrderText.{order_text}
-use Rattle.report_text.specs.Findings.{found_of}
+use Rattle.net_names.specs.OrderText.{order_text}
+use Rattle.compare_built.specs.Findings.{found_of}
 use Rattle.compare_built.specs.declared.fault.CheckFault.TheVariants.{Write}
 use Rattle.explain_report.proofs.Trying.{found_accepted}
 use Rattle.check_report.proofs.Printing.{best_printed}

@@ -1,9 +1,9 @@
 use Rattle.std.proofs.Common.{◌∙◌, ap, refl, sym, subst, None}
 use Rattle.std.proofs.lemmas.Result.{err_from_is_err_and}
 use Rattle.net_bench.specs.Circuit.{circuit}
-use Rattle.net_order.specs.declared.order.Order.TheVariants as orders
+use Rattle.net_names.specs.declared.order.Order.TheVariants as orders
 use Rattle.net_order.specs.Order.{condition}
-use Rattle.net_order.specs.OrderText.{order_text}
+use Rattle.net_names.specs.OrderText.{order_text}
 use Rattle.compare_built.specs.declared.strategy.AttemptOrder.TheVariants.{Computed}
 use Rattle.compare_built.specs.Attempts.{IsAllowed, IsFound}
 use Rattle.order_search.proofs.Rounds.{accepted_by, memory_ends, order_ends, order_in_input}

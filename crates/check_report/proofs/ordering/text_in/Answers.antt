@@ -2,7 +2,7 @@ use Rattle.std.proofs.Common.{◌∙◌, ap}
 use Rattle.std.proofs.lemmas.Result.{err_from_is_err_and}
 use Rattle.net_bench.specs.Circuit.{circuit}
 use Rattle.net_order.specs.Order.{condition}
-use Rattle.net_order.specs.OrderText.{order_text}
+use Rattle.net_names.specs.OrderText.{order_text}
 use Rattle.order_search.proofs.Rounds.{accepted_paired, memory_ends, order_ends}
 use Rattle.check_report.proofs.ordering.text_in.Goals as goal
 

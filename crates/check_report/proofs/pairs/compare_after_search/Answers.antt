@@ -1,12 +1,10 @@
 use Rattle.std.proofs.Common.{ap, sym, subst, refl, inr}
-use Rattle.std.proofs.lemmas.Result.{err_from_is_err_and}
-use Rattle.net_order.specs.declared.order.Order.TheVariants as orders
-use Rattle.report_text.specs.Findings.{VerdictsModel}
+use Rattle.net_names.specs.declared.order.Order.TheVariants as orders
+use Rattle.compare_built.specs.Findings.{VerdictsModel}
 use Rattle.compare_built.specs.Attempts.{MayGoByCones}
 use Rattle.order_search.specs.Trials.{IsNamingIn}
-use Rattle.check_report.specs.Pairs.{AreEqualIf, AreFacts}
 use Rattle.check_report.proofs.Findings.{declared_naming}
-use Rattle.check_report.proofs.LastAttempts.{again_given_up, decided_by_second}
+use Rattle.check_report.proofs.LastAttempts.{decided_by_second}
 use Rattle.check_report.proofs.pairs.compare_after_search.Goals as goal
 
 pub search_again-requires-clause-verdict_order : goal.search_again-requires-clause-verdict_order

@@ -1,8 +1,8 @@
 use Rattle.std.proofs.Common.{ap, subst, sym, Err, None}
 use Rattle.std.proofs.lemmas.Result.{err_from_is_err_and}
-use Rattle.net_order.specs.declared.order.Order.TheVariants.{Declared}
+use Rattle.net_names.specs.declared.order.Order.TheVariants.{Declared}
 use Rattle.order_search.specs.Trials.{IsNamingIn}
-use Rattle.report_text.specs.Findings.{found_of}
+use Rattle.compare_built.specs.Findings.{found_of}
 use Rattle.compare_built.specs.Attempts.{MayGoByCones}
 use Rattle.explain_report.specs.Deciding.{MayTakeCones}
 use Rattle.check_report.proofs.Findings.{declared_naming, unnamed}

@@ -1,7 +1,7 @@
 use Rattle.std.proofs.Common.{sym, subst}
-use Rattle.net_order.specs.declared.order.Order.TheVariants.{Declared}
+use Rattle.net_names.specs.declared.order.Order.TheVariants.{Declared}
 use Rattle.order_search.specs.Trials.{IsNamingIn}
-use Rattle.report_text.specs.Findings.{found_of}
+use Rattle.compare_built.specs.Findings.{found_of}
 use Rattle.cone_check.specs.ConeRounds.{IsFoundByCones}
 use Rattle.check_report.proofs.pairs.compare_pairs.Goals as goal
 

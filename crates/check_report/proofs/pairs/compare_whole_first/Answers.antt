@@ -1,9 +1,8 @@
 use Rattle.std.proofs.Common.{ap, sym, subst, refl, inr}
-use Rattle.net_order.specs.declared.order.Order.TheVariants as orders
-use Rattle.report_text.specs.Findings.{VerdictsModel}
-use Rattle.compare_built.specs.Attempts.{MayGoByCones, first_whole_limit}
-use Rattle.order_search.specs.Trials.{AreAllGivenUp, AreTrials, IsNamingIn}
-use Rattle.check_report.specs.Wholes.{IsSearched}
+use Rattle.net_names.specs.declared.order.Order.TheVariants as orders
+use Rattle.compare_built.specs.Findings.{VerdictsModel}
+use Rattle.compare_built.specs.Attempts.{MayGoByCones}
+use Rattle.order_search.specs.Trials.{IsNamingIn}
 use Rattle.check_report.proofs.Findings.{declared_naming}
 use Rattle.check_report.proofs.LastAttempts.{decided_by_first, searched_first}
 use Rattle.check_report.proofs.pairs.compare_whole_first.Goals as goal

@@ -1,5 +1,5 @@
 use Rattle.std.proofs.Common.{subst, sym}
-use Rattle.net_order.specs.declared.order.Order.TheVariants.{Declared}
+use Rattle.net_names.specs.declared.order.Order.TheVariants.{Declared}
 use Rattle.order_search.specs.Trials.{IsNamingIn}
 use Rattle.check_report.proofs.pairs.naming_in.Goals as goal
 

@@ -1,4 +1,4 @@
-use Rattle.net_order.specs.declared.order.Order.TheVariants.{Declared}
+use Rattle.net_names.specs.declared.order.Order.TheVariants.{Declared}
 use Rattle.net_order.specs.Order.{condition}
 use Rattle.compare_built.proofs.Subjects.{all_signals}
 use Rattle.check_report.proofs.pairs.note_signals.Goals as goal

@@ -1,13 +1,12 @@
-use Rattle.std.proofs.Common.{◌∙◌, ap, sym, subst, refl, None, Some}
+use Rattle.std.proofs.Common.{◌∙◌, ap, sym, subst, refl, None}
 use Rattle.net_bench.specs.Circuit.{circuit}
-use Rattle.net_order.specs.declared.order.Order.TheVariants as orders
-use Rattle.net_order.specs.Order.{NamingModel, condition}
-use Rattle.report_text.specs.Findings.{VerdictsModel, found_of}
+use Rattle.net_names.specs.declared.order.Order.TheVariants as orders
+use Rattle.net_order.specs.Order.{condition}
+use Rattle.compare_built.specs.Findings.{VerdictsModel, found_of}
 use Rattle.compare_built.specs.Attempts.{MayGoByCones}
 use Rattle.order_search.specs.Trials.{IsNamingIn, IsPairingIn}
 use Rattle.order_search.proofs.Namings.{as_pairing}
 use Rattle.order_search.proofs.Rounds.{order_ends}
-use Rattle.check_report.specs.Wholes.{IsDecidedWhole, attempt_of}
 use Rattle.check_report.proofs.Findings.{declared_naming}
 use Rattle.check_report.proofs.LastAttempts.{decided_by_pairs, decided_by_rest, given_up_by_rest, given_up_last, many_before, may_take, none_open}
 use Rattle.check_report.proofs.pairs.with_last_attempts.Goals as goal

@@ -1,5 +1,4 @@
-use Rattle.std.proofs.Common.{◌≡◌, ◌<◌, ◌≤◌, sym, subst, arith, Some}
-use Rattle.compare_built.specs.Attempts.{whole_limit}
+use Rattle.std.proofs.Common.{subst, arith, Some}
 use Rattle.order_search.specs.Trials.{AreCandidatesGivenUp, Decides, IsRound}
 use Rattle.check_report.proofs.Wholes.{all_again, decided_again, small_all}
 use Rattle.check_report.proofs.whole.search_again.Goals as goal

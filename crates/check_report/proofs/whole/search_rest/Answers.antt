@@ -1,7 +1,5 @@
-use Rattle.std.proofs.Common.{◌≡◌, sym, subst, Some, Ok, Err, Result}
-use Rattle.std.specs.Prelude.{IfOk}
-use Rattle.compare_built.specs.Attempts.{whole_limit}
-use Rattle.check_report.specs.Wholes.{AreTriedBefore, IsSearched, IsTriedAgain}
+use Rattle.std.proofs.Common.{subst, Some}
+use Rattle.check_report.specs.Wholes.{AreTriedBefore}
 use Rattle.check_report.proofs.Wholes.{searched_again}
 use Rattle.check_report.proofs.whole.search_rest.Goals as goal
 

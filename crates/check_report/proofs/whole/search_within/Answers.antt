@@ -1,5 +1,5 @@
-use Rattle.std.proofs.Common.{◌≡◌, sym, subst, Some}
-use Rattle.order_search.specs.Trials.{AreAllGivenUp, IsFoundWithin, IsGivingUp}
+use Rattle.std.proofs.Common.{subst, Some}
+use Rattle.order_search.specs.Trials.{AreAllGivenUp, IsFoundWithin}
 use Rattle.order_search.proofs.Searching.{at_once}
 use Rattle.check_report.proofs.whole.search_within.Goals as goal
 

@@ -1,4 +1,4 @@
-use Rattle.std.proofs.Common.{◌≡◌, subst, Some}
+use Rattle.std.proofs.Common.{subst, Some}
 use Rattle.compare_built.specs.Attempts.{whole_limit}
 use Rattle.order_search.specs.Trials.{AreAllGivenUp, Decides, IsLastRound}
 use Rattle.check_report.specs.Wholes.{IsTriedAgain}

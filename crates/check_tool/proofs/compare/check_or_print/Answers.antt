@@ -1,15 +1,15 @@
-use Rattle.std.proofs.Common.{Err, ap, inr, refl}
+use Rattle.std.proofs.Common.{◌≡◌, ◌∙◌, Err, ap, false, inr, refl, sym, true}
 use Rattle.std.proofs.lemmas.Result.{err_from_is_err_and}
 use Rattle.compare_built.specs.Devices.{device_text, device_texts}
 use Rattle.check_report.proofs.Refusing.{to_each, to_list}
 use Rattle.check_tool.specs.declared.done.Done.TheVariants.{Compared, OrderPrinted}
-use Rattle.check_tool.proofs.OptionsToSettings.{given_up_unbound, none_past, earlier_given_up_unbound, report_unbound}
+use Rattle.check_tool.proofs.OptionsToSettings.{earlier_in_bound, given_up_in_bound, none_past, report_in_bound, stopped_in_bound}
 use Rattle.check_tool.proofs.compare.check_or_print.Goals as goal
 
 pub returns-then-run-clause-report : goal.returns-then-run-clause-report
 returns-then-run-clause-report g c =
     let u = c.in_ok-tried.ensures.order in
-    record { bytes = u.0; made = (c.if-run.true, u.1); appended = u.2; earlier_given_up = earlier_given_up_unbound _ _ _ _ c.requires.no_request_bound _ c.in_ok-tried.ensures.earlier_given_up }
+    record { bytes = u.0; made = (c.if-run.true, u.1); appended = u.2; earlier_given_up = earlier_in_bound _ _ _ _ _ c.requires.bound _ c.in_ok-tried.ensures.earlier_given_up }
 
 pub returns-in_err-tried-clause-fault : goal.returns-in_err-tried-clause-fault
 returns-in_err-tried-clause-fault g c =
@@ -24,10 +24,12 @@ returns-in_err-tried-clause-fault g c =
       is = refl;
       cause = inr has.fault;
       full = each.full;
-      given_up = λ e. given_up_unbound sources s _ c.requires.no_request_bound (each.given_up e);
+      given_up = λ e. given_up_in_bound sources s _ _ c.requires.bound (each.given_up e);
       by_cones = each.by_cones;
       thread_for_named_order = λ e. absurd (each.needs_no_thread e);
+      stopped = λ e. stopped_in_bound s _ _ c.requires.bound (each.stopped e);
       only = λ e. absurd (each.no_unknown_name e);
+      names_first = λ compared after. absurd (let never : true ≡ false = sym c.if-run.true ∙ compared in cc);
       never_too_many_requests = each.never_too_many_requests;
       front = λ e. let u = has.unwritten (ap Err e) in (OrderPrinted u.0, u.1, (c.if-run.true, u.2), u.3);
     })
@@ -37,7 +39,7 @@ returns-clause-report g c =
     let s = c.args.settings.now in
     let sources = device_texts (g.R1.Source.remaining c.args.first.now) (g.R2.Source.remaining c.args.second.now) (device_text g.R3.Source.remaining c.args.given.now) in
     let v = c.in_ok-outcome.ensures.vcd in
-    record { bytes = v.0; made = (c.if-run.false, report_unbound sources s _ c.requires.no_request_bound _ _ _ _ v.1); appended = v.2; earlier_given_up = earlier_given_up_unbound sources _ _ _ c.requires.no_request_bound _ c.in_ok-outcome.ensures.earlier_given_up }
+    record { bytes = v.0; made = (c.if-run.false, report_in_bound sources s _ _ c.requires.bound _ _ _ _ v.1); appended = v.2; earlier_given_up = earlier_in_bound sources _ _ _ _ c.requires.bound _ c.in_ok-outcome.ensures.earlier_given_up }
 
 pub returns-in_err-outcome-clause-fault : goal.returns-in_err-outcome-clause-fault
 returns-in_err-outcome-clause-fault g c =
@@ -52,10 +54,12 @@ returns-in_err-outcome-clause-fault g c =
       is = refl;
       cause = has.fault;
       full = each.full;
-      given_up = λ e. given_up_unbound sources s _ c.requires.no_request_bound (each.given_up e);
+      given_up = λ e. given_up_in_bound sources s _ _ c.requires.bound (each.given_up e);
       by_cones = each.by_cones;
       thread_for_named_order = λ e. (c.if-run.false, each.thread_for_named_order e);
+      stopped = λ e. stopped_in_bound s _ _ c.requires.bound (each.stopped e);
       only = each.only;
-      never_too_many_requests = λ e. none_past _ _ c.requires.no_request_bound (each.past e).2;
-      front = λ e. let u = has.unwritten (ap Err e) in (Compared u.0 u.1 u.3, u.2, (c.if-run.false, report_unbound sources s _ c.requires.no_request_bound _ _ _ _ u.4), u.5);
+      names_first = λ compared after. has.names_first after;
+      never_too_many_requests = λ e. none_past _ _ _ c.requires.bound refl (each.past e).2;
+      front = λ e. let u = has.unwritten (ap Err e) in (Compared u.0 u.1 u.3, u.2, (c.if-run.false, report_in_bound sources s _ _ c.requires.bound _ _ _ _ u.4), u.5);
     })

@@ -11,7 +11,7 @@ pub returns-in-Ok-clause-ending : goal.returns-in-Ok-clause-ending
 returns-in-Ok-clause-ending g c = inl (record {
   unopened = grows_none _ _ c.save.ensures.unopened;
   saved_all = c.in-Ok.ensures.saved;
-  said = c.say_if_verbose.ensures.said;
+  said = c.say_done.ensures.said;
   code = c.status_of_done.ensures.status;
 })
 

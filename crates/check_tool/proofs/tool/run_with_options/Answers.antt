@@ -1,18 +1,19 @@
 use Rattle.std.proofs.Common.{◌≡◌, ◌≢◌, ◌∙◌, ◌⊎◌, ap, sym, subst, inr, Result, Ok, Err, OnErr, arith}
 use Rattle.std.specs.Io.KnownBytes.{Keeps}
+use Rattle.std.specs.Prelude.{is_some}
 use Rattle.check_tool.specs.declared.done.Done.{Done}
 use Rattle.compare_built.specs.declared.fault.CheckFault.TheVariants.{Write}
 use Rattle.check_tool.specs.declared.fault.ToolFault.{ToolFault}
 use Rattle.check_tool.specs.declared.fault.ToolFault.TheVariants.{Check, OutOfMemory}
-use Rattle.check_tool.specs.Ending.{DeviceState, FailsToSave, Finishes, IsSaidOf, RunEffects, Written, written_from, run_effects_of, written}
+use Rattle.check_tool.specs.Ending.{DeviceState, FailsToSave, Finishes, IsSaidOf, RunEffects, Written, written_from, run_effects_of, says_more, undecided_of, written}
 use Rattle.check_tool.specs.Opening.{HasFailedAt}
 use Rattle.check_tool.specs.Faults.{fault_status}
 use Rattle.check_tool.proofs.Composing.{keeps_own, code_of, extends_more}
 use Rattle.check_tool.proofs.Unsaved.{grows_none}
-use Rattle.check_tool.proofs.Finishing.{ended, not_asked}
+use Rattle.check_tool.proofs.Finishing.{ended, not_asked, undecided_or}
 use Rattle.check_tool.proofs.tool.run_with_options.Goals as goal
 
--- the fault of an answer that has one
+-- the fault of a result that is one
 abbrev fault_in : Result Done ToolFault → ToolFault
 fault_in (Ok done) = OutOfMemory
 fault_in (Err fault) = fault
@@ -28,12 +29,12 @@ returns-in-Ok-clause-ending g c =
     let effects : RunEffects = run_effects_of (g.E.TerminalSink.on_terminal c.args.errors.now) g.F.Folder.bytes_at g.F.Folder.tries g.F.Folder.saves before after g.R.Source.remaining g.R.Source.has_failed c.args.input.now c.run_options.new.input
     (written g.W.Sink.contents g.W.Sink.has_failed g.W.Sink.has_stopped c.args.out.now c.run_options.new.out) (written g.E.Sink.contents g.E.Sink.has_failed g.E.Sink.has_stopped c.args.errors.now c.finish.new.errors) in
     let b : DeviceState = record { holds = g.E.Sink.contents errors; has_failed = g.E.Sink.has_failed errors; has_stopped = g.E.Sink.has_stopped errors } in
-    let end = subst (λ t. Finishes o c.in-Ok.done (g.F.Folder.tries between) (g.F.Folder.tries after) (g.F.Folder.saves between) (g.F.Folder.saves after) (written_from effects.errors b) c.finish.result
+    let end = subst (λ t. Finishes o c.cause-cause.result c.in-Ok.done (g.F.Folder.tries between) (g.F.Folder.tries after) (g.F.Folder.saves between) (g.F.Folder.saves after) (written_from effects.errors b) c.finish.result
     ⊎ ((fault : ToolFault) × FailsToSave t o c.in-Ok.done (g.F.Folder.tries between) (g.F.Folder.tries after) (g.F.Folder.saves between) (g.F.Folder.saves after) (written_from effects.errors b) fault c.finish.result)) c.run_options.ensures.files_unchanged c.finish.ensures.ending in
-    ended (HasFailedAt g.F.File.Source.origin g.F.File.Source.has_failed) effects o c.in-Ok.done (g.F.Folder.tries between) (g.F.Folder.saves between) b c.finish.result ran.report ran.opened ran.earlier_given_up c.run_options.ensures.unsaved c.run_options.ensures.progress end
+    ended (HasFailedAt g.F.File.Source.origin g.F.File.Source.has_failed) effects o c.cause-cause.result (λ e. sym c.is_some.ensures ∙ c.cause-cause.ensures e) c.in-Ok.done (g.F.Folder.tries between) (g.F.Folder.saves between) b c.finish.result ran.report ran.opened ran.earlier_given_up c.run_options.ensures.unsaved c.run_options.ensures.progress end
 
-pub returns-in-Err-clause-ending : goal.returns-in-Err-clause-ending
-returns-in-Err-clause-ending g c =
+pub returns-clause-ending : goal.returns-clause-ending
+returns-clause-ending g c =
     let cause = c.in-Err.ensures.fault in
     let again = c.refuse_run.ensures.tried in
     let between = c.run_options.new.errors in
@@ -48,6 +49,7 @@ returns-in-Err-clause-ending g c =
         once_more = again.2;
         cause = cause.2;
         may = c.in-Err.ensures.may;
+        names_first = c.in-Err.ensures.names_first;
         line = (
           record { holds = g.E.Sink.contents c.run_options.new.errors; has_failed = g.E.Sink.has_failed c.run_options.new.errors; has_stopped = g.E.Sink.has_stopped c.run_options.new.errors },
           c.run_options.ensures.progress,
@@ -61,8 +63,8 @@ returns-in-Err-clause-ending g c =
       },
     ))
 
-pub returns-in-Err-clause-untouched : goal.returns-in-Err-clause-untouched
-returns-in-Err-clause-untouched g c two =
+pub returns-clause-untouched : goal.returns-clause-untouched
+returns-clause-untouched g c two =
     let after = c.refuse_run.new.errors in
     let said : Written = record {
       held = g.E.Sink.contents c.run_options.new.errors;
@@ -76,4 +78,9 @@ returns-in-Err-clause-untouched g c two =
     )
 
 pub returns-in-Ok-clause-silent : goal.returns-in-Ok-clause-silent
-returns-in-Ok-clause-silent g c = λ e low. c.finish.ensures.silent (not_asked c.args.options.now.verbose (g.E.TerminalSink.on_terminal c.args.errors.now) e) low ∙ c.run_options.ensures.silent e
+returns-in-Ok-clause-silent g c = λ e low.
+    undecided_or (undecided_of c.in-Ok.done) (λ some. (c.in-Ok.done, c.in-Ok.ensures.report, some))
+    (λ none. c.finish.ensures.silent (not_asked c.args.options.now.verbose (is_some c.args.options.now.seconds) (not_asked (says_more c.args.options.now) (g.E.TerminalSink.on_terminal c.args.errors.now) e)) none low ∙ c.run_options.ensures.silent e)
+
+pub returns-clause-silent : goal.returns-clause-silent
+returns-clause-silent g c = λ e low. absurd (omega (arith, low, c.refuse_run.ensures.refused))

@@ -16,13 +16,15 @@ returns c =
     let ten = c.in_ok-arg-9.ensures.shape c.workers.ensures.local ∙ ap₂ with_rule nine c.workers.ensures.rule in
     let eleven = c.in_ok-arg-10.ensures.shape c.limit.ensures.local ∙ ap₂ with_rule ten c.limit.ensures.rule in
     let twelve = c.in_ok-arg-11.ensures.shape c.memory.ensures.local ∙ ap₂ with_rule eleven c.memory.ensures.rule in
-    let thirteen = c.in_ok-arg-12.ensures.shape c.sizes.ensures.local ∙ ap₂ with_rule twelve c.sizes.ensures.rule in
-    let fourteen = c.in_ok-command-2.ensures.shape c.print_order.ensures.local ∙ ap₂ with_rule thirteen c.print_order.ensures.rule in
-    let fifteen = c.in_ok-arg-13.ensures.shape c.format.ensures.local ∙ ap₂ with_rule fourteen c.format.ensures.rule in
-    let sixteen = c.in_ok-arg-14.ensures.shape c.assignment.ensures.local ∙ ap₂ with_rule fifteen c.assignment.ensures.rule in
-    let seventeen = c.in_ok-arg-15.ensures.shape c.causes.ensures.local ∙ ap₂ with_rule sixteen c.causes.ensures.rule in
-    let eighteen = c.in_ok-arg-16.ensures.shape c.difference.ensures.local ∙ ap₂ with_rule seventeen c.difference.ensures.rule in
-    let nineteen = c.in_ok-arg-17.ensures.shape c.verbose.ensures.local ∙ ap₂ with_rule eighteen c.verbose.ensures.rule in
-    let twenty = c.in_ok-arg-18.ensures.shape c.first.ensures.local ∙ ap₂ with_rule nineteen c.first.ensures.rule in
-    let twenty_one = c.in_ok-command-3.ensures.shape c.second.ensures.local ∙ ap₂ with_rule twenty c.second.ensures.rule in
-    (c.matching.result.value_parser, c.order.result.value_parser, c.format.result.value_parser, c.assignment.result.value_parser, c.difference.result.value_parser, c.matching.ensures.parser, c.order.ensures.parser, c.format.ensures.parser, c.assignment.ensures.parser, c.difference.ensures.parser, twenty_one)
+    let thirteen = c.in_ok-arg-12.ensures.shape c.seconds.ensures.local ∙ ap₂ with_rule twelve c.seconds.ensures.rule in
+    let fourteen = c.in_ok-arg-13.ensures.shape c.sizes.ensures.local ∙ ap₂ with_rule thirteen c.sizes.ensures.rule in
+    let fifteen = c.in_ok-command-2.ensures.shape c.print_order.ensures.local ∙ ap₂ with_rule fourteen c.print_order.ensures.rule in
+    let sixteen = c.in_ok-arg-14.ensures.shape c.format.ensures.local ∙ ap₂ with_rule fifteen c.format.ensures.rule in
+    let seventeen = c.in_ok-arg-15.ensures.shape c.assignment.ensures.local ∙ ap₂ with_rule sixteen c.assignment.ensures.rule in
+    let eighteen = c.in_ok-arg-16.ensures.shape c.causes.ensures.local ∙ ap₂ with_rule seventeen c.causes.ensures.rule in
+    let nineteen = c.in_ok-arg-17.ensures.shape c.difference.ensures.local ∙ ap₂ with_rule eighteen c.difference.ensures.rule in
+    let twenty = c.in_ok-arg-18.ensures.shape c.verbose.ensures.local ∙ ap₂ with_rule nineteen c.verbose.ensures.rule in
+    let twenty_one = c.in_ok-arg-19.ensures.shape c.pairs.ensures.local ∙ ap₂ with_rule twenty c.pairs.ensures.rule in
+    let twenty_two = c.in_ok-arg-20.ensures.shape c.first.ensures.local ∙ ap₂ with_rule twenty_one c.first.ensures.rule in
+    let twenty_three = c.in_ok-command-3.ensures.shape c.second.ensures.local ∙ ap₂ with_rule twenty_two c.second.ensures.rule in
+    (c.matching.result.value_parser, c.order.result.value_parser, c.format.result.value_parser, c.assignment.result.value_parser, c.difference.result.value_parser, c.matching.ensures.parser, c.order.ensures.parser, c.format.ensures.parser, c.assignment.ensures.parser, c.difference.ensures.parser, twenty_three)

@@ -1,11 +1,11 @@
 use Rattle.std.proofs.Common.{inl, inr}
 use Rattle.clap.specs.Words.{found_of, rows_of}
 use Rattle.command_line.proofs.Finding.{passes, fails, no_conflict}
-use Rattle.command_line.proofs.conflicts.conflict_in.Goals.{then-has_two_orders, else-has_two_orders+then-has_two_picks, else-has_two_orders+else-has_two_picks+then-gives_search_with, else-has_two_orders+else-has_two_picks+else-gives_search_with+then-gives_search_with-2, else-has_two_orders+else-has_two_picks+else-gives_search_with+else-gives_search_with-2+then-picks_with_fixed_order, else-has_two_orders+else-has_two_picks+else-gives_search_with+else-gives_search_with-2+else-picks_with_fixed_order+then-has_unused_memory, else-has_two_orders+else-has_two_picks+else-gives_search_with+else-gives_search_with-2+else-picks_with_fixed_order+else-has_unused_memory+then-has_unused_extend, else-has_two_orders+else-has_two_picks+else-gives_search_with+else-gives_search_with-2+else-picks_with_fixed_order+else-has_unused_memory+else-has_unused_extend+then-has_explain_conflict, else-has_two_orders+else-has_two_picks+else-gives_search_with+else-gives_search_with-2+else-picks_with_fixed_order+else-has_unused_memory+else-has_unused_extend+else-has_explain_conflict+then-has_unused_vcd, else-has_two_orders+else-has_two_picks+else-gives_search_with+else-gives_search_with-2+else-picks_with_fixed_order+else-has_unused_memory+else-has_unused_extend+else-has_explain_conflict+else-has_unused_vcd+then-has_causes_conflict}
+use Rattle.command_line.proofs.conflicts.conflict_in.Goals.{then-has_two_orders, else-has_two_orders+then-has_two_picks, else-has_two_orders+else-has_two_picks+then-gives_search_with, else-has_two_orders+else-has_two_picks+else-gives_search_with+then-gives_search_with-2, else-has_two_orders+else-has_two_picks+else-gives_search_with+else-gives_search_with-2+then-picks_with_fixed_order, else-has_two_orders+else-has_two_picks+else-gives_search_with+else-gives_search_with-2+else-picks_with_fixed_order+then-has_unused_memory, else-has_two_orders+else-has_two_picks+else-gives_search_with+else-gives_search_with-2+else-picks_with_fixed_order+else-has_unused_memory+then-has_unused_extend, else-has_two_orders+else-has_two_picks+else-gives_search_with+else-gives_search_with-2+else-picks_with_fixed_order+else-has_unused_memory+else-has_unused_extend+then-has_explain_conflict, else-has_two_orders+else-has_two_picks+else-gives_search_with+else-gives_search_with-2+else-picks_with_fixed_order+else-has_unused_memory+else-has_unused_extend+else-has_explain_conflict+then-has_unused_vcd, else-has_two_orders+else-has_two_picks+else-gives_search_with+else-gives_search_with-2+else-picks_with_fixed_order+else-has_unused_memory+else-has_unused_extend+else-has_explain_conflict+else-has_unused_vcd+then-has_causes_conflict, else-has_two_orders+else-has_two_picks+else-gives_search_with+else-gives_search_with-2+else-picks_with_fixed_order+else-has_unused_memory+else-has_unused_extend+else-has_explain_conflict+else-has_unused_vcd+else-has_causes_conflict+then-has_pairs_by_position}
 use Rattle.command_line.proofs.conflicts.conflict_in.Goals as goal
 
-pub returns-else-has_causes_conflict : goal.returns-else-has_causes_conflict
-returns-else-has_causes_conflict c =
+pub returns-else-has_pairs_by_position : goal.returns-else-has_pairs_by_position
+returns-else-has_pairs_by_position c =
     no_conflict (rows_of (found_of c.args.matches.now))
     (fails c.has_two_orders.result c.if-has_two_orders.false c.has_two_orders.ensures)
     (fails c.has_two_picks.result c.if-has_two_picks.false c.has_two_picks.ensures)
@@ -17,6 +17,7 @@ returns-else-has_causes_conflict c =
     (fails c.has_explain_conflict.result c.if-has_explain_conflict.false c.has_explain_conflict.ensures)
     (fails c.has_unused_vcd.result c.if-has_unused_vcd.false c.has_unused_vcd.ensures)
     (fails c.has_causes_conflict.result c.if-has_causes_conflict.false c.has_causes_conflict.ensures)
+    (fails c.has_pairs_by_position.result c.if-has_pairs_by_position.false c.has_pairs_by_position.ensures)
 
 pub returns : goal.returns
 returns c = elim c.if-has_two_orders.branch [
@@ -36,5 +37,7 @@ returns c = elim c.if-has_two_orders.branch [
   | else-has_two_orders+else-has_two_picks+else-gives_search_with+else-gives_search_with-2+else-picks_with_fixed_order+else-has_unused_memory+else-has_unused_extend+else-has_explain_conflict+then-has_unused_vcd w ↦
       inr (inr (inr (inr (inr (inr (inr (inr (inl (passes w.has_unused_vcd.result w.if-has_unused_vcd.true w.has_unused_vcd.ensures)))))))))
   | else-has_two_orders+else-has_two_picks+else-gives_search_with+else-gives_search_with-2+else-picks_with_fixed_order+else-has_unused_memory+else-has_unused_extend+else-has_explain_conflict+else-has_unused_vcd+then-has_causes_conflict w ↦
-      inr (inr (inr (inr (inr (inr (inr (inr (inr (passes w.has_causes_conflict.result w.if-has_causes_conflict.true w.has_causes_conflict.ensures)))))))))
+      inr (inr (inr (inr (inr (inr (inr (inr (inr (inl (passes w.has_causes_conflict.result w.if-has_causes_conflict.true w.has_causes_conflict.ensures))))))))))
+  | else-has_two_orders+else-has_two_picks+else-gives_search_with+else-gives_search_with-2+else-picks_with_fixed_order+else-has_unused_memory+else-has_unused_extend+else-has_explain_conflict+else-has_unused_vcd+else-has_causes_conflict+then-has_pairs_by_position w ↦
+      inr (inr (inr (inr (inr (inr (inr (inr (inr (inr (passes w.has_pairs_by_position.result w.if-has_pairs_by_position.true w.has_pairs_by_position.ensures))))))))))
 ]

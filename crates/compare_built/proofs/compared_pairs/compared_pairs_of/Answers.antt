@@ -1,7 +1,7 @@
 use Rattle.std.proofs.Common.{◌≡◌, ◌<◌, ◌∙◌, ap, sym, subst, arith, length, None, Err}
 use Rattle.std.specs.Prelude.{IfSome, IsSomeAnd}
 use Rattle.std.proofs.lemmas.Result.{err_from_is_err_and}
-use Rattle.expand_work.specs.declared.fault.WaveFault.TheVariants.{Full, TooManyRequests}
+use Rattle.expand_work.specs.declared.fault.WaveFault.TheVariants.{Full, TooManyRequests, Stopped}
 use Rattle.gate_plan.specs.Needing.{HasNeed}
 use Rattle.net_bench.specs.Circuit.{Net, circuit}
 use Rattle.net_order.specs.Order.{condition}
@@ -116,8 +116,16 @@ returns-in_err-restricted-clause-past g c = λ e.
     let made = r.1 in
     let wave = r.2 in
     let refused : c.in_err-restricted.field-0.0 ≡ TooManyRequests = cc in
-    subst (λ o. IsSomeAnd (g.G.Monitor.bound c.args.crew.now.monitor.now) (λ n. IsSomeAnd (condition o) (λ x. IsWideWhere n a b x c.args.pairing.now))) (sym c.in-Some.is)
+    subst (λ o. IsSomeAnd (g.G.Monitor.bound c.args.crew.now.monitor.now).requests (λ n. IsSomeAnd (condition o) (λ x. IsWideWhere n a b x c.args.pairing.now))) (sym c.in-Some.is)
     (wide_where a b (circuit k) c.args.pairing.now c.args.store.now c.args.built.now c.levels.ensures.sound built of (c.in_ok-subjects.ensures ∙ ap (subjects (circuit c.args.task.now.first.now) (circuit c.args.task.now.second.now)) c.naming.ensures) c.as_slice-2.result.now
     (handed c.args.built.now c.in_ok-subjects.subjects.items _ _ _ c.as_slice-2.ensures.value c.in_ok-references.ensures c.as_slice.ensures.value) c.given-holds.result
     (given_is c.args.built.now.given c.outputs.result.now k.outputs c.index-outputs-0.result c.given-holds.result c.index-outputs-0.is c.outputs.ensures.value some c.given-holds.ensures)
-    (g.G.Monitor.bound c.args.crew.now.monitor.now) (c.in_err-restricted.ensures.past (ap Err refused)))
+    (g.G.Monitor.bound c.args.crew.now.monitor.now).requests (c.in_err-restricted.ensures.past (ap Err refused)))
+
+pub returns-in_err-restricted-clause-stopped : goal.returns-in_err-restricted-clause-stopped
+returns-in_err-restricted-clause-stopped g c = λ e.
+    let r = err_from_is_err_and c.from_residual-in_err-restricted.result c.from_residual-in_err-restricted.ensures.1 in
+    let made = r.1 in
+    let wave = r.2 in
+    let stopped : c.in_err-restricted.field-0.0 ≡ Stopped = cc in
+    c.in_err-restricted.ensures.stopped (ap Err stopped)

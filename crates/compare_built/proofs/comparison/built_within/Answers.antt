@@ -3,7 +3,7 @@ use Rattle.std.proofs.lemmas.Result.{err_from_is_err_and}
 use Rattle.dd_store.specs.Nodes.{Nodes, count_of}
 use Rattle.net_bench.specs.Circuit.{circuit}
 use Rattle.net_order.specs.Order.{condition}
-use Rattle.expand_work.specs.declared.fault.WaveFault.TheVariants.{Full, TooManyRequests}
+use Rattle.expand_work.specs.declared.fault.WaveFault.TheVariants.{Full, TooManyRequests, Stopped}
 use Rattle.gate_plan.proofs.Needed.{lean_left}
 use Rattle.compare_built.specs.declared.fault.CheckFault.TheVariants.{Wave}
 use Rattle.compare_built.proofs.Limiting.{none_before, exceeds, fits, over}
@@ -75,7 +75,7 @@ returns-in_err-built-clause-past g c = λ e.
     let made = r.1 in
     let wave = r.2 in
     let refused : c.in_err-built.field-0.0 ≡ TooManyRequests = cc in
-    wide_build (circuit c.args.task.now.first.now) (circuit c.args.task.now.second.now) (condition c.args.task.now.given) c.args.pairing.now (g.G.Monitor.bound c.args.monitor.now) (c.in_err-built.ensures.past (ap Err refused))
+    wide_build (circuit c.args.task.now.first.now) (circuit c.args.task.now.second.now) (condition c.args.task.now.given) c.args.pairing.now (g.G.Monitor.bound c.args.monitor.now).requests (c.in_err-built.ensures.past (ap Err refused))
 
 pub returns-in_err-shown-clause-past : goal.returns-in_err-shown-clause-past
 returns-in_err-shown-clause-past g c = λ e.
@@ -83,4 +83,20 @@ returns-in_err-shown-clause-past g c = λ e.
     let made = r.1 in
     let wave = r.2 in
     let refused : c.in_err-shown.field-0.0 ≡ Wave TooManyRequests = cc in
-    wide_compared (circuit c.args.task.now.first.now) (circuit c.args.task.now.second.now) (condition c.args.task.now.given) c.args.pairing.now (g.G.Monitor.bound c.args.monitor.now) (c.in_err-shown.ensures.past (ap Err refused))
+    wide_compared (circuit c.args.task.now.first.now) (circuit c.args.task.now.second.now) (condition c.args.task.now.given) c.args.pairing.now (g.G.Monitor.bound c.args.monitor.now).requests (c.in_err-shown.ensures.past (ap Err refused))
+
+pub returns-in_err-built-clause-stopped : goal.returns-in_err-built-clause-stopped
+returns-in_err-built-clause-stopped g c = λ e.
+    let r = err_from_is_err_and c.from_residual-in_err-built.result c.from_residual-in_err-built.ensures.1 in
+    let made = r.1 in
+    let wave = r.2 in
+    let stopped : c.in_err-built.field-0.0 ≡ Stopped = cc in
+    c.in_err-built.ensures.stopped (ap Err stopped)
+
+pub returns-in_err-shown-clause-stopped : goal.returns-in_err-shown-clause-stopped
+returns-in_err-shown-clause-stopped g c = λ e.
+    let r = err_from_is_err_and c.from_residual-in_err-shown.result c.from_residual-in_err-shown.ensures.1 in
+    let made = r.1 in
+    let wave = r.2 in
+    let stopped : c.in_err-shown.field-0.0 ≡ Wave Stopped = cc in
+    c.in_err-shown.ensures.stopped (ap Err stopped)

@@ -1,4 +1,4 @@
-use Rattle.std.proofs.Common.{◌≡◌, ◌∙◌, ◌<◌, ℕ, Bool, List, All, ap, sym, subst, length, get_or}
+use Rattle.std.proofs.Common.{◌∙◌, ◌<◌, ℕ, List, All, ap, sym, subst, length, get_or}
 use Rattle.dd_store.specs.Nodes.{den}
 use Rattle.counter_walk.specs.DeclaredOrder.{by_declared}
 use Rattle.counter_walk.specs.Support.{IsSupportOf}

@@ -1,4 +1,4 @@
-use Rattle.std.proofs.Common.{arith, length}
+use Rattle.std.proofs.Common.{arith}
 use Rattle.cone_check.proofs.at_once.equal_verdicts.Goals as goal
 
 pub returns : goal.returns

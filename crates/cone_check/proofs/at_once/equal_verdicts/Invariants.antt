@@ -1,6 +1,5 @@
-use Rattle.std.proofs.Common.{◌≡◌, ℕ, ◌<◌, ◌≤◌, Bool, None, Option, get_or, length}
+use Rattle.std.proofs.Common.{◌≡◌, ℕ, ◌<◌, ◌≤◌, Bool, None, get_or, length}
 use Rattle.net_bench.specs.Circuit.{circuit}
-use Rattle.report_text.specs.declared.verdict.Verdict.{Verdict}
 use Rattle.compare_built.specs.declared.subject.Subject.{Subject}
 use Rattle.cone_check.specs.ConeRounds.{or_equal}
 use Rattle.cone_check.proofs.at_once.equal_verdicts.Given as goal

@@ -2,7 +2,6 @@ use Rattle.std.proofs.Common.{◌≡◌, ℕ, ◌<◌, ◌≤◌, None, Option, 
 use Rattle.net_bench.specs.Circuit.{circuit}
 use Rattle.net_order.specs.Order.{condition}
 use Rattle.net_patterns.specs.declared.counterexample.ShownPattern.{ShownPattern}
-use Rattle.report_text.specs.declared.verdict.Verdict.{Verdict}
 use Rattle.compare_built.specs.declared.subject.Subject.{Subject}
 use Rattle.cone_check.specs.ConeRounds.{IsShownElse}
 use Rattle.cone_check.proofs.at_once.put_all_shown.Given as goal

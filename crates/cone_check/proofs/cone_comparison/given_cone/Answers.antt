@@ -1,7 +1,7 @@
 use Rattle.std.proofs.Common.{◌≡◌, ◌∙◌, ℕ, List, Option, Some, ap, sym, subst, refl, arith, length, get_or}
 use Rattle.std.specs.Prelude.{slice_index, IfSome}
 use Rattle.net_bench.specs.Circuit.{Circuit, circuit, variables_of}
-use Rattle.net_order.specs.declared.order.Order.TheVariants.{Declared}
+use Rattle.net_names.specs.declared.order.Order.TheVariants.{Declared}
 use Rattle.net_order.specs.Order.{condition}
 use Rattle.net_order.proofs.InputLevels.{given_below}
 use Rattle.net_order.proofs.Named.{same_item}

@@ -1,7 +1,7 @@
 use Rattle.std.proofs.Common.{◌∙◌, sym, subst, length}
 use Rattle.std.specs.Prelude.{slice_index}
 use Rattle.net_bench.specs.Circuit.{circuit, variables_of}
-use Rattle.net_order.specs.declared.order.Order.TheVariants.{Declared}
+use Rattle.net_names.specs.declared.order.Order.TheVariants.{Declared}
 use Rattle.net_order.specs.Order.{condition}
 use Rattle.net_order.proofs.InputLevels.{first_below, second_below}
 use Rattle.compare_built.specs.Cones.{AreNamed}
@@ -38,4 +38,5 @@ judged-requires-clause-ready g c κs within =
       second_gates = c.as_slice-4.ensures.value ∙ c.in_ok-second_gates.ensures;
       conditional = c.in_ok-given.ensures.cone;
       conditional_net = c.in_ok-given.ensures.net;
+      ordered = c.in_ok-order.ensures;
     }

@@ -1,18 +1,32 @@
-use Rattle.std.proofs.Common.{sym, subst}
+use Rattle.std.proofs.Common.{◌∙◌, ap, length, sym, subst}
 use Rattle.std.specs.List.{AllZip}
 use Rattle.net_bench.specs.Circuit.{circuit}
 use Rattle.net_order.specs.Order.{condition}
 use Rattle.compare_built.specs.Details.{unsized}
 use Rattle.compare_built.specs.Cones.{cone_limit}
+use Rattle.pair_facts.specs.PairFacts.{IsFirstShown}
 use Rattle.cone_check.specs.ConeRounds.{FitIn, StaysUndecided, IsDecidedIn, IsFinalVerdict, IsUnshownIn}
 use Rattle.cone_check.proofs.AtOnce.{shown_last}
 use Rattle.cone_check.proofs.ByCones.{reported_left}
-use Rattle.cone_check.proofs.Filling.{length_known, reported_known}
+use Rattle.cone_check.proofs.Filling.{length_known, reported_known, zip_size}
 use Rattle.cone_check.proofs.cone_comparison.judged.Goals as goal
+
+pub judge_distinct-requires-clause-shown : goal.judge_distinct-requires-clause-shown
+judge_distinct-requires-clause-shown g c κs within =
+    let task = c.args.context.now.task.now in
+    zip_size (IsFirstShown (circuit task.first.now) (circuit task.second.now) (condition task.given) c.args.context.now.naming.now) c.args.subjects.now c.args.shown.now c.requires.shown
 
 pub put_all_shown-requires-clause-one_for_each : goal.put_all_shown-requires-clause-one_for_each
 put_all_shown-requires-clause-one_for_each g c =
     length_known (IsDecidedIn c.args.context.now (cone_limit c.args.context.now.task.now.settings.now.limit)) (StaysUndecided c.args.context.now (g.G.Monitor.bound c.args.monitor.now)) c.args.subjects.now c.in_ok-known-2.known.items c.in_ok-known-2.ensures.known
+
+pub notify_all_undecided-requires-clause-one_for_each : goal.notify_all_undecided-requires-clause-one_for_each
+notify_all_undecided-requires-clause-one_for_each g c κs within =
+    let w = c.args.context.now in
+    let bound = g.G.Monitor.bound c.args.monitor.now in
+    ap length c.as_slice.ensures.value ∙
+    length_known (IsFinalVerdict w bound) (λ s. StaysUndecided w bound s × IsUnshownIn w s) c.args.subjects.now c.put_all_shown.new.known.items
+    (shown_last w bound c.args.subjects.now c.args.shown.now c.in_ok-known-2.known.items c.put_all_shown.new.known.items c.requires.shown c.in_ok-known-2.ensures.known c.in_ok-put_all_shown.ensures)
 
 pub verdicts_or_undecided-requires-clause-one_for_each : goal.verdicts_or_undecided-requires-clause-one_for_each
 verdicts_or_undecided-requires-clause-one_for_each g c =

@@ -2,7 +2,7 @@ use Rattle.std.proofs.Common.{◌∙◌, ap, sym, subst, All}
 use Rattle.std.specs.List.{AllZip}
 use Rattle.net_bench.specs.Circuit.{circuit}
 use Rattle.net_order.specs.Order.{condition}
-use Rattle.report_text.specs.Findings.{VerdictsModel}
+use Rattle.compare_built.specs.Findings.{VerdictsModel}
 use Rattle.compare_built.specs.Comparing.{IsInside}
 use Rattle.pair_facts.specs.PairFacts.{IsFirstShown}
 use Rattle.cone_check.specs.ConeRounds.{IsEqualIf, IsPairVerdict}

@@ -1,7 +1,7 @@
 use Rattle.std.proofs.Common.{◌≡◌, ap, subst, map, Ok}
 use Rattle.std.specs.Prelude.{IfSome}
 use Rattle.net_cone.specs.Cones.{variable_name}
-use Rattle.net_order.specs.declared.order.Order.{Order}
+use Rattle.net_names.specs.declared.order.Order.{Order}
 use Rattle.net_order.specs.Order.{NamingModel}
 use Rattle.cone_check.specs.ConeRounds.{IsWidened}
 use Rattle.order_search.specs.Trials.{IsPairingIn}
@@ -36,4 +36,5 @@ returns g c =
     (subst (λ ns. c.in-Some.pairing.names ≡ map (variable_name ns) c.as_slice.result.now) c.names.ensures p.2) in
     judged_pair w c.args.subject.now c.args.cones.now task c.requires.ready c.requires.cones c.task_of-task.ensures c.inputs.ensures.sound c.inputs-2.ensures.sound c.in_ok-places.places.items c.in-Some.pairing c.in_ok-places.ensures.places
     (p.0, p.1, named) c.args.budget (g.G.Monitor.bound c.args.monitor.now) c.in-Ok.found c.in_ok-verdict.verdict c.in-Ok.ensures.decided c.in-Ok.ensures.within (λ e. c.in-Ok.ensures.left (ap Ok e))
+    (λ e. c.in-Ok.ensures.listed_left (ap Ok e))
     (subst (λ ps. IsWidened w c.args.subject.now ps c.in-Ok.found c.in_ok-verdict.verdict) c.as_slice-2.ensures.value c.in_ok-verdict.ensures)

@@ -1,21 +1,29 @@
-use Rattle.std.proofs.Common.{Some, subst}
-use Rattle.order_search.specs.Trials.{Decides, IsRound}
+use Rattle.std.proofs.Common.{◌∷◌, [], ap, Ok, subst}
+use Rattle.std.specs.Prelude.{IfSome}
+use Rattle.net_bench.specs.Circuit.{circuit}
+use Rattle.net_order.specs.Order.{condition}
+use Rattle.compare_built.specs.Details.{details_in}
+use Rattle.compare_built.specs.Report.{AreVerdicts}
+use Rattle.cone_check.specs.ConeRounds.{AreConesWithin}
 use Rattle.cone_check.proofs.pairs.try_cones.Goals as goal
 
-pub only_one-requires : goal.only_one-requires
-only_one-requires g c =
+-- ---- the attempt in the order that is listed
+
+pub returns-in-Some-clause-decided : goal.returns-in-Some-clause-decided
+returns-in-Some-clause-decided g c =
     let task = c.args.task.now in
     let q = c.args.pairing.now in
-    let t = c.in-Decided.decided in
-    let d : Decides task (Some c.args.pairing) c.args.budget t =
-    subst (IsRound task (Some c.args.pairing) c.args.budget (g.G.Monitor.bound c.args.monitor.now) c.try_first.new.trials.items) c.in-Decided.is c.in_ok-decided.ensures.round in
-    c.requires.one (record { variables = q.names; verdicts = t.verdicts.items })
-    d.0.verdicts_of
+    subst (λ o. IfSome o (λ v. AreVerdicts (details_in task.settings.now) (circuit task.first.now) (circuit task.second.now) (condition task.given) q (record { variables = q.names; verdicts = v ∷ [] })))
+    c.in-Some.is c.in_ok-listed.ensures.decided
 
-pub returns-in-Decided-clause-within : goal.returns-in-Decided-clause-within
-returns-in-Decided-clause-within g c =
-    let task = c.args.task.now in
-    let t = c.in-Decided.decided in
-    let d : Decides task (Some c.args.pairing) c.args.budget t =
-    subst (IsRound task (Some c.args.pairing) c.args.budget (g.G.Monitor.bound c.args.monitor.now) c.try_first.new.trials.items) c.in-Decided.is c.in_ok-decided.ensures.round in
-    record { order = t.trial.order; pairing = t.trial.pairing; paired = d.0.paired; fit = d.0.within }
+pub returns-in-Some-clause-within : goal.returns-in-Some-clause-within
+returns-in-Some-clause-within g c =
+    subst (λ o. IfSome o (λ v. AreConesWithin c.args.task.now c.args.order.now c.args.budget)) c.in-Some.is c.in_ok-listed.ensures.within
+
+-- ---- the attempts in the orders of the candidates
+
+pub returns-in-None-clause-within : goal.returns-in-None-clause-within
+returns-in-None-clause-within g c = c.try_candidates.ensures.within c.args.order.now
+
+pub returns-in-None-clause-listed_left : goal.returns-in-None-clause-listed_left
+returns-in-None-clause-listed_left g c = λ _. c.in_ok-listed.ensures.left (ap Ok c.in-None.is)

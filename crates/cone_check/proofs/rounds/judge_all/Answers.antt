@@ -1,8 +1,5 @@
 use Rattle.std.specs.Prelude.{IsPermutation, ⊤}
-use Rattle.net_bench.specs.Circuit.{circuit}
 use Rattle.net_order.specs.Force.{numbers_below}
-use Rattle.compare_built.specs.PairSelection.{HasWeight}
-use Rattle.pair_facts.proofs.SerpentineOrder.{zip_long}
 use Rattle.std.proofs.Common.{length, sym, ◌<◌, ◌≤◌, ◌*◌, ◌^◌, ℕ, IfOk, refl, subst, suc, arith, lit<}
 use Rattle.order_search.proofs.Budgets.{next_budget}
 use Rattle.cone_check.proofs.Filling.{length_known}
@@ -36,17 +33,11 @@ judge_round-requires-2-clause-one_for_each g c κs within =
 
 pub judge_round-requires-clause-order : goal.judge_round-requires-clause-order
 judge_round-requires-clause-order g c κs within =
-    let order = c.in_ok-order.ensures in
-    let task = c.args.context.now.task.now in
-    subst (IsPermutation (numbers_below (length c.args.subjects.now))) (sym c.as_slice.ensures.value)
-    (subst (λ n. IsPermutation (numbers_below n) c.in_ok-order.order.items) (zip_long (HasWeight (circuit task.first.now) (circuit task.second.now)) c.args.subjects.now order.weights order.weighed) order.places)
+    subst (IsPermutation (numbers_below (length c.args.subjects.now))) (sym c.as_slice.ensures.value) c.in_ok-order.ensures.places
 
 pub judge_round-requires-2-clause-order : goal.judge_round-requires-2-clause-order
 judge_round-requires-2-clause-order g c κs within =
-    let order = c.in_ok-order.ensures in
-    let task = c.args.context.now.task.now in
-    subst (IsPermutation (numbers_below (length c.args.subjects.now))) (sym c.as_slice-2.ensures.value)
-    (subst (λ n. IsPermutation (numbers_below n) c.in_ok-order.order.items) (zip_long (HasWeight (circuit task.first.now) (circuit task.second.now)) c.args.subjects.now order.weights order.weighed) order.places)
+    subst (IsPermutation (numbers_below (length c.args.subjects.now))) (sym c.as_slice-2.ensures.value) c.in_ok-order.ensures.places
 
 pub loop-budget-preserved : goal.loop-budget-preserved
 loop-budget-preserved g c =

@@ -5,8 +5,12 @@ use Rattle.std.proofs.lemmas.Result.{err_from_is_err_and}
 use Rattle.net_order.specs.Force.{numbers_below}
 use Rattle.cone_check.specs.Batches.{AreJobsDone, is_left}
 use Rattle.pair_facts.proofs.SerpentineOrder.{numbers_inside}
-use Rattle.cone_check.proofs.Written.{fault_of, left_low, low_places, round_none, round_of}
+use Rattle.cone_check.proofs.Written.{fault_of, left_low, low_places, round_none, round_of, round_stopped}
 use Rattle.cone_check.proofs.rounds.judge_round.Goals as goal
+
+pub returns-then-has_stopped-clause-round : goal.returns-then-has_stopped-clause-round
+returns-then-has_stopped-clause-round g c =
+    round_stopped c.args.context.now c.args.budget (g.G.Monitor.bound c.args.monitor.now) c.args.subjects.now c.args.known.items (c.has_stopped.ensures.stops c.if-has_stopped.true)
 
 pub left_in-requires : goal.left_in-requires
 left_in-requires g c =

@@ -10,7 +10,7 @@ use Rattle.counter_walk.proofs.LineDenotes.{IsReady, IsAdded, ready_constant, re
 use Rattle.counter_walk.proofs.least.+place_of.Goals as goal
 use Rattle.counter_walk.proofs.least.+place_of.Goals.{then-same, else-same+then-same-2, else-same+else-same-2+in_ok-place_of+in_ok-place_of-2}
 
--- the pair's level, where there is a line of two cofactors
+-- the pair's level is one of the store's if its line is a branch
 pub cofactors-requires-clause-level : goal.cofactors-requires-clause-level
 cofactors-requires-clause-level t c =
     let k : IsDiffPairOf c.args.store.now c.args.f c.args.g c.normal-pair.result = c.normal-pair.ensures c.args.store.now c.levels.ensures.sound c.requires.first_in_store c.requires.second_in_store in

@@ -3,7 +3,7 @@ use Rattle.counter_walk.specs.declared.least.DiffLine.{DiffLine}
 use Rattle.counter_walk.specs.Lines.{line_satisfiable}
 use Rattle.counter_walk.proofs.least.find_satisfiable.Given as goal
 
--- what is marked before a place is right
+-- the bits before a place are right
 abbrev pub invariant-loop-place : goal.invariant-loop-place
 invariant-loop-place l = record {
   each : length l.satisfiable ≡ length l.lines;

@@ -2,7 +2,7 @@ use Rattle.std.proofs.Common.{◌≡◌, ◌<◌, ℕ, true, false, length, get_
 use Rattle.counter_walk.specs.declared.least.DiffLine.TheVariants.{Branch}
 use Rattle.counter_walk.proofs.least.variables_read.Given as goal
 
--- the variables of the lines so far are marked
+-- the variables of the lines so far are read
 abbrev pub invariant-loop-line : goal.invariant-loop-line
 invariant-loop-line l = record {
   size : length l.reads.items ≡ l.variables;

@@ -45,7 +45,7 @@ visit-requires-2 t c =
     let d = c.decreases in
     (omega arith, (x.0, c.in_ok-visit.ensures.met))
 
--- the node that r is
+-- r is a node with these children
 is_node : (t : ℕ) (c : goal.In_ok-insert t) → part c.args.store.now c.args.r ≡ node c.top-level.result c.cofactors-low.result.0 c.cofactors-low.result.1
 is_node t c =
     let s : Nodes = c.args.store.now in
@@ -53,7 +53,7 @@ is_node t c =
     let before : c.top-level.result < c.levels.result = c.if-level-levels.false in
     node_of s c.levels.ensures.sound c.args.r c.cofactors-low.result.0 c.cofactors-low.result.1 c.top-level.result c.requires.in_store c.top-level.ensures (omega arith) c.cofactors-low.ensures.low c.cofactors-low.ensures.high
 
--- the marks with the node's own
+-- the bits with that of the node's level
 own : (t : ℕ) (c : goal.In_ok-insert t) → SupportWalk
 own t c = record { seen = c.args.met.now.seen; levels = with_item c.args.met.now.levels c.top-level.result true }
 

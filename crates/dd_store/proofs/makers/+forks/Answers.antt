@@ -1,7 +1,7 @@
 use Rattle.std.proofs.Common.{ℕ, refl}
 use Rattle.dd_store.specs.declared.level.ShardState.{ShardState}
 use Rattle.dd_store.specs.Levels.{IsNoted, all_at}
-use Rattle.dd_store.proofs.Apart.{of_both}
+use Rattle.thread_map.proofs.Apart.{of_both}
 use Rattle.dd_store.proofs.makers.+forks.Goals as goal
 
 pub make_in_parallel-returns : goal.make_in_parallel-returns

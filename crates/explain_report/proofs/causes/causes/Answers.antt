@@ -1,7 +1,7 @@
 use Rattle.std.proofs.Common.{◌∙◌, All, ap, subst, sym}
 use Rattle.net_bench.specs.Circuit.{circuit}
 use Rattle.net_order.specs.Order.{NamingModel, condition}
-use Rattle.report_text.specs.Findings.{found_of}
+use Rattle.compare_built.specs.Findings.{found_of}
 use Rattle.compare_built.specs.Comparing.{IsInside}
 use Rattle.compare_built.specs.Report.{subjects}
 use Rattle.order_search.specs.Trials.{IsNamingIn}

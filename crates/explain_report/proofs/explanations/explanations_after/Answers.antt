@@ -1,9 +1,9 @@
-use Rattle.std.proofs.Common.{◌≡◌, ◌∙◌, ◌<◌, All, List, ap, length, refl, sym, subst}
+use Rattle.std.proofs.Common.{◌≡◌, ◌∙◌, ◌<◌, All, List, ap, length, sym, subst}
 use Rattle.std.proofs.lemmas.Result.{IfOk-weaker}
 use Rattle.net_bench.specs.Circuit.{circuit}
 use Rattle.net_order.specs.Order.{NamingModel, condition}
 use Rattle.report_text.specs.declared.cause.PairName.{PairName}
-use Rattle.report_text.specs.Findings.{found_of}
+use Rattle.compare_built.specs.Findings.{found_of}
 use Rattle.compare_built.specs.Comparing.{IsInside}
 use Rattle.order_search.specs.Trials.{IsNamingIn}
 use Rattle.compare_built.proofs.Subjects.{subjects_inside}

@@ -1,5 +1,4 @@
-use Rattle.std.proofs.Common.{◌∙◌, ◌<◌, subst, sym, arith}
-use Rattle.std.proofs.lemmas.List.{get_or_default}
+use Rattle.std.proofs.Common.{◌<◌, subst, arith}
 use Rattle.net_bench.specs.Circuit.{circuit}
 use Rattle.explain_report.specs.Explaining.{IsTargetIn}
 use Rattle.explain_report.proofs.explanations.has_pairs.Goals as goal

@@ -1,6 +1,6 @@
 use Rattle.std.proofs.Common.{◌∙◌, ap, sym, subst}
 use Rattle.net_order.specs.Order.{NamingModel, condition}
-use Rattle.report_text.specs.Findings.{found_of}
+use Rattle.compare_built.specs.Findings.{found_of}
 use Rattle.order_search.specs.Trials.{IsNamingIn}
 use Rattle.explain_report.specs.Dumping.{first_difference_at}
 use Rattle.explain_report.proofs.Differences.{none_differs, one_differs, unwanted}

@@ -1,4 +1,4 @@
-use Rattle.std.proofs.Common.{◌∙◌, sym}
+use Rattle.std.proofs.Common.{sym}
 use Rattle.explain_report.proofs.Differences.{at_here, at_later, at_nowhere}
 use Rattle.explain_report.proofs.vcd_dump.first_difference_at.Goals as goal
 

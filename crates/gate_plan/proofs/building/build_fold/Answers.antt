@@ -9,7 +9,7 @@ use Rattle.gate_plan.proofs.Asked.{wave_unasked, wave_held, wave_past}
 use Rattle.gate_plan.proofs.Narrow.{by_held, wave_narrow}
 use Rattle.expand_work.specs.Bounds.{most_of}
 use Rattle.expand_work.specs.declared.fault.WaveFault.TheVariants.{TooManyRequests}
-use Rattle.reduce_up.proofs.Probing.{fault_of_all}
+use Rattle.wave_engine.proofs.Probing.{fault_of_all}
 use Rattle.gate_plan.proofs.Counted.{wave_adds, wave_fault}
 use Rattle.gate_plan.proofs.Running.{steps_fit, fold_next, all_entries, all_asked}
 use Rattle.gate_plan.proofs.Together.{refs_there, there_at, set_left, set_each, answers_long, answers_own, answers_rest}
@@ -112,11 +112,11 @@ returns-clause-held g c =
 pub returns-clause-within_bound : goal.returns-clause-within_bound
 returns-clause-within_bound g c = λ bounded.
     wave_narrow c.args.sides.now c.requires.plans c.args.store.now c.levels.ensures.sound c.args.built.now c.args.rank c.args.fold c.as_slice.result.now c.requires.folded (c.as_slice.ensures.value ∙ c.in-Ok.ensures)
-    (most_of c.args.engine.now.bound) (c.in_ok-answers.ensures.within_bound bounded)
+    (most_of c.args.engine.now.bound.requests) (c.in_ok-answers.ensures.within_bound bounded)
 
 pub returns-in_err-answers-clause-past : goal.returns-in_err-answers-clause-past
 returns-in_err-answers-clause-past g c =
-    let past : c.wave_counting_all.result ≡ Err TooManyRequests → IsPast c.args.engine.now.bound c.args.store.now.levels (map levelled_of c.args.sides.now) = λ refused.
+    let past : c.wave_counting_all.result ≡ Err TooManyRequests → IsPast c.args.engine.now.bound.requests c.args.store.now.levels (map levelled_of c.args.sides.now) = λ refused.
     wave_past c.args.sides.now c.requires.plans c.args.store.now c.levels.ensures.sound c.args.built.now c.args.rank c.args.fold c.as_slice.result.now c.requires.folded (c.as_slice.ensures.value ∙ c.in-Ok.ensures)
-    c.args.engine.now.bound (c.wave_counting_all.ensures.past refused) in
+    c.args.engine.now.bound.requests (c.wave_counting_all.ensures.past refused) in
     search (rules, past)

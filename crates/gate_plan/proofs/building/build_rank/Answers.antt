@@ -30,7 +30,7 @@ loop-fold-init g c = record {
   held = c.requires.held;
   counts_all = c.requires.counts_all;
   bound = refl;
-  narrow = λ bounded. none_narrow (λ j. IsNarrowAt (most_of c.args.engine.now.bound) c.args.store.now.levels (map levelled_of c.args.sides.now) c.args.rank j);
+  narrow = λ bounded. none_narrow (λ j. IsNarrowAt (most_of c.args.engine.now.bound.requests) c.args.store.now.levels (map levelled_of c.args.sides.now) c.args.rank j);
   within = none_unasked c.args.store.now c.args.store.now (λ j. AnyAsksAt c.args.sides.now c.args.store.now c.args.rank j) (inr refl);
   folded = all_copied c.args.sides.now c.requires.plans c.args.store.now c.args.built.now c.copy_rank.new.built c.args.rank c.requires.right c.copy_rank.ensures;
 }
@@ -65,7 +65,7 @@ returns-clause-next g c = (
 pub returns-clause-within_bound : goal.returns-clause-within_bound
 returns-clause-within_bound g c = λ bounded.
     let all : c.loop-fold.fold ≡ greatest (map (folds_at c.args.rank) c.args.sides.now) = omega (arith, c.most_folds-fold-end.ensures) in
-    subst (λ f. AreNarrowTo (most_of c.args.engine.now.bound) c.args.store.now.levels c.args.sides.now c.args.rank f) all (c.loop-fold.invariant.narrow bounded)
+    subst (λ f. AreNarrowTo (most_of c.args.engine.now.bound.requests) c.args.store.now.levels c.args.sides.now c.args.rank f) all (c.loop-fold.invariant.narrow bounded)
 
 pub returns-clause-within : goal.returns-clause-within
 returns-clause-within g c =

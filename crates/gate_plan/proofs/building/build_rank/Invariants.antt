@@ -17,6 +17,6 @@ invariant-loop-fold g l = record {
   counts_all : CountsAll l.store l.engine;
   bound : l.engine.bound ≡ l.fn.engine.bound;
   within : IsWithinOrUnasked ((j : ℕ) × (j < l.fold) × AnyAsksAt l.sides l.store l.rank j) l.fn.store l.store;
-  narrow : most_of l.fn.engine.bound < 2 ^ 64 - 1 → AreNarrowTo (most_of l.fn.engine.bound) l.fn.store.levels l.sides l.rank l.fold;
+  narrow : most_of l.fn.engine.bound.requests < 2 ^ 64 - 1 → AreNarrowTo (most_of l.fn.engine.bound.requests) l.fn.store.levels l.sides l.rank l.fold;
   folded : AllFolded l.sides l.store l.built l.rank l.fold;
 }

@@ -20,7 +20,7 @@ loop-below-init g c = record {
   held = c.requires.held;
   counts_all = c.requires.counts_all;
   bound = refl;
-  narrow = λ bounded. none_narrow (λ k. AreNarrowTo (most_of c.args.engine.now.bound) c.args.store.now.levels c.args.sides.now (k + 1) (greatest (map (folds_at (k + 1)) c.args.sides.now)));
+  narrow = λ bounded. none_narrow (λ k. AreNarrowTo (most_of c.args.engine.now.bound.requests) c.args.store.now.levels c.args.sides.now (k + 1) (greatest (map (folds_at (k + 1)) c.args.sides.now)));
   within = none_unasked c.args.store.now c.args.store.now (λ k. AnyAsksIn c.args.sides.now c.args.store.now (k + 1)) (inr refl);
   right = c.requires.right;
 }
@@ -50,7 +50,7 @@ returns-clause-built g c =
 pub returns-clause-within_bound : goal.returns-clause-within_bound
 returns-clause-within_bound g c = λ bounded.
     let all : c.loop-below.below ≡ greatest (map ranks_of c.args.sides.now) = omega (arith, c.last_rank-ranks.ensures) in
-    subst (λ m. AreNarrowBelow (most_of c.args.engine.now.bound) c.args.store.now.levels c.args.sides.now m) all (c.loop-below.invariant.narrow bounded)
+    subst (λ m. AreNarrowBelow (most_of c.args.engine.now.bound.requests) c.args.store.now.levels c.args.sides.now m) all (c.loop-below.invariant.narrow bounded)
 
 pub returns-clause-within : goal.returns-clause-within
 returns-clause-within g c =

@@ -17,6 +17,6 @@ invariant-loop-below g l = record {
   counts_all : CountsAll l.store l.engine;
   bound : l.engine.bound ≡ l.fn.engine.bound;
   within : IsWithinOrUnasked (AnyAsksBelow l.sides l.store l.below) l.fn.store l.store;
-  narrow : most_of l.fn.engine.bound < 2 ^ 64 - 1 → AreNarrowBelow (most_of l.fn.engine.bound) l.fn.store.levels l.sides l.below;
+  narrow : most_of l.fn.engine.bound.requests < 2 ^ 64 - 1 → AreNarrowBelow (most_of l.fn.engine.bound.requests) l.fn.store.levels l.sides l.below;
   right : AllRight l.sides l.store l.built (l.below + 1);
 }

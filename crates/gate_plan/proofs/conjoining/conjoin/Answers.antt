@@ -7,7 +7,7 @@ use Rattle.wave_engine.specs.Bounds.{AreAtMost, ArePast}
 use Rattle.gate_plan.specs.Conjoining.{conjunctions}
 use Rattle.reduce_up.specs.Waves.{Entry, AnswersEach, IsWaveFault, IsWithinLimit}
 use Rattle.gate_plan.proofs.Conjoined.{conjoined, entries_known, past_all, at_most_all}
-use Rattle.reduce_up.proofs.Probing.{fault_of_all, within_all}
+use Rattle.wave_engine.proofs.Probing.{fault_of_all, within_all}
 use Rattle.gate_plan.proofs.conjoining.conjoin.Goals as goal
 
 pub wave-requires-clause-operands : goal.wave-requires-clause-operands
@@ -40,17 +40,17 @@ returns-clause-fault g c =
 
 pub returns-clause-past : goal.returns-clause-past
 returns-clause-past g c =
-    let past : c.wave.result ≡ Err TooManyRequests → ArePast (g.G.Monitor.bound c.args.crew.now.monitor.now) c.args.store.now (conjunctions c.args.references.now c.args.given) = λ refused.
-    subst (ArePast (g.G.Monitor.bound c.args.crew.now.monitor.now) c.args.store.now) (c.as_slice.ensures.value ∙ c.in_ok-entries.ensures)
-    (past_all (g.G.Monitor.bound c.args.crew.now.monitor.now) c.args.store.now c.in_ok-computed.computed c.as_slice.result.now (c.wave.ensures.past refused)) in
+    let past : c.wave.result ≡ Err TooManyRequests → ArePast (g.G.Monitor.bound c.args.crew.now.monitor.now).requests c.args.store.now (conjunctions c.args.references.now c.args.given) = λ refused.
+    subst (ArePast (g.G.Monitor.bound c.args.crew.now.monitor.now).requests c.args.store.now) (c.as_slice.ensures.value ∙ c.in_ok-entries.ensures)
+    (past_all (g.G.Monitor.bound c.args.crew.now.monitor.now).requests c.args.store.now c.in_ok-computed.computed c.as_slice.result.now (c.wave.ensures.past refused)) in
     search (rules, past)
 
 pub returns-clause-within_bound : goal.returns-clause-within_bound
 returns-clause-within_bound g c =
-    let within : most_of (g.G.Monitor.bound c.args.crew.now.monitor.now) < 2 ^ 64 - 1 → OnOk c.wave.result (AreAtMost (most_of (g.G.Monitor.bound c.args.crew.now.monitor.now)) c.args.store.now (conjunctions c.args.references.now c.args.given)) = λ bounded.
+    let within : most_of (g.G.Monitor.bound c.args.crew.now.monitor.now).requests < 2 ^ 64 - 1 → OnOk c.wave.result (AreAtMost (most_of (g.G.Monitor.bound c.args.crew.now.monitor.now).requests) c.args.store.now (conjunctions c.args.references.now c.args.given)) = λ bounded.
     on_ok_weaker c.wave.result
     (λ h.
-    subst (AreAtMost (most_of (g.G.Monitor.bound c.args.crew.now.monitor.now)) c.args.store.now) (c.as_slice.ensures.value ∙ c.in_ok-entries.ensures)
-    (at_most_all (most_of (g.G.Monitor.bound c.args.crew.now.monitor.now)) c.args.store.now c.in_ok-computed.computed c.as_slice.result.now (ap (λ (m : ComputedView). m.pairs) c.in_ok-computed.ensures.empty) h))
+    subst (AreAtMost (most_of (g.G.Monitor.bound c.args.crew.now.monitor.now).requests) c.args.store.now) (c.as_slice.ensures.value ∙ c.in_ok-entries.ensures)
+    (at_most_all (most_of (g.G.Monitor.bound c.args.crew.now.monitor.now).requests) c.args.store.now c.in_ok-computed.computed c.as_slice.result.now (ap (λ (m : ComputedView). m.pairs) c.in_ok-computed.ensures.empty) h))
     (c.wave.ensures.within_bound bounded) in
     search (rules, within)

@@ -12,4 +12,4 @@ loop-place-init c = let none = mapped_none in grind (arith, common_steps, none)
 pub loop-place-preserved : goal.loop-place-preserved
 loop-place-preserved c =
     key_more (λ n. falling_key_of (trailing n)) c.args.names.now c.loop-place.place c.at.result.now c.falling_key_of.result c.loop-place.keys.items c.push.new.self.items
-    c.at.ensures (c.falling_key_of.ensures ∙ ap falling_key_of c.end_of.ensures) c.loop-place.invariant c.in_ok-push.ensures.items
+    c.at.ensures (c.falling_key_of.ensures ∙ ap falling_key_of c.trailing_of.ensures) c.loop-place.invariant c.in_ok-push.ensures.items

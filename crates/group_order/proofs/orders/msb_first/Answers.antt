@@ -1,7 +1,7 @@
 use Rattle.std.proofs.Common.{◌∙◌, List, ℕ, ap, length, subst}
 use Rattle.std.specs.List.Sorted.{IsPermutation}
 use Rattle.net_bench.specs.Circuit.{circuit}
-use Rattle.net_order.specs.declared.order.Order.TheVariants.{Listed}
+use Rattle.net_names.specs.declared.order.Order.TheVariants.{Listed}
 use Rattle.net_order.specs.Force.{numbers_below}
 use Rattle.net_order.specs.Order.{condition, numbered}
 use Rattle.group_order.proofs.Fitting.{fit_from}

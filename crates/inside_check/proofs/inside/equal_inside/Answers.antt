@@ -1,4 +1,4 @@
-use Rattle.std.proofs.Common.{◌≡◌, Bool, false, List, length, ap, subst, sym, ◌∙◌}
+use Rattle.std.proofs.Common.{Bool, false, List, length, ap, subst, sym, ◌∙◌}
 use Rattle.std.proofs.lemmas.List.{length-replicate}
 use Rattle.std.specs.Prelude.{IfSome, IsTrue}
 use Rattle.std.specs.List.{AllZip}

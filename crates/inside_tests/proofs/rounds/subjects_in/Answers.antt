@@ -1,7 +1,7 @@
 use Rattle.std.proofs.Common.{None, sym, subst, All}
 use Rattle.net_bench.specs.Circuit.{circuit}
-use Rattle.net_order.specs.declared.order.Match.TheVariants.{Name}
-use Rattle.net_order.specs.declared.order.Order.TheVariants.{Declared}
+use Rattle.net_names.specs.declared.order.Match.TheVariants.{Name}
+use Rattle.net_names.specs.declared.order.Order.TheVariants.{Declared}
 use Rattle.compare_built.specs.Comparing.{IsInside}
 use Rattle.compare_built.proofs.Subjects.{subjects_inside}
 use Rattle.inside_tests.proofs.rounds.subjects_in.Goals as goal

@@ -3,7 +3,7 @@ use Rattle.std.specs.Prelude.{Contains}
 use Rattle.net_cone.specs.Walk.{IsVisited, gates_visited}
 use Rattle.net_cone.proofs.counting.unvisit_all.Given as goal
 
--- what is still visited is still to come, and its gates are still to be counted
+-- the signals whose flags are set are still to come, and their gates are still to be counted
 abbrev pub invariant-loop-place : goal.invariant-loop-place
 invariant-loop-place l = record {
   met : (s : ℕ) → IsVisited l.seen s → Contains (drop l.place l.met) s;

@@ -1,5 +1,5 @@
 use Rattle.std.proofs.Common.{◌≡◌, map, take}
-use Rattle.net_explain.specs.Values.{level_in}
+use Rattle.net_order.specs.Order.{level_in}
 use Rattle.net_explain.proofs.evaluate.levels_of.Given as goal
 
 abbrev pub invariant-loop-place : goal.invariant-loop-place

@@ -2,7 +2,7 @@ use Rattle.std.proofs.Common.{◌≡◌, ◌∙◌, map, subst, sym, arith}
 use Rattle.std.proofs.lemmas.List.{map-id}
 use Rattle.net_bench.specs.Circuit.{circuit, variables_of}
 use Rattle.net_bench.specs.Labels.{IsLabelling}
-use Rattle.net_explain.specs.Values.{level_in}
+use Rattle.net_order.specs.Order.{level_in}
 use Rattle.net_simulate.proofs.Setting.{function_value}
 use Rattle.net_explain.proofs.Visiting.{written}
 use Rattle.net_explain.proofs.evaluate.values.Goals as goal

@@ -1,4 +1,4 @@
-use Rattle.std.proofs.Common.{◌≡◌, ◌<◌, ◌&&◌, Bool, true, List, length, map, take, arith}
+use Rattle.std.proofs.Common.{◌&&◌, Bool, true, List, map, take, arith}
 use Rattle.net_bench.specs.Labels.{all_ones}
 use Rattle.pair_graph.specs.Literals.{Parts}
 use Rattle.pair_graph.specs.Graphs.{HasNode, inverted_if, value}

@@ -1,6 +1,6 @@
 use Rattle.std.proofs.Common.{◌∙◌, ap, take, drop, List, rules}
 use Rattle.net_bench.specs.Circuit.{circuit}
-use Rattle.net_order.specs.declared.order.Order.TheVariants.{Declared}
+use Rattle.net_names.specs.declared.order.Order.TheVariants.{Declared}
 use Rattle.net_order.specs.Order.{NamedNetlistModel, condition}
 use Rattle.net_order.proofs.Pairings.{is_naming}
 use Rattle.net_order.proofs.naming.naming_of.Goals as goal

@@ -1,5 +1,5 @@
 use Rattle.std.proofs.Common.{◌≤◌, ◌∙◌, List, ℕ, sym, ap, subst, arith, length}
-use Rattle.net_order.specs.Order.{all_names, met, names_of_sides}
+use Rattle.net_order.specs.Order.{met, names_of_sides}
 use Rattle.net_order.specs.Tables.{with_names}
 use Rattle.net_order.proofs.Orders.{all_table, depth_all_few}
 use Rattle.net_order.proofs.variables.depth_table.Goals as goal

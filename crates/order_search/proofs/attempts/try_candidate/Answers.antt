@@ -1,8 +1,8 @@
 use Rattle.std.proofs.Common.{◌≡◌, refl, subst, sym, rules, List, Contains}
 use Rattle.std.proofs.lemmas.Result.{err_from_is_err_and}
 use Rattle.order_search.specs.declared.trials.Trial.{Trial}
-use Rattle.order_search.specs.Trials.{AreGivenUpTrials, IsEnded, IsTried}
-use Rattle.order_search.proofs.Rounds.{accepted_by, and_true, one_more, order_ends, tried_before, tried_last, tried_still}
+use Rattle.order_search.specs.Trials.{AreGivenUpTrials, AreOfCandidates, IsEnded, IsTried}
+use Rattle.order_search.proofs.Rounds.{accepted_by, and_true, of_candidates_more, one_more, order_ends, tried_before, tried_last, tried_still}
 use Rattle.order_search.proofs.attempts.try_candidate.Goals as goal
 
 -- ---- no pairing
@@ -26,7 +26,7 @@ returns-then-is_tried-clause-first_attempt g c =
     let bound = g.G.Monitor.bound c.args.monitor.now in
     let is = c.in_ok-pairing.ensures.paired in
     let same : (t : Trial) × Contains old t × (t.pairing.names ≡ c.in_ok-pairing.pairing.names) = (let h = c.is_tried.ensures.tried c.if-is_tried.true in search rules) in
-    (λ all gs. and_true task c.args.budget bound all old gs, tried_before task old c.args.order c.in_ok-pairing.pairing c.requires.own is same, λ k h. h)
+    (λ all gs. and_true task c.args.budget bound all old gs, tried_before task old c.args.order c.in_ok-pairing.pairing c.requires.own is same, λ k h. h, λ of h. h)
 
 -- ---- an attempt
 
@@ -46,6 +46,7 @@ returns-in_ok-keep-in-GivenUp-clause-first_attempt g c =
           (one_more task c.args.budget bound all c.in-GivenUp.full old _ is (subst (IsEnded task c.args.declared c.args.budget bound _) c.in-GivenUp.is c.in_ok-verdicts.ensures.ended) gs),
       subst (λ ts. IsTried task ts c.args.order) (sym {A = List Trial} kept) (tried_last task old _ is),
       λ k h. subst (λ ts. IsTried task ts k) (sym {A = List Trial} kept) (tried_still task old _ k h),
+      λ of h. subst AreOfCandidates (sym {A = List Trial} kept) (of_candidates_more task old _ of h),
     )
 
 -- ---- no memory

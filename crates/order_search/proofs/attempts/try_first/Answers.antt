@@ -6,7 +6,19 @@ use Rattle.order_search.specs.declared.attempts.Round.TheVariants.{Decided, Give
 use Rattle.compare_built.specs.Attempts.{AllBefore}
 use Rattle.order_search.specs.Trials.{IsCandidateGivenUp, IsTried, IsFirstAttempt}
 use Rattle.order_search.proofs.Rounds.{all_passed, before_at, candidates, each_at, passed_by}
+use Rattle.order_search.proofs.Searching.{none_given_up, none_otherwise}
 use Rattle.order_search.proofs.attempts.try_first.Goals as goal
+
+pub loop-candidate-init : goal.loop-candidate-init
+loop-candidate-init g c =
+    let task = c.args.task.now in
+    let bound = g.G.Monitor.bound c.args.monitor.now in
+    let old = c.args.trials.now.items in
+    record {
+      given_up = none_given_up task c.args.declared c.args.budget bound old c.requires.none;
+      of_candidates = none_otherwise task c.args.declared c.args.budget bound old c.requires.none;
+      tried = λ j less. absurd (omega (arith, less));
+    }
 
 pub returns-in-Decided-clause-first : goal.returns-in-Decided-clause-first
 returns-in-Decided-clause-first g c =
@@ -34,10 +46,11 @@ loop-candidate-preserved g c =
     subst (IsFirstAttempt task c.args.declared c.args.budget bound (Computed (get_or candidates here MsbFirst)) old new) c.in-GivenUp.is c.in_ok-decided.ensures.first_attempt in
     record {
       given_up = first_attempt.0 c.loop-candidate.all_full inv.given_up;
+      of_candidates = first_attempt.3 tt inv.of_candidates;
       tried = below_more (λ j. IsTried task new (Computed (get_or candidates j MsbFirst))) here (λ j less. first_attempt.2 (Computed (get_or candidates j MsbFirst)) (inv.tried j less)) first_attempt.1;
     }
 
 pub returns-clause-round : goal.returns-clause-round
 returns-clause-round g c =
     all_passed c.args.task.now c.args.budget (g.G.Monitor.bound c.args.monitor.now) c.loop-candidate.all_full c.loop-candidate.trials.items c.loop-candidate.invariant.given_up
-    (each_at (λ k. IsTried c.args.task.now c.loop-candidate.trials.items (Computed k)) MsbFirst (λ j lt. c.loop-candidate.invariant.tried j (omega (arith, lt))))
+    c.loop-candidate.invariant.of_candidates (each_at (λ k. IsTried c.args.task.now c.loop-candidate.trials.items (Computed k)) MsbFirst (λ j lt. c.loop-candidate.invariant.tried j (omega (arith, lt))))

@@ -20,7 +20,7 @@ returns-in-Some-clause-decided g c =
 pub returns-in-Some-clause-fault : goal.returns-in-Some-clause-fault
 returns-in-Some-clause-fault g c =
     let said = c.compare_as_declared.ensures in
-    trial_fault c.args.task.now c.args.budget (g.G.Monitor.bound c.args.monitor.now) c.args.trial.now.pairing c.compare_as_declared.result said.err said.full said.past said.needs_no_thread
+    trial_fault c.args.task.now c.args.budget (g.G.Monitor.bound c.args.monitor.now) c.args.trial.now.pairing c.compare_as_declared.result said.err said.full said.past said.needs_no_thread said.stopped
 
 -- ---- over its own
 
@@ -36,4 +36,4 @@ returns-in-None-clause-decided g c =
 pub returns-in-None-clause-fault : goal.returns-in-None-clause-fault
 returns-in-None-clause-fault g c =
     let said = c.compare.ensures in
-    trial_fault c.args.task.now c.args.budget (g.G.Monitor.bound c.args.monitor.now) c.args.trial.now.pairing c.compare.result said.err said.full said.past said.needs_no_thread
+    trial_fault c.args.task.now c.args.budget (g.G.Monitor.bound c.args.monitor.now) c.args.trial.now.pairing c.compare.result said.err said.full said.past said.needs_no_thread said.stopped

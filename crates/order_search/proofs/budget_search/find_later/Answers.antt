@@ -84,7 +84,7 @@ returns-in-GivenUp-2-clause-fault g c =
     subst (IsRound c.args.task.now c.args.declared limit bound trials) c.in-GivenUp-2.is c.in_ok-decided-2.ensures.round in
     let most : limit ≤ 16384 * 16 ^ p.0 = (let e = p.1 in omega arith) in
     all_given_up c.args.task.now c.args.declared limit bound full trials c.fault_of.result last
-    (each_budget (λ n. (k : Candidate) → IsCandidateGivenUp c.args.task.now n bound k) limit p.0 p.2 most last.each) c.fault_of.ensures.which c.fault_of.ensures.full
+    (each_budget (λ n. (k : Candidate) → IsCandidateGivenUp c.args.task.now n bound k) limit p.0 p.2 most last.each) c.fault_of.ensures.which c.fault_of.ensures.full c.fault_of.ensures.others c.fault_of.ensures.stopped
 
 pub returns-in-GivenUp-2-clause-trials : goal.returns-in-GivenUp-2-clause-trials
 returns-in-GivenUp-2-clause-trials g c =

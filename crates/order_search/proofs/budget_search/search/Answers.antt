@@ -39,7 +39,7 @@ returns-in-GivenUp-clause-fault g c =
     let last : AreCandidatesGivenUp task limit bound full trials =
     subst (λ n. AreCandidatesGivenUp task n bound full trials) same (subst (IsRound task c.args.declared c.min-budget.result bound trials) c.in-GivenUp.is c.in_ok-decided.ensures.round) in
     all_given_up task c.args.declared limit bound full trials c.fault_of.result last
-    (each_budget (λ n. (k : Candidate) → IsCandidateGivenUp task n bound k) limit 0 (λ j lt. absurd (omega (arith, lt))) (omega (arith, few)) last.each) c.fault_of.ensures.which c.fault_of.ensures.full
+    (each_budget (λ n. (k : Candidate) → IsCandidateGivenUp task n bound k) limit 0 (λ j lt. absurd (omega (arith, lt))) (omega (arith, few)) last.each) c.fault_of.ensures.which c.fault_of.ensures.full c.fault_of.ensures.others c.fault_of.ensures.stopped
 
 pub returns-in-GivenUp-clause-trials : goal.returns-in-GivenUp-clause-trials
 returns-in-GivenUp-clause-trials g c =

@@ -1,8 +1,8 @@
 use Rattle.std.proofs.Common.{◌≡◌}
 use Rattle.std.proofs.lemmas.Result.{err_from_is_err_and}
 use Rattle.net_bench.specs.Circuit.{circuit}
-use Rattle.net_order.specs.declared.order.Order.TheVariants.{Declared}
-use Rattle.net_order.specs.declared.order.OrderFault.TheVariants.{TooManyInputs}
+use Rattle.net_names.specs.declared.order.Order.TheVariants.{Declared}
+use Rattle.net_names.specs.declared.order.OrderFault.TheVariants.{TooManyInputs}
 use Rattle.net_order.specs.Order.{condition}
 use Rattle.order_search.proofs.Namings.{naming_refused, naming_whole}
 use Rattle.order_search.proofs.trials.named.Goals as goal

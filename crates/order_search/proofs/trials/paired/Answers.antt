@@ -1,7 +1,7 @@
 use Rattle.std.proofs.Common.{◌≡◌}
 use Rattle.std.proofs.lemmas.Result.{err_from_is_err_and}
 use Rattle.net_bench.specs.Circuit.{circuit}
-use Rattle.net_order.specs.declared.order.OrderFault.TheVariants.{TooManyInputs}
+use Rattle.net_names.specs.declared.order.OrderFault.TheVariants.{TooManyInputs}
 use Rattle.net_order.specs.Order.{condition}
 use Rattle.order_search.proofs.Namings.{many_refused}
 use Rattle.order_search.proofs.trials.paired.Goals as goal

@@ -5,4 +5,4 @@ use Rattle.compare_built.specs.PairSelection.{is_pair_of}
 use Rattle.pair_facts.proofs.pair_selection.named_subjects.Given as goal
 
 abbrev pub invariant-loop-place : goal.invariant-loop-place
-invariant-loop-place l = l.picked.items ≡ filter (is_pair_of (circuit l.net) l.names) (take l.place l.subjects)
+invariant-loop-place l = l.picked.items ≡ filter (is_pair_of (circuit l.net) l.patterns) (take l.place l.subjects)

@@ -1,6 +1,6 @@
 use Rattle.std.specs.Prelude.{None}
-use Rattle.net_order.specs.declared.order.Match.TheVariants.{Name}
-use Rattle.net_order.specs.declared.order.Order.TheVariants.{Declared}
+use Rattle.net_names.specs.declared.order.Match.TheVariants.{Name}
+use Rattle.net_names.specs.declared.order.Order.TheVariants.{Declared}
 use Rattle.compare_built.proofs.Subjects.{all_signals}
 use Rattle.pattern_tests.proofs.facts.note_signals.Goals as goal
 

@@ -1,7 +1,6 @@
-use Rattle.std.proofs.Common.{◌≡◌, ◌<◌, ℕ, Option, Some, None, arith, get_or, length, subst, sym}
+use Rattle.std.proofs.Common.{◌<◌, arith, get_or, length, subst, sym}
 use Rattle.net_bench.specs.Circuit.{circuit}
 use Rattle.net_order.specs.Order.{condition}
-use Rattle.net_patterns.specs.declared.counterexample.ShownPattern.{ShownPattern}
 use Rattle.pair_facts.specs.PairFacts.{IsFirstShown}
 use Rattle.pattern_tests.proofs.Zips.{zip_at}
 use Rattle.pattern_tests.proofs.facts.verdict_at.Goals as goal

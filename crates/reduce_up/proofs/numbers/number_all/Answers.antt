@@ -11,7 +11,7 @@ use Rattle.reduce_up.proofs.numbers.number_all.Given.{Over}
 use Rattle.reduce_up.proofs.numbers.number_all.Goals as goal
 use Rattle.reduce_up.proofs.numbers.number_all.Goals.{After-as_slice-2}
 
--- what is read while children are numbered
+-- the input of numbering
 module _ (g : Over) (c : After-as_slice-2 g) where
   abbrev input : NumberingInput
   input = record { alloc = c.args.alloc; store = c.args.store; notes = c.args.notes; starts = c.as_slice-2.result; workers = c.in_ok-workers.workers }

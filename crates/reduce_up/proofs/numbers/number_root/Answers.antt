@@ -7,7 +7,7 @@ use Rattle.reduce_up.proofs.Numbered.{root_next, tasks_next, root_placed}
 use Rattle.reduce_up.proofs.numbers.number_root.Goals as goal
 use Rattle.reduce_up.proofs.numbers.number_root.Goals.{After-index-tasks-sender}
 
--- the share of the root's sender, whose next request is the root's
+-- the task of the root's sender, whose next request is the root
 module _ (c : After-index-tasks-sender) where
   abbrev s : ℕ
   s = c.args.root % c.args.input.workers

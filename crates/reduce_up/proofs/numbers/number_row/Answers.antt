@@ -5,9 +5,9 @@ use Rattle.req_table.specs.declared.Record.{Record}
 use Rattle.reduce_up.specs.Numbers.{AreNext, IsNext, asked_from, IsNumbered, keys_in}
 use Rattle.reduce_up.proofs.Numbering.{asked_first, the_record, behind_low, low_next, high_next, pair_more, pairs_all, asked_all}
 use Rattle.reduce_up.proofs.numbers.number_row.Goals as goal
-use Rattle.reduce_up.proofs.numbers.number_row.Goals.{After-at-low, After-number-low, After-loop-place}
+use Rattle.reduce_up.proofs.numbers.number_row.Goals.{After-at-low, After-loop-place}
 
--- the next record, and what is asked for behind its low child
+-- the next record, and what is asked after its low child
 module _ (c : After-at-low) where
   abbrev entry : Record
   entry = the_record _ _ c.requires.sender _ c.requires.level _ c.requires.by_owner _ _ _ c.at-low.ensures _ c.loop-place.invariant.places
@@ -46,7 +46,7 @@ loop-place-preserved c =
       places = c.number-high.ensures.left (entry w).high _ high;
     }
 
--- all records are gone over
+-- all records were numbered
 ended : (c : After-loop-place) → c.loop-place.place ≡ c.len-place-end.result
 ended c = let past = c.loop-place-test.false in let within = c.loop-place.auto.place-end in omega (arith, past, within)
 

@@ -6,7 +6,7 @@ use Rattle.reduce_up.proofs.Picked.{ArePicking, picking_none, picking_more, plac
 use Rattle.reduce_up.proofs.picking.pick.Goals as goal
 use Rattle.reduce_up.proofs.picking.pick.Goals.{After-index-place}
 
--- the next home, and the place of its next diagram
+-- the next origin, and the place of its next diagram
 module _ (c : After-index-place) where
   abbrev numbers : List ℕ
   numbers = c.args.origins.now.numbers.items

@@ -8,7 +8,7 @@ use Rattle.reduce_up.proofs.Joined.{pick_room, picked_from}
 use Rattle.reduce_up.proofs.picking.pick_part.Goals as goal
 use Rattle.reduce_up.proofs.picking.pick_part.Goals.{After-index-origins-part}
 
--- the part has a home for each of its pairs
+-- the part has an origin for each of its requests
 module _ (c : After-index-origins-part) where
   there : c.args.part < length c.args.parts.now
   there = let e = c.requires.may.many in let kh = c.requires.part in omega (arith, e, kh)

@@ -7,7 +7,7 @@ use Rattle.reduce_up.proofs.Parted.{read_none, read_more, read_whole}
 use Rattle.reduce_up.proofs.reads.read_part.Goals as goal
 use Rattle.reduce_up.proofs.reads.read_part.Goals.{After-at-pair}
 
--- what the next children come to
+-- the diagrams of the next children
 comes : (c : After-at-pair) → (p : Pair) × BothResolveTo c.args.answers.now c.at-pair.result p
 comes c =
     let x : PackedChild × PackedChild = c.at-pair.result in

@@ -14,7 +14,7 @@ use Rattle.reduce_up.proofs.up.reduce.Given.{Over}
 use Rattle.reduce_up.proofs.up.reduce.Goals as goal
 use Rattle.reduce_up.proofs.up.reduce.Goals.{After-last_level, In-Some}
 
--- the way up, where the last level that is left is asked for
+-- the state of the reduction when the last level that is left is looked for
 abbrev way : (g : Over) (c : After-last_level g) (E : List Entry) (T : List (List Key)) → MayReduce c.args.store.now E c.args.from (over_parts c.args.store.now.levels c.args.parts.now) c.args.up.now.answers.items T → OnTheWay
 way g c E T M = record {
   S = c.args.store.now;
@@ -35,7 +35,7 @@ way g c E T M = record {
   reduced = c.loop-number.invariant.reduced E T M;
 }
 
--- where there is one
+-- a last level that is left was found
 module _ (g : Over) (c : In-Some g) where
   abbrev own : OnTheWay
   own = way g (goal.at.In-Some g c).After-last_level c.requires.ready.0 c.requires.ready.1 c.requires.ready.2
@@ -43,7 +43,7 @@ module _ (g : Over) (c : In-Some g) where
   last : IsLastLevel (over_parts c.args.store.now.levels c.loop-number.parts) c.loop-number.end (Some c.in-Some.number)
   last = c.in-Some.ensures c.args.store.now.levels (let a = c.loop-number.invariant.bound in let b = c.requires.bound in omega (arith, a, b))
 
-  -- all parts have it
+  -- all parts have this level
   has_level : All (λ (rows : List (List (PackedChild × PackedChild))). c.in-Some.number < length rows) c.loop-number.parts
   has_level = all_long (λ n. c.in-Some.number < n) c.loop-number.parts c.args.parts.now c.loop-number.invariant.levels
       (λ k d lt. let e : length _ ≡ c.args.store.now.levels = c.requires.levels k d lt in let f = fit own c.in-Some.number last in omega (arith, e, f))
@@ -105,6 +105,12 @@ returns-in_err-reduce_at-clause-never_too_many_requests g c =
     let w = (goal.at.returns-in_err-reduce_at-clause-never_too_many_requests g c).In-Some in
     let p = err_from_is_err_and c.from_residual.result c.from_residual.ensures.1 in
     rw (p.1, p.2) (no_other_cause c.reduce_at.new.store c.requires.ready.1 c.in-Some.number c.in_err-reduce_at.field-0.0 (c.in_err-reduce_at.ensures.level _ (ready_over (own g w) c.in-Some.number (last g w))).fault).1
+
+pub returns-in_err-reduce_at-clause-never_stopped : goal.returns-in_err-reduce_at-clause-never_stopped
+returns-in_err-reduce_at-clause-never_stopped g c =
+    let w = (goal.at.returns-in_err-reduce_at-clause-never_stopped g c).In-Some in
+    let p = err_from_is_err_and c.from_residual.result c.from_residual.ensures.1 in
+    rw (p.1, p.2) (no_other_cause c.reduce_at.new.store c.requires.ready.1 c.in-Some.number c.in_err-reduce_at.field-0.0 (c.in_err-reduce_at.ensures.level _ (ready_over (own g w) c.in-Some.number (last g w))).fault).2
 
 pub loop-number-preserved : goal.loop-number-preserved
 loop-number-preserved g c =

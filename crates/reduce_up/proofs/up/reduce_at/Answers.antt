@@ -11,7 +11,7 @@ use Rattle.reduce_up.proofs.up.reduce_at.Given.{Over}
 use Rattle.reduce_up.proofs.up.reduce_at.Goals as goal
 use Rattle.reduce_up.proofs.up.reduce_at.Goals.{After-as_slice}
 
--- the level is ready without its own list, which is taken out
+-- the level is ready without its own list, which is moved out
 beside : (g : Over) (c : After-as_slice g) (T : List (List Key)) → IsReadyAt c.args.store.now T (level_over c.args.parts.now c.args.number) c.args.up.now.answers.items c.args.number
     → IsReadyAt c.args.store.now T (level_over c.args.parts.now c.args.number) c.as_slice.result.now c.args.number
 beside g c T R =

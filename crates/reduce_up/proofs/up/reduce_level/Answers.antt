@@ -12,7 +12,7 @@ use Rattle.std.proofs.lemmas.List.{length-append, take_all}
 use Rattle.reduce_up.proofs.up.reduce_level.Goals as goal
 use Rattle.reduce_up.proofs.up.reduce_level.Goals.{After-at-pair}
 
--- the next request's children, where they stand among all of the level
+-- the next request's children, among those of the whole level
 abbrev children : After-at-pair → List (PackedChild × PackedChild)
 children c = level_over c.args.level.now.parts.now c.args.level.now.number
 

@@ -21,7 +21,7 @@ use Rattle.reduce_up.proofs.waves.answer_parts.Given.{Over}
 use Rattle.reduce_up.proofs.waves.answer_parts.Goals as goal
 use Rattle.reduce_up.proofs.waves.answer_parts.Goals.{After-as_mut_slice}
 
--- what the workers recorded, numbered, can be reduced
+-- what the workers have recorded can be reduced after it was numbered
 module _ (g : Over) (c : After-as_mut_slice g) where
   abbrev S : Nodes
   S = c.args.store.now

@@ -1,7 +1,7 @@
 use Rattle.std.proofs.Common.{◌≡◌, sym, subst}
 use Rattle.std.proofs.lemmas.Result.{err_from_is_err_and}
 use Rattle.req_table.specs.ComputedTables.{IsRight}
-use Rattle.reduce_up.proofs.Probing.{probe_good, probe_long, probe_count, probe_right, found_each, waved, probe_refused, probe_done, probe_given_up}
+use Rattle.wave_engine.proofs.Probing.{probe_good, probe_long, probe_count, probe_right, found_each, waved, probe_refused, probe_done, probe_given_up}
 use Rattle.wave_doors.proofs.waves.wave_on_one_thread.Goals as goal
 
 pub wave_without_computed-requires-clause-operands : goal.wave_without_computed-requires-clause-operands

@@ -4,7 +4,7 @@ use Rattle.wave_engine.proofs.Waiting.{IsGoing}
 use Rattle.wave_engine.proofs.down.expand.Given as goal
 
 abbrev pub invariant-loop-next : goal.invariant-loop-next
-invariant-loop-next l = record {
+invariant-loop-next g l = record {
   bound : l.level ≤ l.store.levels;
   few : l.store.levels < 2 ^ 16;
   keys : l.keys ≡ [];
@@ -12,4 +12,4 @@ invariant-loop-next l = record {
 }
 
 abbrev pub decreases-loop-next : goal.decreases-loop-next
-decreases-loop-next l = l.store.levels - l.level
+decreases-loop-next g l = l.store.levels - l.level

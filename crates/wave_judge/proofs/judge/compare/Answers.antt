@@ -1,6 +1,6 @@
 use Rattle.std.proofs.Common.{◌≡◌, ◌∙◌, sym}
 use Rattle.dd_store.specs.Equal.{ref_same}
-use Rattle.wave_judge.proofs.Built.{agree_over, complements_over, differ_over}
+use Rattle.wave_judge.proofs.Built.{agree_over, complements_over}
 use Rattle.wave_judge.proofs.judge.compare.Goals as goal
 
 pub returns-then-eq : goal.returns-then-eq

@@ -1,4 +1,4 @@
-use Rattle.std.proofs.Common.{List, [], ◌∷◌, ◌≡◌, Bool, true, false, All, sym, subst}
+use Rattle.std.proofs.Common.{List, [], ◌≡◌, Bool, true, false, All, sym, subst}
 use Rattle.std.proofs.lemmas.List.Elements.{All-nil, All-cons}
 use Rattle.req_table.specs.declared.Key.{Key}
 use Rattle.req_table.specs.Keys.{IsKey}
@@ -6,7 +6,7 @@ use Rattle.req_table.specs.Tables.{AdmitsKey}
 use Rattle.reduce_up.proofs.Noting.{nothing}
 use Rattle.wave_tests.proofs.children.expand_single.Goals as goal
 
--- What holds of a key holds of all of a table that had none and was offered that one.
+-- What holds of a key holds of all keys of an empty table that it was added to.
 one_key : (P : Key → Type 0) (old : List Key) (k : Key) (fresh : Bool) (new : List Key) → old ≡ [] → P k → AdmitsKey old k fresh new → All P new
 one_key P old k fresh new e p o = offered fresh (subst (λ (z : List Key). AdmitsKey z k fresh new) e o)
   where

@@ -1,6 +1,4 @@
-use Rattle.std.proofs.Common.{All, List, ◌∷◌, [], ◌++◌, Ok, subst, sym}
-use Rattle.std.specs.Bool.{if◌then◌else◌}
-use Rattle.std.specs.Result.{is_ok}
+use Rattle.std.proofs.Common.{All, List, ◌∷◌, [], subst, sym}
 use Rattle.std.proofs.lemmas.List.Elements.{All-append}
 use Rattle.req_table.specs.declared.Key.{Key}
 use Rattle.req_table.specs.Keys.{IsKey}

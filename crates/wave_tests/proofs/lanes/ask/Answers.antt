@@ -1,4 +1,4 @@
-use Rattle.std.proofs.Common.{ℕ, ◌<◌, List, [], ◌∷◌, length, map, All, sym, subst, arith}
+use Rattle.std.proofs.Common.{ℕ, ◌<◌, List, length, map, sym, subst, arith}
 use Rattle.req_table.specs.declared.Key.{Key}
 use Rattle.lane_queue.specs.Loads.{ask_of}
 use Rattle.wave_tests.proofs.lanes.ask.Goals as goal

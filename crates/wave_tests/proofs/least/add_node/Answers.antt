@@ -1,4 +1,4 @@
-use Rattle.std.proofs.Common.{rules, All, [], ◌∷◌}
+use Rattle.std.proofs.Common.{All, [], ◌∷◌}
 use Rattle.std.proofs.lemmas.List.Elements.{All-nil, All-cons, All-append}
 use Rattle.dd_store.specs.View.{Has}
 use Rattle.dd_store.proofs.View.{keeps}

@@ -1,7 +1,7 @@
-use Rattle.std.proofs.Common.{◌≡◌, ◌≢◌, ◌<◌, ℕ, length, get_or}
+use Rattle.std.proofs.Common.{◌≢◌, ◌<◌, ℕ, length, get_or}
 use Rattle.wave_tests.proofs.least.assert_order.Given as goal
 
--- the levels so far have variables that differ
+-- the levels so far have different variables
 abbrev pub invariant-loop-level : goal.invariant-loop-level
 invariant-loop-level g l = record {
   declared : (v : ℕ) → v < l.level → get_or l.order v 0 < l.levels;

@@ -1,5 +1,5 @@
-use Rattle.std.proofs.Common.{rules, ◌≡◌, subst}
-use Rattle.std.specs.Prelude.{IfOk, Ok}
+use Rattle.std.proofs.Common.{rules, subst}
+use Rattle.std.specs.Prelude.{IfOk}
 use Rattle.wave_core.specs.Cores.{core_wave, core_state, IsNew}
 use Rattle.wave_core.specs.Step.{IsFinished}
 use Rattle.reduce_up.specs.Waves.{IsClosureOf}

@@ -8,7 +8,7 @@ use Rattle.dd_store.specs.Levels.{list_at, all_at}
 use Rattle.dd_store.proofs.Noting.{in_either, all_at-push}
 use Rattle.wave_tests.proofs.stores.four_parts.Goals as goal
 
--- each pair is one of two or its complements, and stands in the list of their shard
+-- each pair is one of two, or its complements, and in the list of their shard
 abbrev Fits : ℕ → Pair → Pair → (ℕ → List Pair) → Type 0
 Fits shard a b lists = (s : ℕ) (p : Pair) → IsIn (lists s) p → (s < 16 → s ≡ shard) × (t : Bool) × ((p ≡ complement_both t a) ⊎ (p ≡ complement_both t b))
 

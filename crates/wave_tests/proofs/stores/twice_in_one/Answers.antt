@@ -10,7 +10,7 @@ use Rattle.dd_store.proofs.Places.{slice_get_cases-push}
 use Rattle.wave_tests.proofs.stores.twice_in_one.Goals as goal
 use Rattle.wave_tests.proofs.stores.twice_in_one.Goals.{then-s-shard+in_ok-push+in_ok-push-2, else-s-shard}
 
--- what is in a list after one list more is in an old one or in that one
+-- an item after one more list was added is of an old list, or of that one
 pushed : (lists : List (Vec Pair Global)) (v : Vec Pair Global) (i : ℕ) (p : Pair) → IsIn (list_at (lists ++ v ∷ []) i) p
     → IsIn (list_at lists i) p ⊎ ((i ≡ length lists) × IsIn v.items p)
 pushed [] v zero p h = inr (refl, h)
@@ -34,7 +34,7 @@ both pair p h = elim (slice_get_cases-push ([] ++ pair ∷ []) (complement_both 
   | inr b ↦ (true, b.1)
 ]
 
--- the invariant, one list on
+-- the invariant after one more list
 more : (lists : List (Vec Pair Global)) (v : Vec Pair Global) (s shard : ℕ) (pair : Pair) → length lists ≡ s
     → ((i : ℕ) (p : Pair) → IsIn (list_at lists i) p → (i ≡ shard) × (b : Bool) × (p ≡ complement_both b pair))
     → ((p : Pair) → IsIn v.items p → (s ≡ shard) × (b : Bool) × (p ≡ complement_both b pair))

@@ -5,7 +5,7 @@ use Rattle.dd_store.specs.Growing.{IsIn}
 use Rattle.dd_store.specs.Levels.{list_at}
 use Rattle.wave_tests.proofs.stores.twice_in_one.Given as goal
 
--- only the list of the shard has something, and only the pair and its complements
+-- only the list of the shard is not empty, and it has only the pair and its complements
 abbrev pub invariant-loop-s : goal.invariant-loop-s
 invariant-loop-s l = record {
   count : length l.lists.items ≡ l.s;

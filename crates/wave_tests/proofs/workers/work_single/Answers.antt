@@ -1,4 +1,4 @@
-use Rattle.std.proofs.Common.{◌≡◌, ◌∙◌, ℕ, List, Option, Contains, ◌∷◌, [], length, ap, refl, subst, sym, arith}
+use Rattle.std.proofs.Common.{◌≡◌, ◌∙◌, ℕ, List, Option, Contains, length, ap, refl, subst, sym, arith}
 use Rattle.std.specs.Option.{option_to_list}
 use Rattle.std.proofs.lemmas.List.{length-map}
 use Rattle.std.proofs.lemmas.List.Elements.{All-contains, Contains-append_right}
@@ -11,7 +11,7 @@ use Rattle.expand_work.specs.OwnerRows.{row_by_owner, recorded, records_of}
 use Rattle.expand_work.specs.WorkerResult.{IsFresh, IsWorked}
 use Rattle.wave_tests.proofs.workers.work_single.Goals as goal
 
--- a worker that has ended has as many rows as the store has levels
+-- a worker at its end has a row for each level of the store
 rows_by_level : (l : LanesView) (S : Nodes) (roots : List Key) (s : ℕ) (p : Part) → IsWorked l S roots s p → length p.space.rows ≡ S.levels
 rows_by_level l S roots s p w =
     ap (λ rows. length rows) w.by_owner ∙ length-map (recorded S p.space.tables) (row_by_owner (length l.lanes))

@@ -8,7 +8,7 @@ use Rattle.dd_store.proofs.Regular.{length-regular, regular_read}
 use Rattle.dd_store.proofs.level.ShardState.add_list.Goals as goal
 use Rattle.dd_store.proofs.level.ShardState.add_list.Goals.{After-complement_pair-children}
 
--- the pair as a node has it, which is sought
+-- the pair as nodes have it, which is looked for
 module _ (c : After-complement_pair-children) where
   abbrev regular : Pair
   regular = regular_pair c.pair-item.result.0 c.pair-item.result.1

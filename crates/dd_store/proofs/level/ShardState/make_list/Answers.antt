@@ -14,7 +14,7 @@ use Rattle.dd_store.proofs.Regular.{length-regular, regular_read}
 use Rattle.dd_store.proofs.level.ShardState.make_list.Goals as goal
 use Rattle.dd_store.proofs.level.ShardState.make_list.Goals.{After-complement_pair, in-Found, in-Added}
 
--- the pair as a node has it, which is sought
+-- the pair as nodes have it, which is looked for
 module _ (c : After-complement_pair) where
   abbrev list : List Pair
   list = regular_list c.args.list.now

@@ -8,7 +8,7 @@ use Rattle.req_table.proofs.Members.{member_more}
 use Rattle.req_table.proofs.waiting.Waiting.admit.Goals.{In_ok-place, In_err-place}
 use Rattle.req_table.proofs.waiting.Waiting.admit.Goals as goal
 
--- where the key has a place
+-- the key has a place
 module _ (c : In_ok-place) where
   abbrev T : List (List Key)
   T = c.self.inside.tables.items
@@ -21,7 +21,7 @@ module _ (c : In_ok-place) where
       level_entered T c.args.level c.index_mut.result.now c.admit.new.self c.args.key c.in_ok-place.place c.in_ok-place.field-0-1
       fits c.index_mut.ensures.value c.in_ok-place.ensures.admits_key c.in_ok-place.ensures.at_place
 
--- where memory is refused
+-- memory was refused
 unchanged : (c : In_err-place) → set c.self.inside.tables.items c.args.level c.admit.new.self ≡ c.self.inside.tables.items
 unchanged c =
     level_same c.self.inside.tables.items c.args.level c.index_mut.result.now c.admit.new.self

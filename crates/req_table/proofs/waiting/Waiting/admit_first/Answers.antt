@@ -8,7 +8,7 @@ use Rattle.req_table.proofs.Members.{member_first}
 use Rattle.req_table.proofs.waiting.Waiting.admit_first.Goals.{After-admit}
 use Rattle.req_table.proofs.waiting.Waiting.admit_first.Goals as goal
 
--- the tables are those that the call found, and have the level
+-- the tables are those before the call, and the level is one of theirs
 same : (c : After-admit) → c.self.inside.tables.items ≡ c.args.self.now
 same c = c.self.view_is ∙ c.reuse_spare_table.ensures
 

@@ -13,7 +13,7 @@ use Rattle.wave_core.proofs.Machines.{view_in, in_due}
 use Rattle.wave_core.proofs.Keeping.{keep_step, keep_kept, kept_back, kept_fits, first_below}
 use Rattle.wave_core.proofs.machine.Machine.keep.Goals as goal
 
--- what is asked of the machine's view, of its lists
+-- what the contract says of the machine's view, by its lists
 below : (v u : MachineView) (S : Nodes) (by : ℕ) → v ≡ u → by < v.workers → (by < u.workers → All (λ x. level_of S x < u.levels) (by_place u.workers u.due by by)) → All (λ x. level_of S x < v.levels) (by_place v.workers v.due by by)
 below v u S by e bb h = subst (λ (x : MachineView). All (λ y. level_of S y < x.levels) (by_place x.workers x.due by by)) (sym e) (h (subst (λ (x : MachineView). by < x.workers) e bb))
 

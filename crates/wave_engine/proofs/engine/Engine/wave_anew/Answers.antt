@@ -1,8 +1,8 @@
 use Rattle.std.proofs.Common.{◌≡◌, inl, refl, ap, arith}
-use Rattle.expand_work.specs.Bounds.{most_of}
+use Rattle.expand_work.specs.Bounds.{WaveBound, most_of}
 use Rattle.expand_work.specs.declared.fault.WaveFault.TheVariants.{OutOfMemory}
 use Rattle.reduce_up.proofs.Waving.{wave_unchanged}
-use Rattle.reduce_up.specs.CacheProbe.{unknown}
+use Rattle.wave_engine.specs.CacheProbe.{unknown}
 use Rattle.wave_engine.proofs.Held.{by_nothing}
 use Rattle.wave_engine.proofs.engine.Engine.wave_anew.Goals as goal
 
@@ -11,7 +11,7 @@ wave_since-requires-clause-most g c κs within = λ bounded.
     let none = c.in-Ok.ensures.since in
     let same = c.forget.ensures.bound in
     let most = c.requires.most in
-    let at : most_of c.forget.new.self.bound ≡ most_of c.args.self.now.bound = ap most_of same in
+    let at : most_of c.forget.new.self.bound.requests ≡ most_of c.args.self.now.bound.requests = ap (λ (z : WaveBound). most_of z.requests) same in
     omega (arith, none, most, at)
 
 pub wave_since-requires-clause-counts_all : goal.wave_since-requires-clause-counts_all

@@ -1,8 +1,8 @@
 use Rattle.std.proofs.Common.{rules, ◌≡◌, ◌∙◌, ◌<◌, ◌-◌, ◌^◌, inl, refl, sym, subst, arith, Err}
 use Rattle.req_table.specs.ComputedTables.{ComputedView, IsRight}
-use Rattle.expand_work.specs.Bounds.{most_of}
+use Rattle.expand_work.specs.Bounds.{WaveBound, most_of}
 use Rattle.expand_work.specs.declared.fault.WaveFault.TheVariants.{TooManyRequests}
-use Rattle.reduce_up.specs.CacheProbe.{IsKeptWave}
+use Rattle.wave_engine.specs.CacheProbe.{IsKeptWave}
 use Rattle.wave_engine.specs.Bounds.{AreMoreThan}
 use Rattle.wave_engine.proofs.Held.{more_of_all, all_within, counted_after}
 use Rattle.wave_engine.proofs.engine.Engine.wave_since.Goals as goal
@@ -28,7 +28,7 @@ pub returns-in-Ok-clause-within_bound : goal.returns-in-Ok-clause-within_bound
 returns-in-Ok-clause-within_bound g c = λ bounded.
     let sum = c.requires.most bounded in
     all_within c.args.store.now c.levels.ensures.sound c.args.entries.now c.requires.operands c.args.self.now (c.requires.counts_all bounded) c.args.self.now.expanded c.wave_within.new.self.expanded c.in-Ok.ensures.expanded
-    c.args.most (most_of c.args.self.now.bound) sum (c.in-Ok.ensures.within_bound (omega (arith, sum, bounded)))
+    c.args.most (most_of c.args.self.now.bound.requests) sum (c.in-Ok.ensures.within_bound (omega (arith, sum, bounded)))
 
 pub returns-in-Ok-clause-right : goal.returns-in-Ok-clause-right
 returns-in-Ok-clause-right g c = subst (IsRight c.wave_within.new.store) (sym c.add_since.ensures.held) c.wave_within.ensures.right
@@ -36,7 +36,7 @@ returns-in-Ok-clause-right g c = subst (IsRight c.wave_within.new.store) (sym c.
 pub returns-in-Ok-clause-counts_all : goal.returns-in-Ok-clause-counts_all
 returns-in-Ok-clause-counts_all g c = λ bounded.
     let same = c.add_since.ensures.bound ∙ c.wave_within.ensures.bound in
-    let limited : most_of c.args.self.now.bound < 2 ^ 64 - 1 = subst (λ o. most_of o < 2 ^ 64 - 1) same bounded in
+    let limited : most_of c.args.self.now.bound.requests < 2 ^ 64 - 1 = subst (λ (z : WaveBound). most_of z.requests < 2 ^ 64 - 1) same bounded in
     let sum = c.requires.most limited in
     let low = c.expanded-before.type_inv in
     let high = c.expanded.type_inv in

@@ -1,7 +1,7 @@
 use Rattle.std.proofs.Common.{◌<◌, ◌-◌, ◌^◌, refl, sym, subst}
 use Rattle.std.specs.Prelude.{Ok, Err}
 use Rattle.req_table.specs.ComputedTables.{IsRight}
-use Rattle.reduce_up.specs.CacheProbe.{unknown}
+use Rattle.wave_engine.specs.CacheProbe.{unknown}
 use Rattle.reduce_up.specs.Waves.{AnswersWave}
 use Rattle.wave_engine.specs.Bounds.{AreAtMost}
 use Rattle.wave_engine.specs.EngineView.{EngineView}

@@ -3,7 +3,7 @@ use Rattle.std.proofs.lemmas.Result.{err_from_is_err_and}
 use Rattle.req_table.specs.ComputedTables.{IsRight}
 use Rattle.expand_work.specs.WaveParts.{HaveExpanded}
 use Rattle.reduce_up.specs.Waves.{Entry, requests_of}
-use Rattle.reduce_up.proofs.Probing.{probe_good, probe_long, probe_count, probe_right, found_each, waved, probe_refused, probe_done, probe_given_up}
+use Rattle.wave_engine.proofs.Probing.{probe_good, probe_long, probe_count, probe_right, found_each, waved, probe_refused, probe_done, probe_given_up}
 use Rattle.wave_engine.specs.EngineView.{AreDivided}
 use Rattle.wave_engine.proofs.engine.Runner.wave.Goals as goal
 

@@ -1,0 +1,6 @@
+use Rattle.net_merge.proofs.Representing.{AreRepresentatives-keeps}
+use Rattle.net_merge.proofs.merged_graph.MergedGraph.add_xor.Goals as goal
+
+pub invariant_of-self : goal.invariant_of-self
+invariant_of-self g c =
+    AreRepresentatives-keeps c.self.inside.graph c.xor_of.new.self c.self.inside.representatives c.len.ensures.sound c.xor_of.ensures.keeps c.self.invariant

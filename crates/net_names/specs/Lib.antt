@@ -1,0 +1,2 @@
+pub mod OrderName
+pub mod OrderText

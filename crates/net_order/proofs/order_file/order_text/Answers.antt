@@ -1,8 +1,0 @@
-use Rattle.std.proofs.Common.{◌<◌, length, arith}
-use Rattle.net_order.proofs.Written.{line_more}
-use Rattle.net_order.proofs.order_file.order_text.Goals as goal
-
-pub loop-place-preserved : goal.loop-place-preserved
-loop-place-preserved c =
-    let lt : c.loop-place.place < length c.args.names.now = omega arith in
-    line_more c.args.names.now c.loop-place.place c.at.result.now _ _ lt c.at.ensures c.loop-place.invariant c.in_ok-push_line.ensures

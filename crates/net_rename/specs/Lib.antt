@@ -1,0 +1,2 @@
+pub mod PairText
+pub mod Renaming
