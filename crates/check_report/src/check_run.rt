@@ -1,18 +1,17 @@
 //! The comparison of what two readers hold, as verdicts or as a written report. Here and in
 //! `listing` texts are read and written. What is called with a `Task` has netlists only, so its
 //! contracts know of no device: they speak, by `OfTask`, of all texts that give these netlists.
-ghost use Rattle.std.specs.Prelude.{◌≡◌, ◌≢◌, ℕ, List, Option, IfOk, IfErr, IfSome, OnOk, OnErr, IsTrue, Err};
+ghost use Rattle.std.specs.Prelude.{◌≡◌, ◌≢◌, ℕ, List, Option, IfOk, IfErr, OnOk, OnErr, IsTrue, Err};
 ghost use Rattle.std.specs.Io.KnownBytes.{Appends};
 ghost use Rattle.report_text.specs.declared.outcome.Outcome.{Outcome};
 ghost use Rattle.compare_built.specs.Findings.{found_of};
 ghost use Rattle.report_text.specs.Writing.{AppendsFront};
 ghost use Rattle.compare_built.specs.declared.strategy.Attempt.{Attempt as AttemptValue};
-ghost use Rattle.compare_built.specs.Attempts.{AreGivenUp, last_budget};
 ghost use Rattle.compare_built.specs.Devices.{HasFailedIn, device_text, device_texts};
 ghost use Rattle.explain_report.specs.Deciding.{IsReportBy};
 ghost use Rattle.explain_report.specs.Dumping.{Bytes, IsReportWithVcd, bytes_in};
 ghost use Rattle.explain_report.specs.Explaining.{AreTargetsKnown, IsAfterNames, IsReportFault};
-ghost use Rattle.check_report.specs.Decisions.{IsDecision, IsNoDecision};
+ghost use Rattle.check_report.specs.Decisions.{AreGivenUpBefore, IsDecision, IsNoDecision};
 ghost use Rattle.check_report.specs.Refusals.{MayAnswer};
 
 use crate::decision::decide;
@@ -80,7 +79,7 @@ fn reported<H: Threads + Wait + Sync, R1: Source, R2: Source, R3: Source, G: Mon
         IfOk result (λ r. IsReportWithVcd input s (G.bound context.now.monitor.now) r.2 r.1 r.0.report.items (bytes_in r.0.vcd)) }
     ensures earlier_given_up { let input = device_texts (R1.remaining first.old) (R2.remaining second.old) (device_text R3.remaining given.old) in
         let s = context.now.settings.now in
-        IfOk result (λ r. IfSome r.2 (AreGivenUp input s.matching (last_budget s.order s.limit) (G.bound context.now.monitor.now))) }
+        IfOk result (λ r. AreGivenUpBefore input s (G.bound context.now.monitor.now) r.2) }
     ensures answer { let input = device_texts (R1.remaining first.old) (R2.remaining second.old) (device_text R3.remaining given.old) in
         let s = context.now.settings.now in
         IfErr result (MayAnswer input s (G.bound context.now.monitor.now)) }
@@ -140,7 +139,7 @@ pub fn check<H: Threads + Wait + Sync, R1: Source, R2: Source, R3: Source, G: Mo
     // attempt before it.
     ensures earlier_given_up { let input = device_texts (R1.remaining first.old) (R2.remaining second.old) (device_text R3.remaining given.old) in
         let s = context.now.settings.now in
-        IfOk result (λ r. IfSome r.1 (AreGivenUp input s.matching (last_budget s.order s.limit) (G.bound context.now.monitor.now))) }
+        IfOk result (λ r. AreGivenUpBefore input s (G.bound context.now.monitor.now) r.1) }
     // The table of faults allows the fault: for example, the limit is refused only if each order needs more nodes, and
     // a name only if it is unknown.
     ensures answer { let input = device_texts (R1.remaining first.old) (R2.remaining second.old) (device_text R3.remaining given.old) in

@@ -4,13 +4,9 @@
 //! In these contracts, as in `pairs`, `full_report` and `ordering`, the three `⊥` say that no
 //! device has failed: all texts were read before. An attempt is returned only if several orders
 //! were tried.
-ghost use Rattle.std.specs.Prelude.{◌≡◌, IfOk, IfErr};
-ghost use Rattle.compare_built.specs.Findings.{found_of};
-ghost use Rattle.compare_built.specs.declared.strategy.Strategy.{Strategy as StrategyValue};
-ghost use Rattle.explain_report.specs.Explaining.{HaveReportNaming};
-ghost use Rattle.order_search.specs.Tasks.{OfTask};
+ghost use Rattle.std.specs.Prelude.{◌≡◌, IfErr};
 ghost use Rattle.order_search.specs.Trials.{EndsSearch};
-ghost use Rattle.check_report.specs.Decisions.{IsDecision, IsNoDecision};
+ghost use Rattle.check_report.specs.Decisions.{IfDecided, IfNamed, IfRefused};
 
 use crate::pairs::{compare_auto, compare_by_cones, compare_by_merging};
 use compare_built::comparison::compare;
@@ -32,10 +28,10 @@ fn compare_in_order<H: Threads + Wait + Sync, G: Monitor>(
     order: &Order,
     monitor: &G,
 ) -> Result<(Verdicts, Option<Attempt>), CheckFault>
-    requires named { task.now.settings.now.order ≡ StrategyValue.One order.now }
-    ensures decision { OfTask task.now (λ input s. IfOk result (λ r. IsDecision input s (G.bound monitor.now) (found_of r.0) r.1)) }
-    ensures no_decision { OfTask task.now (λ input s. IfErr result (IsNoDecision input ⊥ ⊥ ⊥ s (G.bound monitor.now))) }
-    ensures named { IfOk result (λ r. HaveReportNaming task.now r.1 r.0) }
+    requires named { task.now.settings.now.order ≡ Strategy.One order.now }
+    ensures decision { IfDecided task.now (G.bound monitor.now) result }
+    ensures no_decision { IfRefused task.now (G.bound monitor.now) result }
+    ensures named { IfNamed task.now result }
 {
     let pairing = paired(task, order)?;
     let verdicts = compare(task, &pairing, task.settings.limit, monitor)?;
@@ -48,10 +44,10 @@ fn compare_in_computed_order<H: Threads + Wait + Sync, G: Monitor>(
     candidate: Candidate,
     monitor: &G,
 ) -> Result<(Verdicts, Option<Attempt>), CheckFault>
-    requires computed { task.now.settings.now.order ≡ StrategyValue.Computed candidate }
-    ensures decision { OfTask task.now (λ input s. IfOk result (λ r. IsDecision input s (G.bound monitor.now) (found_of r.0) r.1)) }
-    ensures no_decision { OfTask task.now (λ input s. IfErr result (IsNoDecision input ⊥ ⊥ ⊥ s (G.bound monitor.now))) }
-    ensures named { IfOk result (λ r. HaveReportNaming task.now r.1 r.0) }
+    requires computed { task.now.settings.now.order ≡ Strategy.Computed candidate }
+    ensures decision { IfDecided task.now (G.bound monitor.now) result }
+    ensures no_decision { IfRefused task.now (G.bound monitor.now) result }
+    ensures named { IfNamed task.now result }
 {
     let pairing = paired_by(task, AttemptOrder::Computed(candidate))?;
     let verdicts = compare(task, &pairing, task.settings.limit, monitor)?;
@@ -64,11 +60,11 @@ pub(crate) fn compare_in_best_order<H: Threads + Wait + Sync, G: Monitor>(
     task: &Task<'_, H>,
     monitor: &G,
 ) -> Result<(Verdicts, Option<Attempt>), CheckFault>
-    requires best { task.now.settings.now.order ≡ StrategyValue.Best }
-    ensures decision { OfTask task.now (λ input s. IfOk result (λ r. IsDecision input s (G.bound monitor.now) (found_of r.0) r.1)) }
-    ensures no_decision { OfTask task.now (λ input s. IfErr result (IsNoDecision input ⊥ ⊥ ⊥ s (G.bound monitor.now))) }
+    requires best { task.now.settings.now.order ≡ Strategy.Best }
+    ensures decision { IfDecided task.now (G.bound monitor.now) result }
+    ensures no_decision { IfRefused task.now (G.bound monitor.now) result }
     ensures ends { IfErr result EndsSearch }
-    ensures named { IfOk result (λ r. HaveReportNaming task.now r.1 r.0) }
+    ensures named { IfNamed task.now result }
 {
     // Without a pairing of its own for the report, the verdicts are over the variables of the order
     // that decides.
@@ -89,9 +85,9 @@ pub(crate) fn decide<H: Threads + Wait + Sync, G: Monitor>(
     task: &Task<'_, H>,
     monitor: &G,
 ) -> Result<(Verdicts, Option<Attempt>), CheckFault>
-    ensures decision { OfTask task.now (λ input s. IfOk result (λ r. IsDecision input s (G.bound monitor.now) (found_of r.0) r.1)) }
-    ensures no_decision { OfTask task.now (λ input s. IfErr result (IsNoDecision input ⊥ ⊥ ⊥ s (G.bound monitor.now))) }
-    ensures named { IfOk result (λ r. HaveReportNaming task.now r.1 r.0) }
+    ensures decision { IfDecided task.now (G.bound monitor.now) result }
+    ensures no_decision { IfRefused task.now (G.bound monitor.now) result }
+    ensures named { IfNamed task.now result }
 {
     match &task.settings.order {
         Strategy::One(order) => compare_in_order(task, order, monitor),

@@ -1,16 +1,12 @@
 //! The text of a report with the explanations after it, and the VCD of the first pair that differs.
-ghost use Rattle.std.specs.Prelude.{◌≡◌, ◌≢◌, ◌++◌, ℕ, List, Option, IfOk, IfErr, IfSome, Err, is_some};
-ghost use Rattle.net_bench.specs.Circuit.{circuit};
-ghost use Rattle.report_text.specs.Causes.{Caused};
+ghost use Rattle.std.specs.Prelude.{◌≢◌, IfOk, IfErr, Err};
 ghost use Rattle.compare_built.specs.Findings.{found_of};
-ghost use Rattle.report_text.specs.Json.{form_text};
-ghost use Rattle.compare_built.specs.Attempts.{AreGivenUp, last_budget, reported_kind};
-ghost use Rattle.compare_built.specs.PairSelection.{share_of};
 ghost use Rattle.order_search.specs.Tasks.{OfTask};
-ghost use Rattle.explain_report.specs.Causing.{AreCauses};
 ghost use Rattle.explain_report.specs.Dumping.{IsReportWithVcd, bytes_in};
-ghost use Rattle.explain_report.specs.Explaining.{AreTargetsIn, HaveReportNaming, IsAppended, IsReportFault};
+ghost use Rattle.explain_report.specs.Explaining.{HasTargets, HaveReportNaming, IsReportFault};
+ghost use Rattle.check_report.specs.Decisions.{AreGivenUpBefore};
 ghost use Rattle.check_report.specs.Refusals.{MayAnswer};
+ghost use Rattle.check_report.specs.Texts.{IsFullText};
 
 use crate::decision::decide;
 use compare_built::fault::CheckFault;
@@ -45,12 +41,9 @@ fn full_text<H>(
     verdicts: &Verdicts,
 ) -> Result<Vec<u8>, AllocError>
     requires named { HaveReportNaming task.now tried verdicts.now }
-    requires known { AreTargetsIn (circuit task.now.first.now) task.now.settings.now.explain.items }
-    ensures text { OfTask task.now (λ input s. IfOk result (λ text. (causes : Option (List Caused))
-        × AreCauses s.causes input s tried (found_of verdicts.now) causes
-        × (explanations : List ℕ) × IsAppended s.explain.items input s tried (found_of verdicts.now) explanations
-        × (text.items ≡ form_text s.json s.assignment s.matching (reported_kind s.order tried) (is_some input.given)
-        (share_of s.picked) stopped causes (found_of verdicts.now) ++ explanations))) }
+    requires known { HasTargets task.now }
+    ensures text { OfTask task.now (λ input s.
+        IfOk result (λ text. IsFullText input s tried stopped (found_of verdicts.now) text.items)) }
 {
     let given = task.given.is_some();
     let causes = causes(task, verdicts)?;
@@ -76,11 +69,11 @@ pub(crate) fn task_report<H: Threads + Wait + Sync, G: Monitor>(
     ensures report { OfTask task.now (λ input s. IfOk result
         (λ r. IsReportWithVcd input s (G.bound monitor.now) r.2 r.1 r.0.report.items (bytes_in r.0.vcd))) }
     ensures earlier_given_up { OfTask task.now (λ input s.
-        IfOk result (λ r. IfSome r.2 (AreGivenUp input s.matching (last_budget s.order s.limit) (G.bound monitor.now)))) }
+        IfOk result (λ r. AreGivenUpBefore input s (G.bound monitor.now) r.2)) }
     ensures answer { OfTask task.now (λ input s. IfErr result (MayAnswer input s (G.bound monitor.now))) }
     ensures fault { OfTask task.now (λ input s. IfErr result (IsReportFault input ⊥ ⊥ ⊥ s)) }
     ensures unwritten { OfTask task.now (λ input s. result ≢ Err CheckFault.Write) }
-    ensures names_first { result ≢ Err CheckFault.Explain → AreTargetsIn (circuit task.now.first.now) task.now.settings.now.explain.items }
+    ensures names_first { result ≢ Err CheckFault.Explain → HasTargets task.now }
 {
     if !has_pairs(task.first, task.settings.explain.as_slice()) {
         return Err(CheckFault::Explain);

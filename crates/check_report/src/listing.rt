@@ -1,13 +1,12 @@
 //! The order of the variables of what two readers hold, written as an order file. (`ordering` makes
 //! its text from the netlists.) As nothing is compared, the monitor is not notified of variables
 //! that only one netlist has.
-ghost use Rattle.std.specs.Prelude.{◌≡◌, ◌≢◌, ℕ, List, Option, IfOk, IfErr, IfSome, OnOk, OnErr, IsTrue, Err};
+ghost use Rattle.std.specs.Prelude.{◌≡◌, ◌≢◌, ℕ, List, Option, IfOk, IfErr, OnOk, OnErr, IsTrue, Err};
 ghost use Rattle.std.specs.Io.KnownBytes.{Appends};
 ghost use Rattle.report_text.specs.Writing.{AppendsFront};
 ghost use Rattle.compare_built.specs.declared.strategy.Attempt.{Attempt as AttemptValue};
-ghost use Rattle.compare_built.specs.Attempts.{AreGivenUp, last_budget};
 ghost use Rattle.compare_built.specs.Devices.{HasFailedIn, device_text, device_texts};
-ghost use Rattle.check_report.specs.Decisions.{HasCause};
+ghost use Rattle.check_report.specs.Decisions.{AreGivenUpBefore, HasCause};
 ghost use Rattle.check_report.specs.Listing.{IsListing};
 ghost use Rattle.check_report.specs.Refusals.{MayList};
 
@@ -35,7 +34,7 @@ fn listed<H: Threads + Wait + Sync, R1: Source, R2: Source, R3: Source, G: Monit
         IfOk result (λ r. IsListing input s r.1 r.0.items) }
     ensures earlier_given_up { let input = device_texts (R1.remaining first.old) (R2.remaining second.old) (device_text R3.remaining given.old) in
         let s = context.now.settings.now in
-        IfOk result (λ r. IfSome r.1 (AreGivenUp input s.matching (last_budget s.order s.limit) (G.bound context.now.monitor.now))) }
+        IfOk result (λ r. AreGivenUpBefore input s (G.bound context.now.monitor.now) r.1) }
     ensures answer { let input = device_texts (R1.remaining first.old) (R2.remaining second.old) (device_text R3.remaining given.old) in
         let s = context.now.settings.now in
         IfErr result (MayList input s (G.bound context.now.monitor.now)) }
@@ -77,7 +76,7 @@ pub fn print_order<
     // attempt before it.
     ensures earlier_given_up { let input = device_texts (R1.remaining first.old) (R2.remaining second.old) (device_text R3.remaining given.old) in
         let s = context.now.settings.now in
-        IfOk result (λ tried. IfSome tried (AreGivenUp input s.matching (last_budget s.order s.limit) (G.bound context.now.monitor.now))) }
+        IfOk result (AreGivenUpBefore input s (G.bound context.now.monitor.now)) }
     // The table of faults allows the fault. Full: the nodes that the netlists need are not within the limit, in the
     // order that is named or in that of each candidate. GivenUp: orders are tried, each attempt within the limit was
     // given up, and one of them for its requests or because the run may stop. Stopped: the monitor may stop the run.

@@ -3,9 +3,9 @@
 //! has shown it to differ. In each list of flags, place i is of the pair at place i of
 //! `facts.subjects`.
 ghost use Rattle.std.specs.Prelude.{◌≡◌, ◌<◌, ◌≤◌, ◌||◌, ℕ, false, length, slice_index_or, All, IfOk};
-ghost use Rattle.net_bench.specs.Circuit.{circuit};
-ghost use Rattle.compare_built.specs.Comparing.{IsInside};
-ghost use Rattle.check_report.specs.Pairs.{AreEqualIf, AreFacts};
+ghost use Rattle.order_search.specs.Tasks.{IsInTask};
+ghost use Rattle.cone_check.specs.KnownPairs.{AreFacts};
+ghost use Rattle.check_report.specs.Pairs.{AreEqualIf};
 
 use compare_built::subject::Subject;
 use compare_built::task::Task;
@@ -95,7 +95,7 @@ pub(crate) fn is_enough(facts: &PairFacts, equal: &[bool]) -> bool {
 fn subjects_in<'a, H>(task: &Task<'_, H>, naming: &Naming, facts: &'a PairFacts) -> &'a [Subject]
     requires { AreFacts task.now naming.now facts.now }
     ensures value { result.now ≡ facts.entry.now.subjects.items }
-    ensures inside { All (IsInside (circuit task.now.first.now) (circuit task.now.second.now)) result.now }
+    ensures inside { All (IsInTask task.now) result.now }
 {
     let _ = task; // For the proof.
     let _ = naming; // For the proof.

@@ -1,13 +1,11 @@
 //! The order file of the variables of two netlists, by the strategy of the settings.
-ghost use Rattle.std.specs.Prelude.{None, ◌≡◌, ◌≢◌, IfOk, IfErr, IfSome, Err};
-ghost use Rattle.compare_built.specs.declared.strategy.Strategy.{Strategy as StrategyValue};
-ghost use Rattle.compare_built.specs.Attempts.{AreGivenUp, IsAllowed, IsFound, last_budget};
-ghost use Rattle.compare_built.specs.Check.{IsCheckFault};
-ghost use Rattle.check_report.specs.Decisions.{HasCause};
-ghost use Rattle.check_report.specs.Listing.{IsListing, IsOrderPrinted};
-ghost use Rattle.check_report.specs.Refusals.{MayList};
-ghost use Rattle.order_search.specs.Tasks.{OfTask};
+ghost use Rattle.std.specs.Prelude.{None, ◌≡◌, ◌≢◌, IfOk, IfErr, Err};
+ghost use Rattle.compare_built.specs.Attempts.{IsAllowed, IsFound};
+ghost use Rattle.order_search.specs.Tasks.{IfErrInOrder, OfTask};
 ghost use Rattle.order_search.specs.Trials.{EndsAtOnce};
+ghost use Rattle.check_report.specs.Decisions.{AreGivenUpBefore};
+ghost use Rattle.check_report.specs.Listing.{IfListed, IfUnlisted, IsOrderPrinted};
+ghost use Rattle.check_report.specs.Refusals.{MayList};
 
 use crate::decision::compare_in_best_order;
 use compare_built::fault::CheckFault;
@@ -23,7 +21,7 @@ use std::thread::Threads;
 /// Returns the order file of the variables of two netlists in this order.
 fn text_in<H>(task: &Task<'_, H>, order: &Order) -> Result<Vec<u8>, CheckFault>
     ensures text { OfTask task.now (λ input s. IfOk result (λ text. IsOrderPrinted input s.matching order.now text.items)) }
-    ensures fault { OfTask task.now (λ input s. IfErr result (IsCheckFault input ⊥ ⊥ ⊥ s.order s.matching order.now)) }
+    ensures fault { IfErrInOrder task.now order.now result }
     ensures ends { IfErr result EndsAtOnce }
 {
     let pairing = paired(task, order)?;
@@ -39,9 +37,9 @@ fn given_text<H>(
 ) -> Result<(Vec<u8>, Option<Attempt>), CheckFault>
     requires untried { OfTask task.now (λ input s. IsFound input s.matching s.order s.limit None order.now) }
     requires cause { IsAllowed task.now.settings.now.order order.now }
-    ensures text { OfTask task.now (λ input s. IfOk result (λ r. IsListing input s r.1 r.0.items)) }
+    ensures text { IfListed task.now result }
     ensures no_attempt { IfOk result (λ r. r.1 ≡ None) }
-    ensures fault { OfTask task.now (λ input s. IfErr result (HasCause input ⊥ ⊥ ⊥ s)) }
+    ensures fault { IfUnlisted task.now result }
     ensures ends { IfErr result EndsAtOnce }
 {
     let text = text_in(task, order)?;
@@ -53,10 +51,10 @@ fn computed_text<H>(
     task: &Task<'_, H>,
     candidate: Candidate,
 ) -> Result<(Vec<u8>, Option<Attempt>), CheckFault>
-    requires computed { task.now.settings.now.order ≡ StrategyValue.Computed candidate }
-    ensures text { OfTask task.now (λ input s. IfOk result (λ r. IsListing input s r.1 r.0.items)) }
+    requires computed { task.now.settings.now.order ≡ Strategy.Computed candidate }
+    ensures text { IfListed task.now result }
     ensures no_attempt { IfOk result (λ r. r.1 ≡ None) }
-    ensures fault { OfTask task.now (λ input s. IfErr result (HasCause input ⊥ ⊥ ⊥ s)) }
+    ensures fault { IfUnlisted task.now result }
     ensures ends { IfErr result EndsAtOnce }
 {
     let pairing = paired_by(task, AttemptOrder::Computed(candidate))?;
@@ -69,12 +67,12 @@ fn best_text<H: Threads + Wait + Sync, G: Monitor>(
     task: &Task<'_, H>,
     monitor: &G,
 ) -> Result<(Vec<u8>, Option<Attempt>), CheckFault>
-    requires best { task.now.settings.now.order ≡ StrategyValue.Best }
-    ensures text { OfTask task.now (λ input s. IfOk result (λ r. IsListing input s r.1 r.0.items)) }
+    requires best { task.now.settings.now.order ≡ Strategy.Best }
+    ensures text { IfListed task.now result }
     ensures earlier_given_up { OfTask task.now (λ input s.
-        IfOk result (λ r. IfSome r.1 (AreGivenUp input s.matching (last_budget s.order s.limit) (G.bound monitor.now)))) }
+        IfOk result (λ r. AreGivenUpBefore input s (G.bound monitor.now) r.1)) }
     ensures answer { OfTask task.now (λ input s. IfErr result (MayList input s (G.bound monitor.now))) }
-    ensures fault { OfTask task.now (λ input s. IfErr result (HasCause input ⊥ ⊥ ⊥ s)) }
+    ensures fault { IfUnlisted task.now result }
     ensures unwritten { result ≢ Err CheckFault.Write }
 {
     let (verdicts, tried) = compare_in_best_order(task, monitor)?;
@@ -88,11 +86,11 @@ pub(crate) fn text_for<H: Threads + Wait + Sync, G: Monitor>(
     task: &Task<'_, H>,
     monitor: &G,
 ) -> Result<(Vec<u8>, Option<Attempt>), CheckFault>
-    ensures text { OfTask task.now (λ input s. IfOk result (λ r. IsListing input s r.1 r.0.items)) }
+    ensures text { IfListed task.now result }
     ensures earlier_given_up { OfTask task.now (λ input s.
-        IfOk result (λ r. IfSome r.1 (AreGivenUp input s.matching (last_budget s.order s.limit) (G.bound monitor.now)))) }
+        IfOk result (λ r. AreGivenUpBefore input s (G.bound monitor.now) r.1)) }
     ensures answer { OfTask task.now (λ input s. IfErr result (MayList input s (G.bound monitor.now))) }
-    ensures fault { OfTask task.now (λ input s. IfErr result (HasCause input ⊥ ⊥ ⊥ s)) }
+    ensures fault { IfUnlisted task.now result }
     ensures unwritten { result ≢ Err CheckFault.Write }
 {
     match &task.settings.order {

@@ -14,19 +14,17 @@
 ghost use Rattle.std.specs.Prelude.{◌≡◌, IfOk, IfErr};
 ghost use Rattle.std.specs.List.{list_any};
 ghost use Rattle.net_bench.specs.Circuit.{circuit};
-ghost use Rattle.net_names.specs.declared.order.Order.TheVariants as orders;
-ghost use Rattle.compare_built.specs.Findings.{found_of};
-ghost use Rattle.compare_built.specs.declared.strategy.Strategy.{Strategy as StrategyValue};
 ghost use Rattle.compare_built.specs.Attempts.{first_whole_limit};
 ghost use Rattle.compare_built.specs.Comparing.{AreSignals};
+ghost use Rattle.compare_built.specs.Findings.{found_of};
 ghost use Rattle.compare_built.specs.Picking.{TakesPicks};
-ghost use Rattle.explain_report.specs.Deciding.{is_open};
-ghost use Rattle.explain_report.specs.Explaining.{HaveReportNaming};
-ghost use Rattle.order_search.specs.Tasks.{OfTask};
-ghost use Rattle.order_search.specs.Trials.{AreAllGivenUp, AreTrials, IsNamingIn, IsPairingIn};
+ghost use Rattle.compare_built.specs.declared.strategy.Strategy.{Strategy};
+ghost use Rattle.order_search.specs.Trials.{AreAllGivenUp, AreTrials, IsDeclaredNaming, IsDeclaredPairing};
 ghost use Rattle.cone_check.specs.ConeRounds.{EndsPairs, IsFoundByCones};
-ghost use Rattle.check_report.specs.Decisions.{IsDecision, IsNoDecision};
-ghost use Rattle.check_report.specs.Pairs.{AreEqualIf, AreFacts, EndsComparison};
+ghost use Rattle.cone_check.specs.KnownPairs.{AreFacts};
+ghost use Rattle.explain_report.specs.Deciding.{is_open};
+ghost use Rattle.check_report.specs.Decisions.{IfDecided, IfNamed, IfRefused};
+ghost use Rattle.check_report.specs.Pairs.{AreEqualIf, EndsComparison};
 ghost use Rattle.check_report.specs.Wholes.{AreTriedBefore};
 
 use crate::merging::{Merged, equal_pairs, first_round, is_enough, none_equal, second_round};
@@ -50,7 +48,7 @@ use std::thread::Threads;
 
 /// Does nothing. Its contract says that the pairs of a naming are signals of the netlists.
 fn note_signals<H>(task: &Task<'_, H>, naming: &Naming)
-    requires { IsNamingIn task.now orders.Declared naming.now }
+    requires { IsDeclaredNaming task.now naming.now }
     ensures { AreSignals (circuit task.now.first.now) (circuit task.now.second.now) naming.now }
 {
     let _ = task.first.inputs(); // For the proof.
@@ -60,9 +58,9 @@ fn note_signals<H>(task: &Task<'_, H>, naming: &Naming)
 
 /// Returns the naming of a pairing in declared order.
 fn naming_in<'a, H>(task: &Task<'_, H>, declared: &'a Pairing) -> &'a Naming
-    requires { IsPairingIn task.now orders.Declared declared.now }
+    requires { IsDeclaredPairing task.now declared.now }
     ensures same { result.now ≡ declared.entry.now }
-    ensures naming { IsNamingIn task.now orders.Declared result.now }
+    ensures naming { IsDeclaredNaming task.now result.now }
 {
     let _ = task; // For the proof.
     declared.naming()
@@ -74,7 +72,7 @@ fn facts_in<H, G: Monitor>(
     naming: &Naming,
     monitor: &G,
 ) -> Result<PairFacts, CheckFault>
-    requires { IsNamingIn task.now orders.Declared naming.now }
+    requires { IsDeclaredNaming task.now naming.now }
     ensures facts { IfOk result (AreFacts task.now naming.now) }
     ensures ends { IfErr result (EndsComparison task.now) }
 {
@@ -119,12 +117,12 @@ fn with_last_attempts<H: Threads + Wait + Sync, G: Monitor>(
     before: TriedBefore,
     monitor: &G,
 ) -> Result<(Verdicts, Option<Attempt>), CheckFault>
-    requires auto { task.now.settings.now.order ≡ StrategyValue.Auto }
-    requires naming { IsNamingIn task.now orders.Declared verdicts.naming }
+    requires auto { task.now.settings.now.order ≡ Strategy.Auto }
+    requires naming { IsDeclaredNaming task.now verdicts.naming }
     requires found { IsFoundByCones task.now (G.bound monitor.now) verdicts.naming (found_of verdicts) }
     requires before { AreTriedBefore task.now (G.bound monitor.now) before }
-    ensures decision { OfTask task.now (λ input s. IfOk result (λ r. IsDecision input s (G.bound monitor.now) (found_of r.0) r.1)) }
-    ensures named { IfOk result (λ r. HaveReportNaming task.now r.1 r.0) }
+    ensures decision { IfDecided task.now (G.bound monitor.now) result }
+    ensures named { IfNamed task.now result }
     ensures ends { IfErr result EndsPairs }
 {
     if !is_any_open(task.settings.difference, verdicts.as_slice()) {
@@ -157,13 +155,13 @@ fn compare_pairs<H: Threads + Wait + Sync, G: Monitor>(
     before: TriedBefore,
     monitor: &G,
 ) -> Result<(Verdicts, Option<Attempt>), CheckFault>
-    requires auto { task.now.settings.now.order ≡ StrategyValue.Auto }
-    requires naming { IsNamingIn task.now orders.Declared naming }
+    requires auto { task.now.settings.now.order ≡ Strategy.Auto }
+    requires naming { IsDeclaredNaming task.now naming }
     requires facts { AreFacts task.now naming facts }
     requires merged { AreEqualIf task.now naming facts merged.equal.items }
     requires before { AreTriedBefore task.now (G.bound monitor.now) before }
-    ensures decision { OfTask task.now (λ input s. IfOk result (λ r. IsDecision input s (G.bound monitor.now) (found_of r.0) r.1)) }
-    ensures named { IfOk result (λ r. HaveReportNaming task.now r.1 r.0) }
+    ensures decision { IfDecided task.now (G.bound monitor.now) result }
+    ensures named { IfNamed task.now result }
     ensures ends { IfErr result EndsPairs }
 {
     let equal = second_round(task, &naming, &facts, merged, monitor)?;
@@ -180,12 +178,12 @@ fn compare_after_search<H: Threads + Wait + Sync, G: Monitor>(
     trials: Vec<Trial>,
     monitor: &G,
 ) -> Result<(Verdicts, Option<Attempt>), CheckFault>
-    requires auto { task.now.settings.now.order ≡ StrategyValue.Auto }
-    requires pairing { IsPairingIn task.now orders.Declared declared }
+    requires auto { task.now.settings.now.order ≡ Strategy.Auto }
+    requires pairing { IsDeclaredPairing task.now declared }
     requires trials { AreTrials task.now trials.items }
     requires given_up { AreAllGivenUp task.now (first_whole_limit task.now.settings.now.limit) (G.bound monitor.now) }
-    ensures decision { OfTask task.now (λ input s. IfOk result (λ r. IsDecision input s (G.bound monitor.now) (found_of r.0) r.1)) }
-    ensures named { IfOk result (λ r. HaveReportNaming task.now r.1 r.0) }
+    ensures decision { IfDecided task.now (G.bound monitor.now) result }
+    ensures named { IfNamed task.now result }
     ensures ends { IfErr result (EndsComparison task.now) }
 {
     let naming = naming_in(task, &declared);
@@ -212,10 +210,10 @@ fn compare_whole_first<H: Threads + Wait + Sync, G: Monitor>(
     declared: Pairing,
     monitor: &G,
 ) -> Result<(Verdicts, Option<Attempt>), CheckFault>
-    requires auto { task.now.settings.now.order ≡ StrategyValue.Auto }
-    requires pairing { IsPairingIn task.now orders.Declared declared }
-    ensures decision { OfTask task.now (λ input s. IfOk result (λ r. IsDecision input s (G.bound monitor.now) (found_of r.0) r.1)) }
-    ensures named { IfOk result (λ r. HaveReportNaming task.now r.1 r.0) }
+    requires auto { task.now.settings.now.order ≡ Strategy.Auto }
+    requires pairing { IsDeclaredPairing task.now declared }
+    ensures decision { IfDecided task.now (G.bound monitor.now) result }
+    ensures named { IfNamed task.now result }
     ensures ends { IfErr result (EndsComparison task.now) }
 {
     match search_within(task, &declared, FIRST_WHOLE_LIMIT, monitor) {
@@ -232,11 +230,11 @@ fn compare_pairs_first<H: Threads + Wait + Sync, G: Monitor>(
     naming: Naming,
     monitor: &G,
 ) -> Result<(Verdicts, Option<Attempt>), CheckFault>
-    requires auto { task.now.settings.now.order ≡ StrategyValue.Auto }
+    requires auto { task.now.settings.now.order ≡ Strategy.Auto }
     requires any { task.now.settings.now.difference ≡ Difference.AnyOne }
-    requires naming { IsNamingIn task.now orders.Declared naming }
-    ensures decision { OfTask task.now (λ input s. IfOk result (λ r. IsDecision input s (G.bound monitor.now) (found_of r.0) r.1)) }
-    ensures named { IfOk result (λ r. HaveReportNaming task.now r.1 r.0) }
+    requires naming { IsDeclaredNaming task.now naming }
+    ensures decision { IfDecided task.now (G.bound monitor.now) result }
+    ensures named { IfNamed task.now result }
     ensures ends { IfErr result (EndsComparison task.now) }
 {
     let facts = facts_in(task, &naming, monitor)?;
@@ -250,7 +248,7 @@ fn merged_verdicts<H: Threads + Wait + Sync, G: Monitor>(
     naming: Naming,
     monitor: &G,
 ) -> Result<Verdicts, CheckFault>
-    requires naming { IsNamingIn task.now orders.Declared naming }
+    requires naming { IsDeclaredNaming task.now naming }
     ensures verdicts { IfOk result (λ v. IsFoundByCones task.now (G.bound monitor.now) naming (found_of v)) }
     ensures named { IfOk result (λ v. v.naming ≡ naming) }
     ensures ends { IfErr result (EndsComparison task.now) }
@@ -267,7 +265,7 @@ fn cone_verdicts<H: Threads + Wait + Sync, G: Monitor>(
     naming: Naming,
     monitor: &G,
 ) -> Result<Verdicts, CheckFault>
-    requires naming { IsNamingIn task.now orders.Declared naming }
+    requires naming { IsDeclaredNaming task.now naming }
     ensures verdicts { IfOk result (λ v. IsFoundByCones task.now (G.bound monitor.now) naming (found_of v)) }
     ensures named { IfOk result (λ v. v.naming ≡ naming) }
     ensures ends { IfErr result (EndsComparison task.now) }
@@ -286,10 +284,10 @@ pub(crate) fn compare_auto<H: Threads + Wait + Sync, G: Monitor>(
     task: &Task<'_, H>,
     monitor: &G,
 ) -> Result<(Verdicts, Option<Attempt>), CheckFault>
-    requires auto { task.now.settings.now.order ≡ StrategyValue.Auto }
-    ensures decision { OfTask task.now (λ input s. IfOk result (λ r. IsDecision input s (G.bound monitor.now) (found_of r.0) r.1)) }
-    ensures no_decision { OfTask task.now (λ input s. IfErr result (IsNoDecision input ⊥ ⊥ ⊥ s (G.bound monitor.now))) }
-    ensures named { IfOk result (λ r. HaveReportNaming task.now r.1 r.0) }
+    requires auto { task.now.settings.now.order ≡ Strategy.Auto }
+    ensures decision { IfDecided task.now (G.bound monitor.now) result }
+    ensures no_decision { IfRefused task.now (G.bound monitor.now) result }
+    ensures named { IfNamed task.now result }
 {
     let naming = named(task)?;
     let declared = match Pairing::of(naming) {
@@ -311,9 +309,9 @@ pub(crate) fn compare_by_cones<H: Threads + Wait + Sync, G: Monitor>(
     monitor: &G,
 ) -> Result<(Verdicts, Option<Attempt>), CheckFault>
     requires picks { TakesPicks task.now.settings.now.order }
-    ensures decision { OfTask task.now (λ input s. IfOk result (λ r. IsDecision input s (G.bound monitor.now) (found_of r.0) r.1)) }
-    ensures no_decision { OfTask task.now (λ input s. IfErr result (IsNoDecision input ⊥ ⊥ ⊥ s (G.bound monitor.now))) }
-    ensures named { IfOk result (λ r. HaveReportNaming task.now r.1 r.0) }
+    ensures decision { IfDecided task.now (G.bound monitor.now) result }
+    ensures no_decision { IfRefused task.now (G.bound monitor.now) result }
+    ensures named { IfNamed task.now result }
 {
     let naming = named(task)?;
     let verdicts = cone_verdicts(task, naming, monitor)?;
@@ -326,10 +324,10 @@ pub(crate) fn compare_by_merging<H: Threads + Wait + Sync, G: Monitor>(
     task: &Task<'_, H>,
     monitor: &G,
 ) -> Result<(Verdicts, Option<Attempt>), CheckFault>
-    requires merge { task.now.settings.now.order ≡ StrategyValue.Merge }
-    ensures decision { OfTask task.now (λ input s. IfOk result (λ r. IsDecision input s (G.bound monitor.now) (found_of r.0) r.1)) }
-    ensures no_decision { OfTask task.now (λ input s. IfErr result (IsNoDecision input ⊥ ⊥ ⊥ s (G.bound monitor.now))) }
-    ensures named { IfOk result (λ r. HaveReportNaming task.now r.1 r.0) }
+    requires merge { task.now.settings.now.order ≡ Strategy.Merge }
+    ensures decision { IfDecided task.now (G.bound monitor.now) result }
+    ensures no_decision { IfRefused task.now (G.bound monitor.now) result }
+    ensures named { IfNamed task.now result }
 {
     let naming = named(task)?;
     let verdicts = merged_verdicts(task, naming, monitor)?;

@@ -1,11 +1,13 @@
 -- Orders that have to be found, and what cannot be asked for together with them.
-use Rattle.std.proofs.Common.{◌≡◌, ◌∙◌, ◌⊎◌, inl, inr, refl, sym, subst, Bool, true, false, List, [], ◌∷◌, Option, Some, None, IsTrue}
+use Rattle.std.proofs.Common.{◌≡◌, ◌∙◌, ◌⊎◌, ap, inl, inr, refl, sym, subst, Bool, true, false, List, [], ◌∷◌, Option, Some, None, IsTrue}
 use Rattle.std.specs.Prelude.{◌↔◌, IsSomeAnd, codes}
+use Rattle.std.specs.Borrow.{Bor}
 use Rattle.clap.specs.Words.{Row, Text, first_of}
 use Rattle.command_line.specs.declared.options.OrderChoice.{OrderChoice}
 use Rattle.command_line.specs.declared.options.OrderChoice.TheVariants.{Named, Best, Auto, Cones, ConesByList, Merge, File, Extended}
 use Rattle.command_line.specs.declared.options.Picks.{Picks}
 use Rattle.command_line.specs.declared.options.Picks.TheVariants.{All}
+use Rattle.command_line.specs.Conflicts.{IfHolds}
 use Rattle.command_line.specs.Picking.{TakesPicks}
 use Rattle.command_line.specs.Words.{IsChoice, IsOrderIfPicked, IsOrderIn, IsPickingOrder, IsSearchName, GiveTwoOrders, GiveTwoPicks, GiveSearch, GiveSearchWith, GivePicksWithFixedOrder, GiveUnusedMemory, GiveUnusedExtend, GiveExplainConflict, GiveUnusedVcd, GiveCausesConflict, GivePairsByPosition, HaveConflict, ArePicks, are_picked, flag_of, names_in, share_in, default_order_of}
 
@@ -19,6 +21,20 @@ fails b is test a =
     let no : b ≡ true = test.1 a in
     let bad : false ≡ true = sym is ∙ no in
     cc
+
+-- the statement holds, and so do what is said of it, and what is said of its absence
+pub holding : {A B C : Type 0} → A → B → IfHolds A B C
+holding a b = ((λ _. b), (λ without. absurd (without a)))
+
+pub failing : {A B C : Type 0} → (A → ⊥) → C → IfHolds A B C
+failing without c = ((λ a. absurd (without a)), (λ _. c))
+
+-- the two texts of a pair
+pub both_named : (p : Bor Text × Bor Text) (one other : Bor Text) → p ≡ (one, other) → (p.0.now ≡ one.now) × (p.1.now ≡ other.now)
+both_named p one other is = (ap (λ (q : Bor Text × Bor Text). q.0.now) is, ap (λ (q : Bor Text × Bor Text). q.1.now) is)
+
+pub both_said : (P Q : Text → Type 0) (p : Bor Text × Bor Text) (one other : Bor Text) → p ≡ (one, other) → P one.now → Q other.now → P p.0.now × Q p.1.now
+both_said P Q p one other is first second = (subst P (sym (both_named p one other is).0) first, subst Q (sym (both_named p one other is).1) second)
 
 -- there is no conflict if no test finds one
 pub no_conflict : (rows : List Row) → (GiveTwoOrders rows → ⊥) → (GiveTwoPicks rows → ⊥) → (GiveSearchWith (codes "sizes") rows → ⊥) → (GiveSearchWith (codes "print-order") rows → ⊥)

@@ -1,10 +1,12 @@
 //! Arguments that exclude each other.
-ghost use Rattle.std.specs.Prelude.{◌≡◌, ◌↔◌, ◌⊎◌, Bool, true, false, IsSomeAnd, IsTrue, MatchOption, bytes_eq, codes, option_map};
-ghost use Rattle.clap.specs.Words.{first_of, found_of, rows_of};
+ghost use Rattle.std.specs.Prelude.{◌≡◌, ◌↔◌, ◌⊎◌, Bool, true, IfSome, IsSomeAnd, IsTrue, MatchOption, bytes_eq, codes, option_map};
+ghost use Rattle.clap.specs.Words.{found_of, rows_of};
+ghost use Rattle.command_line.specs.Conflicts.{IsFirstConflict, IsFixedOrderOption, IsMemoryConflict, IsPickingOption, IsReportConflict};
+ghost use Rattle.command_line.specs.Conflicts.{IsSearchOption};
 ghost use Rattle.command_line.specs.declared.options.OrderChoice.{OrderChoice as ChoiceValue};
 ghost use Rattle.command_line.specs.Words.{IsOrderIn, IsChoice, IsPickingName, IsSearchName, GiveTwoOrders, GiveTwoPicks, GiveSearch, GiveSearchWith};
 ghost use Rattle.command_line.specs.Words.{GiveFixedOrder, GivePicksWithFixedOrder, GiveWholeOrderFile, GiveUnusedMemory, GiveUnusedExtend, AskForJson, GiveExplainConflict};
-ghost use Rattle.command_line.specs.Words.{GiveUnusedVcd, GiveCausesConflict, GivePairsByPosition, HaveConflict, IsGiven, are_picked, flag_of, names_in, share_in};
+ghost use Rattle.command_line.specs.Words.{GiveUnusedVcd, GiveCausesConflict, GivePairsByPosition, HaveConflict, are_picked, names_in, share_in};
 
 use crate::from_matches::{default_order_in, has_picks};
 use crate::options::OrderChoice;
@@ -198,11 +200,7 @@ fn has_pairs_by_position(matches: &ArgMatches<'_>) -> bool
 
 /// The argument with which there are no explanations, as the refusal names it.
 fn explain_conflict(matches: &ArgMatches<'_>) -> &'static str
-    ensures print_order { flag_of (first_of (codes "print-order") (rows_of (found_of matches.now))) ≡ true → result.now ≡ codes "'--print-order'" }
-    ensures share { let rows = rows_of (found_of matches.now) in
-        flag_of (first_of (codes "print-order") rows) ≡ false → IsGiven (codes "share") rows → result.now ≡ codes "'--share <K/N>'" }
-    ensures format { let rows = rows_of (found_of matches.now) in
-        flag_of (first_of (codes "print-order") rows) ≡ false → (IsGiven (codes "share") rows → ⊥) → result.now ≡ codes "'--format json'" }
+    ensures { IsReportConflict (codes "'--format json'") (rows_of (found_of matches.now)) result.now }
 {
     if is_asked(matches, "print-order") {
         "'--print-order'"
@@ -215,12 +213,7 @@ fn explain_conflict(matches: &ArgMatches<'_>) -> &'static str
 
 /// The argument with which there are no causes, as the refusal names it.
 fn causes_conflict(matches: &ArgMatches<'_>) -> &'static str
-    ensures print_order { flag_of (first_of (codes "print-order") (rows_of (found_of matches.now))) ≡ true → result.now ≡ codes "'--print-order'" }
-    ensures share { let rows = rows_of (found_of matches.now) in
-        flag_of (first_of (codes "print-order") rows) ≡ false → IsGiven (codes "share") rows → result.now ≡ codes "'--share <K/N>'" }
-    ensures format { let rows = rows_of (found_of matches.now) in
-        flag_of (first_of (codes "print-order") rows) ≡ false → (IsGiven (codes "share") rows → ⊥)
-        → result.now ≡ codes "a report other than that of '--format json'" }
+    ensures { IsReportConflict (codes "a report other than that of '--format json'") (rows_of (found_of matches.now)) result.now }
 {
     if is_asked(matches, "print-order") {
         "'--print-order'"
@@ -233,7 +226,9 @@ fn causes_conflict(matches: &ArgMatches<'_>) -> &'static str
 
 /// The argument that does not use memory, as the refusal names it: if no order is given, the one that makes the
 /// declared order the default.
-fn memory_conflict(matches: &ArgMatches<'_>) -> &'static str {
+fn memory_conflict(matches: &ArgMatches<'_>) -> &'static str
+    ensures { IsMemoryConflict (rows_of (found_of matches.now)) result.now }
+{
     if word_of(matches, "order").is_some() || word_of(matches, "order-file").is_some() {
         "an order other than auto, cones and merge"
     } else if is_asked(matches, "print-order") {
@@ -247,8 +242,7 @@ fn memory_conflict(matches: &ArgMatches<'_>) -> &'static str {
 
 /// The argument that picks pairs, as the refusal names it.
 fn picking_option(matches: &ArgMatches<'_>) -> &'static str
-    ensures only { IsGiven (codes "only") (rows_of (found_of matches.now)) → result.now ≡ codes "--only <NAME>" }
-    ensures share { (IsGiven (codes "only") (rows_of (found_of matches.now)) → ⊥) → result.now ≡ codes "--share <K/N>" }
+    ensures { IsPickingOption (rows_of (found_of matches.now)) result.now }
 {
     if is_given(matches, "only") {
         "--only <NAME>"
@@ -259,8 +253,7 @@ fn picking_option(matches: &ArgMatches<'_>) -> &'static str
 
 /// The argument that gives an order in which no pairs can be picked, as the refusal names it.
 fn fixed_order(matches: &ArgMatches<'_>) -> &'static str
-    ensures file { GiveWholeOrderFile (rows_of (found_of matches.now)) → result.now ≡ codes "'--order-file <F>' without '--extend'" }
-    ensures name { (GiveWholeOrderFile (rows_of (found_of matches.now)) → ⊥) → result.now ≡ codes "an order other than auto and cones" }
+    ensures { IsFixedOrderOption (rows_of (found_of matches.now)) result.now }
 {
     if gives_whole_order_file(matches) {
         "'--order-file <F>' without '--extend'"
@@ -270,7 +263,9 @@ fn fixed_order(matches: &ArgMatches<'_>) -> &'static str
 }
 
 /// The argument that asks for an order that has to be found, as the refusal names it.
-fn search_option(matches: &ArgMatches<'_>) -> &'static str {
+fn search_option(matches: &ArgMatches<'_>) -> &'static str
+    ensures { IsSearchOption (rows_of (found_of matches.now)) result.now }
+{
     match word_of(matches, "order") {
         Some("auto") => "--order auto",
         Some("cones") => "--order cones",
@@ -281,9 +276,10 @@ fn search_option(matches: &ArgMatches<'_>) -> &'static str {
 
 /// The first two arguments that exclude each other; None if there are none.
 pub(crate) fn conflict_in(matches: &ArgMatches<'_>) -> Option<Conflict>
-    ensures { MatchOption result (HaveConflict (rows_of (found_of matches.now)) → ⊥) (λ _. HaveConflict (rows_of (found_of matches.now))) }
+    ensures any { MatchOption result (HaveConflict (rows_of (found_of matches.now)) → ⊥) (λ _. HaveConflict (rows_of (found_of matches.now))) }
+    ensures first { IfSome result (λ conflict. IsFirstConflict (rows_of (found_of matches.now)) conflict.one.now conflict.other.now) }
 {
-    let (one, other) = if has_two_orders(matches) {
+    let named = if has_two_orders(matches) {
         ("--order <ORDER>", "'--order-file <F>'")
     } else if has_two_picks(matches) {
         ("--only <NAME>", "'--share <K/N>'")
@@ -308,5 +304,6 @@ pub(crate) fn conflict_in(matches: &ArgMatches<'_>) -> Option<Conflict>
     } else {
         return None;
     };
+    let (one, other) = named;
     Some(Conflict { one, other })
 }

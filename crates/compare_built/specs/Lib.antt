@@ -16,3 +16,4 @@ pub mod PairSelection
 pub mod Scatter
 pub mod Details
 pub mod Findings
+pub mod Tasks

@@ -1,16 +1,10 @@
 //! The comparison of two netlists in one order of the variables, within a limit of nodes.
 ghost use Rattle.std.specs.Prelude.{◌≡◌, ◌≢◌, ◌<◌, ◌-◌, ◌^◌, false, IfOk, IfErr, IsSomeAnd, OnOk, Err};
 ghost use Rattle.expand_work.specs.Bounds.{MayStop, most_of};
-ghost use Rattle.net_bench.specs.Circuit.{circuit};
-ghost use Rattle.net_order.specs.Order.{condition};
-ghost use Rattle.gate_plan.specs.Building.{IsPaired};
-ghost use Rattle.compare_built.specs.Arrangement.{ArePairings};
-ghost use Rattle.compare_built.specs.Report.{AreVerdicts};
-ghost use Rattle.compare_built.specs.Details.{details_in};
 ghost use Rattle.compare_built.specs.Check.{IsComparisonFault};
-ghost use Rattle.compare_built.specs.Comparing.{AreCompared, IsVerdictOrder, as_built, as_reported, details_of};
-ghost use Rattle.compare_built.specs.Limits.{FitsWithin, Exceeds};
-ghost use Rattle.compare_built.specs.Widths.{IsTooWide};
+ghost use Rattle.compare_built.specs.Comparing.{IsVerdictOrder, as_built, as_reported, details_of};
+ghost use Rattle.compare_built.specs.Details.{details_in};
+ghost use Rattle.compare_built.specs.Tasks.{AreComparedIn, ArePairingsOf, AreVerdictsOf, HasWaveBeyond, IsEnough, IsPairingOf, NeedsMore};
 
 use crate::arrangement::arrangement;
 use crate::compared_pairs::{ComparedPairs, compared_pairs_of};
@@ -34,18 +28,14 @@ fn built_within<H: Threads + Wait + Sync, G: Monitor>(
     limit: u64,
     monitor: &G,
 ) -> Result<(Store, ComparedPairs), CheckFault>
-    requires paired { IsPaired (circuit task.now.first.now) (circuit task.now.second.now) (condition task.now.given) pairing.now }
+    requires paired { IsPairingOf task.now pairing.now }
     requires small { limit < 2 ^ 32 }
-    ensures compared { IfOk result (λ r. AreCompared as_built (circuit task.now.first.now) (circuit task.now.second.now)
-        (condition task.now.given) pairing.now r.0 r.1.subjects.items r.1.references.items) }
+    ensures compared { IfOk result (λ r. AreComparedIn as_built task.now pairing.now r.0 r.1) }
     ensures err { IfErr result IsComparisonFault }
-    ensures within { OnOk result (FitsWithin limit (circuit task.now.first.now) (circuit task.now.second.now)
-        (condition task.now.given) pairing.now) }
-    ensures full { result ≡ Err (CheckFault.Wave WaveFault.Full)
-        → Exceeds limit (circuit task.now.first.now) (circuit task.now.second.now) (condition task.now.given) pairing.now }
+    ensures within { OnOk result (IsEnough task.now limit pairing.now) }
+    ensures full { result ≡ Err (CheckFault.Wave WaveFault.Full) → NeedsMore task.now limit pairing.now }
     ensures past { result ≡ Err (CheckFault.Wave WaveFault.TooManyRequests)
-        → IsSomeAnd (G.bound monitor.now).requests (λ n. IsTooWide n (circuit task.now.first.now) (circuit task.now.second.now)
-        (condition task.now.given) pairing.now) }
+        → IsSomeAnd (G.bound monitor.now).requests (λ n. HasWaveBeyond task.now n pairing.now) }
     ensures needs_no_thread { most_of (G.bound monitor.now).requests < 2 ^ 64 - 1 → result ≢ Err (CheckFault.Wave WaveFault.NoWorker) }
     ensures stopped { result ≡ Err (CheckFault.Wave WaveFault.Stopped) → MayStop (G.bound monitor.now) }
 {
@@ -80,11 +70,9 @@ fn verdicts_in<H>(
     store: &Store,
     shown: &ComparedPairs,
 ) -> Result<Vec<Verdict>, CheckFault>
-    requires compared { AreCompared (as_reported verdict_order) (circuit task.now.first.now) (circuit task.now.second.now)
-        (condition task.now.given) pairing.now store.now shown.now.subjects.items shown.now.references.items }
+    requires compared { AreComparedIn (as_reported verdict_order) task.now pairing.now store.now shown.now }
     requires order { IsVerdictOrder store.now.levels verdict_order }
-    ensures ok { IfOk result (λ v. AreVerdicts (details_of verdict_order.entry) (circuit task.now.first.now) (circuit task.now.second.now)
-        (condition task.now.given) pairing.now (record { variables = pairing.now.names; verdicts = v.items })) }
+    ensures ok { IfOk result (λ v. AreVerdictsOf task.now (details_of verdict_order.entry) pairing.now v.items) }
     ensures err { IfErr result IsComparisonFault }
     ensures never_out_of_nodes { result ≢ Err (CheckFault.Wave WaveFault.Full) }
     ensures never_too_many_requests { result ≢ Err (CheckFault.Wave WaveFault.TooManyRequests) }
@@ -119,18 +107,14 @@ pub fn compare<H: Threads + Wait + Sync, G: Monitor>(
     limit: u64,
     monitor: &G,
 ) -> Result<Vec<Verdict>, CheckFault>
-    requires paired { IsPaired (circuit task.now.first.now) (circuit task.now.second.now) (condition task.now.given) pairing.now }
+    requires paired { IsPairingOf task.now pairing.now }
     requires small { limit < 2 ^ 32 }
-    ensures ok { IfOk result (λ v. AreVerdicts (details_in task.now.settings.now) (circuit task.now.first.now) (circuit task.now.second.now)
-        (condition task.now.given) pairing.now (record { variables = pairing.now.names; verdicts = v.items })) }
+    ensures ok { IfOk result (λ v. AreVerdictsOf task.now (details_in task.now.settings.now) pairing.now v.items) }
     ensures err { IfErr result IsComparisonFault }
-    ensures within { OnOk result (FitsWithin limit (circuit task.now.first.now) (circuit task.now.second.now)
-        (condition task.now.given) pairing.now) }
-    ensures full { result ≡ Err (CheckFault.Wave WaveFault.Full)
-        → Exceeds limit (circuit task.now.first.now) (circuit task.now.second.now) (condition task.now.given) pairing.now }
+    ensures within { OnOk result (IsEnough task.now limit pairing.now) }
+    ensures full { result ≡ Err (CheckFault.Wave WaveFault.Full) → NeedsMore task.now limit pairing.now }
     ensures past { result ≡ Err (CheckFault.Wave WaveFault.TooManyRequests)
-        → IsSomeAnd (G.bound monitor.now).requests (λ n. IsTooWide n (circuit task.now.first.now) (circuit task.now.second.now)
-        (condition task.now.given) pairing.now) }
+        → IsSomeAnd (G.bound monitor.now).requests (λ n. HasWaveBeyond task.now n pairing.now) }
     ensures needs_no_thread { most_of (G.bound monitor.now).requests < 2 ^ 64 - 1 → result ≢ Err (CheckFault.Wave WaveFault.NoWorker) }
     ensures stopped { result ≡ Err (CheckFault.Wave WaveFault.Stopped) → MayStop (G.bound monitor.now) }
 {
@@ -156,20 +140,15 @@ pub fn compare_as_declared<H: Threads + Wait + Sync, G: Monitor>(
     limit: u64,
     monitor: &G,
 ) -> Result<Vec<Verdict>, CheckFault>
-    requires paired { ArePairings task.now.settings.now.matching (circuit task.now.first.now) (circuit task.now.second.now)
-        (condition task.now.given) pairing.now declared.now }
+    requires paired { ArePairingsOf task.now pairing.now declared.now }
     requires no_sizes { task.now.settings.now.sizes ≡ false }
     requires small { limit < 2 ^ 32 }
-    ensures ok { IfOk result (λ v. AreVerdicts (details_in task.now.settings.now) (circuit task.now.first.now) (circuit task.now.second.now)
-        (condition task.now.given) declared.now (record { variables = declared.now.names; verdicts = v.items })) }
+    ensures ok { IfOk result (λ v. AreVerdictsOf task.now (details_in task.now.settings.now) declared.now v.items) }
     ensures err { IfErr result IsComparisonFault }
-    ensures within { OnOk result (FitsWithin limit (circuit task.now.first.now) (circuit task.now.second.now)
-        (condition task.now.given) pairing.now) }
-    ensures full { result ≡ Err (CheckFault.Wave WaveFault.Full)
-        → Exceeds limit (circuit task.now.first.now) (circuit task.now.second.now) (condition task.now.given) pairing.now }
+    ensures within { OnOk result (IsEnough task.now limit pairing.now) }
+    ensures full { result ≡ Err (CheckFault.Wave WaveFault.Full) → NeedsMore task.now limit pairing.now }
     ensures past { result ≡ Err (CheckFault.Wave WaveFault.TooManyRequests)
-        → IsSomeAnd (G.bound monitor.now).requests (λ n. IsTooWide n (circuit task.now.first.now) (circuit task.now.second.now)
-        (condition task.now.given) pairing.now) }
+        → IsSomeAnd (G.bound monitor.now).requests (λ n. HasWaveBeyond task.now n pairing.now) }
     ensures needs_no_thread { most_of (G.bound monitor.now).requests < 2 ^ 64 - 1 → result ≢ Err (CheckFault.Wave WaveFault.NoWorker) }
     ensures stopped { result ≡ Err (CheckFault.Wave WaveFault.Stopped) → MayStop (G.bound monitor.now) }
 {

@@ -3,7 +3,8 @@ use Rattle.std.proofs.Common.{◌≡◌, ◌∙◌, ap, sym, refl, subst, arith,
 use Rattle.std.specs.Prelude.{⊤, Contains, slice_index}
 use Rattle.std.specs.List.{AllZip}
 use Rattle.std.proofs.Math.Seq.{get_or-append_seam}
-use Rattle.std.proofs.lemmas.List.{get_or_append_left, take_more}
+use Rattle.std.proofs.lemmas.Bool.{cases_eq}
+use Rattle.std.proofs.lemmas.List.{get_or_append_left, length-take-le, take_more}
 use Rattle.std.proofs.lemmas.List.Elements.{All-append, All-cons, All-nil}
 use Rattle.expand_work.specs.Bounds.{WaveBound}
 use Rattle.rayon.proofs.ListFacts.{AllZip-append}
@@ -31,10 +32,10 @@ use Rattle.compare_built.proofs.Calling.{exact}
 use Rattle.cone_check.specs.declared.equal_cones.Distinct.{Distinct}
 use Rattle.cone_check.specs.declared.pair_cones.ConeContext.{ConeContext}
 use Rattle.cone_check.specs.ConeRounds.{FitIn, IsConeContext, IsDecidedIn, IsInContext, IsKnown, IsUndecidedIn, StaysUndecided}
-use Rattle.cone_check.specs.EqualCones.{AreDistinct, AreTold, HasNumber, HaveSameCones, IsDealt, IsJudgedFor, retold, told_of}
+use Rattle.cone_check.specs.EqualCones.{AreDistinct, AreVerdictsFor, HasNumber, HaveSameCones, IsDealt, IsJudgedFor, renamed_to, verdict_for}
 use Rattle.cone_check.proofs.ConePairs.{names_apart, one_place}
-use Rattle.cone_check.proofs.Filling.{zip_at}
-use Rattle.cone_check.proofs.Retold.{compared_as, shown_retold, verdict_retold}
+use Rattle.cone_check.proofs.Filling.{zip_at, zip_size}
+use Rattle.cone_check.proofs.RenamedVerdict.{compared_as, shown_renamed_to, verdict_renamed_to}
 
 -- ---- cones of one netlist
 
@@ -111,21 +112,21 @@ module _ (asked : Details) (difference : Difference) (a b : Circuit) (given : Op
   as_other c = compared_as t.role (name_of a t.named) c
 
   abbrev verdict_as : Verdict → Verdict
-  verdict_as v = retold t.role (name_of a t.named) v
+  verdict_as v = renamed_to t.role (name_of a t.named) v
 
   is_verdict : (n : ℕ) (holds : List Bool → Bool) (c : Compared) (v : Verdict) → IsVerdictOf n asked holds c v → IsVerdictOf n asked holds (as_other c) (verdict_as v)
-  is_verdict n holds c v h = verdict_retold n asked holds c t.role (name_of a t.named) v h
+  is_verdict n holds c v h = verdict_renamed_to n asked holds c t.role (name_of a t.named) v h
 
   is_reported : (n : ℕ) (holds : List Bool → Bool) (c : Compared) (v : Verdict) → IsVerdictOrUndecided n asked difference (within s) ⊥ ⊥ holds c v →
       IsVerdictOrUndecided n asked difference (within t) ⊥ ⊥ holds (as_other c) (verdict_as v)
   is_reported n holds c v (decided near is equal) =
       decided (few near) (is_verdict n holds c v is) (exact n asked holds (as_other c) (verdict_as v) (is_verdict n holds c v is))
   is_reported n holds c v (merged agree) = merged agree
-  is_reported n holds c v (shown may is) = shown may (shown_retold n holds c t.role (name_of a t.named) v is)
+  is_reported n holds c v (shown may is) = shown may (shown_renamed_to n holds c t.role (name_of a t.named) v is)
   is_reported n holds c v (undecided never none) = absurd never
 
-  told_verdict : (v : Verdict) → IsConeVerdict asked difference within (λ u. ⊥) (λ u. ⊥) a b given p s v → IsConeVerdict asked difference within (λ u. ⊥) (λ u. ⊥) a b given p t (verdict_as v)
-  told_verdict v x = record {
+  renamed_verdict : (v : Verdict) → IsConeVerdict asked difference within (λ u. ⊥) (λ u. ⊥) a b given p s v → IsConeVerdict asked difference within (λ u. ⊥) (λ u. ⊥) a b given p t (verdict_as v)
+  renamed_verdict v x = record {
     holds = x.holds;
     condition = x.condition;
     compared = as_other x.compared;
@@ -138,10 +139,10 @@ module _ (asked : Details) (difference : Difference) (a b : Circuit) (given : Op
     verdict = is_reported (length p.names) x.holds x.compared v x.verdict;
   }
 
-  pub told_known : (left : Subject → Type 0) → (left s → left t) → (o : Option Verdict) → IsKnown (IsConeVerdict asked difference within (λ u. ⊥) (λ u. ⊥) a b given p) left s o →
-      IsKnown (IsConeVerdict asked difference within (λ u. ⊥) (λ u. ⊥) a b given p) left t (told_of a t o)
-  told_known left stays None h = stays h
-  told_known left stays (Some v) h = told_verdict v h
+  pub renamed_known : (left : Subject → Type 0) → (left s → left t) → (o : Option Verdict) → IsKnown (IsConeVerdict asked difference within (λ u. ⊥) (λ u. ⊥) a b given p) left s o →
+      IsKnown (IsConeVerdict asked difference within (λ u. ⊥) (λ u. ⊥) a b given p) left t (verdict_for a t o)
+  renamed_known left stays None h = stays h
+  renamed_known left stays (Some v) h = renamed_verdict v h
 
 -- ---- lists
 
@@ -178,9 +179,9 @@ module _ {H : Type 0} (context : ConeContext H) where
 
   module _ (limit : ℕ) (left : Subject → Type 0) where
     -- a verdict with the role and name of its own pair
-    pub known_itself : (s : Subject) (o : Option Verdict) → IsKnown (IsDecidedIn context limit) left s o → IsKnown (IsDecidedIn context limit) left s (told_of first_circuit s o)
+    pub known_itself : (s : Subject) (o : Option Verdict) → IsKnown (IsDecidedIn context limit) left s o → IsKnown (IsDecidedIn context limit) left s (verdict_for first_circuit s o)
     known_itself s o h =
-        told_known (unsized context.task.now.settings.now.assignment) context.task.now.settings.now.difference first_circuit second_circuit (condition context.task.now.given) context.naming.now s s
+        renamed_known (unsized context.task.now.settings.now.assignment) context.task.now.settings.now.difference first_circuit second_circuit (condition context.task.now.given) context.naming.now s s
         (FitIn context limit) (λ f. f) (λ f g. g) (λ f g. g) left (λ l. l) o h
 
   -- ---- with the same cones
@@ -245,27 +246,27 @@ module _ {H : Type 0} (context : ConeContext H) where
           (second_below how first_circuit second_circuit (condition context.task.now.given) Declared context.naming.now ready.naming) (length context.naming.now.names) f h
 
       known_as : (limit : ℕ) (bound : WaveBound) (o : Option Verdict) → IsKnown (IsDecidedIn context limit) (StaysUndecided context bound) s o →
-          IsKnown (IsDecidedIn context limit) (StaysUndecided context bound) t (told_of first_circuit t o)
+          IsKnown (IsDecidedIn context limit) (StaysUndecided context bound) t (verdict_for first_circuit t o)
       known_as limit bound o h =
-          told_known (unsized context.task.now.settings.now.assignment) context.task.now.settings.now.difference first_circuit second_circuit (condition context.task.now.given) context.naming.now s t
+          renamed_known (unsized context.task.now.settings.now.assignment) context.task.now.settings.now.difference first_circuit second_circuit (condition context.task.now.given) context.naming.now s t
           (FitIn context limit) (fit_as limit) first_as second_as (StaysUndecided context bound) (stays_as bound) o h
 
     known_for : (limit : ℕ) (bound : WaveBound) (s t : Subject) (o : Option Verdict) → IsJudgedFor context s t → IsKnown (IsDecidedIn context limit) (StaysUndecided context bound) s o →
-        IsKnown (IsDecidedIn context limit) (StaysUndecided context bound) t (told_of first_circuit t o)
+        IsKnown (IsDecidedIn context limit) (StaysUndecided context bound) t (verdict_for first_circuit t o)
     known_for limit bound s t o (inl is) h =
-        subst (λ u. IsKnown (IsDecidedIn context limit) (StaysUndecided context bound) u (told_of first_circuit u o)) is (known_itself limit (StaysUndecided context bound) s o h)
+        subst (λ u. IsKnown (IsDecidedIn context limit) (StaysUndecided context bound) u (verdict_for first_circuit u o)) is (known_itself limit (StaysUndecided context bound) s o h)
     known_for limit bound s t o (inr same) h = known_as s t same limit bound o h
 
     -- so verdicts of the judged pairs are verdicts of all pairs
-    pub all_told : (limit : ℕ) (bound : WaveBound) (judged ss : List Subject) (found : List (Option Verdict)) (ns : List ℕ) (all : List (Option Verdict)) →
-        AllZip (IsKnown (IsDecidedIn context limit) (StaysUndecided context bound)) judged found → AllZip (HasNumber context judged) ss ns → AreTold first_circuit found ss ns all →
+    pub all_renamed : (limit : ℕ) (bound : WaveBound) (judged ss : List Subject) (found : List (Option Verdict)) (ns : List ℕ) (all : List (Option Verdict)) →
+        AllZip (IsKnown (IsDecidedIn context limit) (StaysUndecided context bound)) judged found → AllZip (HasNumber context judged) ss ns → AreVerdictsFor first_circuit found ss ns all →
         AllZip (IsKnown (IsDecidedIn context limit) (StaysUndecided context bound)) ss all
-    all_told limit bound judged ss found ns all known numbers told =
-        zip_by (IsKnown (IsDecidedIn context limit) (StaysUndecided context bound)) ss all None told.each
+    all_renamed limit bound judged ss found ns all known numbers renamed =
+        zip_by (IsKnown (IsDecidedIn context limit) (StaysUndecided context bound)) ss all None renamed.each
         (λ i d lt.
         let n = get_or ns i 0 in
         let has : HasNumber context judged (get_or ss i d) n = zip_at (HasNumber context judged) ss ns i d 0 numbers lt in
-        subst (IsKnown (IsDecidedIn context limit) (StaysUndecided context bound) (get_or ss i d)) (sym (told.places i d lt))
+        subst (IsKnown (IsDecidedIn context limit) (StaysUndecided context bound) (get_or ss i d)) (sym (renamed.places i d lt))
         (known_for limit bound (get_or judged n d) (get_or ss i d) (get_or found n None) (has.1 d)
         (zip_at (IsKnown (IsDecidedIn context limit) (StaysUndecided context bound)) judged found n d None known has.0)))
 
@@ -277,11 +278,12 @@ module _ {H : Type 0} (context : ConeContext H) where
   abbrev pub Known : Subject → Option Verdict → Type 0
   Known = IsKnown (IsDecidedIn context at_once_limit) (λ s. ⊤)
 
-  pub dealt_none : (ss : List Subject) (d : Distinct) → d.subjects.items ≡ [] → d.known.items ≡ [] → d.numbers.items ≡ [] → AreDistinct context (take 0 ss) d
-  dealt_none ss d none nothing no_number = record {
+  pub dealt_none : (ss : List Subject) (os : List (Option Verdict)) (d : Distinct) → d.subjects.items ≡ [] → d.known.items ≡ [] → d.numbers.items ≡ [] → AreDistinct context (take 0 ss) os d
+  dealt_none ss os d none nothing no_number = record {
     in_range = subst (All (IsInContext context)) (sym none) (All-nil (IsInContext context));
     at_once = subst (λ us. AllZip Known us d.known.items) (sym none) (subst (AllZip Known []) (sym nothing) tt);
     numbers = subst (AllZip (HasNumber context d.subjects.items) []) (sym no_number) tt;
+    kept = λ i s lt. absurd (let low : i < 0 = lt in omega (arith, low));
   }
 
   number_kept : (judged : List Subject) (x s : Subject) (n : ℕ) → HasNumber context judged s n → HasNumber context (judged ++ x ∷ []) s n
@@ -293,29 +295,76 @@ module _ {H : Type 0} (context : ConeContext H) where
   own_number : (judged : List Subject) (s : Subject) → HasNumber context (judged ++ s ∷ []) s (length judged)
   own_number judged s = ((let more = length-append judged (s ∷ []) in omega (arith, more)), λ t. inl (get_or-append_seam judged s [] t))
 
-  pub dealt_more : (ss : List Subject) (k : ℕ) (s : Subject) (o : Option Verdict) (old new : Distinct) → k < length ss → s ≡ get_or ss k s → IsInContext context s → Known s o →
-      IsDealt context s o old new → AreDistinct context (take k ss) old → AreDistinct context (take (k + 1) ss) new
-  dealt_more ss k s o old new low at inside known dealt before =
+  -- what is known of judged pairs, at the place of one more pair
+  known_more : (xs : List Subject) (s : Subject) (o : Option Verdict) (os known more_known : List (Option Verdict)) (ns : List ℕ) (n : ℕ) → length ns ≡ length xs → o ≡ get_or os (length xs) None →
+      get_or more_known n None ≡ verdict_for first_circuit s o → ((j : ℕ) → j < length xs → get_or more_known (get_or ns j 0) None ≡ get_or known (get_or ns j 0) None) →
+      ((i : ℕ) (t : Subject) → i < length xs → get_or known (get_or ns i 0) None ≡ verdict_for first_circuit (get_or xs i t) (get_or os i None)) →
+      (i : ℕ) (t : Subject) → i < length (xs ++ s ∷ []) → get_or more_known (get_or (ns ++ n ∷ []) i 0) None ≡ verdict_for first_circuit (get_or (xs ++ s ∷ []) i t) (get_or os i None)
+  known_more xs s o os known more_known ns n long at own same before i t lt = elim (cases_eq i (length xs)) [
+    | inl here ↦
+        let number : get_or (ns ++ n ∷ []) (length xs) 0 ≡ n = ap (λ j. get_or (ns ++ n ∷ []) j 0) (sym long) ∙ get_or-append_seam ns n [] 0 in
+        let last : get_or (xs ++ s ∷ []) (length xs) t ≡ s = get_or-append_seam xs s [] t in
+        subst (λ j. get_or more_known (get_or (ns ++ n ∷ []) j 0) None ≡ verdict_for first_circuit (get_or (xs ++ s ∷ []) j t) (get_or os j None)) (sym here)
+        (ap (λ j. get_or more_known j None) number ∙ own ∙ ap (verdict_for first_circuit s) at ∙ ap (λ u. verdict_for first_circuit u (get_or os (length xs) None)) (sym last))
+    | inr other ↦
+        let more = length-append xs (s ∷ []) in
+        let less : i < length xs = omega (arith, lt, other, more) in
+        ap (λ j. get_or more_known j None) (get_or_append_left ns (n ∷ []) 0 i (omega (arith, less, long))) ∙ same i less ∙ before i t less ∙
+        ap (λ u. verdict_for first_circuit u (get_or os i None)) (sym (get_or_append_left xs (s ∷ []) t i less))
+  ]
+
+  pub dealt_more : (ss : List Subject) (os : List (Option Verdict)) (k : ℕ) (s : Subject) (o : Option Verdict) (old new : Distinct) → k < length ss → s ≡ get_or ss k s → o ≡ get_or os k None →
+      IsInContext context s → Known s o → IsDealt context s o old new → AreDistinct context (take k ss) os old → AreDistinct context (take (k + 1) ss) os new
+  dealt_more ss os k s o old new low at was inside known dealt before =
       let more : take (k + 1) ss ≡ take k ss ++ s ∷ [] = take_more ss k s low ∙ ap (λ x. take k ss ++ x ∷ []) (sym at) in
-      subst (λ xs. AreDistinct context xs new) (sym more) (by dealt)
+      subst (λ xs. AreDistinct context xs os new) (sym more) (by dealt)
     where
-      by : IsDealt context s o old new → AreDistinct context (take k ss ++ s ∷ []) new
+      front : length (take k ss) ≡ k
+      front = length-take-le k ss (omega (arith, low))
+
+      each : length old.numbers.items ≡ length (take k ss)
+      each = zip_size (HasNumber context old.subjects.items) (take k ss) old.numbers.items before.numbers
+
+      each_known : length old.known.items ≡ length old.subjects.items
+      each_known = zip_size Known old.subjects.items old.known.items before.at_once
+
+      at_end : o ≡ get_or os (length (take k ss)) None
+      at_end = was ∙ ap (λ j. get_or os j None) (sym front)
+
+      number_low : (j : ℕ) → j < length (take k ss) → get_or old.numbers.items j 0 < length old.known.items
+      number_low j lt =
+          let has = (zip_at (HasNumber context old.subjects.items) (take k ss) old.numbers.items j s 0 before.numbers lt).0 in
+          omega (arith, has, each_known)
+
+      by : IsDealt context s o old new → AreDistinct context (take k ss ++ s ∷ []) os new
       by (inl added) = record {
         in_range = subst (All (IsInContext context)) (sym added.subjects)
             (All-append (IsInContext context) old.subjects.items (s ∷ []) before.in_range (All-cons (IsInContext context) s [] inside (All-nil (IsInContext context))));
         at_once = subst (λ us. AllZip Known us new.known.items) (sym added.subjects)
             (subst (AllZip Known (old.subjects.items ++ s ∷ [])) (sym added.known)
-            (AllZip-append Known old.subjects.items (s ∷ []) old.known.items (told_of first_circuit s o ∷ []) before.at_once (known_itself at_once_limit (λ u. ⊤) s o known, tt)));
+            (AllZip-append Known old.subjects.items (s ∷ []) old.known.items (verdict_for first_circuit s o ∷ []) before.at_once (known_itself at_once_limit (λ u. ⊤) s o known, tt)));
         numbers = subst (λ us. AllZip (HasNumber context us) (take k ss ++ s ∷ []) new.numbers.items) (sym added.subjects)
             (subst (AllZip (HasNumber context (old.subjects.items ++ s ∷ [])) (take k ss ++ s ∷ [])) (sym added.numbers)
             (AllZip-append (HasNumber context (old.subjects.items ++ s ∷ [])) (take k ss) (s ∷ []) old.numbers.items (length old.subjects.items ∷ [])
             (zip_weaker (HasNumber context old.subjects.items) (HasNumber context (old.subjects.items ++ s ∷ [])) (λ u n has. number_kept old.subjects.items s u n has) (take k ss) old.numbers.items before.numbers)
             (own_number old.subjects.items s, tt)));
+        kept = λ i t lt.
+            subst (λ ns. get_or new.known.items (get_or ns i 0) None ≡ verdict_for first_circuit (get_or (take k ss ++ s ∷ []) i t) (get_or os i None)) (sym added.numbers)
+            (subst (λ vs. get_or vs (get_or (old.numbers.items ++ length old.subjects.items ∷ []) i 0) None ≡ verdict_for first_circuit (get_or (take k ss ++ s ∷ []) i t) (get_or os i None)) (sym added.known)
+            (known_more (take k ss) s o os old.known.items (old.known.items ++ verdict_for first_circuit s o ∷ []) old.numbers.items (length old.subjects.items) each at_end
+            (ap (λ j. get_or (old.known.items ++ verdict_for first_circuit s o ∷ []) j None) (sym each_known) ∙ get_or-append_seam old.known.items (verdict_for first_circuit s o) [] None)
+            (λ j less. get_or_append_left old.known.items (verdict_for first_circuit s o ∷ []) None (get_or old.numbers.items j 0) (number_low j less))
+            before.kept i t lt));
       }
-      by (inr (n, shared, has)) = record {
+      by (inr (n, shared, may)) = record {
         in_range = subst (All (IsInContext context)) (sym shared.subjects) before.in_range;
         at_once = subst (λ us. AllZip Known us new.known.items) (sym shared.subjects) (subst (AllZip Known old.subjects.items) (sym shared.known) before.at_once);
         numbers = subst (λ us. AllZip (HasNumber context us) (take k ss ++ s ∷ []) new.numbers.items) (sym shared.subjects)
             (subst (AllZip (HasNumber context old.subjects.items) (take k ss ++ s ∷ [])) (sym shared.numbers)
-            (AllZip-append (HasNumber context old.subjects.items) (take k ss) (s ∷ []) old.numbers.items (n ∷ []) before.numbers (has, tt)));
+            (AllZip-append (HasNumber context old.subjects.items) (take k ss) (s ∷ []) old.numbers.items (n ∷ []) before.numbers (may.numbered, tt)));
+        kept = λ i t lt.
+            subst (λ ns. get_or new.known.items (get_or ns i 0) None ≡ verdict_for first_circuit (get_or (take k ss ++ s ∷ []) i t) (get_or os i None)) (sym shared.numbers)
+            (subst (λ vs. get_or vs (get_or (old.numbers.items ++ n ∷ []) i 0) None ≡ verdict_for first_circuit (get_or (take k ss ++ s ∷ []) i t) (get_or os i None)) (sym shared.known)
+            (known_more (take k ss) s o os old.known.items old.known.items old.numbers.items n each at_end
+            (may.judged_unknown ∙ ap (verdict_for first_circuit s) (sym may.unknown)) (λ j less. refl) before.kept i t lt));
       }

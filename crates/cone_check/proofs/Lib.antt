@@ -9,6 +9,8 @@ pub mod Sharing
 pub mod Written
 pub mod ConeTasks
 pub mod AtOnce
-pub mod Retold
+pub mod RenamedVerdict
+pub mod Keeping
 pub mod EqualCones
 pub mod JudgingOrder
+pub mod ConeLevels

@@ -9,7 +9,7 @@ use Rattle.compare_built.specs.declared.subject.Subject.{Subject}
 use Rattle.cone_check.specs.declared.batches.Batch.{Batch}
 use Rattle.cone_check.specs.declared.batches.PairJob.{PairJob}
 use Rattle.cone_check.specs.declared.pair_cones.ConeContext.{ConeContext}
-use Rattle.cone_check.specs.ConeRounds.{IsJobResult}
+use Rattle.cone_check.specs.ConeRounds.{IsInContext, IsJobResult}
 
 -- ---- batches at once
 
@@ -63,6 +63,10 @@ IsJobFor subjects t = t.subject ≡ slice_index_or subjects t.place t.subject
 pub record AreJobsFor (subjects : List Subject) (places : List ℕ) (jobs : List PairJob) : Type 0 where
   pub one_for_each : IsPermutation places (map (λ (t : PairJob). t.place) jobs)
   pub pairs : All (IsJobFor subjects) jobs
+
+-- the signals of each job's pair are signals of the netlists
+abbrev pub AreJobsInContext : {H : Type 0} → ConeContext H → List PairJob → Type 0
+AreJobsInContext context jobs = All (λ (t : PairJob). IsInContext context t.subject) jobs
 
 -- after judging, a job has the same pair and place, and a result
 abbrev pub IsJobDone : {H : Type 0} → ConeContext H → (budget : ℕ) → (bound : WaveBound) → (old new : PairJob) → Type 0

@@ -25,7 +25,7 @@ use Rattle.net_order.specs.declared.netlist_role.NetlistRole.TheVariants.{First,
 use Rattle.compare_built.specs.declared.settings.Settings.{Settings}
 use Rattle.compare_built.specs.declared.subject.Subject.{Subject}
 use Rattle.compare_built.specs.declared.task.Task.{Task}
-use Rattle.compare_built.specs.Details.{unsized}
+use Rattle.compare_built.specs.Details.{details_in, unsized}
 use Rattle.compare_built.specs.Check.{IsComparisonFault}
 use Rattle.compare_built.specs.Comparing.{IsInside}
 use Rattle.compare_built.specs.declared.strategy.AttemptOrder.{AttemptOrder}
@@ -34,6 +34,7 @@ use Rattle.compare_built.specs.Limits.{FitsWithin}
 use Rattle.compare_built.specs.Cones.{AreCones, AreNamed, AreConeVerdicts, FitByCones, IsConditionCone, IsUndecided, IsUndecidedWithin, IsConeVerdict, cone_limit}
 use Rattle.compare_built.specs.Facts.{IsEqualInside, IsShownVerdict, IsUnshown}
 use Rattle.compare_built.specs.PairSelection.{ArePicked}
+use Rattle.compare_built.specs.Report.{AreVerdicts}
 use Rattle.compare_built.specs.Scatter.{IsOfNet, widened_verdict}
 use Rattle.order_search.specs.Trials.{EndsAtOnce, IsGivenUpFor, IsNamingIn, IsPairedBy, IsPairingIn}
 
@@ -114,6 +115,18 @@ pub record IsConeTask {H : Type 0} (context : ConeContext H) (cones : Cones) (ta
   pub second : task.second.now ≡ cones.second.net
   pub given : condition task.given ≡ circuit_in context.given.now
   pub settings : IsPairSettings context task.settings.now
+
+-- ---- the verdict of a pair's cones
+
+-- the findings of a comparison of the cones have one verdict, since each cone has one output
+abbrev pub HasOneVerdict : {H : Type 0} → Task H → NamingModel → Type 0
+HasOneVerdict task q = (found : Found) →
+    AreVerdicts (details_in task.settings.now) (circuit task.first.now) (circuit task.second.now) (condition task.given) q found → length found.verdicts ≡ 1
+
+-- this is the only verdict of a comparison of the cones, over the variables of their pairing
+abbrev pub IsOnlyVerdict : {H : Type 0} → Task H → NamingModel → Verdict → Type 0
+IsOnlyVerdict task q v = AreVerdicts (details_in task.settings.now) (circuit task.first.now) (circuit task.second.now) (condition task.given) q
+    (record { variables = q.names; verdicts = v ∷ [] })
 
 -- ---- verdicts
 
@@ -202,6 +215,11 @@ StaysUndecided context bound s =
     IsUndecided (order_in context) context.task.now.settings.now.limit bound
     (circuit context.task.now.first.now) (circuit context.task.now.second.now)
     (condition context.task.now.given) context.naming.now s
+
+-- the verdicts of pairs after all rounds: a pair without a verdict is one that they leave undecided
+abbrev pub AreAllJudged : {H : Type 0} → ConeContext H → (bound : WaveBound) → List Subject → List (Option Verdict) → Type 0
+AreAllJudged context bound subjects known =
+    AllZip (IsKnown (IsDecidedIn context (cone_limit context.task.now.settings.now.limit)) (StaysUndecided context bound)) subjects known
 
 -- no pattern shows that a pair differs
 abbrev pub IsUnshownIn : {H : Type 0} → ConeContext H → Subject → Type 0

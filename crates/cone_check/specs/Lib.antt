@@ -3,3 +3,4 @@ pub mod Batches
 pub mod KnownPairs
 pub mod EqualCones
 pub mod JudgingOrder
+pub mod ConeLevels

@@ -1,13 +1,12 @@
 //! Pairs whose verdict is known without an attempt: those that are equal inside (docs/EQUAL_INSIDE.md), and those at
 //! which a simulated pattern shows a difference.
 ghost use Rattle.std.specs.Prelude.{◌≡◌, ◌<◌, All, IfOk, OnOk, length};
-ghost use Rattle.std.specs.List.{AllZip};
 ghost use Rattle.net_bench.specs.Circuit.{circuit};
 ghost use Rattle.net_order.specs.Order.{condition};
-ghost use Rattle.compare_built.specs.Comparing.{IsInside};
-ghost use Rattle.pair_facts.specs.PairFacts.{IsFirstShown};
-ghost use Rattle.cone_check.specs.ConeRounds.{AreKnownAtOnce, IsConeContext, IsEqualIf, IsInContext, IsShownElse, or_equal};
-ghost use Rattle.cone_check.specs.KnownPairs.{AreOrEqual, AreShownElse};
+ghost use Rattle.order_search.specs.Tasks.{IsInTask};
+ghost use Rattle.cone_check.specs.ConeRounds.{AreKnownAtOnce, IsConeContext, IsInContext, IsShownElse, or_equal};
+ghost use Rattle.cone_check.specs.KnownPairs.{AreEqualFlags, AreEqualKnown, AreFirstShown, AreKept, AreOrEqual};
+ghost use Rattle.cone_check.specs.KnownPairs.{AreShownElse, IsFirstShownIn};
 
 use crate::pair_cones::ConeContext;
 use crate::remaining::no_verdicts;
@@ -73,8 +72,8 @@ fn put_shown<H>(
     shown: Option<ShownPattern>,
     known: &mut Option<Verdict>,
 ) -> Result<(), AllocError>
-    requires in_range { IsInside (circuit task.now.first.now) (circuit task.now.second.now) subject.now }
-    requires shown { IsFirstShown (circuit task.now.first.now) (circuit task.now.second.now) (condition task.now.given) naming.now subject.now shown }
+    requires in_range { IsInTask task.now subject.now }
+    requires shown { IsFirstShownIn task.now naming.now subject.now shown }
     ensures { OnOk result (IsShownElse (circuit task.now.first.now) (circuit task.now.second.now) (condition task.now.given)
         naming.now subject.now shown known.old known.new) }
 {
@@ -98,9 +97,8 @@ pub fn put_all_shown<H>(
     known: &mut Vec<Option<Verdict>>,
 ) -> Result<(), AllocError>
     requires one_for_each { length known.old.items ≡ length subjects.now }
-    requires in_range { All (IsInside (circuit task.now.first.now) (circuit task.now.second.now)) subjects.now }
-    requires shown { AllZip (IsFirstShown (circuit task.now.first.now) (circuit task.now.second.now) (condition task.now.given) naming.now)
-        subjects.now shown.now }
+    requires in_range { All (IsInTask task.now) subjects.now }
+    requires shown { AreFirstShown task.now naming.now subjects.now shown.now }
     ensures { OnOk result (AreShownElse (circuit task.now.first.now) (circuit task.now.second.now) (condition task.now.given)
         naming.now subjects.now shown.now known.old.items known.new.items) }
 {
@@ -128,12 +126,10 @@ pub fn known_at_once<H>(
 ) -> Result<Vec<Option<Verdict>>, AllocError>
     requires ready { IsConeContext context.now }
     requires in_range { All (IsInContext context.now) subjects.now }
-    requires equal { let task = context.now.task.now in
-        AllZip (IsEqualIf (circuit task.first.now) (circuit task.second.now) context.now.naming.now) subjects.now equal.now }
-    requires shown { let task = context.now.task.now in
-        AllZip (IsFirstShown (circuit task.first.now) (circuit task.second.now) (condition task.given) context.now.naming.now)
-        subjects.now shown.now }
-    ensures { IfOk result (λ known. AreKnownAtOnce context.now subjects.now known.items) }
+    requires equal { AreEqualFlags context.now.task.now context.now.naming.now subjects.now equal.now }
+    requires shown { AreFirstShown context.now.task.now context.now.naming.now subjects.now shown.now }
+    ensures at_once { IfOk result (λ known. AreKnownAtOnce context.now subjects.now known.items) }
+    ensures equal { IfOk result (λ known. AreEqualKnown (circuit context.now.task.now.first.now) subjects.now equal.now known.items) }
 {
     let task = context.task;
     let known = equal_verdicts(task.alloc, task.first, subjects, equal)?;
@@ -153,11 +149,10 @@ fn with_shown<H>(
     requires ready { IsConeContext context.now }
     requires any { context.now.task.now.settings.now.difference ≡ Difference.AnyOne }
     requires in_range { All (IsInContext context.now) subjects.now }
-    requires shown { let task = context.now.task.now in
-        AllZip (IsFirstShown (circuit task.first.now) (circuit task.second.now) (condition task.given) context.now.naming.now)
-        subjects.now shown.now }
+    requires shown { AreFirstShown context.now.task.now context.now.naming.now subjects.now shown.now }
     requires known { AreKnownAtOnce context.now subjects.now known.items }
-    ensures { IfOk result (λ all. AreKnownAtOnce context.now subjects.now all.items) }
+    ensures at_once { IfOk result (λ all. AreKnownAtOnce context.now subjects.now all.items) }
+    ensures kept { IfOk result (λ all. AreKept known.items all.items) }
 {
     let mut all = known;
     put_all_shown(context.task, context.naming, subjects, shown, &mut all)?;

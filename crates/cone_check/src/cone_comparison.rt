@@ -2,20 +2,19 @@
 ghost use Rattle.std.specs.Prelude.{◌≡◌, ◌<◌, ◌++◌, length, All, IfOk, IfErr, IfSome};
 ghost use Rattle.std.specs.List.{AllZip};
 ghost use Rattle.net_bench.specs.Circuit.{circuit};
-ghost use Rattle.net_names.specs.declared.order.Order.TheVariants.{Declared};
 ghost use Rattle.net_order.specs.Order.{condition};
-ghost use Rattle.compare_built.specs.Comparing.{IsInside};
-ghost use Rattle.compare_built.specs.Cones.{IsConditionCone, cone_limit};
-ghost use Rattle.cone_check.specs.ConeRounds.{AreKnownAtOnce, EndsPairs, IsDecidedIn, IsEqualIf, IsInContext, IsKnown, IsConeContext, IsFoundByCones, IsFinalVerdict, IsPairVerdict, StaysUndecided};
-ghost use Rattle.cone_check.specs.ConeRounds.{all_or_undecided, circuit_in, or_undecided};
-ghost use Rattle.pair_facts.specs.PairFacts.{IsFirstShown};
-ghost use Rattle.compare_built.specs.PairSelection.{ArePicked};
-ghost use Rattle.compare_built.specs.Scatter.{IsOfNet};
-ghost use Rattle.order_search.specs.Trials.{IsNamingIn};
+ghost use Rattle.compare_built.specs.Cones.{IsConditionCone};
 ghost use Rattle.compare_built.specs.Findings.{found_of};
+ghost use Rattle.compare_built.specs.Scatter.{IsOfNet};
+ghost use Rattle.order_search.specs.Tasks.{IsInTask};
+ghost use Rattle.order_search.specs.Trials.{IsDeclaredNaming};
+ghost use Rattle.cone_check.specs.ConeRounds.{AreAllJudged, AreKnownAtOnce, EndsPairs, IsConeContext, IsFinalVerdict, IsFoundByCones};
+ghost use Rattle.cone_check.specs.ConeRounds.{IsInContext, IsPairVerdict, all_or_undecided, circuit_in, or_undecided};
+ghost use Rattle.cone_check.specs.EqualCones.{AreKnownVerdictsFor};
+ghost use Rattle.cone_check.specs.KnownPairs.{AreEqualFlags, AreEqualReported, AreFacts, AreFirstShown};
 
 use crate::at_once::{known_at_once, put_all_shown};
-use crate::equal_cones::{Distinct, distinct_pairs, told_of_all};
+use crate::equal_cones::{Distinct, distinct_pairs, verdicts_for};
 use crate::judging_order::shown_flags;
 use crate::pair_cones::{ConeContext, cone_order, cones_of, places_of};
 use crate::rounds::judge_all;
@@ -38,7 +37,7 @@ use std::thread::Threads;
 
 /// Returns the cone of the condition's output, if there is a condition.
 fn given_cone<H>(task: &Task<'_, H>, naming: &Naming) -> Result<Option<Cone>, AllocError>
-    requires { IsNamingIn task.now Declared naming.now }
+    requires { IsDeclaredNaming task.now naming.now }
     ensures cone { IfOk result (λ cone. IsConditionCone (condition task.now.given) naming.now (circuit_in cone)) }
     ensures net { IfOk result (λ cone. IfSome (condition task.now.given) IsOfNet) }
 {
@@ -154,8 +153,8 @@ fn judge_distinct<H: Threads + Wait + Sync, G: Monitor>(
     requires in_range { All (IsInContext context.now) subjects.now }
     requires at_once { AreKnownAtOnce context.now subjects.now known.items }
     requires shown { length shown.now ≡ length subjects.now }
-    ensures known { IfOk result (λ known. AllZip (IsKnown (IsDecidedIn context.now (cone_limit context.now.task.now.settings.now.limit))
-        (StaysUndecided context.now (G.bound monitor.now))) subjects.now known.items) }
+    ensures known { IfOk result (λ known. AreAllJudged context.now (G.bound monitor.now) subjects.now known.items) }
+    ensures kept { IfOk result (λ all. AreKnownVerdictsFor (circuit context.now.task.now.first.now) subjects.now known.items all.items) }
     ensures ends { IfErr result EndsPairs }
 {
     let task = context.task;
@@ -170,7 +169,7 @@ fn judge_distinct<H: Threads + Wait + Sync, G: Monitor>(
     } = distinct;
     let flags = shown_flags(task.alloc, numbers.as_slice(), shown)?;
     let found = judge_all(context, judged.as_slice(), known, flags.as_slice(), monitor)?;
-    let all = told_of_all(
+    let all = verdicts_for(
         task.alloc,
         task.first,
         subjects,
@@ -192,12 +191,10 @@ fn judged<H: Threads + Wait + Sync, G: Monitor>(
 ) -> Result<Vec<Verdict>, CheckFault>
     requires ready { IsConeContext context.now }
     requires in_range { All (IsInContext context.now) subjects.now }
-    requires equal { let task = context.now.task.now in
-        AllZip (IsEqualIf (circuit task.first.now) (circuit task.second.now) context.now.naming.now) subjects.now equal.now }
-    requires shown { let task = context.now.task.now in
-        AllZip (IsFirstShown (circuit task.first.now) (circuit task.second.now) (condition task.given) context.now.naming.now)
-        subjects.now shown.now }
+    requires equal { AreEqualFlags context.now.task.now context.now.naming.now subjects.now equal.now }
+    requires shown { AreFirstShown context.now.task.now context.now.naming.now subjects.now shown.now }
     ensures verdicts { IfOk result (λ v. AllZip (IsFinalVerdict context.now (G.bound monitor.now)) subjects.now v.items) }
+    ensures equal { IfOk result (λ v. AreEqualReported (circuit context.now.task.now.first.now) subjects.now equal.now v.items) }
     ensures ends { IfErr result EndsPairs }
 {
     let task = context.task;
@@ -232,12 +229,12 @@ fn judge_selected<H: Threads + Wait + Sync, G: Monitor>(
     shown: &[Option<ShownPattern>],
     monitor: &G,
 ) -> Result<Vec<Verdict>, CheckFault>
-    requires naming { IsNamingIn task.now Declared naming.now }
-    requires in_range { All (IsInside (circuit task.now.first.now) (circuit task.now.second.now)) subjects.now }
-    requires equal { AllZip (IsEqualIf (circuit task.now.first.now) (circuit task.now.second.now) naming.now) subjects.now equal.now }
-    requires shown { AllZip (IsFirstShown (circuit task.now.first.now) (circuit task.now.second.now) (condition task.now.given) naming.now)
-        subjects.now shown.now }
+    requires naming { IsDeclaredNaming task.now naming.now }
+    requires in_range { All (IsInTask task.now) subjects.now }
+    requires equal { AreEqualFlags task.now naming.now subjects.now equal.now }
+    requires shown { AreFirstShown task.now naming.now subjects.now shown.now }
     ensures verdicts { IfOk result (λ v. AllZip (IsPairVerdict task.now (G.bound monitor.now) naming.now) subjects.now v.items) }
+    ensures equal { IfOk result (λ v. AreEqualReported (circuit task.now.first.now) subjects.now equal.now v.items) }
     ensures ends { IfErr result EndsPairs }
 {
     let _ = task.first.inputs(); // For the proof.
@@ -276,14 +273,11 @@ pub fn verdicts_by_cones<H: Threads + Wait + Sync, G: Monitor>(
     equal: &[bool],
     monitor: &G,
 ) -> Result<Verdicts, CheckFault>
-    requires naming { IsNamingIn task.now Declared naming }
-    requires picked { ArePicked (circuit task.now.first.now) (circuit task.now.second.now) naming task.now.settings.now.picked
-        facts.subjects.items facts.unmatched_lines.items }
-    requires in_range { All (IsInside (circuit task.now.first.now) (circuit task.now.second.now)) facts.subjects.items }
-    requires equal { AllZip (IsEqualIf (circuit task.now.first.now) (circuit task.now.second.now) naming) facts.subjects.items equal.now }
-    requires shown { AllZip (IsFirstShown (circuit task.now.first.now) (circuit task.now.second.now) (condition task.now.given) naming)
-        facts.subjects.items facts.shown.items }
+    requires naming { IsDeclaredNaming task.now naming }
+    requires facts { AreFacts task.now naming facts }
+    requires equal { AreEqualFlags task.now naming facts.subjects.items equal.now }
     ensures verdicts { IfOk result (λ v. IsFoundByCones task.now (G.bound monitor.now) naming (found_of v)) }
+    ensures equal { IfOk result (λ v. AreEqualReported (circuit task.now.first.now) facts.subjects.items equal.now (found_of v).verdicts) }
     ensures named { IfOk result (λ v. v.naming ≡ naming) }
     ensures ends { IfErr result EndsPairs }
 {

@@ -1,9 +1,9 @@
 //! Pairs that have the same cones as an earlier pair. Only the earliest of them is judged, and the others take its
 //! verdict.
-ghost use Rattle.std.specs.Prelude.{◌≡◌, ◌<◌, ◌++◌, ◌∷◌, [], true, length, All, IfOk, IfSome, OnOk};
+ghost use Rattle.std.specs.Prelude.{◌≡◌, ◌<◌, ◌++◌, ◌∷◌, [], true, false, is_some, length, slice_index_or, None, All, IfOk, IfSome, OnOk};
 ghost use Rattle.net_bench.specs.Circuit.{circuit};
 ghost use Rattle.cone_check.specs.ConeRounds.{AreKnownAtOnce, IsConeContext, IsInContext};
-ghost use Rattle.cone_check.specs.EqualCones.{AreDistinct, AreTold, HasNumber, HaveSameCones, IsAdded, IsDealt, IsShared, retold, told_of};
+ghost use Rattle.cone_check.specs.EqualCones.{AreDistinct, AreVerdictsFor, HaveSameCones, IsAdded, IsDealt, IsShared, MayShare, renamed_to, verdict_for};
 
 use crate::pair_cones::{ConeContext, Cones, cones_of};
 use crate::signal_words::{mixed, signal_words, word_at};
@@ -62,7 +62,8 @@ impl Distinct {
     /// dealt yet, or if the verdict of the judged pair is known at once: such a pair is not judged, so that nothing
     /// would be saved.
     fn number_at(&self, place: usize) -> Option<usize>
-        ensures { IfSome result (λ number. number < length self.now.subjects.items) }
+        ensures judged { IfSome result (λ number. number < length self.now.subjects.items) }
+        ensures unknown { IfSome result (λ number. is_some (slice_index_or self.now.known.items number None) ≡ false) }
     {
         if place >= self.numbers.len() {
             return None;
@@ -200,7 +201,7 @@ fn number_for<H>(
     requires ready { IsConeContext context.now }
     requires judged_in_range { All (IsInContext context.now) distinct.now.subjects.items }
     requires in_range { IsInContext context.now subject.now }
-    ensures { IfOk result (λ o. IfSome o (HasNumber context.now distinct.now.subjects.items subject.now)) }
+    ensures { IfOk result (λ o. IfSome o (MayShare context.now distinct.now subject.now known.now)) }
 {
     if known.is_some() {
         return Ok(None);
@@ -227,8 +228,8 @@ fn add_own<H>(
     ensures { OnOk result (IsAdded (circuit context.now.task.now.first.now) subject.now known.now distinct.old distinct.new) }
 {
     let task = context.task;
-    let told = told_of(task.alloc, task.first, subject, known)?;
-    distinct.add(*subject, told)?;
+    let renamed = verdict_for(task.alloc, task.first, subject, known)?;
+    distinct.add(*subject, renamed)?;
     Ok(())
 }
 
@@ -265,7 +266,7 @@ pub(crate) fn distinct_pairs<H>(
     requires in_range { All (IsInContext context.now) subjects.now }
     requires one_for_each { length known.now ≡ length subjects.now }
     requires at_once { AreKnownAtOnce context.now subjects.now known.now }
-    ensures { IfOk result (AreDistinct context.now subjects.now) }
+    ensures { IfOk result (AreDistinct context.now subjects.now known.now) }
 {
     let alloc = context.task.alloc;
     let words = pair_words(context, subjects)?;
@@ -306,13 +307,13 @@ fn copied_support(alloc: Global, support: &Option<Bits>) -> Result<Option<Bits>,
 }
 
 /// Returns a copy of a verdict with another role and name. Fails if memory is refused.
-fn retold(
+fn renamed_to(
     alloc: Global,
     verdict: &Verdict,
     role: PairKind,
     name: &[u8],
 ) -> Result<Verdict, AllocError>
-    ensures { IfOk result (λ v. v ≡ retold role name.now verdict.now) }
+    ensures { IfOk result (λ v. v ≡ renamed_to role name.now verdict.now) }
 {
     let name = Name::copied(alloc, name)?;
     match verdict {
@@ -349,18 +350,18 @@ fn retold(
 }
 
 /// Returns a copy of the verdict of another pair with the role and the name of this pair, if there is a verdict.
-fn told_of(
+fn verdict_for(
     alloc: Global,
     first: &Netlist,
     subject: &Subject,
     known: &Option<Verdict>,
 ) -> Result<Option<Verdict>, AllocError>
     requires { subject.now.named < length first.now.names }
-    ensures { IfOk result (λ o. o ≡ told_of (circuit first.now) subject.now known.now) }
+    ensures { IfOk result (λ o. o ≡ verdict_for (circuit first.now) subject.now known.now) }
 {
     match known {
         Some(verdict) => {
-            let verdict = retold(alloc, verdict, subject.role, first.name(subject.named))?;
+            let verdict = renamed_to(alloc, verdict, subject.role, first.name(subject.named))?;
             Ok(Some(verdict))
         }
         None => Ok(None),
@@ -369,7 +370,7 @@ fn told_of(
 
 /// Returns for each pair the verdict of the pair that was judged for it, with its own role and name. Fails if memory is
 /// refused.
-pub(crate) fn told_of_all(
+pub(crate) fn verdicts_for(
     alloc: Global,
     first: &Netlist,
     subjects: &[Subject],
@@ -379,12 +380,12 @@ pub(crate) fn told_of_all(
     requires named { All (λ s. s.named < length first.now.names) subjects.now }
     requires one_for_each { length numbers.now ≡ length subjects.now }
     requires judged { All (λ number. number < length found.now) numbers.now }
-    ensures { IfOk result (λ all. AreTold (circuit first.now) found.now subjects.now numbers.now all.items) }
+    ensures { IfOk result (λ all. AreVerdictsFor (circuit first.now) found.now subjects.now numbers.now all.items) }
 {
     let mut all = Vec::new(alloc);
     for place in 0..subjects.len() {
         let number = numbers[place];
-        let one = told_of(alloc, first, &subjects[place], &found[number])?;
+        let one = verdict_for(alloc, first, &subjects[place], &found[number])?;
         all.push(one)?;
     }
     Ok(all)

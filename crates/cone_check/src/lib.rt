@@ -10,10 +10,10 @@
 //! only if no pattern shows a difference and it could not be judged: its cones have more variables than a pairing can
 //! have, or each attempt at them was given up, or the run may stop. A difference that may not be the least is reported
 //! only if the pair could not be judged, or if any difference is asked for. Pairs that are equal inside are Equal at
-//! once. Several pairs are judged at the same time, each by a thread, and share the workers for their waves; their
-//! budgets together are within the limit (`at_once`). In each round those that no pattern shows to differ come first
-//! (`order`). The verdicts do not depend on the workers, unless a run is stopped. The function fails only if memory is
-//! refused (`ends`).
+//! once (`equal`). Several pairs are judged at the same time, each by a thread, and share the workers for their waves;
+//! their budgets together are within the limit (`at_once`). In each round those that no pattern shows to differ come
+//! first (`order`). The verdicts do not depend on the workers, unless a run is stopped. The function fails only if
+//! memory is refused (`ends`).
 //!
 //! **Only tests show** what a monitor is notified of about rounds (`report_tests`).
 //!

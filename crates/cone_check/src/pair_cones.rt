@@ -1,8 +1,10 @@
 //! The cones of one pair, and the task of comparing them.
-ghost use Rattle.std.specs.Prelude.{◌≡◌, ◌<◌, ◌≤◌, ◌∷◌, length, map, None, Ok, All, IfOk, IfErr, IfSome};
+ghost use Rattle.std.specs.Prelude.{◌≡◌, ◌<◌, ◌≤◌, ◌∷◌, true, false, filter, length, map, replicate, slice_index_or, slice_set, None, Ok, All, IfOk, IfErr, IfSome};
 ghost use Rattle.net_cone.specs.Cones.{variable_name};
 ghost use Rattle.net_names.specs.declared.order.Order.{Order as OrderValue};
+ghost use Rattle.net_order.specs.Force.{numbers_below};
 ghost use Rattle.net_order.specs.Order.{condition};
+ghost use Rattle.cone_check.specs.ConeLevels.{AreSetAt, among_below, cone_levels, given_levels, pair_levels};
 ghost use Rattle.cone_check.specs.ConeRounds.{AreConesOf, EndsPairs, IsConeTask, IsPairSettings, IsInContext, IsConeContext, circuit_in};
 ghost use Rattle.compare_built.specs.Attempts.{cone_names, cone_order};
 ghost use Rattle.compare_built.specs.Scatter.{ArePlaces};
@@ -83,20 +85,49 @@ pub(crate) fn cones_of<H>(
     Ok(Cones { first, second })
 }
 
+/// Returns a flag for each of `count` levels, none of which is set.
+fn no_levels(alloc: Global, count: usize) -> Result<Vec<bool>, AllocError>
+    ensures { IfOk result (λ v. v.items ≡ replicate count false) }
+{
+    Vec::from_elem(alloc, false, count)
+}
+
+/// Sets the flag of a level, if there is one.
+fn set_level(has_level: &mut Vec<bool>, level: usize)
+    ensures { has_level.new.items ≡ slice_set has_level.old.items level true }
+{
+    if level < has_level.len() {
+        has_level[level] = true;
+    }
+}
+
 /// Sets the flag of each level that the cone has a variable of. The sources of a cone begin with those of its
 /// variables, which are its inputs, so only as many sources as inputs are visited.
-fn add_levels(has_level: &mut [bool], naming: &Naming, part: NetlistRole, cone: &Cone) {
-    for (source, _) in cone.sources().iter().zip(cone.net.inputs()) {
-        let level = level_in(naming, part, *source) as usize;
-        if level < has_level.len() {
-            has_level[level] = true;
-        }
+fn add_levels(has_level: &mut Vec<bool>, naming: &Naming, part: NetlistRole, cone: &Cone)
+    ensures { AreSetAt (cone_levels part naming.now cone.now) has_level.old.items has_level.new.items }
+{
+    let from = cone.sources();
+    let count = cone.net.inputs().len().min(from.len());
+    for place in 0..count {
+        let level = level_in(naming, part, from[place]);
+        set_level(has_level, level as usize);
+    }
+}
+
+/// The same for the cone of the condition, if there is a condition.
+fn add_given_levels(has_level: &mut Vec<bool>, naming: &Naming, given: &Option<Cone>)
+    ensures { AreSetAt (given_levels naming.now given.now) has_level.old.items has_level.new.items }
+{
+    match given {
+        Some(cone) => add_levels(has_level, naming, NetlistRole::Given, cone),
+        None => {}
     }
 }
 
 /// Returns the places of the flags that are set, in rising order.
 fn true_places(alloc: Global, has_level: &[bool]) -> Result<Vec<u32>, AllocError>
     requires { length has_level.now ≤ MAX_NAMES }
+    ensures set { IfOk result (λ v. v.items ≡ filter (λ l. slice_index_or has_level.now l false) (numbers_below (length has_level.now))) }
     ensures places { IfOk result (λ v. ArePlaces (length has_level.now) v.items) }
     ensures few { IfOk result (λ v. length v.items ≤ length has_level.now) }
 {
@@ -115,26 +146,15 @@ pub(crate) fn places_of<H>(
     context: &ConeContext<'_, H>,
     cones: &Cones,
 ) -> Result<Vec<u32>, AllocError>
+    ensures levels { IfOk result (λ v. v.items ≡ among_below (length context.now.naming.now.names) (pair_levels context.now cones.now)) }
     ensures places { IfOk result (λ v. ArePlaces (length context.now.naming.now.names) v.items) }
     ensures few { IfOk result (λ v. length v.items ≤ MAX_NAMES) }
 {
     let naming = context.naming;
-    let mut has_level = Vec::from_elem(context.task.alloc, false, naming.names().len())?;
-    add_levels(
-        has_level.as_mut_slice(),
-        naming,
-        NetlistRole::First,
-        &cones.first,
-    );
-    add_levels(
-        has_level.as_mut_slice(),
-        naming,
-        NetlistRole::Second,
-        &cones.second,
-    );
-    if let Some(given) = context.given {
-        add_levels(has_level.as_mut_slice(), naming, NetlistRole::Given, given);
-    }
+    let mut has_level = no_levels(context.task.alloc, naming.names().len())?;
+    add_levels(&mut has_level, naming, NetlistRole::First, &cones.first);
+    add_levels(&mut has_level, naming, NetlistRole::Second, &cones.second);
+    add_given_levels(&mut has_level, naming, context.given);
     true_places(context.task.alloc, has_level.as_slice())
 }
 

@@ -1,14 +1,10 @@
 //! The judging of one pair by its cones, within a budget of nodes.
 ghost use Rattle.std.specs.Prelude.{◌≡◌, ◌<◌, ◌^◌, ◌∷◌, [], false, length, Option, None, Some, Ok, All, IfOk, IfErr, IfSome};
-ghost use Rattle.net_bench.specs.Circuit.{circuit};
 ghost use Rattle.net_names.specs.declared.order.Order.{Order as OrderValue};
-ghost use Rattle.net_order.specs.Order.{condition};
-ghost use Rattle.report_text.specs.Lines.{Found};
 ghost use Rattle.compare_built.specs.declared.strategy.Candidate.{Candidate as CandidateValue};
-ghost use Rattle.compare_built.specs.Details.{details_in};
-ghost use Rattle.cone_check.specs.ConeRounds.{AreConesOf, AreConesWithin, IsJobResult, IsPairSettings, IsInContext, IsConeContext, IsListedLeft, IsWidened};
-ghost use Rattle.compare_built.specs.Report.{AreVerdicts};
-ghost use Rattle.order_search.specs.Trials.{EndsAtOnce, IsPairingIn, IsCandidateGivenUp};
+ghost use Rattle.order_search.specs.Trials.{EndsAtOnce, IsCandidateGivenUp, IsSomePairing};
+ghost use Rattle.cone_check.specs.ConeRounds.{AreConesOf, AreConesWithin, HasOneVerdict, IsConeContext, IsInContext, IsJobResult};
+ghost use Rattle.cone_check.specs.ConeRounds.{IsListedLeft, IsOnlyVerdict, IsPairSettings, IsWidened};
 
 use crate::pair_cones::{
     ConeContext, Cones, as_comparison_fault, cone_pairing, cones_of, places_of, task_of,
@@ -76,13 +72,10 @@ fn try_order<H: Threads + Wait + Sync, G: Monitor>(
     monitor: &G,
 ) -> Result<Option<Verdict>, CheckFault>
     requires small { budget < 2 ^ 32 }
-    requires paired { (o : OrderValue) × IsPairingIn task.now o pairing.now }
+    requires paired { IsSomePairing task.now pairing.now }
     requires no_sizes { task.now.settings.now.sizes ≡ false }
-    requires one { (found : Found) → AreVerdicts (details_in task.now.settings.now) (circuit task.now.first.now)
-        (circuit task.now.second.now) (condition task.now.given) pairing.now found → length found.verdicts ≡ 1 }
-    ensures decided { IfOk result (λ o. IfSome o (λ v. AreVerdicts (details_in task.now.settings.now) (circuit task.now.first.now)
-        (circuit task.now.second.now) (condition task.now.given) pairing.now
-        (record { variables = pairing.now.names; verdicts = v ∷ [] }))) }
+    requires one { HasOneVerdict task.now pairing.now }
+    ensures decided { IfOk result (λ o. IfSome o (IsOnlyVerdict task.now pairing.now)) }
     ensures within { IfOk result (λ o. IfSome o (λ _. AreConesWithin task.now (Some order.now) budget)) }
     ensures left { result ≡ Ok None → IsListedLeft task.now (Some order.now) budget (G.bound monitor.now) }
     ensures ends { IfErr result EndsAtOnce }
@@ -105,13 +98,10 @@ fn try_listed<H: Threads + Wait + Sync, G: Monitor>(
     monitor: &G,
 ) -> Result<Option<Verdict>, CheckFault>
     requires small { budget < 2 ^ 32 }
-    requires paired { (o : OrderValue) × IsPairingIn task.now o pairing.now }
+    requires paired { IsSomePairing task.now pairing.now }
     requires no_sizes { task.now.settings.now.sizes ≡ false }
-    requires one { (found : Found) → AreVerdicts (details_in task.now.settings.now) (circuit task.now.first.now)
-        (circuit task.now.second.now) (condition task.now.given) pairing.now found → length found.verdicts ≡ 1 }
-    ensures decided { IfOk result (λ o. IfSome o (λ v. AreVerdicts (details_in task.now.settings.now) (circuit task.now.first.now)
-        (circuit task.now.second.now) (condition task.now.given) pairing.now
-        (record { variables = pairing.now.names; verdicts = v ∷ [] }))) }
+    requires one { HasOneVerdict task.now pairing.now }
+    ensures decided { IfOk result (λ o. IfSome o (IsOnlyVerdict task.now pairing.now)) }
     ensures within { IfOk result (λ o. IfSome o (λ _. AreConesWithin task.now order.now budget)) }
     ensures left { result ≡ Ok None → IsListedLeft task.now order.now budget (G.bound monitor.now) }
     ensures ends { IfErr result EndsAtOnce }
@@ -131,13 +121,10 @@ fn try_candidates<H: Threads + Wait + Sync, G: Monitor>(
     monitor: &G,
 ) -> Result<Option<Verdict>, CheckFault>
     requires small { budget < 2 ^ 32 }
-    requires paired { (order : OrderValue) × IsPairingIn task.now order pairing.now }
+    requires paired { IsSomePairing task.now pairing.now }
     requires no_sizes { task.now.settings.now.sizes ≡ false }
-    requires one { (found : Found) → AreVerdicts (details_in task.now.settings.now) (circuit task.now.first.now)
-        (circuit task.now.second.now) (condition task.now.given) pairing.now found → length found.verdicts ≡ 1 }
-    ensures decided { IfOk result (λ o. IfSome o (λ v. AreVerdicts (details_in task.now.settings.now) (circuit task.now.first.now)
-        (circuit task.now.second.now) (condition task.now.given) pairing.now
-        (record { variables = pairing.now.names; verdicts = v ∷ [] }))) }
+    requires one { HasOneVerdict task.now pairing.now }
+    ensures decided { IfOk result (λ o. IfSome o (IsOnlyVerdict task.now pairing.now)) }
     ensures within { (order : Option OrderValue) → IfOk result (λ o. IfSome o (λ _. AreConesWithin task.now order budget)) }
     ensures left { result ≡ Ok None → (c : CandidateValue) → IsCandidateGivenUp task.now budget (G.bound monitor.now) c }
     ensures ends { IfErr result EndsAtOnce }
@@ -162,13 +149,10 @@ fn try_cones<H: Threads + Wait + Sync, G: Monitor>(
     monitor: &G,
 ) -> Result<Option<Verdict>, CheckFault>
     requires small { budget < 2 ^ 32 }
-    requires paired { (o : OrderValue) × IsPairingIn task.now o pairing.now }
+    requires paired { IsSomePairing task.now pairing.now }
     requires no_sizes { task.now.settings.now.sizes ≡ false }
-    requires one { (found : Found) → AreVerdicts (details_in task.now.settings.now) (circuit task.now.first.now)
-        (circuit task.now.second.now) (condition task.now.given) pairing.now found → length found.verdicts ≡ 1 }
-    ensures decided { IfOk result (λ o. IfSome o (λ v. AreVerdicts (details_in task.now.settings.now) (circuit task.now.first.now)
-        (circuit task.now.second.now) (condition task.now.given) pairing.now
-        (record { variables = pairing.now.names; verdicts = v ∷ [] }))) }
+    requires one { HasOneVerdict task.now pairing.now }
+    ensures decided { IfOk result (λ o. IfSome o (IsOnlyVerdict task.now pairing.now)) }
     ensures within { IfOk result (λ o. IfSome o (λ _. AreConesWithin task.now order.now budget)) }
     ensures left { result ≡ Ok None → (c : CandidateValue) → IsCandidateGivenUp task.now budget (G.bound monitor.now) c }
     ensures listed_left { result ≡ Ok None → IsListedLeft task.now order.now budget (G.bound monitor.now) }

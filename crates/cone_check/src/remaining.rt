@@ -1,5 +1,5 @@
 //! By place, the verdicts of pairs that are known, and the pairs that are left, which have none yet.
-ghost use Rattle.std.specs.Prelude.{◌≡◌, ◌<◌, ◌≤◌, length, set, filter, None, Ok, Err, All, IfOk, IfErr};
+ghost use Rattle.std.specs.Prelude.{◌≡◌, ◌<◌, count_by, is_some, length, not, set, filter, None, Ok, Err, All, IfOk, IfErr};
 ghost use Rattle.cone_check.specs.declared.batches.PairJob.{PairJob as PairJobValue};
 ghost use Rattle.cone_check.specs.Batches.{is_left, written};
 
@@ -68,7 +68,7 @@ pub fn written(
 
 /// Returns the number of pairs that have no verdict yet.
 pub fn count_left(known: &[Option<Verdict>]) -> usize
-    ensures { result ≤ length known.now }
+    ensures { result ≡ count_by (λ o. not (is_some o)) known.now }
 {
     let mut left = 0;
     for place in 0..known.len() {

@@ -4,9 +4,9 @@ ghost use Rattle.std.specs.Prelude.{◌≡◌, ◌<◌, ◌≤◌, ◌*◌, ◌^
 ghost use Rattle.std.specs.List.{AllZip};
 ghost use Rattle.net_order.specs.Force.{numbers_below};
 ghost use Rattle.compare_built.specs.Cones.{cone_limit};
-ghost use Rattle.cone_check.specs.declared.batches.PairJob.{PairJob as PairJobValue};
-ghost use Rattle.cone_check.specs.ConeRounds.{AreKnownAtOnce, EndsPairs, IsJobResult, IsKnown, IsPairSettings, IsRoundOf, StaysUndecided, IsInContext, IsConeContext, IsDecidedIn};
-ghost use Rattle.cone_check.specs.Batches.{AreAtOnce, AreJobsDone, IsJobDone, jobs_of, pairs_at_once};
+ghost use Rattle.cone_check.specs.ConeRounds.{AreAllJudged, AreKnownAtOnce, EndsPairs, IsConeContext, IsInContext, IsJobResult, IsPairSettings, IsRoundOf};
+ghost use Rattle.cone_check.specs.KnownPairs.{AreKept};
+ghost use Rattle.cone_check.specs.Batches.{AreAtOnce, AreJobsDone, AreJobsInContext, IsJobDone, jobs_of, pairs_at_once};
 
 use crate::batches::{Batch, PairJob, dealt, gathered};
 use crate::judging_order::judging_order;
@@ -54,7 +54,7 @@ fn run_jobs<H: Threads + Wait + Sync, G: Monitor>(
     requires small { budget < 2 ^ 32 }
     requires ready { IsConeContext context.now }
     requires settings { IsPairSettings context.now settings.now }
-    requires in_range { All (λ (t : PairJobValue). IsInContext context.now t.subject) jobs.old.items }
+    requires in_range { AreJobsInContext context.now jobs.old.items }
     ensures { AllZip (IsJobDone context.now budget (G.bound monitor.now)) jobs.old.items jobs.new.items }
 {
     for place in 0..jobs.len() {
@@ -71,7 +71,7 @@ fn run_batch<H: Threads + Wait + Sync, G: Monitor>(
 )
     requires small { budget < 2 ^ 32 }
     requires ready { IsConeContext context.now }
-    requires in_range { All (λ (t : PairJobValue). IsInContext context.now t.subject) batch.old.jobs.items }
+    requires in_range { AreJobsInContext context.now batch.old.jobs.items }
     ensures { AllZip (IsJobDone context.now budget (G.bound monitor.now)) batch.old.jobs.items batch.new.jobs.items }
 {
     let settings = pair_settings(context, batch.workers);
@@ -89,11 +89,11 @@ fn run_batches<H: Threads + Wait + Sync, G: Monitor>(
     requires small { budget < 2 ^ 32 }
     requires ready { IsConeContext context.now }
     requires at_once { let s = context.now.task.now.settings.now in AreAtOnce s.workers s.limit budget batches.old }
-    requires in_range { All (λ (t : PairJobValue). IsInContext context.now t.subject) (jobs_of batches.old) }
+    requires in_range { AreJobsInContext context.now (jobs_of batches.old) }
     ensures { AllZip (IsJobDone context.now budget (G.bound monitor.now)) (jobs_of batches.old) (jobs_of batches.new) }
 {
     let run = |_place: usize, batch: &mut Batch|
-        requires { (budget < 2 ^ 32) × IsConeContext context.now × All (λ (t : PairJobValue). IsInContext context.now t.subject) batch.now.jobs.items }
+        requires { (budget < 2 ^ 32) × IsConeContext context.now × AreJobsInContext context.now batch.now.jobs.items }
         ensures { AllZip (IsJobDone context.entry.now budget (G.bound monitor.entry.now)) batch.entry.now.jobs.items batch.exit.now.jobs.items }
     { run_batch(context, batch, budget, monitor) };
     fork_each(context.task.rt, batches, &run);
@@ -206,8 +206,8 @@ pub(crate) fn judge_all<H: Threads + Wait + Sync, G: Monitor>(
     requires ready { IsConeContext context.now }
     requires in_range { All (IsInContext context.now) subjects.now }
     requires at_once { AreKnownAtOnce context.now subjects.now known.items }
-    ensures known { IfOk result (λ known. AllZip (IsKnown (IsDecidedIn context.now (cone_limit context.now.task.now.settings.now.limit))
-        (StaysUndecided context.now (G.bound monitor.now))) subjects.now known.items) }
+    ensures known { IfOk result (λ known. AreAllJudged context.now (G.bound monitor.now) subjects.now known.items) }
+    ensures kept { IfOk result (λ all. AreKept known.items all.items) }
     ensures ends { IfErr result EndsPairs }
 {
     let limit = cone_limit(context.task.settings.limit);

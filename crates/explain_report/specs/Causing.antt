@@ -1,6 +1,6 @@
 -- Causes: the first inner signals that differ, which pairs have in common.
-use Rattle.std.specs.Prelude.{◌≡◌, ℕ, ◌==◌, Bool, true, false, List, [], ◌∷◌, ◌++◌, map, filter, find, if◌then◌else◌, Option, Some, None}
-use Rattle.std.specs.Prelude.{IsSomeAnd, option_map, option_to_list, slice_get, slice_index_or}
+use Rattle.std.specs.Prelude.{◌≡◌, ◌<◌, ℕ, ◌==◌, Bool, true, false, List, [], ◌∷◌, ◌++◌, map, filter, find, if◌then◌else◌, Option, Some, None}
+use Rattle.std.specs.Prelude.{IsSomeAnd, length, option_map, option_to_list, slice_get, slice_index_or}
 use Rattle.std.specs.List.{list_any}
 use Rattle.std.specs.declared.alloc.Global.{Global}
 use Rattle.std.specs.declared.vec.Vec.{Vec}
@@ -47,6 +47,10 @@ AreFirstDifferences a b p pairs [] differences = differences ≡ []
 AreFirstDifferences a b p pairs (v ∷ vs) differences = (one : Option FirstDifference) × (rest : List FirstDifference) × IsFirstDifference a b p pairs v one × AreFirstDifferences a b p pairs vs rest
     × (differences ≡ option_to_list one ++ rest)
 
+-- the first inner signal of a pair is a signal of the first netlist
+abbrev pub IsSignalKnown : Net → FirstDifference → Type 0
+IsSignalKnown a l = l.inner.first < length a.names
+
 -- ---- causes
 
 -- this is the first inner signal of the pair
@@ -75,6 +79,11 @@ first_signals before (l ∷ ls) = first_time before l.inner ++ first_signals (be
 -- the causes of pairs, in the order of the first pair of each
 abbrev pub causes_of : List (List ℕ) → List FirstDifference → List Caused
 causes_of names differences = map (cause_of names differences) (first_signals [] differences)
+
+-- these are the causes of the pairs that differ
+abbrev pub AreCausesOf : Net → Net → NamingModel → List Subject → List Verdict → List Caused → Type 0
+AreCausesOf a b p pairs verdicts list = (differences : List FirstDifference) × AreFirstDifferences a b p pairs verdicts differences
+    × (list ≡ causes_of a.names differences)
 
 -- ---- causes in a report
 

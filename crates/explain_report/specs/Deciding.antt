@@ -84,6 +84,11 @@ pub data IsFoundBy (input : DeviceTexts) (s : Settings) (bound : WaveBound) (fou
       → IsChosen input s.matching s.order s.limit tried order → IsFoundBy input s bound found tried
   by_cones : MayTakeCones input s bound s.order → IsJudgedByCones input s bound found → HasLastAttempt input s bound s.order found → IsFoundBy input s bound found None
 
+-- the bytes of a report in the form that the settings ask for, with these causes if there are any
+abbrev pub report_bytes : Settings → (tried : Option Attempt) → (given stopped : Bool) → Option (List Caused) → Found → List ℕ
+report_bytes s tried given stopped causes found =
+    form_text s.json s.assignment s.matching (reported_kind s.order tried) given (share_of s.picked) stopped causes found
+
 -- The bytes are the report of what the devices gave, by these settings, with these counts and the causes that are asked
 -- for, and after it the explanations that are asked for; this attempt is reported with it. It says that the run was
 -- stopped only if it may be.
@@ -97,8 +102,7 @@ pub record IsReportBy (input : DeviceTexts) (s : Settings) (bound : WaveBound) (
   pub may_stop : stopped ≡ true → MayStop bound
   pub explanations : List ℕ
   pub explained : IsAppended s.explain.items input s tried found explanations
-  pub text : bytes ≡ form_text s.json s.assignment s.matching (reported_kind s.order tried) (is_some input.given)
-      (share_of s.picked) stopped causes found ++ explanations
+  pub text : bytes ≡ report_bytes s tried (is_some input.given) stopped causes found ++ explanations
 
 -- One of the names that are picked is no output and no register of the first netlist that the devices gave.
 abbrev pub IsUnknown : DeviceTexts → PairFilter → Type 0

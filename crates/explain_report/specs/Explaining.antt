@@ -61,6 +61,10 @@ IsTargetIn a t = IsTrue (is_among (map (name_of a) (signals_of a t.role)) t.name
 abbrev pub AreTargetsIn : Circuit → List PairName → Type 0
 AreTargetsIn a targets = (t : PairName) → Contains targets t → IsTargetIn a t
 
+-- the task's first netlist has each output and each register that is to be explained
+abbrev pub HasTargets : {H : Type 0} → Task H → Type 0
+HasTargets task = AreTargetsIn (circuit task.first.now) task.settings.now.explain.items
+
 -- one of these is no output and no register of the netlist
 abbrev pub HasUnknownTarget : Circuit → List PairName → Type 0
 HasUnknownTarget a targets = (t : PairName) × Contains targets t × (IsTargetIn a t → ⊥)
@@ -133,6 +137,10 @@ HaveReportedNaming input s tried a b c p =
 abbrev pub HaveReportNaming : {H : Type 0} → Task H → Option Attempt → VerdictsModel → Type 0
 HaveReportNaming task tried v = (order : Order) × IsReportedOrder task.settings.now.order tried task.settings.now.matching
     (circuit task.first.now) (circuit task.second.now) (condition task.given) order × IsNamingIn task order v.naming
+
+-- the same for the report of some attempt
+abbrev pub HaveSomeReportNaming : {H : Type 0} → Task H → VerdictsModel → Type 0
+HaveSomeReportNaming task v = (tried : Option Attempt) × HaveReportNaming task tried v
 
 -- P is true for a task as `OfTask` says, and for each attempt whose report has the naming of these verdicts
 abbrev pub OfReport : {H : Type 0} → Task H → VerdictsModel → (DeviceTexts → Settings → Option Attempt → Type 0) → Type 0

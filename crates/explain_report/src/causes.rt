@@ -1,13 +1,10 @@
 //! The causes of differences: the first inner signals of the pairs that differ, each with all pairs of which it is the first.
-ghost use Rattle.std.specs.Prelude.{◌≡◌, ◌<◌, ◌≤◌, ◌++◌, ◌∷◌, [], List, Option, length, map, filter, take, option_map, All, IfOk, OnOk};
+ghost use Rattle.std.specs.Prelude.{◌≡◌, ◌<◌, ◌≤◌, ◌++◌, ◌∷◌, [], length, map, filter, take, option_map, All, IfOk, OnOk};
 ghost use Rattle.std.specs.List.{list_any};
-ghost use Rattle.net_bench.specs.Circuit.{circuit};
-ghost use Rattle.explain_report.specs.declared.first_differences.FirstDifference.{FirstDifference as FirstDifferenceValue};
-ghost use Rattle.compare_built.specs.declared.strategy.Attempt.{Attempt};
-ghost use Rattle.explain_report.specs.Causing.{AreCauses, AreFirstDifferences, cause_of, causes_in, causes_of, first_time, has_first_signal};
-ghost use Rattle.compare_built.specs.Comparing.{IsInside};
-ghost use Rattle.explain_report.specs.Explaining.{HaveReportNaming, OfReport};
 ghost use Rattle.compare_built.specs.Findings.{found_of};
+ghost use Rattle.order_search.specs.Tasks.{IsInTask};
+ghost use Rattle.explain_report.specs.Causing.{AreCauses, AreCausesOf, IsSignalKnown, cause_of, causes_in, causes_of, first_time, has_first_signal};
+ghost use Rattle.explain_report.specs.Explaining.{HaveSomeReportNaming, OfReport};
 
 use crate::first_differences::{FirstDifference, all_first_differences};
 use compare_built::compared_pairs::subjects_of;
@@ -131,7 +128,7 @@ fn causes_of(
     net: &Netlist,
     differences: &[FirstDifference],
 ) -> Result<Vec<Cause>, AllocError>
-    requires { All (λ one. one.inner.first < length net.now.names) differences.now }
+    requires { All (IsSignalKnown net.now) differences.now }
     ensures { IfOk result (λ causes. causes.items ≡ causes_of net.now.names differences.now) }
 {
     let mut causes = Vec::new(alloc);
@@ -156,9 +153,8 @@ fn all_causes<H>(
     pairs: &[Subject],
     verdicts: &[Verdict],
 ) -> Result<Vec<Cause>, AllocError>
-    requires { All (IsInside (circuit task.now.first.now) (circuit task.now.second.now)) pairs.now }
-    ensures { IfOk result (λ causes. (differences : List FirstDifferenceValue) × AreFirstDifferences task.now.first.now task.now.second.now naming.now pairs.now
-        verdicts.now differences × (causes.items ≡ causes_of task.now.first.now.names differences)) }
+    requires { All (IsInTask task.now) pairs.now }
+    ensures { IfOk result (λ causes. AreCausesOf task.now.first.now task.now.second.now naming.now pairs.now verdicts.now causes.items) }
 {
     let differences = all_first_differences(task, naming, pairs, verdicts)?;
     causes_of(task.alloc, task.first, differences.as_slice())
@@ -176,7 +172,7 @@ pub fn listed(causes: &Option<Vec<Cause>>) -> Option<&[Cause]>
 
 /// The causes of the pairs of these verdicts, over their naming; None if the settings do not ask for them.
 pub fn causes<H>(task: &Task<'_, H>, verdicts: &Verdicts) -> Result<Option<Vec<Cause>>, AllocError>
-    requires { (tried : Option Attempt) × HaveReportNaming task.now tried verdicts.now }
+    requires { HaveSomeReportNaming task.now verdicts.now }
     ensures causes { OfReport task.now verdicts.now (λ input s tried.
         IfOk result (λ causes. AreCauses s.causes input s tried (found_of verdicts.now) (causes_in causes))) }
 {

@@ -1,16 +1,15 @@
 //! What comes after a report: an explanation of each pair that is asked for.
-ghost use Rattle.std.specs.Prelude.{◌≡◌, ◌++◌, ◌↔◌, ◌<◌, true, false, length, find, All, Option, IfOk, IsTrue, OnOk};
+ghost use Rattle.std.specs.Prelude.{◌≡◌, ◌++◌, ◌↔◌, ◌<◌, true, false, length, find, All, IfOk, IsTrue, OnOk};
 ghost use Rattle.net_bench.specs.Circuit.{circuit};
 ghost use Rattle.net_explain.specs.Explaining.{ExplanationModel, IsExplanation};
 ghost use Rattle.net_explain.specs.Text.{explanation_text};
-ghost use Rattle.compare_built.specs.Findings.{found_of};
 ghost use Rattle.report_text.specs.Lines.{subject_text};
-ghost use Rattle.compare_built.specs.declared.strategy.Attempt.{Attempt};
-ghost use Rattle.compare_built.specs.Comparing.{IsInside};
-ghost use Rattle.explain_report.specs.Explaining.{AreExplained, AreTargetsIn, ExplainsPair, ExplainsTarget, ExplainsVerdict};
-ghost use Rattle.explain_report.specs.Explaining.{HasUnknownTarget, HaveReportNaming, IsAppended, IsTargetIn, OfReport, is_same_role};
-ghost use Rattle.explain_report.specs.Explaining.{is_subject_of, is_target, is_verdict_on, status_text};
+ghost use Rattle.compare_built.specs.Findings.{found_of};
 ghost use Rattle.compare_built.specs.Report.{subjects};
+ghost use Rattle.order_search.specs.Tasks.{IsInTask};
+ghost use Rattle.explain_report.specs.Explaining.{AreExplained, AreTargetsIn, ExplainsPair, ExplainsTarget, ExplainsVerdict};
+ghost use Rattle.explain_report.specs.Explaining.{HasTargets, HasUnknownTarget, HaveSomeReportNaming, IsAppended, IsTargetIn, OfReport, is_same_role};
+ghost use Rattle.explain_report.specs.Explaining.{is_subject_of, is_target, is_verdict_on, status_text};
 
 use compare_built::compared_pairs::subjects_of;
 use compare_built::found::Verdicts;
@@ -99,7 +98,7 @@ fn difference<H>(
     subject: Subject,
     at: &[bool],
 ) -> Result<Vec<u8>, AllocError>
-    requires { IsInside (circuit task.now.first.now) (circuit task.now.second.now) subject }
+    requires { IsInTask task.now subject }
     ensures { IfOk result (λ text. (e : ExplanationModel) × IsExplanation task.now.first.now task.now.second.now naming.now
         (subject.first, subject.second) at.now e
         × (text.items ≡ explanation_text (subject_text target.now.role target.now.name) task.now.first.now.names e)) }
@@ -119,7 +118,7 @@ fn explained<H>(
     subject: Subject,
     verdict: &Verdict,
 ) -> Result<Vec<u8>, AllocError>
-    requires { IsInside (circuit task.now.first.now) (circuit task.now.second.now) subject }
+    requires { IsInTask task.now subject }
     ensures { IfOk result (λ text. ExplainsVerdict task.now.first.now task.now.second.now naming.now target.now subject verdict.now
         text.items) }
 {
@@ -151,7 +150,7 @@ fn explained_pair<H>(
     subject: Subject,
     verdicts: &[Verdict],
 ) -> Result<Vec<u8>, AllocError>
-    requires { IsInside (circuit task.now.first.now) (circuit task.now.second.now) subject }
+    requires { IsInTask task.now subject }
     ensures { IfOk result (λ text. ExplainsPair task.now.first.now task.now.second.now naming.now target.now subject
         (find (is_verdict_on target.now) verdicts.now) text.items) }
 {
@@ -186,7 +185,7 @@ fn explanation<H>(
     subjects: &[Subject],
     verdicts: &[Verdict],
 ) -> Result<Vec<u8>, AllocError>
-    requires { All (IsInside (circuit task.now.first.now) (circuit task.now.second.now)) subjects.now }
+    requires { All (IsInTask task.now) subjects.now }
     ensures { IfOk result (λ text. ExplainsTarget task.now.first.now task.now.second.now naming.now target.now
         (find (is_subject_of (circuit task.now.first.now) target.now) subjects.now)
         (find (is_verdict_on target.now) verdicts.now) text.items) }
@@ -205,7 +204,7 @@ fn explanations<H>(
     verdicts: &[Verdict],
 ) -> Result<Vec<u8>, AllocError>
     requires all { pairs.now ≡ subjects (circuit task.now.first.now) (circuit task.now.second.now) naming.now }
-    requires in_range { All (IsInside (circuit task.now.first.now) (circuit task.now.second.now)) pairs.now }
+    requires in_range { All (IsInTask task.now) pairs.now }
     ensures { IfOk result (λ text. AreExplained task.now.first.now task.now.second.now naming.now verdicts.now
         task.now.settings.now.explain.items text.items) }
 {
@@ -220,8 +219,8 @@ fn explanations<H>(
 
 /// The explanations that the settings ask for, by the verdicts of the comparison, over their naming.
 pub fn explanations_after<H>(task: &Task<'_, H>, verdicts: &Verdicts) -> Result<Vec<u8>, AllocError>
-    requires named { (tried : Option Attempt) × HaveReportNaming task.now tried verdicts.now }
-    requires known { AreTargetsIn (circuit task.now.first.now) task.now.settings.now.explain.items }
+    requires named { HaveSomeReportNaming task.now verdicts.now }
+    requires known { HasTargets task.now }
     ensures explanations_after { OfReport task.now verdicts.now (λ input s tried.
         IfOk result (λ text. IsAppended s.explain.items input s tried (found_of verdicts.now) text.items)) }
 {

@@ -2,8 +2,8 @@
 ghost use Rattle.std.specs.Prelude.{◌≡◌, ◌<◌, ◌++◌, find, length, option_map, option_to_list, slice_get, All, Some, IfOk, IfSome, OnOk};
 ghost use Rattle.net_bench.specs.Circuit.{circuit};
 ghost use Rattle.net_explain.specs.Explaining.{ExplanationModel, IsExplanation};
-ghost use Rattle.explain_report.specs.Causing.{AreFirstDifferences, IsFirstDifference, IsPairFirstDifference, first_difference};
-ghost use Rattle.compare_built.specs.Comparing.{IsInside};
+ghost use Rattle.order_search.specs.Tasks.{IsInTask};
+ghost use Rattle.explain_report.specs.Causing.{AreFirstDifferences, IsFirstDifference, IsPairFirstDifference, IsSignalKnown, first_difference};
 ghost use Rattle.explain_report.specs.Explaining.{is_subject_of};
 
 use crate::explanations::subject_of;
@@ -35,7 +35,7 @@ fn first_inner<H>(
     subject: Subject,
     at: &[bool],
 ) -> Result<Option<InnerSignal>, AllocError>
-    requires { IsInside (circuit task.now.first.now) (circuit task.now.second.now) subject }
+    requires { IsInTask task.now subject }
     ensures first { IfOk result (λ first. (e : ExplanationModel) × IsExplanation task.now.first.now task.now.second.now naming.now
         (subject.first, subject.second) at.now e × (first ≡ slice_get e.inner 0)) }
     ensures known { IfOk result (λ first. IfSome first (λ inner. inner.first < length task.now.first.now.names)) }
@@ -63,9 +63,9 @@ fn subject_first_difference<H>(
     pair: PairName,
     at: &[bool],
 ) -> Result<Option<FirstDifference>, AllocError>
-    requires { IsInside (circuit task.now.first.now) (circuit task.now.second.now) subject }
+    requires { IsInTask task.now subject }
     ensures differences { IfOk result (IsPairFirstDifference task.now.first.now task.now.second.now naming.now pair at.now (Some subject)) }
-    ensures known { IfOk result (λ difference. IfSome difference (λ one. one.inner.first < length task.now.first.now.names)) }
+    ensures known { IfOk result (λ difference. IfSome difference (IsSignalKnown task.now.first.now)) }
 {
     let first = first_inner(task, naming, subject, at)?;
     Ok(first_difference(pair, first))
@@ -79,10 +79,10 @@ fn pair_first_difference<H>(
     pair: PairName,
     at: &[bool],
 ) -> Result<Option<FirstDifference>, AllocError>
-    requires { All (IsInside (circuit task.now.first.now) (circuit task.now.second.now)) pairs.now }
+    requires { All (IsInTask task.now) pairs.now }
     ensures differences { IfOk result (IsPairFirstDifference task.now.first.now task.now.second.now naming.now pair at.now
         (find (is_subject_of (circuit task.now.first.now) pair) pairs.now)) }
-    ensures known { IfOk result (λ difference. IfSome difference (λ one. one.inner.first < length task.now.first.now.names)) }
+    ensures known { IfOk result (λ difference. IfSome difference (IsSignalKnown task.now.first.now)) }
 {
     match subject_of(task.first, &pair, pairs) {
         Some(subject) => subject_first_difference(task, naming, subject, pair, at),
@@ -105,9 +105,9 @@ fn first_difference_of<H>(
     pairs: &[Subject],
     verdict: &Verdict,
 ) -> Result<Option<FirstDifference>, AllocError>
-    requires { All (IsInside (circuit task.now.first.now) (circuit task.now.second.now)) pairs.now }
+    requires { All (IsInTask task.now) pairs.now }
     ensures differences { IfOk result (IsFirstDifference task.now.first.now task.now.second.now naming.now pairs.now verdict.now) }
-    ensures known { IfOk result (λ difference. IfSome difference (λ one. one.inner.first < length task.now.first.now.names)) }
+    ensures known { IfOk result (λ difference. IfSome difference (IsSignalKnown task.now.first.now)) }
 {
     match verdict {
         Verdict::Differs { role, name, at, .. } => {
@@ -138,9 +138,9 @@ pub fn all_first_differences<H>(
     pairs: &[Subject],
     verdicts: &[Verdict],
 ) -> Result<Vec<FirstDifference>, AllocError>
-    requires { All (IsInside (circuit task.now.first.now) (circuit task.now.second.now)) pairs.now }
+    requires { All (IsInTask task.now) pairs.now }
     ensures differences { IfOk result (λ v. AreFirstDifferences task.now.first.now task.now.second.now naming.now pairs.now verdicts.now v.items) }
-    ensures known { IfOk result (λ v. All (λ one. one.inner.first < length task.now.first.now.names) v.items) }
+    ensures known { IfOk result (λ v. All (IsSignalKnown task.now.first.now) v.items) }
 {
     let mut all = Vec::new(task.alloc);
     for place in 0..verdicts.len() {

@@ -1,9 +1,7 @@
 //! The bytes of a report, in the form that is asked for.
 ghost use Rattle.std.specs.Prelude.{◌≡◌, IfOk, option_map};
-ghost use Rattle.compare_built.specs.Attempts.{reported_kind};
-ghost use Rattle.compare_built.specs.PairSelection.{share_of};
-ghost use Rattle.report_text.specs.Json.{form_text};
 ghost use Rattle.compare_built.specs.Findings.{found_of};
+ghost use Rattle.explain_report.specs.Deciding.{report_bytes};
 
 use compare_built::found::Verdicts;
 use compare_built::settings::Settings;
@@ -30,9 +28,8 @@ pub fn form_text(
     causes: Option<&[Cause]>,
     verdicts: &Verdicts,
 ) -> Result<Vec<u8>, AllocError>
-    ensures { IfOk result (λ text. text.items ≡ form_text settings.now.json settings.now.assignment settings.now.matching
-        (reported_kind settings.now.order circumstances.tried) circumstances.given
-        (share_of settings.now.picked) circumstances.stopped (option_map (λ c. c.now) causes.entry) (found_of verdicts.now)) }
+    ensures { IfOk result (λ text. text.items ≡ report_bytes settings.now circumstances.tried circumstances.given circumstances.stopped
+        (option_map (λ c. c.now) causes.entry) (found_of verdicts.now)) }
 {
     let Circumstances {
         tried,

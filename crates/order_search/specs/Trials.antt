@@ -1,6 +1,6 @@
 -- What a search among the candidates has found: which attempts were given up, and which attempt decides.
 use Rattle.std.specs.Prelude.{◌≡◌, ◌⊎◌, ℕ, ◌-◌, ◌^◌, ◌<◌, ◌≤◌, Bool, true, false, ◌&&◌, List, Option, Some, None, All, Contains}
-use Rattle.std.specs.Prelude.{IsSomeAnd, length, ⊤}
+use Rattle.std.specs.Prelude.{IsPermutation, IsSomeAnd, length, remove, slice_index_or, take, ⊤}
 use Rattle.std.specs.Borrow.{Bor}
 use Rattle.expand_work.specs.Bounds.{MayStop, WaveBound, most_of}
 use Rattle.expand_work.specs.declared.fault.WaveFault.TheVariants.{OutOfMemory as NoWaveMemory, Full, TooManyRequests, NoWorker, Stopped}
@@ -44,6 +44,18 @@ IsPairingIn task order p = IsPairing task.settings.now.matching (circuit task.fi
 abbrev pub IsNamingIn : {H : Type 0} → Task H → Order → NamingModel → Type 0
 IsNamingIn task order p = IsNaming task.settings.now.matching (circuit task.first.now) (circuit task.second.now)
     (condition task.given) order p
+
+-- this is a pairing of the task's netlists, in some order
+abbrev pub IsSomePairing : {H : Type 0} → Task H → NamingModel → Type 0
+IsSomePairing task p = (order : Order) × IsPairingIn task order p
+
+-- this is the pairing of the task's netlists in declared order
+abbrev pub IsDeclaredPairing : {H : Type 0} → Task H → NamingModel → Type 0
+IsDeclaredPairing task p = IsPairingIn task orders.Declared p
+
+-- this is the naming of the task's netlists in declared order
+abbrev pub IsDeclaredNaming : {H : Type 0} → Task H → NamingModel → Type 0
+IsDeclaredNaming task p = IsNamingIn task orders.Declared p
 
 -- the task's netlists have more variables than a pairing may have
 abbrev pub HasTooManyVariables : {H : Type 0} → Task H → Type 0
@@ -225,6 +237,25 @@ IsFirstAttempt task declared budget bound o old new (rounds.GivenUp full) =
     ((all : Bool) → AreGivenUpTrials task budget bound all old → AreGivenUpTrials task budget bound (all && full) new)
     × IsTried task new o × ((k : AttemptOrder) → IsTried task old k → IsTried task new k)
     × (IsOfCandidate o → AreOfCandidates old → AreOfCandidates new)
+
+-- The attempt of this trial decides in a sequence of trials: each trial before it was given up. It is taken from the list.
+pub record IsFirstToDecide {H : Type 0} (task : Task H) (budget : ℕ) (bound : WaveBound) (trials : List Trial) (decided : Trial)
+    (left : List Trial) : Type 0 where
+  pub place : ℕ
+  pub in_bounds : place < length trials
+  pub at_place : decided ≡ slice_index_or trials place decided
+  pub given_up : All (λ t. IsGivenUpFor task budget bound t.pairing) (take place trials)
+  pub others : left ≡ remove trials place
+
+-- the result of a round that goes through the trials in this sequence, and the trials that are left
+abbrev pub IsRoundInSequence : {H : Type 0} → Task H → (budget : ℕ) → (bound : WaveBound) → (trials left : List Trial) → Round → Type 0
+IsRoundInSequence task budget bound trials left (rounds.Decided d) = IsFirstToDecide task budget bound trials d.trial left
+IsRoundInSequence task budget bound trials left (rounds.GivenUp full) = left ≡ trials
+
+-- the same for a round that puts the trials into a sequence of its own first
+abbrev pub IsRoundInSomeSequence : {H : Type 0} → Task H → (budget : ℕ) → (bound : WaveBound) → (trials left : List Trial) → Round → Type 0
+IsRoundInSomeSequence task budget bound trials left round =
+    (sequence : List Trial) × IsPermutation trials sequence × IsRoundInSequence task budget bound sequence left round
 
 -- in the first round the candidates before the one that decides were given up
 abbrev pub IsFirstRound : {H : Type 0} → Task H → (budget : ℕ) → (bound : WaveBound) → Round → Type 0

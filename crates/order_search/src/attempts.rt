@@ -2,7 +2,7 @@
 ghost use Rattle.std.specs.Prelude.{◌≡◌, ◌<◌, ◌^◌, [], All, IfOk, IfErr};
 ghost use Rattle.order_search.specs.Ahead.{IsRunOf};
 ghost use Rattle.order_search.specs.Trials.{AreTrials, EndsAtOnce, IsCandidateFault, IsDecided, IsEnded, IsFirstAttempt, IsFirstRound};
-ghost use Rattle.order_search.specs.Trials.{IsReportedIn, IsRound, IsTrial, IsTrialFault};
+ghost use Rattle.order_search.specs.Trials.{IsReportedIn, IsRound, IsRoundInSequence, IsRoundInSomeSequence, IsTrial, IsTrialFault};
 
 use crate::ahead::{next_run, runs_ahead};
 use crate::attempt_end::{end_of, give_up_reason};
@@ -222,10 +222,10 @@ pub fn try_first<H: Threads + Wait + Sync, G: Monitor>(
     Ok(Round::GivenUp { full: all_full })
 }
 
-/// Tries the orders of the trials again within a larger budget, until one decides; the order whose last attempt reached
-/// the highest rank is first. A trial that decides is taken from the list. Several attempts may be made side by side
-/// before the first result is looked at, which does not change which of them decides. Fails if memory is refused.
-pub fn try_again<H: Threads + Wait + Sync, G: Monitor>(
+/// Tries the orders of the trials within a budget, one after the other, until one decides. A trial that decides is taken
+/// from the list. Several attempts may be made side by side before the first result is looked at, which does not change
+/// which of them decides. Fails if memory is refused.
+fn try_in_sequence<H: Threads + Wait + Sync, G: Monitor>(
     task: &Task<'_, H>,
     declared: Option<&Pairing>,
     trials: &mut Vec<Trial>,
@@ -236,10 +236,10 @@ pub fn try_again<H: Threads + Wait + Sync, G: Monitor>(
     requires verdict_order { IsReportedIn task.now declared }
     requires trials { AreTrials task.now trials.old.items }
     ensures round { IfOk result (IsRound task.now declared.entry budget (G.bound monitor.now) trials.new.items) }
+    ensures first { IfOk result (IsRoundInSequence task.now budget (G.bound monitor.now) trials.old.items trials.new.items) }
     ensures fault { IfErr result (IsCandidateFault task.now) }
     ensures ends { IfErr result EndsAtOnce }
 {
-    put_furthest_first(trials);
     let mut runs = runs_ahead(task, declared, trials.as_slice(), budget, monitor);
     let mut all_full = true;
     for place in 0..trials.len() {
@@ -257,4 +257,25 @@ pub fn try_again<H: Threads + Wait + Sync, G: Monitor>(
         }
     }
     Ok(Round::GivenUp { full: all_full })
+}
+
+/// Tries the orders of the trials again within a larger budget, until one decides; the order whose last attempt reached
+/// the highest rank is first. A trial that decides is taken from the list. Fails if memory is refused.
+pub fn try_again<H: Threads + Wait + Sync, G: Monitor>(
+    task: &Task<'_, H>,
+    declared: Option<&Pairing>,
+    trials: &mut Vec<Trial>,
+    budget: u64,
+    monitor: &G,
+) -> Result<Round, CheckFault>
+    requires small { budget < 2 ^ 32 }
+    requires verdict_order { IsReportedIn task.now declared }
+    requires trials { AreTrials task.now trials.old.items }
+    ensures round { IfOk result (IsRound task.now declared.entry budget (G.bound monitor.now) trials.new.items) }
+    ensures first { IfOk result (IsRoundInSomeSequence task.now budget (G.bound monitor.now) trials.old.items trials.new.items) }
+    ensures fault { IfErr result (IsCandidateFault task.now) }
+    ensures ends { IfErr result EndsAtOnce }
+{
+    put_furthest_first(trials);
+    try_in_sequence(task, declared, trials, budget, monitor)
 }

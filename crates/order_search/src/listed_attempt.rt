@@ -1,7 +1,6 @@
 //! An attempt in an order that is given by a list of names.
 ghost use Rattle.std.specs.Prelude.{◌≡◌, ◌<◌, ◌^◌, None, Ok, Some, IfOk, IfErr, IfSome};
-ghost use Rattle.net_names.specs.declared.order.Order.{Order as OrderValue};
-ghost use Rattle.order_search.specs.Trials.{AreVerdictsIn, EndsAtOnce, IsGivenUpFor, IsPairingIn, IsReportedIn, IsTrialFault};
+ghost use Rattle.order_search.specs.Trials.{AreVerdictsIn, EndsAtOnce, IsGivenUpFor, IsReportedIn, IsSomePairing, IsTrialFault};
 
 use crate::attempt_end::give_up_reason;
 use crate::bounded_monitor::BoundedMonitor;
@@ -26,7 +25,7 @@ fn verdicts_in<H: Threads + Wait + Sync, G: Monitor>(
     monitor: &G,
 ) -> Result<Vec<Verdict>, CheckFault>
     requires small { budget < 2 ^ 32 }
-    requires paired { (order : OrderValue) × IsPairingIn task.now order pairing.now }
+    requires paired { IsSomePairing task.now pairing.now }
     requires verdict_order { IsReportedIn task.now (Some declared) }
     ensures decided { IfOk result (λ v. AreVerdictsIn task.now declared.now budget pairing.now v.items) }
     ensures fault { IfErr result (IsTrialFault task.now budget (G.bound monitor.now) pairing.now) }
@@ -45,7 +44,7 @@ pub fn try_pairing<H: Threads + Wait + Sync, G: Monitor>(
     monitor: &G,
 ) -> Result<Option<Vec<Verdict>>, CheckFault>
     requires small { budget < 2 ^ 32 }
-    requires paired { (order : OrderValue) × IsPairingIn task.now order pairing.now }
+    requires paired { IsSomePairing task.now pairing.now }
     requires verdict_order { IsReportedIn task.now (Some declared) }
     ensures decided { IfOk result (λ o. IfSome o (λ v. AreVerdictsIn task.now declared.now budget pairing.now v.items)) }
     ensures given_up { result ≡ Ok None → IsGivenUpFor task.now budget (G.bound monitor.now) pairing.now }

@@ -1,16 +1,11 @@
 //! Trials: the orders that are tried, each with its pairing.
 ghost use Rattle.std.specs.Prelude.{◌≡◌, ◌≢◌, ◌↔◌, true, false, [], ◌∷◌, ◌++◌, All, Contains, Err, IfOk, IfErr, OnOk, IsTrue};
 ghost use Rattle.std.specs.List.Sorted.{IsPermutation};
-ghost use Rattle.net_bench.specs.Circuit.{circuit};
-ghost use Rattle.net_order.specs.Order.{IsFit, IsPairing, condition, variables_in};
-ghost use Rattle.net_names.specs.declared.order.OrderFault.{OrderFault as OrderFaultValue};
-ghost use Rattle.net_names.specs.declared.order.Order.TheVariants.{Declared};
-ghost use Rattle.group_order.specs.Orders.{IsOrderBy, IsOrderFault};
+ghost use Rattle.group_order.specs.Orders.{IsOrderBy};
 ghost use Rattle.compare_built.specs.declared.strategy.AttemptOrder.TheVariants.{Computed};
-ghost use Rattle.compare_built.specs.Candidates.{IsOrderOf, rule_of};
-ghost use Rattle.compare_built.specs.Check.{IsCheckFault};
-ghost use Rattle.order_search.specs.Tasks.{OfTask};
-ghost use Rattle.order_search.specs.Trials.{HasTooManyVariables, IsNamingIn, IsPairedBy};
+ghost use Rattle.compare_built.specs.Candidates.{rule_of};
+ghost use Rattle.order_search.specs.Tasks.{HasNoOrder, IfErrInOrder, IsAttemptOrder, IsFitFor, IsOfOrder};
+ghost use Rattle.order_search.specs.Trials.{HasTooManyVariables, IsDeclaredNaming, IsPairedBy, IsPairingIn};
 ghost use Rattle.order_search.specs.declared.trials.Trial.{Trial as TrialValue};
 
 use compare_built::fault::CheckFault;
@@ -38,10 +33,9 @@ pub struct Trial {
 /// Returns the pairing of a task's netlists in the given order. Fails if netlists that are matched by position have
 /// different counts, if the order does not fit them, if there are more than 4,096 variables, or if memory is refused.
 pub fn paired<H>(task: &Task<'_, H>, order: &Order) -> Result<Pairing, CheckFault>
-    ensures paired { IfOk result (IsPairing task.now.settings.now.matching (circuit task.now.first.now) (circuit task.now.second.now)
-        (condition task.now.given) order.now) }
-    ensures fault { OfTask task.now (λ input s. IfErr result (IsCheckFault input ⊥ ⊥ ⊥ s.order s.matching order.now)) }
-    ensures refused { IfErr result (λ fault. (f : OrderFaultValue) × (fault ≡ CheckFault.Order f)) }
+    ensures paired { IfOk result (IsPairingIn task.now order.now) }
+    ensures fault { IfErrInOrder task.now order.now result }
+    ensures refused { IfErr result IsOfOrder }
     ensures many { result ≡ Err (CheckFault.Order OrderFault.TooManyInputs) → HasTooManyVariables task.now }
 {
     Ok(pair(
@@ -57,9 +51,8 @@ pub fn paired<H>(task: &Task<'_, H>, order: &Order) -> Result<Pairing, CheckFaul
 /// Returns the order of a candidate, by its rule.
 fn order_by_rule<H>(task: &Task<'_, H>, candidate: Candidate) -> Result<Order, OrderFault>
     ensures rule { IfOk result (IsOrderBy (rule_of candidate) task.now.settings.now.matching task.now.first.now task.now.second.now task.now.given) }
-    ensures each_once { IfOk result (IsFit (variables_in task.now.settings.now.matching (circuit task.now.first.now)
-        (circuit task.now.second.now) (condition task.now.given))) }
-    ensures refused { IfErr result (IsOrderFault task.now.settings.now.matching task.now.first.now task.now.second.now task.now.given) }
+    ensures each_once { IfOk result (IsFitFor task.now) }
+    ensures refused { IfErr result (HasNoOrder task.now) }
 {
     let alloc = task.alloc;
     let how = task.settings.matching;
@@ -73,11 +66,9 @@ fn order_by_rule<H>(task: &Task<'_, H>, candidate: Candidate) -> Result<Order, O
 /// Returns the order of a candidate, which is computed from a task's netlists. Fails as a pairing in declared order
 /// does.
 pub fn candidate_order<H>(task: &Task<'_, H>, candidate: Candidate) -> Result<Order, OrderFault>
-    ensures order { IfOk result (IsOrderOf task.now.settings.now.matching (circuit task.now.first.now) (circuit task.now.second.now)
-        (condition task.now.given) (Computed candidate)) }
-    ensures each_once { IfOk result (IsFit (variables_in task.now.settings.now.matching (circuit task.now.first.now)
-        (circuit task.now.second.now) (condition task.now.given))) }
-    ensures refused { IfErr result (IsOrderFault task.now.settings.now.matching task.now.first.now task.now.second.now task.now.given) }
+    ensures order { IfOk result (IsAttemptOrder task.now (Computed candidate)) }
+    ensures each_once { IfOk result (IsFitFor task.now) }
+    ensures refused { IfErr result (HasNoOrder task.now) }
 {
     let _ = task.first.inputs(); // For the proof.
     let _ = task.second.inputs(); // For the proof.
@@ -92,11 +83,9 @@ pub fn candidate_order<H>(task: &Task<'_, H>, candidate: Candidate) -> Result<Or
 
 /// Returns the order of an attempt.
 fn attempt_order<H>(task: &Task<'_, H>, order: AttemptOrder) -> Result<Order, OrderFault>
-    ensures order { IfOk result (IsOrderOf task.now.settings.now.matching (circuit task.now.first.now) (circuit task.now.second.now)
-        (condition task.now.given) order) }
-    ensures each_once { IfOk result (IsFit (variables_in task.now.settings.now.matching (circuit task.now.first.now)
-        (circuit task.now.second.now) (condition task.now.given))) }
-    ensures refused { IfErr result (IsOrderFault task.now.settings.now.matching task.now.first.now task.now.second.now task.now.given) }
+    ensures order { IfOk result (IsAttemptOrder task.now order) }
+    ensures each_once { IfOk result (IsFitFor task.now) }
+    ensures refused { IfErr result (HasNoOrder task.now) }
 {
     match order {
         AttemptOrder::Computed(candidate) => candidate_order(task, candidate),
@@ -107,8 +96,8 @@ fn attempt_order<H>(task: &Task<'_, H>, order: AttemptOrder) -> Result<Order, Or
 /// Returns the pairing of a task's netlists in the order of an attempt. Fails as a pairing in declared order does.
 pub fn paired_by<H>(task: &Task<'_, H>, order: AttemptOrder) -> Result<Pairing, CheckFault>
     ensures paired { IfOk result (IsPairedBy task.now order) }
-    ensures fault { OfTask task.now (λ input s. IfErr result (IsCheckFault input ⊥ ⊥ ⊥ s.order s.matching Declared)) }
-    ensures refused { IfErr result (λ fault. (f : OrderFaultValue) × (fault ≡ CheckFault.Order f)) }
+    ensures fault { IfErrInOrder task.now Order.Declared result }
+    ensures refused { IfErr result IsOfOrder }
 {
     let order = attempt_order(task, order)?;
     Ok(pair(
@@ -124,9 +113,9 @@ pub fn paired_by<H>(task: &Task<'_, H>, order: AttemptOrder) -> Result<Pairing, 
 /// Returns the naming of a task's netlists in declared order. Unlike a pairing, it may have any number of variables.
 /// Fails if netlists that are matched by position have different counts, or if memory is refused.
 pub fn named<H>(task: &Task<'_, H>) -> Result<Naming, CheckFault>
-    ensures named { IfOk result (IsNamingIn task.now Declared) }
-    ensures fault { OfTask task.now (λ input s. IfErr result (IsCheckFault input ⊥ ⊥ ⊥ s.order s.matching Declared)) }
-    ensures refused { IfErr result (λ fault. (f : OrderFaultValue) × (fault ≡ CheckFault.Order f)) }
+    ensures named { IfOk result (IsDeclaredNaming task.now) }
+    ensures fault { IfErrInOrder task.now Order.Declared result }
+    ensures refused { IfErr result IsOfOrder }
     ensures any_number_of_inputs { result ≢ Err (CheckFault.Order OrderFault.TooManyInputs) }
 {
     Ok(naming_of(

@@ -1,4 +1,4 @@
-use Rattle.std.proofs.Common.{◌≡◌, ◌∙◌, ◌<◌, ℕ, List, Option, All, ap, length, subst, sym}
+use Rattle.std.proofs.Common.{◌≡◌, ◌∙◌, ◌<◌, ℕ, List, Option, None, All, ap, get_or, length, subst, sym}
 use Rattle.std.specs.Prelude.{⊤}
 use Rattle.std.specs.List.{AllZip}
 use Rattle.net_bench.specs.Circuit.{circuit}
@@ -6,9 +6,10 @@ use Rattle.report_text.specs.declared.verdict.Verdict.{Verdict}
 use Rattle.compare_built.specs.declared.subject.Subject.{Subject}
 use Rattle.compare_built.specs.Cones.{cone_limit}
 use Rattle.cone_check.specs.ConeRounds.{AreKnownAtOnce, IsDecidedIn, IsInContext, IsKnown, StaysUndecided}
-use Rattle.cone_check.specs.EqualCones.{AreTold, HasNumber}
-use Rattle.cone_check.proofs.EqualCones.{all_told, numbers_low}
+use Rattle.cone_check.specs.EqualCones.{AreVerdictsFor, HasNumber, verdict_for}
+use Rattle.cone_check.proofs.EqualCones.{all_renamed, numbers_low}
 use Rattle.cone_check.proofs.Filling.{length_known, zip_size}
+use Rattle.cone_check.proofs.Keeping.{known_renamed}
 use Rattle.cone_check.proofs.cone_comparison.judge_distinct.Goals as goal
 
 pub distinct_pairs-requires-clause-one_for_each : goal.distinct_pairs-requires-clause-one_for_each
@@ -34,13 +35,13 @@ pub judge_all-requires-clause-at_once : goal.judge_all-requires-clause-at_once
 judge_all-requires-clause-at_once g c κs within =
     subst (λ (ss : List Subject). AreKnownAtOnce c.args.context.now ss c.in_ok-distinct.distinct.known.items) (sym c.as_slice-3.ensures.value) c.in_ok-distinct.ensures.at_once
 
-pub told_of_all-requires-clause-one_for_each : goal.told_of_all-requires-clause-one_for_each
-told_of_all-requires-clause-one_for_each g c =
+pub verdicts_for-requires-clause-one_for_each : goal.verdicts_for-requires-clause-one_for_each
+verdicts_for-requires-clause-one_for_each g c =
     let d = c.in_ok-distinct.distinct in
     ap length c.as_slice-5.ensures.value ∙ zip_size (HasNumber c.args.context.now d.subjects.items) c.args.subjects.now d.numbers.items c.in_ok-distinct.ensures.numbers
 
-pub told_of_all-requires-clause-judged : goal.told_of_all-requires-clause-judged
-told_of_all-requires-clause-judged g c =
+pub verdicts_for-requires-clause-judged : goal.verdicts_for-requires-clause-judged
+verdicts_for-requires-clause-judged g c =
     let w = c.args.context.now in
     let d = c.in_ok-distinct.distinct in
     let known = subst (λ (ss : List Subject). AllZip (IsKnown (IsDecidedIn w (cone_limit w.task.now.settings.now.limit)) (StaysUndecided w (g.G.Monitor.bound c.args.monitor.now))) ss c.in_ok-found.found.items) c.as_slice-3.ensures.value c.in_ok-found.ensures.known in
@@ -57,8 +58,21 @@ returns-clause-known g c =
     let bound = g.G.Monitor.bound c.args.monitor.now in
     let d = c.in_ok-distinct.distinct in
     let known = subst (λ (ss : List Subject). AllZip (IsKnown (IsDecidedIn w limit) (StaysUndecided w bound)) ss c.in_ok-found.found.items) c.as_slice-3.ensures.value c.in_ok-found.ensures.known in
-    let told : AreTold a c.in_ok-found.found.items c.args.subjects.now d.numbers.items c.in_ok-all.all.items =
-    subst (λ (ns : List ℕ). AreTold a c.in_ok-found.found.items c.args.subjects.now ns c.in_ok-all.all.items) c.as_slice-5.ensures.value
-    (subst (λ (os : List (Option Verdict)). AreTold a os c.args.subjects.now c.as_slice-5.result.now c.in_ok-all.all.items) c.as_slice-6.ensures.value c.in_ok-all.ensures) in
-    all_told w c.requires.ready c.inputs.ensures.sound c.inputs-2.ensures.sound limit bound d.subjects.items c.args.subjects.now c.in_ok-found.found.items d.numbers.items c.in_ok-all.all.items known
-    c.in_ok-distinct.ensures.numbers told
+    let renamed : AreVerdictsFor a c.in_ok-found.found.items c.args.subjects.now d.numbers.items c.in_ok-all.all.items =
+    subst (λ (ns : List ℕ). AreVerdictsFor a c.in_ok-found.found.items c.args.subjects.now ns c.in_ok-all.all.items) c.as_slice-5.ensures.value
+    (subst (λ (os : List (Option Verdict)). AreVerdictsFor a os c.args.subjects.now c.as_slice-5.result.now c.in_ok-all.all.items) c.as_slice-6.ensures.value c.in_ok-all.ensures) in
+    all_renamed w c.requires.ready c.inputs.ensures.sound c.inputs-2.ensures.sound limit bound d.subjects.items c.args.subjects.now c.in_ok-found.found.items d.numbers.items c.in_ok-all.all.items known
+    c.in_ok-distinct.ensures.numbers renamed
+
+pub returns-clause-kept : goal.returns-clause-kept
+returns-clause-kept g c =
+    let w = c.args.context.now in
+    let a = circuit w.task.now.first.now in
+    let d = c.in_ok-distinct.distinct in
+    let given : c.as_slice.result.now ≡ c.args.known.items = c.as_slice.ensures.value in
+    let renamed : AreVerdictsFor a c.in_ok-found.found.items c.args.subjects.now d.numbers.items c.in_ok-all.all.items =
+    subst (λ (ns : List ℕ). AreVerdictsFor a c.in_ok-found.found.items c.args.subjects.now ns c.in_ok-all.all.items) c.as_slice-5.ensures.value
+    (subst (λ (os : List (Option Verdict)). AreVerdictsFor a os c.args.subjects.now c.as_slice-5.result.now c.in_ok-all.all.items) c.as_slice-6.ensures.value c.in_ok-all.ensures) in
+    known_renamed a c.args.subjects.now c.args.known.items d.known.items c.in_ok-found.found.items d.numbers.items c.in_ok-all.all.items
+    (λ i s lt. subst (λ (os : List (Option Verdict)). get_or d.known.items (get_or d.numbers.items i 0) None ≡ verdict_for a (get_or c.args.subjects.now i s) (get_or os i None)) given (c.in_ok-distinct.ensures.kept i s lt))
+    c.in_ok-found.ensures.kept renamed

@@ -9,6 +9,8 @@ use Rattle.cone_check.specs.ConeRounds.{FitIn, StaysUndecided, IsDecidedIn, IsFi
 use Rattle.cone_check.proofs.AtOnce.{shown_last}
 use Rattle.cone_check.proofs.ByCones.{reported_left}
 use Rattle.cone_check.proofs.Filling.{length_known, reported_known, zip_size}
+use Rattle.cone_check.specs.KnownPairs.{AreEqualReported}
+use Rattle.cone_check.proofs.Keeping.{equal_known_kept, equal_known_renamed, equal_reported, kept_by_shown}
 use Rattle.cone_check.proofs.cone_comparison.judged.Goals as goal
 
 pub judge_distinct-requires-clause-shown : goal.judge_distinct-requires-clause-shown
@@ -47,3 +49,20 @@ returns-clause-verdicts g c =
     (λ s left. reported_left (unsized task.settings.now.assignment) task.settings.now.difference within (StaysUndecided w bound) (IsUnshownIn w) task.first.now task.second.now (condition task.given) w.naming.now s c.inputs.ensures.sound c.inputs-2.ensures.sound c.requires.ready.conditional_net left.0 left.1)
     c.args.subjects.now c.put_all_shown.new.known.items
     (shown_last w bound c.args.subjects.now c.args.shown.now c.in_ok-known-2.known.items c.put_all_shown.new.known.items c.requires.shown c.in_ok-known-2.ensures.known c.in_ok-put_all_shown.ensures))
+
+pub returns-clause-equal : goal.returns-clause-equal
+returns-clause-equal g c =
+    let w = c.args.context.now in
+    let task = w.task.now in
+    let a = circuit task.first.now in
+    let bound = g.G.Monitor.bound c.args.monitor.now in
+    let ss = c.args.subjects.now in
+    let equal = c.args.equal.now in
+    let first = c.in_ok-known.known.items in
+    let judged = c.in_ok-known-2.known.items in
+    let last = c.put_all_shown.new.known.items in
+    let each = length_known (IsDecidedIn w (cone_limit task.settings.now.limit)) (StaysUndecided w bound) ss judged c.in_ok-known-2.ensures.known in
+    let kept = kept_by_shown a (circuit task.second.now) (condition task.given) w.naming.now ss c.args.shown.now judged last each c.in_ok-put_all_shown.ensures in
+    subst (AreEqualReported a ss equal) (sym c.in_ok-verdicts.ensures)
+    (equal_reported a ss equal last (c.in_ok-put_all_shown.ensures.each ∙ each)
+    (equal_known_kept a ss equal judged last (equal_known_renamed a ss equal first judged c.in_ok-known.ensures.equal c.in_ok-known-2.ensures.kept) kept))
