@@ -9,7 +9,7 @@
 //! comparison share are here: `Task`, `Settings`, `Subject`, `CheckFault`.
 //!
 //! **Only tests show** that nothing is refused if there is ample memory, and what a monitor is notified of during a
-//! comparison (`report_tests`).
+//! comparison (`decision_tests`).
 //!
 //! **Begin** with `specs/Report` and `specs/Conditions`, which define verdicts by functions only; then read
 //! `compared_pairs` (which references of the store are compared), `verdicts` (one verdict) and `comparison`.

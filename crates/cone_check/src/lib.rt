@@ -15,7 +15,7 @@
 //! first (`order`). The verdicts do not depend on the workers, unless a run is stopped. The function fails only if
 //! memory is refused (`ends`).
 //!
-//! **Only tests show** what a monitor is notified of about rounds (`report_tests`).
+//! **Only tests show** what a monitor is notified of about rounds (`decision_tests`).
 //!
 //! **Begin** with `specs/ConeRounds` and `specs/Batches`; then read `pair_cones` (the cones of a pair as a task of
 //! their own), `pairs` (one pair within one budget), `batches` (how pairs and workers are dealt), `rounds` (all pairs

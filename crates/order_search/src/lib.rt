@@ -11,7 +11,7 @@
 //! (`given_up`).
 //!
 //! **Only tests show** that nothing is refused if there is ample memory, and what a monitor is notified of about
-//! attempts (`report_tests`).
+//! attempts (`decision_tests`).
 //!
 //! **Begin** with `specs/Trials`; then read `trials` (an order with its pairing), `attempts` (all candidates within one
 //! budget) and `budget_search`.

@@ -1,27 +1,17 @@
 //! Tests of whole comparisons and of the program's runs: over devices that fail, with threads that meet, and of what is
-//! reported meanwhile. They are a crate of their own, since a crate with tests is proved twice. What the built program
-//! can show is in tests/.
+//! reported meanwhile. They are a crate of their own, since a crate with tests is proved twice. Which pairs a comparison
+//! decides, `decision_tests` tries. What the built program can show is in tests/.
 //!
 //! **Begin** with `runs`, over a folder in memory (`memory_folder`), and `failing`, with readers and writers that fail
-//! at each byte. `monitoring`, `auto`, `picks` and `known_pairs` are about what attempts, patterns and merging decide,
-//! `stopping` about runs that are stopped, `rendezvous` about threads, and `progress` and `quotations` about standard
-//! error.
+//! at each byte. `rendezvous` is about threads, and `progress` and `quotations` about standard error.
 #![tactic(auto)]
 
-#[cfg(test)]
-mod auto;
 #[cfg(test)]
 mod devices;
 #[cfg(test)]
 mod failing;
 #[cfg(test)]
-mod known_pairs;
-#[cfg(test)]
 mod memory_folder;
-#[cfg(test)]
-mod monitoring;
-#[cfg(test)]
-mod picks;
 #[cfg(test)]
 mod progress;
 #[cfg(test)]
@@ -30,5 +20,3 @@ mod quotations;
 mod rendezvous;
 #[cfg(test)]
 mod runs;
-#[cfg(test)]
-mod stopping;

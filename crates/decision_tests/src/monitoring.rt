@@ -1,7 +1,6 @@
 //! Of what a monitor is notified in a comparison, in one order, in the best, and with workers.
 ghost use Rattle.std.specs.Prelude.{◌<◌, ◌≤◌};
 
-use crate::failing::C17;
 use check_report::{
     Candidate, CheckFault, Context, Difference, PairFilter, Settings, Strategy, judge,
 };
@@ -14,6 +13,10 @@ use std::sync::atomic::{AtomicU64, AtomicUsize, Ordering};
 use std::test::Fail;
 use std::thread::Threads;
 use text_device::StdDevice;
+
+/// The smallest circuit of ISCAS-85: six NAND gates.
+pub(crate) static C17: &str =
+    "INPUT(1)\nINPUT(2)\nINPUT(3)\nINPUT(6)\nINPUT(7)\nOUTPUT(22)\nOUTPUT(23)\n10 = NAND(1, 3)\n11 = NAND(3, 6)\n16 = NAND(2, 11)\n19 = NAND(11, 7)\n22 = NAND(10, 16)\n23 = NAND(16, 19)\n";
 
 /// A monitor that adds up what it is notified of: how often of a rank, the numbers of these ranks and of the last
 /// ranks, the nodes, the requests, the attempts that decided, those that were given up because a wave had too many

@@ -1,6 +1,4 @@
 //! Reports in an order that was found, and what is reported if none is.
-use crate::devices::{End, new_writer};
-use crate::failing::AMPLE;
 use check_report::{
     Candidate, CheckFault, Context, Difference, PairFilter, Settings, Strategy, check,
 };
@@ -59,9 +57,15 @@ fn reported<R: AllocGlobal + Threads + Wait + Sync>(
     let mut first = StdDevice::new(CROSSED.as_bytes());
     let mut second = StdDevice::new(NEVER.as_bytes());
     let mut nothing: Option<StdDevice<&[u8]>> = None;
-    let mut out = new_writer(rt.alloc(), AMPLE, End::Fails, true);
-    check(&context, &mut first, &mut second, &mut nothing, &mut out)?;
-    Ok(out.written)
+    let mut written = Vec::new(rt.alloc());
+    check(
+        &context,
+        &mut first,
+        &mut second,
+        &mut nothing,
+        &mut StdDevice::new(&mut written),
+    )?;
+    Ok(written)
 }
 
 // The first order that is tried is not the declared one, and the least difference in it is another assignment.

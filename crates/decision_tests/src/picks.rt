@@ -1,10 +1,8 @@
 //! Reports of some of the pairs.
-use crate::devices::{End, new_writer};
-use crate::failing::AMPLE;
 use check_report::{
-    CheckFault, Context, Difference, Name, PairFilter, PairKind, PairName, Settings, Share,
-    Strategy, check,
+    CheckFault, Context, Difference, Name, PairKind, PairName, Settings, Share, Strategy, check,
 };
+use compare_built::pair_filter::PairFilter;
 use expand_work::NoMonitor;
 use net_names::order::Match;
 use net_names::order_file::read_order;
@@ -90,9 +88,15 @@ fn report_of<R: AllocGlobal + Threads + Wait + Sync>(
     let mut first = StdDevice::new(first.as_bytes());
     let mut second = StdDevice::new(second.as_bytes());
     let mut nothing: Option<StdDevice<&[u8]>> = None;
-    let mut out = new_writer(rt.alloc(), AMPLE, End::Fails, true);
-    check(&context, &mut first, &mut second, &mut nothing, &mut out)?;
-    Ok(out.written)
+    let mut written = Vec::new(rt.alloc());
+    check(
+        &context,
+        &mut first,
+        &mut second,
+        &mut nothing,
+        &mut StdDevice::new(&mut written),
+    )?;
+    Ok(written)
 }
 
 /// The report of one output, which is tried in the order of a list first.

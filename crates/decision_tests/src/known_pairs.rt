@@ -1,6 +1,4 @@
 //! Pairs whose verdict is known before they are judged, by patterns or since they are equal inside, and pairs that remain.
-use crate::devices::{End, new_writer};
-use crate::failing::AMPLE;
 use check_report::{CheckFault, Context, Difference, PairFilter, Settings, Strategy, check};
 use expand_work::NoMonitor;
 use net_names::order::Match;
@@ -59,9 +57,15 @@ fn reported<R: AllocGlobal + Threads + Wait + Sync>(
         Some(text) => Some(StdDevice::new(text.as_bytes())),
         None => None,
     };
-    let mut out = new_writer(rt.alloc(), AMPLE, End::Fails, true);
-    check(&context, &mut first, &mut second, &mut given, &mut out)?;
-    Ok(out.written)
+    let mut written = Vec::new(rt.alloc());
+    check(
+        &context,
+        &mut first,
+        &mut second,
+        &mut given,
+        &mut StdDevice::new(&mut written),
+    )?;
+    Ok(written)
 }
 
 /// A sum of three operands, and another in which other two come first.

@@ -1,8 +1,7 @@
 //! Reports of comparisons that a monitor stops.
 ghost use Rattle.std.specs.Prelude.{None, true, ◌<◌, ◌≤◌};
 
-use crate::devices::{End, new_writer};
-use crate::failing::C17;
+use crate::monitoring::C17;
 use check_report::{
     Candidate, CheckFault, Context, Difference, PairFilter, Settings, Strategy, check,
 };
@@ -104,9 +103,6 @@ struct Run {
     workers: u32,
 }
 
-/// More bytes than any report here has.
-const AMPLE: usize = 4_000;
-
 /// The report of the comparison of two netlists under this monitor, or why there is none.
 fn report_of<R: AllocGlobal + Threads + Wait + Sync>(
     rt: &R,
@@ -145,9 +141,15 @@ fn report_of<R: AllocGlobal + Threads + Wait + Sync>(
     let mut first = StdDevice::new(first.as_bytes());
     let mut second = StdDevice::new(second.as_bytes());
     let mut nothing: Option<StdDevice<&[u8]>> = None;
-    let mut out = new_writer(rt.alloc(), AMPLE, End::Fails, true);
-    check(&context, &mut first, &mut second, &mut nothing, &mut out)?;
-    Ok(out.written)
+    let mut written = Vec::new(rt.alloc());
+    check(
+        &context,
+        &mut first,
+        &mut second,
+        &mut nothing,
+        &mut StdDevice::new(&mut written),
+    )?;
+    Ok(written)
 }
 
 /// The report of the comparison of C17 with the other netlist of its functions under this monitor, or why there is none.
