@@ -151,6 +151,11 @@ def causes(first: Net, second: Net, report: list[str]) -> list[dict[str, Any]]:
     return [{"signal": name, "lines": [first.line_of(name), second.line_of(name)], "pairs": found} for name, found in pairs.items()]
 
 
+def with_causes(report: bytes, found: list[dict[str, Any]]) -> bytes:
+    """A report in JSON with these causes."""
+    return report[:-2] + f',"causes":{json.dumps(found, separators=(",", ":"))}}}\n'.encode()
+
+
 def main() -> None:
     parser = harness.parser_with_program(__doc__)
     parser.add_argument("--seed", default="1", help="The netlists are drawn by this text; the default is 1.")
@@ -175,8 +180,12 @@ def main() -> None:
             several, shared = several + (len(found) > 1), shared + any(len(cause["pairs"]) > 1 for cause in found)
             plain = run([given.program, "--format", "json", *words, *paths])
             seen = run([given.program, "--format", "json", "--causes", *words, *paths])
-            reported = f',"causes":{json.dumps(found, separators=(",", ":"))}}}\n'.encode()
-            tally.same(f"seed {given.seed}, turn {turn}, {words}, causes", seen, plain.status, plain.out[:-2] + reported, b"")
+            tally.same(f"seed {given.seed}, turn {turn}, {words}, causes", seen, plain.status, with_causes(plain.out, found), b"")
+            picks = [f"--only={label}" for label in asked]
+            found = causes(first, second, run([given.program, *picks, *paths]).out.decode().splitlines())
+            plain = run([given.program, "--format", "json", *picks, *paths])
+            seen = run([given.program, "--format", "json", "--causes", *picks, *paths])
+            tally.same(f"seed {given.seed}, turn {turn}, {picks}, causes", seen, plain.status, with_causes(plain.out, found), b"")
     tally.check("inner signals differ in many of them", differing > 100, differing)
     tally.check("some have several causes, and many a cause of several pairs", several > 5 and shared > 20, (several, shared))
     tally.finish()

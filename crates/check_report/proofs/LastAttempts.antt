@@ -14,29 +14,27 @@ use Rattle.report_text.specs.Lines.{Found}
 use Rattle.compare_built.specs.declared.fault.CheckFault.{CheckFault}
 use Rattle.compare_built.specs.declared.settings.Settings.{Settings}
 use Rattle.compare_built.specs.declared.strategy.Attempt.{Attempt}
-use Rattle.compare_built.specs.declared.strategy.AttemptOrder.{AttemptOrder}
 use Rattle.compare_built.specs.declared.strategy.AttemptOrder.TheVariants.{Declared}
+use Rattle.compare_built.specs.declared.strategy.AttemptOrder.TheVariants as tried_orders
 use Rattle.compare_built.specs.declared.strategy.Strategy.{Strategy}
 use Rattle.compare_built.specs.declared.strategy.Strategy.TheVariants.{One, Computed, Best, Auto, Cones, ConesByList, Merge}
 use Rattle.compare_built.specs.declared.task.Task.{Task}
-use Rattle.compare_built.specs.Attempts.{AreGivenUp, IsAttemptGivenUp, IsChosen, MayGoByCones, first_whole_limit, last_budget, whole_limit}
+use Rattle.compare_built.specs.Attempts.{AreGivenUp, IsChosen, MayGoByCones, first_whole_limit, last_budget, whole_limit}
 use Rattle.compare_built.specs.Check.{AreGiven, HaveTooManyVariables}
 use Rattle.compare_built.specs.Details.{details_in}
 use Rattle.compare_built.specs.Devices.{DeviceTexts}
 use Rattle.compare_built.specs.Picking.{TakesPicks}
 use Rattle.compare_built.specs.Report.{AreVerdicts}
-use Rattle.explain_report.specs.Deciding.{HasLastAttempt, MayTakeCones, is_open}
+use Rattle.explain_report.specs.Deciding.{AreLastGivenUp, HasLastAttempt, MayTakeCones, is_open}
 use Rattle.explain_report.specs.Deciding.IsFoundBy.{in_order}
 use Rattle.order_search.specs.declared.attempts.Decided.{Decided as DecidedValue}
-use Rattle.order_search.specs.declared.attempts.Round.{Round}
-use Rattle.order_search.specs.declared.attempts.Round.TheVariants.{GivenUp}
 use Rattle.order_search.specs.declared.trials.Trial.{Trial}
-use Rattle.order_search.specs.Trials.{AreAllGivenUp, AreTrials, EndsAtOnce, IsFoundWithin, IsLastRound, IsNamingIn, IsOrderGivenUp, IsPairingIn, reported_pairing}
+use Rattle.order_search.specs.Trials.{AreAllGivenUp, AreTrials, EndsAtOnce, IsFoundWithin, IsNamingIn, IsOrderGivenUp, IsPairingIn, reported_pairing}
 use Rattle.order_search.proofs.Rounds.{earlier_in_input, given_up_in_input, judged, order_in_input, within}
 use Rattle.cone_check.specs.ConeRounds.{IsFoundByCones}
 use Rattle.check_report.specs.Decisions.{IsDecision, IsNoDecision}
 use Rattle.check_report.specs.Pairs.{EndsComparison}
-use Rattle.check_report.specs.Wholes.{AreTriedBefore, IsDecidedWhole, IsRestOfWhole, IsSearched, IsTriedAgain, attempt_of}
+use Rattle.check_report.specs.Wholes.{AreGivenUpToLimit, AreTriedBefore, IsDecidedWhole, IsRestOfWhole, IsSearched, IsTriedAgain, attempt_of}
 use Rattle.check_report.specs.declared.whole.WholeEnd.{WholeEnd}
 use Rattle.check_report.specs.declared.whole.WholeEnd.TheVariants.{Decided, GivenUp as WholeGivenUp}
 use Rattle.check_report.specs.declared.whole.TriedBefore.{TriedBefore}
@@ -44,15 +42,10 @@ use Rattle.check_report.specs.declared.whole.TriedBefore.TheVariants.{Nothing, F
 use Rattle.check_report.proofs.Findings.{auto_cause, cones_fault, cones_whole, found_by_cones, none_by_cones}
 use Rattle.check_report.proofs.Wholes.{all_first, decided_first}
 
--- both of the last orders were given up
-pub last_given_up : {H : Type 0} (task : Task H) (declared : Option (Bor NamingModel)) (furthest : AttemptOrder) (budget : ℕ) (bound : WaveBound) {round : Round} {full : Bool} → round ≡ GivenUp full →
-    IsLastRound task declared furthest budget bound round → IsOrderGivenUp task budget bound Declared
-last_given_up task declared furthest budget bound {round} {full} is last = (let h : IsLastRound task declared furthest budget bound (GivenUp full) = subst (IsLastRound task declared furthest budget bound) is last in h.1)
-
 module _ {H : Type 0} (task : Task H) (input : DeviceTexts) (given : AreGiven input (circuit task.first.now) (circuit task.second.now) (condition task.given)) (bound : WaveBound) where
   -- each of these ways to end is enough if another attempt could improve the verdict of a pair
   pub last_of_auto : (found : Found) → task.settings.now.order ≡ Auto →
-      (list_any (is_open task.settings.now.difference) found.verdicts ≡ true → IsAttemptGivenUp input task.settings.now.matching task.settings.now.limit bound Declared ⊎ HaveTooManyVariables input task.settings.now.matching) →
+      (list_any (is_open task.settings.now.difference) found.verdicts ≡ true → AreLastGivenUp input task.settings.now bound ⊎ HaveTooManyVariables input task.settings.now.matching) →
       HasLastAttempt input task.settings.now bound task.settings.now.order found
   last_of_auto found auto h = subst (λ choice. HasLastAttempt input task.settings.now bound choice found) (sym auto) h
 
@@ -65,15 +58,19 @@ module _ {H : Type 0} (task : Task H) (input : DeviceTexts) (given : AreGiven in
       let count = names_count task.settings.now.matching (circuit task.first.now) (circuit task.second.now) (condition task.given) orders.Declared p is in
       last_of_auto found auto (λ _. inr (circuit task.first.now, circuit task.second.now, condition task.given, given, subst (λ n. max_variables < n) count many))
 
-  pub given_up_last : (found : Found) → task.settings.now.order ≡ Auto → IsOrderGivenUp task task.settings.now.limit bound Declared →
+  each_given_up : AreGivenUpToLimit task bound → IsOrderGivenUp task task.settings.now.limit bound Declared → AreLastGivenUp input task.settings.now bound
+  each_given_up each last (tried_orders.Computed c) = given_up_in_input task input given task.settings.now.limit bound (tried_orders.Computed c) (each c)
+  each_given_up each last Declared = given_up_in_input task input given task.settings.now.limit bound Declared last
+
+  pub given_up_last : (found : Found) → task.settings.now.order ≡ Auto → AreGivenUpToLimit task bound × IsOrderGivenUp task task.settings.now.limit bound Declared →
       HasLastAttempt input task.settings.now bound task.settings.now.order found
-  given_up_last found auto last = last_of_auto found auto (λ _. inl (given_up_in_input task input given task.settings.now.limit bound Declared last))
+  given_up_last found auto last = last_of_auto found auto (λ _. inl (each_given_up last.0 last.1))
 
   -- the pairs may be judged one by one
   pub may_take : (before : TriedBefore) → task.settings.now.order ≡ Auto → AreTriedBefore task bound before → MayTakeCones input task.settings.now bound task.settings.now.order
   may_take Nothing auto is = subst (MayTakeCones input task.settings.now bound) (sym auto) (inr (inr is))
   may_take (First trials) auto is = auto_cause task input given bound auto is.1
-  may_take (Second trials) auto is = auto_cause task input given bound auto (all_first task bound is)
+  may_take (Second trials) auto is = auto_cause task input given bound auto (all_first task bound is.1)
 
   -- the verdicts of the pairs
   pub decided_by_pairs : (p : NamingModel) (found : Found) → IsNamingIn task orders.Declared p → MayTakeCones input task.settings.now bound task.settings.now.order → IsFoundByCones task bound p found →
@@ -139,15 +136,11 @@ module _ {H : Type 0} (task : Task H) (bound : WaveBound) where
       AreTrials task trials.items × AreAllGivenUp task (first_whole_limit task.settings.now.limit) bound
   searched_first declared {trials} ended h = subst (IsSearched task declared (first_whole_limit task.settings.now.limit) bound) ended h
 
-  pub again_given_up : (declared : Option (Bor NamingModel)) {trials : Vec Trial Global} {end : WholeEnd} → end ≡ WholeGivenUp trials → IsTriedAgain task declared bound end → AreAllGivenUp task (whole_limit task.settings.now.limit) bound
-  again_given_up declared {trials} ended h = subst (IsTriedAgain task declared bound) ended h
-
-  pub given_up_by_rest : (declared : Option (Bor NamingModel)) {end : Option DecidedValue} → end ≡ None → IsRestOfWhole task declared bound end → IsOrderGivenUp task task.settings.now.limit bound Declared
+  pub given_up_by_rest : (declared : Option (Bor NamingModel)) {end : Option DecidedValue} → end ≡ None → IsRestOfWhole task declared bound end → AreGivenUpToLimit task bound × IsOrderGivenUp task task.settings.now.limit bound Declared
   given_up_by_rest declared ended h = subst (IsRestOfWhole task declared bound) ended h
 
 -- by a choice by which pairs may be picked, each pair may be judged by its cones
 pub takes_cones : (input : DeviceTexts) (s : Settings) (bound : WaveBound) (choice : Strategy) → TakesPicks choice → MayTakeCones input s bound choice
-unfolding Rattle.compare_built.specs.Picking.takes_picks
 takes_cones input s bound (One o) picks = absurd (let never : false ≡ true = picks in cc)
 takes_cones input s bound (Computed c) picks = absurd (let never : false ≡ true = picks in cc)
 takes_cones input s bound Best picks = absurd (let never : false ≡ true = picks in cc)
@@ -157,7 +150,6 @@ takes_cones input s bound (ConesByList names) picks = tt
 takes_cones input s bound Merge picks = absurd (let never : false ≡ true = picks in cc)
 
 pub goes_by_cones : (choice : Strategy) → TakesPicks choice → MayGoByCones choice
-unfolding Rattle.compare_built.specs.Picking.takes_picks
 goes_by_cones (One o) picks = absurd (let never : false ≡ true = picks in cc)
 goes_by_cones (Computed c) picks = absurd (let never : false ≡ true = picks in cc)
 goes_by_cones Best picks = absurd (let never : false ≡ true = picks in cc)
@@ -168,7 +160,6 @@ goes_by_cones Merge picks = absurd (let never : false ≡ true = picks in cc)
 
 -- if cones or merging are asked for, there are no last attempts
 last_of_choice : (input : DeviceTexts) (s : Settings) (bound : WaveBound) (found : Found) (choice : Strategy) → TakesPicks choice → HasLastAttempt input s bound choice found
-unfolding Rattle.compare_built.specs.Picking.takes_picks
 last_of_choice input s bound found (One o) picks = absurd (let never : false ≡ true = picks in cc)
 last_of_choice input s bound found (Computed c) picks = absurd (let never : false ≡ true = picks in cc)
 last_of_choice input s bound found Best picks = absurd (let never : false ≡ true = picks in cc)

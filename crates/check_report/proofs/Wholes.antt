@@ -16,7 +16,7 @@ use Rattle.order_search.specs.declared.trials.Trial.{Trial}
 use Rattle.order_search.specs.Trials.{AreAllGivenUp, AreCandidatesGivenUp, AreEarlierGivenUp, Decides, IsCandidateGivenUp, IsDecided, IsFoundWithin}
 use Rattle.order_search.proofs.Budgets.{first_is_one}
 use Rattle.order_search.proofs.Rounds.{before_any}
-use Rattle.check_report.specs.Wholes.{IsDecidedWhole, IsSearched, IsTriedAgain, attempt_of}
+use Rattle.check_report.specs.Wholes.{AreGivenUpToLimit, IsDecidedWhole, IsSearched, IsTriedAgain, attempt_of}
 use Rattle.check_report.specs.declared.whole.WholeEnd.{WholeEnd}
 use Rattle.check_report.specs.declared.whole.WholeEnd.TheVariants.{Decided, GivenUp}
 
@@ -71,6 +71,10 @@ module _ {H : Type 0} (task : Task H) (bound : WaveBound) where
   -- if the limit of the run is small, both limits are equal to it
   pub small_all : task.settings.now.limit ≤ 262144 → AreAllGivenUp task (first_whole_limit task.settings.now.limit) bound → AreAllGivenUp task (whole_limit task.settings.now.limit) bound
   small_all few all = subst (λ n. AreAllGivenUp task n bound) (let e : first_whole_limit run_limit ≡ whole_limit run_limit = omega (arith, few) in e) all
+
+  -- if the limit of the run is at most the second limit, the candidates were tried within it
+  pub small_limit : task.settings.now.limit ≤ 4194304 → AreAllGivenUp task (whole_limit task.settings.now.limit) bound → AreGivenUpToLimit task bound
+  small_limit few all c = all run_limit (inr (let e : run_limit ≡ whole_limit run_limit = omega (arith, few) in e)) c
 
   -- the attempts within the second limit were given up as well
   pub all_again : (full : Bool) (trials : List Trial) → 262144 < task.settings.now.limit → AreCandidatesGivenUp task (whole_limit task.settings.now.limit) bound full trials →
@@ -137,5 +141,5 @@ module _ {H : Type 0} (task : Task H) (declared : Option (Bor NamingModel)) (bou
   -- the result of a search up to the second limit is that of the attempts up to it
   pub searched_again : (r : Result WholeEnd CheckFault) → IfOk r (IsSearched task declared (whole_limit task.settings.now.limit) bound) → IfOk r (IsTriedAgain task declared bound)
   searched_again (Ok (Decided d)) h = decided_whole d h
-  searched_again (Ok (GivenUp trials)) h = h.1
+  searched_again (Ok (GivenUp trials)) h = h
   searched_again (Err fault) h = tt

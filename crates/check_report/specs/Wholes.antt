@@ -7,9 +7,10 @@ use Rattle.compare_built.specs.Attempts.{IsBudget, first_whole_limit, whole_limi
 use Rattle.report_text.specs.declared.difference.Difference.TheVariants.{AnyOne}
 use Rattle.compare_built.specs.declared.strategy.Attempt.{Attempt}
 use Rattle.compare_built.specs.declared.strategy.AttemptOrder.TheVariants.{Declared}
+use Rattle.compare_built.specs.declared.strategy.Candidate.{Candidate}
 use Rattle.compare_built.specs.declared.task.Task.{Task}
 use Rattle.order_search.specs.declared.attempts.Decided.{Decided as DecidedValue}
-use Rattle.order_search.specs.Trials.{AreAllGivenUp, AreEarlierGivenUp, AreTrials, IsDecided, IsFoundWithin, IsOrderGivenUp}
+use Rattle.order_search.specs.Trials.{AreAllGivenUp, AreEarlierGivenUp, AreTrials, IsCandidateGivenUp, IsDecided, IsFoundWithin, IsOrderGivenUp, WereGivenUp}
 use Rattle.check_report.specs.declared.whole.TriedBefore.{TriedBefore}
 use Rattle.check_report.specs.declared.whole.TriedBefore.TheVariants.{Nothing, First, Second}
 use Rattle.check_report.specs.declared.whole.WholeEnd.{WholeEnd}
@@ -34,15 +35,26 @@ pub record IsDecidedWhole {H : Type 0} (task : Task H) (declared : Option (Bor N
 -- the result of the attempts up to the second limit, some of which were made earlier
 abbrev pub IsTriedAgain : {H : Type 0} → Task H → Option (Bor NamingModel) → (bound : WaveBound) → WholeEnd → Type 0
 IsTriedAgain task declared bound (Decided d) = IsDecidedWhole task declared bound d
-IsTriedAgain task declared bound (GivenUp trials) = AreAllGivenUp task (whole_limit task.settings.now.limit) bound
+IsTriedAgain task declared bound (GivenUp trials) = AreTrials task trials.items × AreAllGivenUp task (whole_limit task.settings.now.limit) bound
 
 -- the attempts that were given up before the pairs were judged
 abbrev pub AreTriedBefore : {H : Type 0} → Task H → (bound : WaveBound) → TriedBefore → Type 0
 AreTriedBefore task bound Nothing = task.settings.now.difference ≡ AnyOne
 AreTriedBefore task bound (First trials) = AreTrials task trials.items × AreAllGivenUp task (first_whole_limit task.settings.now.limit) bound
-AreTriedBefore task bound (Second trials) = AreAllGivenUp task (whole_limit task.settings.now.limit) bound
+AreTriedBefore task bound (Second trials) = AreTrials task trials.items × AreAllGivenUp task (whole_limit task.settings.now.limit) bound
 
--- the result of the attempts after the pairs: one of them succeeds, or that in declared order was given up too
+-- each candidate was given up within the limit of the run
+abbrev pub AreGivenUpToLimit : {H : Type 0} → Task H → (bound : WaveBound) → Type 0
+AreGivenUpToLimit task bound = (c : Candidate) → IsCandidateGivenUp task task.settings.now.limit bound c
+
+-- the result of the attempts in the orders of the candidates within the limit of the run, and the trials of those that
+-- were made after the second limit
+abbrev pub IsTriedToLimit : {H : Type 0} → Task H → Option (Bor NamingModel) → (bound : WaveBound) → WholeEnd → Type 0
+IsTriedToLimit task declared bound (Decided d) = IsDecidedWhole task declared bound d
+IsTriedToLimit task declared bound (GivenUp trials) = WereGivenUp task task.settings.now.limit bound trials.items × AreGivenUpToLimit task bound
+
+-- the result of the attempts after the pairs: one of them succeeds, or each candidate was given up within the limit of
+-- the run, and so was declared order
 abbrev pub IsRestOfWhole : {H : Type 0} → Task H → Option (Bor NamingModel) → (bound : WaveBound) → Option DecidedValue → Type 0
 IsRestOfWhole task declared bound (Some d) = IsDecidedWhole task declared bound d
-IsRestOfWhole task declared bound None = IsOrderGivenUp task task.settings.now.limit bound Declared
+IsRestOfWhole task declared bound None = AreGivenUpToLimit task bound × IsOrderGivenUp task task.settings.now.limit bound Declared

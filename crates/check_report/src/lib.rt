@@ -52,7 +52,6 @@ pub use check_run::{check, judge};
 pub use compare_built::fault::CheckFault;
 pub use compare_built::found::Verdicts;
 pub use compare_built::named_signals::has_picked;
-pub use compare_built::pair_filter::PairFilter;
 pub use compare_built::settings::Settings;
 pub use compare_built::strategy::{Attempt, AttemptOrder, Candidate, Strategy};
 pub use compare_built::task::Context;
@@ -60,6 +59,6 @@ pub use cone_check::rounds::cone_limit;
 pub use explain_report::explanations::has_pair;
 pub use listing::print_order;
 pub use report_text::{
-    Assignment, Bits, Cause, Difference, Heading, Name, Outcome, PairKind, PairName, Share, Side,
-    Verdict, json_of, report_of, write_whole,
+    Assignment, Bits, Cause, Difference, Heading, Name, Outcome, PairFilter, PairKind, PairName,
+    Share, Side, Verdict, json_of, report_of, write_whole,
 };

@@ -7,19 +7,18 @@
 //! a larger budget the order that came furthest is tried first. `declared` is the pairing over
 //! whose variables the verdicts are reported, whatever order decides.
 ghost use Rattle.std.specs.Prelude.{◌≡◌, ◌↔◌, ◌<◌, ◌^◌, IfOk, IfErr, IsTrue, Some, min};
-ghost use Rattle.compare_built.specs.Attempts.{first_whole_limit};
+ghost use Rattle.compare_built.specs.Attempts.{first_whole_limit, whole_limit};
 ghost use Rattle.order_search.specs.Trials.{AreAllGivenUp, AreTrials, EndsAtOnce, IsGivingUp, IsReportedIn};
-ghost use Rattle.check_report.specs.Wholes.{AreTriedBefore, IsRestOfWhole, IsSearched, IsTriedAgain, attempt_of};
+ghost use Rattle.check_report.specs.Wholes.{AreTriedBefore, IsRestOfWhole, IsSearched, IsTriedAgain, IsTriedToLimit, attempt_of};
 
 use compare_built::fault::CheckFault;
 use compare_built::found::Verdicts;
-use compare_built::strategy::{Attempt, AttemptOrder};
+use compare_built::strategy::Attempt;
 use compare_built::task::Task;
 use expand_work::{Monitor, WaveFault};
 use net_order::pairing::Pairing;
-use order_search::attempts::{Decided, Round, try_again};
+use order_search::attempts::{Decided, Round, try_again, try_declared};
 use order_search::budget_search::search;
-use order_search::last_attempts::{furthest_of, try_last};
 use order_search::trials::Trial;
 use std::sync::Wait;
 use std::thread::Threads;
@@ -137,21 +136,34 @@ fn search_rest<H: Threads + Wait + Sync, G: Monitor>(
     }
 }
 
-/// Returns the order of the last attempt but one; the last is in declared order. It is the order
-/// that came furthest. But if the limit of the run is not above the second limit, that order was
-/// tried within it already; then it is declared order too, and as one order is not tried twice
-/// (`try_last`), one attempt is left.
-fn before_declared(furthest: AttemptOrder, limit: u64) -> AttemptOrder {
+/// Tries the orders within the limit of the run, after all attempts within the second limit were given up. If the limit
+/// of the run is not larger, they were tried within it already, and no trial is left.
+fn try_to_limit<H: Threads + Wait + Sync, G: Monitor>(
+    task: &Task<'_, H>,
+    declared: &Pairing,
+    trials: Vec<Trial>,
+    monitor: &G,
+) -> Result<WholeEnd, CheckFault>
+    requires verdict_order { IsReportedIn task.now (Some declared) }
+    requires trials { AreTrials task.now trials.items }
+    requires given_up { AreAllGivenUp task.now (whole_limit task.now.settings.now.limit) (G.bound monitor.now) }
+    ensures tried { IfOk result (IsTriedToLimit task.now (Some declared.entry) (G.bound monitor.now)) }
+    ensures ends { IfErr result EndsAtOnce }
+{
+    let limit = task.settings.limit;
     if limit <= WHOLE_LIMIT {
-        AttemptOrder::Declared
-    } else {
-        furthest
+        return Ok(WholeEnd::GivenUp(Vec::new(task.alloc)));
+    }
+    let mut trials = trials;
+    match try_again(task, Some(declared), &mut trials, limit, monitor)? {
+        Round::Decided(decided) => Ok(WholeEnd::Decided(decided)),
+        Round::GivenUp { .. } => Ok(WholeEnd::GivenUp(trials)),
     }
 }
 
 /// Makes the remaining attempts at the whole netlists: those within the second limit that were not made before, then
-/// two within the limit of the run: one in the order that came furthest, if that limit is larger, and one in declared
-/// order. Returns none if each was given up.
+/// those within the limit of the run, if that is larger, and at last one in declared order, unless an order that was
+/// tried within the limit of the run is the same. Returns none if each was given up.
 pub(crate) fn try_rest<H: Threads + Wait + Sync, G: Monitor>(
     task: &Task<'_, H>,
     declared: &Pairing,
@@ -163,14 +175,16 @@ pub(crate) fn try_rest<H: Threads + Wait + Sync, G: Monitor>(
     ensures rest { IfOk result (IsRestOfWhole task.now (Some declared.entry) (G.bound monitor.now)) }
     ensures ends { IfErr result EndsAtOnce }
 {
-    let limit = task.settings.limit;
     let trials = match search_rest(task, declared, before, monitor)? {
         WholeEnd::Decided(decided) => return Ok(Some(decided)),
         WholeEnd::GivenUp(trials) => trials,
     };
-    let furthest = furthest_of(trials.as_slice());
-    let order = before_declared(furthest, limit);
-    match try_last(task, Some(declared), order, limit, monitor)? {
+    let tried = match try_to_limit(task, declared, trials, monitor)? {
+        WholeEnd::Decided(decided) => return Ok(Some(decided)),
+        WholeEnd::GivenUp(tried) => tried,
+    };
+    let limit = task.settings.limit;
+    match try_declared(task, Some(declared), tried, limit, monitor)? {
         Round::Decided(decided) => Ok(Some(decided)),
         Round::GivenUp { .. } => Ok(None),
     }

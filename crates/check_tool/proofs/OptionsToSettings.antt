@@ -13,7 +13,8 @@ use Rattle.compare_built.specs.Picking.{TakesPicks as MayPick}
 use Rattle.compare_built.specs.declared.strategy.Attempt.{Attempt}
 use Rattle.compare_built.specs.declared.strategy.Strategy.{Strategy}
 use Rattle.compare_built.specs.declared.fault.CheckFault.{CheckFault}
-use Rattle.compare_built.specs.declared.pair_filter.PairFilter.{PairFilter}
+use Rattle.report_text.specs.declared.pair_filter.PairFilter.{PairFilter}
+use Rattle.report_text.specs.declared.cause.PairName.{PairName}
 use Rattle.compare_built.specs.declared.settings.Settings.{Settings}
 use Rattle.report_text.specs.declared.outcome.Outcome.{Outcome}
 use Rattle.net_names.specs.declared.order.Match.{Match}
@@ -37,7 +38,7 @@ goes_by_cones bytes_at (Extended path) choice is may = absurd may
 
 -- if pairs may be picked by the options, they may be picked by the settings
 pub picks_by : (bytes_at : List ℕ → Option (List ℕ)) (c : OrderChoice) (choice : Strategy) → IsOrderOf bytes_at c choice → TakesPicks c → MayPick choice
-unfolding Rattle.command_line.specs.Picking.takes_picks Rattle.compare_built.specs.Picking.takes_picks
+unfolding Rattle.command_line.specs.Picking.takes_picks
 picks_by bytes_at Cones choice is picks = subst MayPick (sym is) refl
 picks_by bytes_at (ConesByList path) choice is picks = subst MayPick (sym is.1) refl
 picks_by bytes_at Auto choice is picks = absurd (let never : false ≡ true = picks in cc)
@@ -78,7 +79,7 @@ given_up_in_bound sources s bound other same f = subst (λ b. IsSearchGivenUp so
 pub stopped_in_bound : (s : Settings) (bound other : WaveBound) → bound ≡ other → (MayCheckByCones s.order → ⊥) × MayStop bound → (MayCheckByCones s.order → ⊥) × MayStop other
 stopped_in_bound s bound other same f = (f.0, subst MayStop same f.1)
 
-module _ (sources : DeviceTexts) (o : Options) (choice : Strategy) (picked : PairFilter) (s : Settings) (set : AreSettings o choice picked s) where
+module _ (sources : DeviceTexts) (o : Options) (choice : Strategy) (picked : PairFilter PairName) (s : Settings) (set : AreSettings o choice picked s) where
   -- a property of each order by the settings is one of each order by the options
   in_each : (P : Match → ℕ → Order → Type 0) → InEachOrder sources s.matching s.order (P s.matching s.limit) → InEachOrder sources o.matching choice (P o.matching (limit_of o))
   in_each P f =

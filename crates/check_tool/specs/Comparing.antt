@@ -14,7 +14,8 @@ use Rattle.compare_built.specs.declared.fault.CheckFault.{CheckFault}
 use Rattle.compare_built.specs.declared.fault.CheckFault.TheVariants.{First, Second, Given, GivenOutputs, Order as OrderRefused, Only, Explain}
 use Rattle.compare_built.specs.declared.fault.CheckFault.TheVariants.{Wave, GivenUp, Write, OutOfMemory}
 use Rattle.compare_built.specs.declared.strategy.Strategy.{Strategy}
-use Rattle.compare_built.specs.declared.pair_filter.PairFilter.{PairFilter}
+use Rattle.report_text.specs.declared.pair_filter.PairFilter.{PairFilter}
+use Rattle.report_text.specs.declared.cause.PairName.{PairName}
 use Rattle.compare_built.specs.declared.settings.Settings.{Settings}
 use Rattle.net_rename.specs.declared.pair.NamePair.{NamePair}
 use Rattle.net_rename.specs.declared.fault.PairsFault.TheVariants.{OutOfMemory as NoPairsMemory}
@@ -59,7 +60,7 @@ pub record IsUnchecked (sources : DeviceTexts) (s : Settings) (bound : WaveBound
 pub record IsReady (bytes_at : List ℕ → Option (List ℕ)) (o : Options) (tried tries : Option (List Try)) (given : Option (Option (List ℕ)))
     (pairs : Option (List NamePair)) (s : Settings) : Type 0 where
   pub choice : Strategy
-  pub picked : PairFilter
+  pub picked : PairFilter PairName
   pub conditioned : IsGivenOf bytes_at o.given given
   pub paired : IsPairsOf bytes_at o.pairs pairs
   pub ordered : IsOrderOf bytes_at o.order choice

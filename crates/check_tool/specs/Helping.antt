@@ -23,8 +23,8 @@ use Rattle.report_text.specs.declared.cause.PairName.{PairName}
 use Rattle.compare_built.specs.Check.{Gives}
 use Rattle.explain_report.specs.Explaining.{IsTargetIn}
 use Rattle.compare_built.specs.PairSelection.{HasPicked}
-use Rattle.command_line.specs.declared.options.Picks.{Picks}
-use Rattle.command_line.specs.declared.options.Picks.TheVariants.{All as AllPicks, Only as OnlyPicks, Share as SharePicks}
+use Rattle.report_text.specs.declared.pair_filter.PairFilter.{PairFilter}
+use Rattle.report_text.specs.declared.pair_filter.PairFilter.TheVariants.{All as AllPicks, Only as OnlyPicks, Share as SharePicks}
 use Rattle.command_line.specs.declared.options.Options.{Options}
 use Rattle.command_line.specs.declared.options.OrderChoice.{OrderChoice}
 use Rattle.command_line.specs.declared.options.OrderChoice.TheVariants.{Named, Best, Auto, Cones, ConesByList, Merge, File, Extended}
@@ -370,7 +370,7 @@ help_line (Some (name, Some line)) help = codes "bddcheck: " ++ (name
     ++ (codes ":" ++ (decimal line ++ (codes ": " ++ (help ++ codes "\n")))))
 
 -- the patterns that select pairs
-abbrev pub picked_names : Picks → List (Bor (List ℕ))
+abbrev pub picked_names : PairFilter (Bor (List ℕ)) → List (Bor (List ℕ))
 picked_names AllPicks = []
 picked_names (OnlyPicks names) = names.items
 picked_names (SharePicks share) = []

@@ -31,8 +31,6 @@ use Rattle.compare_built.specs.declared.strategy.Attempt.{Attempt}
 use Rattle.compare_built.specs.declared.strategy.Strategy.{Strategy}
 use Rattle.compare_built.specs.declared.strategy.Candidate.TheVariants as candidates
 use Rattle.compare_built.specs.declared.strategy.Strategy.TheVariants.{One as Ordered, Computed, Best as TheBest, Auto as Found, Cones as ByCones, ConesByList as ByConesOfList, Merge as ByMerging}
-use Rattle.compare_built.specs.declared.pair_filter.PairFilter.{PairFilter}
-use Rattle.compare_built.specs.declared.pair_filter.PairFilter.TheVariants.{All as AllPairs, Only as OnlyPairs, Share as SharedPairs}
 use Rattle.compare_built.specs.declared.settings.Settings.{Settings}
 use Rattle.explain_report.specs.Deciding.{IsUnknown}
 use Rattle.explain_report.specs.Dumping.{IsReportWithVcd, bytes_in}
@@ -40,8 +38,8 @@ use Rattle.explain_report.specs.Explaining.{AreTargetsKnown, IsUnexplained}
 use Rattle.report_text.specs.declared.cause.PairName.{PairName}
 use Rattle.report_text.specs.declared.outcome.PairKind.{PairKind}
 use Rattle.report_text.specs.declared.outcome.PairKind.TheVariants.{Output, NextState}
-use Rattle.command_line.specs.declared.options.Picks.{Picks}
-use Rattle.command_line.specs.declared.options.Picks.TheVariants.{All, Only, Share}
+use Rattle.report_text.specs.declared.pair_filter.PairFilter.{PairFilter}
+use Rattle.report_text.specs.declared.pair_filter.PairFilter.TheVariants.{All, Only, Share}
 use Rattle.command_line.specs.declared.options.Options.{Options}
 use Rattle.command_line.specs.declared.options.OrderChoice.{OrderChoice}
 use Rattle.command_line.specs.declared.options.OrderChoice.TheVariants.{Named, Best, Auto, Cones, ConesByList, Merge, File, Extended}
@@ -243,15 +241,15 @@ abbrev pub AreTargetsOf : List (Bor (List ℕ)) → List PairName → Type 0
 AreTargetsOf words targets = AllZip (λ (w : Bor (List ℕ)) (t : PairName). IsKindAndName w.now t.role t.name) words targets
 
 -- the filter for the pairs that the options select
-abbrev pub IsPickedOf : Picks → PairFilter → Type 0
-IsPickedOf All picked = picked ≡ AllPairs
-IsPickedOf (Share share) picked = picked ≡ SharedPairs share
-IsPickedOf (Only words) (OnlyPairs patterns) = AreTargetsOf words.items patterns.items
-IsPickedOf (Only words) AllPairs = ⊥
-IsPickedOf (Only words) (SharedPairs share) = ⊥
+abbrev pub IsPickedOf : PairFilter (Bor (List ℕ)) → PairFilter PairName → Type 0
+IsPickedOf All picked = picked ≡ All
+IsPickedOf (Share share) picked = picked ≡ Share share
+IsPickedOf (Only words) (Only patterns) = AreTargetsOf words.items patterns.items
+IsPickedOf (Only words) All = ⊥
+IsPickedOf (Only words) (Share share) = ⊥
 
 -- The settings of a check that the options ask for, with this strategy and this filter.
-pub record AreSettings (o : Options) (choice : Strategy) (picked : PairFilter) (s : Settings) : Type 0 where
+pub record AreSettings (o : Options) (choice : Strategy) (picked : PairFilter PairName) (s : Settings) : Type 0 where
   pub matching : s.matching ≡ o.matching
   pub difference : s.difference ≡ o.difference
   pub order : s.order ≡ choice
@@ -281,7 +279,7 @@ pub record IsCompared (bytes_at : List ℕ → Option (List ℕ)) (one two : Opt
     (bytes : List ℕ) : Type 0 where
   pub given : Option (Option (List ℕ))
   pub choice : Strategy
-  pub picked : PairFilter
+  pub picked : PairFilter PairName
   pub settings : Settings
   pub pairs : Option (List NamePair)
   pub conditioned : IsGivenOf bytes_at o.given given
@@ -345,7 +343,7 @@ AreEarlierAttemptsGivenUp bytes_at input o done =
 -- a pattern matches no output and no register of the first of these texts
 abbrev pub ArePicksUnknown : (List ℕ → Option (List ℕ)) → (one two : Option (List ℕ)) → Options → Type 0
 ArePicksUnknown bytes_at one two o =
-    (given : Option (Option (List ℕ))) × (picked : PairFilter) × IsGivenOf bytes_at o.given given × IsPickedOf o.picks picked
+    (given : Option (Option (List ℕ))) × (picked : PairFilter PairName) × IsGivenOf bytes_at o.given given × IsPickedOf o.picks picked
     × IsUnknown (device_texts one two given) picked
 
 -- the same of the texts that the options name

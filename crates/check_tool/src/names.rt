@@ -12,18 +12,18 @@ use crate::fault::ToolFault;
 use crate::folder::Folder;
 use crate::help::file_of_first;
 use crate::settings::target_of;
-use check_report::{CheckFault, has_pair, has_picked};
-use command_line::{Options, Picks};
+use check_report::{CheckFault, PairFilter, has_pair, has_picked};
+use command_line::Options;
 use net_bench::netlist::Netlist;
 use net_bench::reader::read_bench;
 use std::alloc::{AllocError, Global};
 
 /// Returns the patterns that select pairs.
-fn picked_names<'o, 'a>(picks: &'o Picks<'a>) -> &'o [&'a str]
+fn picked_names<'o, 'a>(picks: &'o PairFilter<&'a str>) -> &'o [&'a str]
     ensures { result.now ≡ picked_names picks.now }
 {
     match picks {
-        Picks::Only(names) => names.as_slice(),
+        PairFilter::Only(names) => names.as_slice(),
         _ => &[],
     }
 }

@@ -7,7 +7,7 @@ ghost use Rattle.compare_built.specs.Picking.{TakesPicks as MayPick};
 ghost use Rattle.check_tool.specs.Running.{AreSettings, AreTargetsOf, IsKindAndName, IsPickedOf, limit_of};
 
 use check_report::{Name, PairFilter, PairKind, PairName, Settings, Strategy};
-use command_line::{Options, OrderChoice, Picks};
+use command_line::{Options, OrderChoice};
 use compare_built::strategy::REQUESTS_PER_NODE;
 use std::alloc::{AllocError, Global};
 
@@ -71,13 +71,16 @@ pub(crate) fn targets_of(alloc: Global, words: &[&str]) -> Result<Vec<PairName>,
 }
 
 /// Returns the filter for the pairs that the options select.
-pub(crate) fn picked_of(alloc: Global, picks: &Picks<'_>) -> Result<PairFilter, AllocError>
+pub(crate) fn picked_of(
+    alloc: Global,
+    picks: &PairFilter<&str>,
+) -> Result<PairFilter<PairName>, AllocError>
     ensures { IfOk result (IsPickedOf picks.now) }
 {
     match picks {
-        Picks::All => Ok(PairFilter::All),
-        Picks::Share(share) => Ok(PairFilter::Share(*share)),
-        Picks::Only(words) => {
+        PairFilter::All => Ok(PairFilter::All),
+        PairFilter::Share(share) => Ok(PairFilter::Share(*share)),
+        PairFilter::Only(words) => {
             let patterns = targets_of(alloc, words.as_slice())?;
             Ok(PairFilter::Only(patterns))
         }
@@ -89,7 +92,7 @@ pub(crate) fn picked_of(alloc: Global, picks: &Picks<'_>) -> Result<PairFilter, 
 pub(crate) fn settings_of(
     options: &Options<'_>,
     order: Strategy,
-    picked: PairFilter,
+    picked: PairFilter<PairName>,
     explain: Vec<PairName>,
 ) -> Settings
     requires auto { order ≡ StrategyValue.Auto → options.now.order ≡ OrderValue.Auto }

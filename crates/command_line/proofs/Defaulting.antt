@@ -12,8 +12,8 @@ use Rattle.report_text.specs.declared.difference.Difference.TheVariants.{Least, 
 use Rattle.command_line.specs.declared.options.Options.{Options}
 use Rattle.command_line.specs.declared.options.OrderChoice.{OrderChoice}
 use Rattle.command_line.specs.declared.options.OrderChoice.TheVariants.{Auto}
-use Rattle.command_line.specs.declared.options.Picks.{Picks}
-use Rattle.command_line.specs.declared.options.Picks.TheVariants.{All}
+use Rattle.report_text.specs.declared.pair_filter.PairFilter.{PairFilter}
+use Rattle.report_text.specs.declared.pair_filter.PairFilter.TheVariants.{All}
 use Rattle.command_line.specs.Words.{tool_app, ArePicks, AreTexts, AskFor, IsChoice, IsOrderIfPicked, are_picked, explained_in, names_in, share_in, default_order_of, flag_of, IsDifference, IsFile, IsForm, IsAssignment, IsMatching, IsMemory, IsSeconds, IsNumberIn, IsLimit}
 use Rattle.command_line.specs.Defaults.{AreDefaults}
 use Rattle.command_line.proofs.Sizing.{one_size}
@@ -138,7 +138,7 @@ much : (n : ℕ) → IsMemory (codes "4G") n → n ≡ 4294967296
 much n is = one_size (codes "4G") n (codes "4") (codes "G") (1024 ^ 3) is.0 (inr (inr (refl, refl))) refl
 
 -- if none are picked, all are
-pick : (picks : Picks) (names : List (List ℕ)) (share : Option (List ℕ)) → names ≡ [] → share ≡ None → ArePicks names share picks → picks ≡ All
+pick : (picks : PairFilter (Bor (List ℕ))) (names : List (List ℕ)) (share : Option (List ℕ)) → names ≡ [] → share ≡ None → ArePicks names share picks → picks ≡ All
 pick picks names share no_names no_share = subst (λ n. ArePicks n share picks → picks ≡ All) (sym no_names) (subst (λ s. ArePicks [] s picks → picks ≡ All) (sym no_share) (λ e. e))
 
 -- and the order is the one that is asked for

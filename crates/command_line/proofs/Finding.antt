@@ -5,8 +5,8 @@ use Rattle.std.specs.Borrow.{Bor}
 use Rattle.clap.specs.Words.{Row, Text, first_of}
 use Rattle.command_line.specs.declared.options.OrderChoice.{OrderChoice}
 use Rattle.command_line.specs.declared.options.OrderChoice.TheVariants.{Named, Best, Auto, Cones, ConesByList, Merge, File, Extended}
-use Rattle.command_line.specs.declared.options.Picks.{Picks}
-use Rattle.command_line.specs.declared.options.Picks.TheVariants.{All}
+use Rattle.report_text.specs.declared.pair_filter.PairFilter.{PairFilter}
+use Rattle.report_text.specs.declared.pair_filter.PairFilter.TheVariants.{All}
 use Rattle.command_line.specs.Conflicts.{IfHolds}
 use Rattle.command_line.specs.Picking.{TakesPicks}
 use Rattle.command_line.specs.Words.{IsChoice, IsOrderIfPicked, IsOrderIn, IsPickingOrder, IsSearchName, GiveTwoOrders, GiveTwoPicks, GiveSearch, GiveSearchWith, GivePicksWithFixedOrder, GiveUnusedMemory, GiveUnusedExtend, GiveExplainConflict, GiveUnusedVcd, GiveCausesConflict, GivePairsByPosition, HaveConflict, ArePicks, are_picked, flag_of, names_in, share_in, default_order_of}
@@ -99,7 +99,7 @@ no_flags rows choice is without_conflict found =
 
 -- ---- pairs that are picked
 
-some_picked : (names : List Text) (share : Option Text) (picks : Picks) → ArePicks names share picks → (picks ≡ All → ⊥) → are_picked names share ≡ true
+some_picked : (names : List Text) (share : Option Text) (picks : PairFilter (Bor Text)) → ArePicks names share picks → (picks ≡ All → ⊥) → are_picked names share ≡ true
 some_picked (n ∷ ns) share picks are some = refl
 some_picked [] (Some text) picks are some = refl
 some_picked [] None picks are some = absurd (some are)
@@ -117,7 +117,7 @@ takes (Some path) (Extended p) is = absurd is
 takes None choice is = subst TakesPicks (sym is) refl
 
 -- if pairs are picked, the order is by cones
-pub picked_order : (rows : List Row) (picks : Picks) (choice : OrderChoice) → ArePicks (names_in rows) (share_in rows) picks → IsOrderIn rows choice → (picks ≡ All → ⊥) → TakesPicks choice
+pub picked_order : (rows : List Row) (picks : PairFilter (Bor Text)) (choice : OrderChoice) → ArePicks (names_in rows) (share_in rows) picks → IsOrderIn rows choice → (picks ≡ All → ⊥) → TakesPicks choice
 picked_order rows picks choice are is some = by (are_picked (names_in rows) (share_in rows)) (some_picked (names_in rows) (share_in rows) picks are some) is
   where
     by : (picked : Bool) → picked ≡ true → IsOrderIfPicked picked (first_of (codes "order-file") rows) (first_of (codes "order") rows)

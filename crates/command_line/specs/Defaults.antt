@@ -4,7 +4,7 @@ use Rattle.net_names.specs.declared.order.Match.TheVariants.{Name}
 use Rattle.report_text.specs.declared.difference.Difference.TheVariants.{Least}
 use Rattle.command_line.specs.declared.options.Options.{Options}
 use Rattle.command_line.specs.declared.options.OrderChoice.TheVariants.{Auto}
-use Rattle.command_line.specs.declared.options.Picks.TheVariants.{All}
+use Rattle.report_text.specs.declared.pair_filter.PairFilter.TheVariants.{All}
 use Rattle.command_line.specs.declared.options.Texts.TheVariants.{Input}
 
 -- paired by name, in an order that is found, all pairs, no condition, no pairs of other names, 4 workers, the most

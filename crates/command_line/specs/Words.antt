@@ -27,8 +27,8 @@ use Rattle.report_text.specs.declared.difference.Difference.TheVariants.{Least, 
 use Rattle.command_line.specs.declared.options.Options.{Options}
 use Rattle.command_line.specs.declared.options.OrderChoice.{OrderChoice}
 use Rattle.command_line.specs.declared.options.OrderChoice.TheVariants.{Named, Best, Auto, Cones, ConesByList, Merge, File, Extended}
-use Rattle.command_line.specs.declared.options.Picks.{Picks}
-use Rattle.command_line.specs.declared.options.Picks.TheVariants.{All, Only, Share as InShare}
+use Rattle.report_text.specs.declared.pair_filter.PairFilter.{PairFilter}
+use Rattle.report_text.specs.declared.pair_filter.PairFilter.TheVariants.{All, Only, Share as InShare}
 use Rattle.command_line.specs.declared.options.Texts.{Texts}
 use Rattle.command_line.specs.declared.options.Texts.TheVariants.{Input, Files, InputAndFile, FileAndInput, InputTwice, One}
 use Rattle.command_line.specs.declared.reading.Refused.{Refused}
@@ -246,7 +246,7 @@ are_picked [] (Some text) = true
 are_picked [] None = false
 
 -- what is picked: the pairs of the names if there are names, otherwise those of a share if there is one, otherwise all
-abbrev pub ArePicks : List Text → Option Text → Picks → Type 0
+abbrev pub ArePicks : List Text → Option Text → PairFilter (Bor (List ℕ)) → Type 0
 ArePicks (n ∷ ns) share (Only names) = map (λ s. s.now) names.items ≡ n ∷ ns
 ArePicks (n ∷ ns) share (InShare s) = ⊥
 ArePicks (n ∷ ns) share All = ⊥

@@ -7,14 +7,14 @@ ghost use Rattle.command_line.specs.Words.{AreOptions, are_picked, explained_in,
 ghost use Rattle.command_line.specs.declared.options.OrderChoice.{OrderChoice as ChoiceValue};
 ghost use Rattle.report_text.specs.declared.outcome.Share.{Share as ShareValue};
 
-use crate::options::{Options, OrderChoice, Picks, Texts};
+use crate::options::{Options, OrderChoice, Texts};
 use crate::share::share_of;
 use crate::size::memory_of;
 use crate::values::{is_asked, names_of, word_of};
 use clap::ArgMatches;
 use net_names::order::Match;
 use net_names::order_name::OrderName;
-use report_text::{Assignment, Difference};
+use report_text::{Assignment, Difference, PairFilter};
 use std::alloc::{AllocError, Global};
 
 /// The bytes of memory if none are given. The parser has the same default.
@@ -182,34 +182,37 @@ pub(crate) fn has_picks(matches: &ArgMatches<'_>) -> bool
 }
 
 /// The pairs of these names are picked.
-fn named<'a>(alloc: Global, names: &[&'a str]) -> Result<Picks<'a>, BadPicks>
+fn named<'a>(alloc: Global, names: &[&'a str]) -> Result<PairFilter<&'a str>, BadPicks>
     requires { names.now ≢ [] }
     ensures picks { IfOk result (ArePicks (map (λ s. s.now) names.now) None) }
     ensures share { result ≢ Err BadPicks.Share }
 {
     match names.to_vec(alloc) {
-        Ok(names) => Ok(Picks::Only(names)),
+        Ok(names) => Ok(PairFilter::Only(names)),
         Err(_) => Err(BadPicks::OutOfMemory),
     }
 }
 
 /// The pairs of a share are picked, or all if there is no share.
-fn shared<'a>(word: Option<&'a str>) -> Result<Picks<'a>, BadPicks>
+fn shared<'a>(word: Option<&'a str>) -> Result<PairFilter<&'a str>, BadPicks>
     ensures picks { IfOk result (ArePicks [] (option_map (λ s. s.now) word.entry)) }
     ensures share { result ≡ Err BadPicks.Share → IsSomeAnd
         (option_map (λ s. s.now) word.entry) (λ text. (s : ShareValue) → IsShare text s → ⊥) }
 {
     let Some(word) = word else {
-        return Ok(Picks::All);
+        return Ok(PairFilter::All);
     };
     match share_of(word) {
-        Some(share) => Ok(Picks::Share(share)),
+        Some(share) => Ok(PairFilter::Share(share)),
         None => Err(BadPicks::Share),
     }
 }
 
 /// The pairs that are picked.
-pub(crate) fn picks_in<'a>(alloc: Global, matches: &ArgMatches<'a>) -> Result<Picks<'a>, BadPicks>
+pub(crate) fn picks_in<'a>(
+    alloc: Global,
+    matches: &ArgMatches<'a>,
+) -> Result<PairFilter<&'a str>, BadPicks>
     ensures picks { let rows = rows_of (found_of matches.now) in IfOk result (ArePicks (names_in rows) (share_in rows)) }
     ensures share { result ≡ Err BadPicks.Share → GiveBadShare (rows_of (found_of matches.now)) }
 {
@@ -277,7 +280,7 @@ fn seconds_of(matches: &ArgMatches<'_>) -> Option<u64>
 pub(crate) fn options_of<'a>(
     matches: &ArgMatches<'a>,
     memory: u64,
-    picks: Picks<'a>,
+    picks: PairFilter<&'a str>,
     explain: Vec<&'a str>,
 ) -> Options<'a>
     requires without_conflict { HaveConflict (rows_of (found_of matches.now)) → ⊥ }

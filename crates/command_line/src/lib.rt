@@ -24,5 +24,5 @@ mod share;
 mod size;
 mod values;
 
-pub use options::{Options, OrderChoice, Picks, Texts};
+pub use options::{Options, OrderChoice, Texts};
 pub use reading::{Refused, read_options};

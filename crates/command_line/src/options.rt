@@ -1,12 +1,12 @@
 //! The options that a command line asks for.
 ghost use Rattle.std.specs.Prelude.{◌≡◌, ◌≢◌, ◌≤◌, false};
 ghost use Rattle.command_line.specs.declared.options.OrderChoice.TheVariants.{Auto, Cones, Merge};
-ghost use Rattle.command_line.specs.declared.options.Picks.TheVariants.{All};
+ghost use Rattle.report_text.specs.declared.pair_filter.PairFilter.TheVariants.{All};
 ghost use Rattle.command_line.specs.Picking.{TakesPicks};
 
 use net_names::order::Match;
 use net_names::order_name::OrderName;
-use report_text::{Assignment, Difference, Share};
+use report_text::{Assignment, Difference, PairFilter};
 
 /// The order of the variables that is asked for. Each but the last seven is a named order of `net_order` or `group_order`.
 #[derive(Clone, Copy, Drop, Debug, PartialEq, Eq)]
@@ -27,16 +27,6 @@ pub enum OrderChoice<'a> {
     File(&'a str),
     /// The path of a file with names. Those that are no variables are ignored, and variables that it lacks follow.
     Extended(&'a str),
-}
-
-/// Which pairs of outputs and of registers are compared.
-#[derive(Drop, Debug)]
-pub enum Picks<'a> {
-    All,
-    /// Those whose names match one of these patterns. After `NEXT ` a pattern is for next states only.
-    Only(Vec<&'a str>),
-    /// Those of one share of all.
-    Share(Share),
 }
 
 /// Where the netlists come from.
@@ -61,7 +51,8 @@ pub enum Texts<'a> {
 pub struct Options<'a> {
     pub matching: Match,
     pub order: OrderChoice<'a>,
-    pub picks: Picks<'a>,
+    /// Which pairs are compared. After `NEXT ` a pattern is for next states only.
+    pub picks: PairFilter<&'a str>,
     /// The path of the condition's netlist, if there is a condition.
     pub given: Option<&'a str>,
     /// The path of the file with pairs of names, if some signals have other names in the second netlist.

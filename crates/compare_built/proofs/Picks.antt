@@ -15,7 +15,7 @@ use Rattle.report_text.specs.declared.outcome.Share.{Share}
 use Rattle.report_text.specs.declared.outcome.Side.TheVariants.{First}
 use Rattle.report_text.specs.declared.verdict.Verdict.{Verdict}
 use Rattle.report_text.specs.declared.verdict.Verdict.TheVariants.{Unmatched}
-use Rattle.compare_built.specs.declared.pair_filter.PairFilter.TheVariants.{All as AllPairs, Only, Share as InShare}
+use Rattle.report_text.specs.declared.pair_filter.PairFilter.TheVariants.{All as AllPairs, Only, Share as InShare}
 use Rattle.compare_built.specs.declared.subject.Subject.{Subject}
 use Rattle.compare_built.specs.PairSelection.{ArePicked, AreShares, HasPicked, is_unmatched_of, is_one_of, is_pair_of, of_share}
 use Rattle.compare_built.specs.PairSelection.ArePicked.{all, named, shared}

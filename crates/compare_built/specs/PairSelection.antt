@@ -15,8 +15,8 @@ use Rattle.report_text.specs.declared.outcome.Share.{Share}
 use Rattle.report_text.specs.declared.outcome.Side.TheVariants.{First}
 use Rattle.report_text.specs.declared.verdict.Verdict.{Verdict}
 use Rattle.report_text.specs.declared.verdict.Verdict.TheVariants.{Equal, Differs, Unmatched, Undecided}
-use Rattle.compare_built.specs.declared.pair_filter.PairFilter.{PairFilter}
-use Rattle.compare_built.specs.declared.pair_filter.PairFilter.TheVariants.{All, Only, Share as InShare}
+use Rattle.report_text.specs.declared.pair_filter.PairFilter.{PairFilter}
+use Rattle.report_text.specs.declared.pair_filter.PairFilter.TheVariants.{All, Only, Share as InShare}
 use Rattle.compare_built.specs.declared.subject.Subject.{Subject}
 use Rattle.compare_built.specs.NamePatterns.{matches}
 use Rattle.compare_built.specs.Report.{unmatched_of_side, unmatched_verdicts, subjects}
@@ -48,7 +48,7 @@ abbrev pub HasPicked : Circuit → (pattern : PairName) → Type 0
 HasPicked a pattern = IsTrue (is_one_picked a Output a.outputs pattern) ⊎ IsTrue (is_one_picked a NextState (registers_of a) pattern)
 
 -- one of the patterns picks no output and no register of the first netlist
-abbrev pub HasUnknown : Circuit → PairFilter → Type 0
+abbrev pub HasUnknown : Circuit → PairFilter PairName → Type 0
 HasUnknown a All = ⊥
 HasUnknown a (Only patterns) = (p : PairName) × Contains patterns.items p × (HasPicked a p → ⊥)
 HasUnknown a (InShare share) = ⊥
@@ -107,7 +107,7 @@ of_share k with_shares = map (λ s. s.0) (filter (λ s. s.1 == k) with_shares)
 -- These pairs are picked, in their order, and these lines of outputs and registers without a partner. By patterns, each
 -- of which picks something of the first netlist, only lines of that netlist are picked. By shares, the first share has
 -- all of these lines.
-pub data ArePicked (a b : Circuit) (p : NamingModel) : PairFilter → List Subject → List Verdict → Type 0 where
+pub data ArePicked (a b : Circuit) (p : NamingModel) : PairFilter PairName → List Subject → List Verdict → Type 0 where
   all : ArePicked a b p All (subjects a b p) (unmatched_verdicts a b p)
   named : {patterns : Vec PairName Global} → ((n : PairName) → Contains patterns.items n → HasPicked a n) →
       ArePicked a b p (Only patterns) (filter (is_pair_of a patterns.items) (subjects a b p))
@@ -115,9 +115,3 @@ pub data ArePicked (a b : Circuit) (p : NamingModel) : PairFilter → List Subje
   shared : {share : Share} {shares : List ℕ} → AreShares a b (subjects a b p) share.of shares →
       ArePicked a b p (InShare share) (of_share share.number (zip (subjects a b p) shares))
       (if share.number == 1 then unmatched_verdicts a b p else [])
-
--- the share that a report is of, if it is of one
-abbrev pub share_of : PairFilter → Option Share
-share_of All = None
-share_of (Only patterns) = None
-share_of (InShare share) = Some share

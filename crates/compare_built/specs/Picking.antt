@@ -4,7 +4,7 @@ use Rattle.compare_built.specs.declared.strategy.Strategy.{Strategy}
 use Rattle.compare_built.specs.declared.strategy.Strategy.TheVariants.{One, Computed, Best, Auto, Cones, ConesByList, Merge}
 
 -- whether each pair is judged by its cones, and nothing else is compared
-unfoldable pub takes_picks : Strategy → Bool
+abbrev pub takes_picks : Strategy → Bool
 takes_picks (One o) = false
 takes_picks (Computed c) = false
 takes_picks Best = false

@@ -23,7 +23,6 @@ pub mod fault;
 pub mod found;
 pub mod name_pattern;
 pub mod named_signals;
-pub mod pair_filter;
 pub mod scatter;
 pub mod settings;
 pub mod strategy;

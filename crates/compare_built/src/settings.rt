@@ -1,13 +1,12 @@
 //! The settings of a comparison.
 ghost use Rattle.std.specs.Prelude.{◌≡◌, ◌≢◌, ◌≤◌, false};
 ghost use Rattle.compare_built.specs.declared.strategy.Strategy.TheVariants.{Auto, Cones, Merge};
-ghost use Rattle.compare_built.specs.declared.pair_filter.PairFilter.TheVariants.{All};
+ghost use Rattle.report_text.specs.declared.pair_filter.PairFilter.TheVariants.{All};
 ghost use Rattle.compare_built.specs.Picking.{TakesPicks};
 
-use crate::pair_filter::PairFilter;
 use crate::strategy::Strategy;
 use net_names::order::Match;
-use report_text::{Assignment, Difference, PairName};
+use report_text::{Assignment, Difference, PairFilter, PairName};
 
 /// How two netlists are compared and reported. The ghost fields are invariants: they say which combinations of settings
 /// are allowed.
@@ -18,7 +17,7 @@ pub struct Settings {
     /// Where the order of the variables comes from.
     pub order: Strategy,
     /// Which pairs are compared.
-    pub picked: PairFilter,
+    pub picked: PairFilter<PairName>,
     /// Which difference is reported of a pair that is judged by its cones. In a given order, in that of a candidate and
     /// with `Best` it is always the least.
     pub difference: Difference,

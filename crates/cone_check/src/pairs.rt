@@ -11,7 +11,6 @@ use crate::pair_cones::{
 };
 use crate::pair_monitor::PairMonitor;
 use compare_built::fault::CheckFault;
-use compare_built::pair_filter::PairFilter;
 use compare_built::scatter::widen_verdict;
 use compare_built::settings::Settings;
 use compare_built::strategy::Strategy;
@@ -23,7 +22,7 @@ use net_order::pairing::Pairing;
 use order_search::attempts::{Decided, Round, try_first};
 use order_search::listed_attempt::try_pairing;
 use order_search::trials::paired;
-use report_text::{Difference, Verdict};
+use report_text::{Difference, PairFilter, Verdict};
 use std::alloc::AllocError;
 use std::sync::Wait;
 use std::thread::Threads;

@@ -1,8 +1,8 @@
 //! Reports of some of the pairs.
 use check_report::{
-    CheckFault, Context, Difference, Name, PairKind, PairName, Settings, Share, Strategy, check,
+    CheckFault, Context, Difference, Name, PairFilter, PairKind, PairName, Settings, Share,
+    Strategy, check,
 };
-use compare_built::pair_filter::PairFilter;
 use expand_work::NoMonitor;
 use net_names::order::Match;
 use net_names::order_file::read_order;
@@ -53,7 +53,7 @@ static LEFT: &str = "UNDECIDED o\n0 equal, 0 different, 0 unmatched, 1 undecided
 /// The report of the pairs that are picked, or why there is none.
 fn reported<R: AllocGlobal + Threads + Wait + Sync>(
     rt: &R,
-    picked: PairFilter,
+    picked: PairFilter<PairName>,
 ) -> Result<Vec<u8>, CheckFault> {
     let settings = Settings {
         matching: Match::Name,
@@ -135,7 +135,7 @@ fn pattern(alloc: Global, name: &str) -> Result<PairName, AllocError> {
 }
 
 /// Two patterns.
-fn both(alloc: Global, first: &str, second: &str) -> Result<PairFilter, AllocError> {
+fn both(alloc: Global, first: &str, second: &str) -> Result<PairFilter<PairName>, AllocError> {
     let mut patterns = Vec::new(alloc);
     patterns.push(pattern(alloc, first)?)?;
     patterns.push(pattern(alloc, second)?)?;
@@ -143,7 +143,7 @@ fn both(alloc: Global, first: &str, second: &str) -> Result<PairFilter, AllocErr
 }
 
 /// A pattern of registers.
-fn registers(alloc: Global, name: &str) -> Result<PairFilter, AllocError> {
+fn registers(alloc: Global, name: &str) -> Result<PairFilter<PairName>, AllocError> {
     let mut patterns = Vec::new(alloc);
     patterns.push(PairName {
         role: PairKind::NextState,

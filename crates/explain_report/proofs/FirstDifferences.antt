@@ -1,14 +1,16 @@
 -- First inner signals of pairs, and causes, one after the other.
-use Rattle.std.proofs.Common.{◌≡◌, ◌∙◌, ℕ, ◌+◌, ◌<◌, ◌≤◌, Bool, true, false, List, [], ◌∷◌, ◌++◌, length, get_or, take, drop, map, append_assoc, append-nil, Option, Some, None, Result, Ok, Err, refl, sym, ap, subst, arith}
-use Rattle.std.specs.Prelude.{cond, filter, option_map, option_to_list, slice_get, find, All, IfOk, IfSome, if◌then◌else◌}
+use Rattle.std.proofs.Common.{◌≡◌, ◌∙◌, ℕ, ◌+◌, ◌<◌, ◌≤◌, Bool, true, false, List, [], ◌∷◌, ◌++◌, length, get_or, take, drop, map, append_assoc, append-nil, Option, Some, None, Result, Ok, Err, refl, sym, ap, ap₂, subst, arith}
+use Rattle.std.specs.Prelude.{cond, filter, min, option_map, option_to_list, slice_get, zip, All, IfOk, IfSome, if◌then◌else◌}
 use Rattle.std.specs.List.{list_any}
-use Rattle.std.proofs.lemmas.List.{drop_more, map-append, take_more}
+use Rattle.std.proofs.lemmas.List.{drop_more, map-append, take_all, take_more}
 use Rattle.std.proofs.lemmas.List.Elements.{All-append, All-cons, All-nil, filter-append}
-use Rattle.net_bench.specs.Circuit.{Net, circuit}
+use Rattle.std.proofs.lemmas.Slice.Zip.{get_or-zip, length-zip}
+use Rattle.net_bench.specs.Circuit.{Circuit, Net}
 use Rattle.net_explain.specs.declared.differing.InnerSignal.{InnerSignal}
 use Rattle.net_order.specs.Order.{NamingModel}
 use Rattle.report_text.specs.declared.cause.PairName.{PairName}
 use Rattle.report_text.specs.declared.outcome.PairKind.{PairKind}
+use Rattle.report_text.specs.declared.pair_filter.PairFilter.TheVariants.{All as AllPairs}
 use Rattle.report_text.specs.declared.verdict.Extras.{Extras}
 use Rattle.report_text.specs.declared.verdict.Verdict.{Verdict}
 use Rattle.report_text.specs.declared.verdict.Verdict.TheVariants.{Differs}
@@ -18,32 +20,43 @@ use Rattle.explain_report.specs.declared.first_differences.FirstDifference.{Firs
 use Rattle.compare_built.specs.declared.strategy.Attempt.{Attempt}
 use Rattle.compare_built.specs.declared.settings.Settings.{Settings}
 use Rattle.compare_built.specs.declared.subject.Subject.{Subject}
-use Rattle.explain_report.specs.Causing.{AreCauses, AreFirstDifferences, Causes, HaveCauses, IsFirstDifference, IsPairFirstDifference, causes_of, first_time, has_first_signal, first_signals, first_difference}
+use Rattle.explain_report.specs.Causing.{AreCauses, AreCausesOf, AreFirstDifferences, ArePickedPairs, Causes, HaveCauses, IsFirstDifference, IsPairFirstDifference, causes_of, first_time, has_first_signal, first_signals, first_difference}
 use Rattle.compare_built.specs.Devices.{DeviceTexts}
-use Rattle.explain_report.specs.Explaining.{is_subject_of}
+use Rattle.compare_built.specs.PairSelection.{ArePicked}
+use Rattle.compare_built.specs.PairSelection.ArePicked.{all as every_pair}
+use Rattle.compare_built.specs.Report.{subjects, unmatched_verdicts}
 use Rattle.explain_report.proofs.Explaining.{none_left}
 
 -- ---- pairs with their first inner signals
 
-module _ (a b : Net) (p : NamingModel) (pairs : List Subject) where
-  one_more : (vs : List Verdict) (v : Verdict) (differences : List FirstDifference) (one : Option FirstDifference) → AreFirstDifferences a b p pairs vs differences → IsFirstDifference a b p pairs v one → AreFirstDifferences a b p pairs (vs ++ v ∷ []) (differences ++ option_to_list one)
-  one_more [] v differences one none is = (one, [], is, refl, ap (λ z. z ++ option_to_list one) none ∙ sym (append-nil (option_to_list one)))
-  one_more (u ∷ us) v differences one w is =
-      (w.0, w.1 ++ option_to_list one, w.2, one_more us v w.1 one w.3 is, ap (λ z. z ++ option_to_list one) w.4 ∙ append_assoc (option_to_list w.0) w.1 (option_to_list one))
+module _ (a b : Net) (p : NamingModel) where
+  one_more : (xs : List (Subject × Verdict)) (x : Subject × Verdict) (differences : List FirstDifference) (one : Option FirstDifference) → AreFirstDifferences a b p xs differences → IsFirstDifference a b p x.0 x.1 one →
+      AreFirstDifferences a b p (xs ++ x ∷ []) (differences ++ option_to_list one)
+  one_more [] x differences one none is = (one, [], is, refl, ap (λ z. z ++ option_to_list one) none ∙ sym (append-nil (option_to_list one)))
+  one_more (y ∷ ys) x differences one w is =
+      (w.0, w.1 ++ option_to_list one, w.2, one_more ys x w.1 one w.3 is, ap (λ z. z ++ option_to_list one) w.4 ∙ append_assoc (option_to_list w.0) w.1 (option_to_list one))
 
-  pub next_first_difference : (vs : List Verdict) (i : ℕ) (v : Verdict) (old new : List FirstDifference) (one : Option FirstDifference) → i < length vs → v ≡ get_or vs i v → AreFirstDifferences a b p pairs (take i vs) old → IsFirstDifference a b p pairs v one → new ≡ old ++ option_to_list one →
-      AreFirstDifferences a b p pairs (take (i + 1) vs) new
-  next_first_difference vs i v old new one lt here are is grown =
-      let e : take (i + 1) vs ≡ take i vs ++ v ∷ [] = take_more vs i v lt ∙ ap (λ z. take i vs ++ z ∷ []) (sym here) in
-      subst (λ us. AreFirstDifferences a b p pairs us new) (sym e) (subst (AreFirstDifferences a b p pairs (take i vs ++ v ∷ [])) (sym grown) (one_more (take i vs) v old one are is))
+  -- one more pair with its verdict
+  pub next_first_difference : (ss : List Subject) (vs : List Verdict) (i : ℕ) (s : Subject) (v : Verdict) (old new : List FirstDifference) (one : Option FirstDifference) → i < length ss → i < length vs → s ≡ get_or ss i s → v ≡ get_or vs i v →
+      AreFirstDifferences a b p (take i (zip ss vs)) old → IsFirstDifference a b p s v one → new ≡ old ++ option_to_list one → AreFirstDifferences a b p (take (i + 1) (zip ss vs)) new
+  next_first_difference ss vs i s v old new one paired judged pair_here verdict_here are is grown =
+      let size = length-zip ss vs in
+      let low : i < length (zip ss vs) = omega (arith, size, paired, judged) in
+      let here : get_or (zip ss vs) i (s, v) ≡ (s, v) = get_or-zip ss vs i (s, v) paired judged ∙ sym (ap₂ (λ t u. (t, u)) pair_here verdict_here) in
+      let e : take (i + 1) (zip ss vs) ≡ take i (zip ss vs) ++ (s, v) ∷ [] = take_more (zip ss vs) i (s, v) low ∙ ap (λ z. take i (zip ss vs) ++ z ∷ []) here in
+      subst (λ xs. AreFirstDifferences a b p xs new) (sym e) (subst (AreFirstDifferences a b p (take i (zip ss vs) ++ (s, v) ∷ [])) (sym grown) (one_more (take i (zip ss vs)) (s, v) old one are is))
+
+-- no pair with a verdict is left
+pub all_zipped : {A B : Type 0} (xs : List A) (ys : List B) (i : ℕ) → min (length xs) (length ys) ≤ i → take i (zip xs ys) ≡ zip xs ys
+all_zipped xs ys i past = take_all i (zip xs ys) (omega (arith, past, length-zip xs ys))
 
 -- the pair of a verdict that differs
-pub of_verdict : {E : Type 0} (a b : Net) (p : NamingModel) (pairs : List Subject) (r : Result (Option FirstDifference) E) (t : PairName) (bits : List Bool) (v : Verdict) (role : PairKind) (name : List ℕ) (at : List Bool) (first second : Bool) (extras : Extras)
-    → v ≡ Differs role name at first second extras → t ≡ record { role = role; name = name } → bits ≡ at → IfOk r (IsPairFirstDifference a b p t bits (find (is_subject_of (circuit a) t) pairs)) → IfOk r (IsFirstDifference a b p pairs v)
-of_verdict a b p pairs r t bits v role name at first second extras differs named same is =
-    subst (λ (u : Verdict). IfOk r (IsFirstDifference a b p pairs u)) (sym differs)
-    (subst (λ (u : PairName). IfOk r (IsPairFirstDifference a b p u at (find (is_subject_of (circuit a) u) pairs))) named
-    (subst (λ (x : List Bool). IfOk r (IsPairFirstDifference a b p t x (find (is_subject_of (circuit a) t) pairs))) same is))
+pub of_verdict : {E : Type 0} (a b : Net) (p : NamingModel) (s : Subject) (r : Result (Option FirstDifference) E) (t : PairName) (bits : List Bool) (v : Verdict) (role : PairKind) (name : List ℕ) (at : List Bool) (first second : Bool) (extras : Extras)
+    → v ≡ Differs role name at first second extras → t ≡ record { role = role; name = name } → bits ≡ at → IfOk r (IsPairFirstDifference a b p t bits s) → IfOk r (IsFirstDifference a b p s v)
+of_verdict a b p s r t bits v role name at first second extras differs named same is =
+    subst (λ (u : Verdict). IfOk r (IsFirstDifference a b p s u)) (sym differs)
+    (subst (λ (u : PairName). IfOk r (IsPairFirstDifference a b p u at s)) named
+    (subst (λ (x : List Bool). IfOk r (IsPairFirstDifference a b p t x s)) same is))
 
 -- what is true of all is true of the first
 pub first_has : {A : Type 0} (P : A → Type 0) (xs : List A) (o : Option A) → o ≡ slice_get xs 0 → All P xs → IfSome o P
@@ -105,10 +118,18 @@ pub none_to_come : (f : InnerSignal → Caused) (before xs : List FirstDifferenc
 none_to_come f before xs i all old past e = sym (ap (λ ls. old ++ map f (first_signals before ls)) (none_left xs i past) ∙ append-nil old) ∙ e
 
 -- the causes of all pairs that have first inner signals
-pub of_all : {E : Type 0} (a b : Net) (p : NamingModel) (pairs : List Subject) (verdicts : List Verdict) (differences list : List FirstDifference) (r : Result Causes E) → AreFirstDifferences a b p pairs verdicts differences → list ≡ differences
-    → IfOk r (λ causes. causes.items ≡ causes_of a.names list) → IfOk r (λ causes. (l : List FirstDifference) × AreFirstDifferences a b p pairs verdicts l × (causes.items ≡ causes_of a.names l))
-of_all a b p pairs verdicts differences list (Ok causes) are same is = (differences, are, is ∙ ap (causes_of a.names) same)
-of_all a b p pairs verdicts differences list (Err e) are same is = tt
+pub of_all : {E : Type 0} (a b : Net) (p : NamingModel) (judged : List (Subject × Verdict)) (differences list : List FirstDifference) (r : Result Causes E) → AreFirstDifferences a b p judged differences → list ≡ differences
+    → IfOk r (λ causes. causes.items ≡ causes_of a.names list) → IfOk r (λ causes. AreCausesOf a b p judged causes.items)
+of_all a b p judged differences list (Ok causes) are same is = (differences, are, is ∙ ap (causes_of a.names) same)
+of_all a b p judged differences list (Err e) are same is = tt
+
+-- ---- the pairs that are picked
+
+-- if the settings pick all pairs, these are picked
+pub all_picked : (a b : Circuit) (p : NamingModel) (s : Settings) (pairs : List Subject) → s.picked ≡ AllPairs → pairs ≡ subjects a b p → ArePickedPairs a b p s pairs
+all_picked a b p s pairs is same =
+    let lines = unmatched_verdicts a b p in
+    (lines, subst (λ f. ArePicked a b p f pairs lines) (sym is) (subst (λ ps. ArePicked a b p AllPairs ps lines) (sym same) every_pair))
 
 -- ---- whether causes are asked for
 

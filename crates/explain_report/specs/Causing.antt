@@ -1,6 +1,6 @@
 -- Causes: the first inner signals that differ, which pairs have in common.
-use Rattle.std.specs.Prelude.{◌≡◌, ◌<◌, ℕ, ◌==◌, Bool, true, false, List, [], ◌∷◌, ◌++◌, map, filter, find, if◌then◌else◌, Option, Some, None}
-use Rattle.std.specs.Prelude.{IsSomeAnd, length, option_map, option_to_list, slice_get, slice_index_or}
+use Rattle.std.specs.Prelude.{◌≡◌, ◌<◌, ℕ, ◌==◌, Bool, true, false, List, [], ◌∷◌, ◌++◌, map, filter, if◌then◌else◌, Option, None}
+use Rattle.std.specs.Prelude.{IsSomeAnd, length, option_map, option_to_list, slice_get, slice_index_or, zip}
 use Rattle.std.specs.List.{list_any}
 use Rattle.std.specs.declared.alloc.Global.{Global}
 use Rattle.std.specs.declared.vec.Vec.{Vec}
@@ -18,8 +18,8 @@ use Rattle.compare_built.specs.declared.strategy.Attempt.{Attempt}
 use Rattle.compare_built.specs.declared.settings.Settings.{Settings}
 use Rattle.compare_built.specs.declared.subject.Subject.{Subject}
 use Rattle.compare_built.specs.Devices.{DeviceTexts}
-use Rattle.explain_report.specs.Explaining.{HaveReportedNaming, is_subject_of}
-use Rattle.compare_built.specs.Report.{subjects}
+use Rattle.compare_built.specs.PairSelection.{ArePicked}
+use Rattle.explain_report.specs.Explaining.{HaveReportedNaming}
 
 -- ---- the first inner signal that differs
 
@@ -27,25 +27,24 @@ use Rattle.compare_built.specs.Report.{subjects}
 abbrev pub first_difference : PairName → InnerSignal → FirstDifference
 first_difference t inner = record { pair = t; inner = inner }
 
--- a pair with the first of its inner signals that differ at the assignment; None if it is not one of the compared pairs, or none does
-abbrev pub IsPairFirstDifference : Net → Net → NamingModel → PairName → List Bool → Option Subject → Option FirstDifference → Type 0
-IsPairFirstDifference a b p t at None differences = differences ≡ None
-IsPairFirstDifference a b p t at (Some s) differences = (e : ExplanationModel) × IsExplanation a b p (s.first, s.second) at e
-    × (differences ≡ option_map (first_difference t) (slice_get e.inner 0))
+-- a pair with the first of its inner signals that differ at the assignment; None if none does
+abbrev pub IsPairFirstDifference : Net → Net → NamingModel → PairName → List Bool → Subject → Option FirstDifference → Type 0
+IsPairFirstDifference a b p t at s difference = (e : ExplanationModel) × IsExplanation a b p (s.first, s.second) at e
+    × (difference ≡ option_map (first_difference t) (slice_get e.inner 0))
 
--- the same for the pair of a verdict; None if it does not differ
-abbrev pub IsFirstDifference : Net → Net → NamingModel → List Subject → Verdict → Option FirstDifference → Type 0
-IsFirstDifference a b p pairs (Equal role name size) differences = differences ≡ None
-IsFirstDifference a b p pairs (Differs role name at first second extras) differences =
-    let t : PairName = record { role = role; name = name } in IsPairFirstDifference a b p t at (find (is_subject_of (circuit a) t) pairs) differences
-IsFirstDifference a b p pairs (Unmatched side role name) differences = differences ≡ None
-IsFirstDifference a b p pairs (Undecided role name) differences = differences ≡ None
+-- the same for a pair with its verdict; None if the pair does not differ
+abbrev pub IsFirstDifference : Net → Net → NamingModel → Subject → Verdict → Option FirstDifference → Type 0
+IsFirstDifference a b p s (Equal role name size) difference = difference ≡ None
+IsFirstDifference a b p s (Differs role name at first second extras) difference =
+    let t : PairName = record { role = role; name = name } in IsPairFirstDifference a b p t at s difference
+IsFirstDifference a b p s (Unmatched side role name) difference = difference ≡ None
+IsFirstDifference a b p s (Undecided role name) difference = difference ≡ None
 
 -- these are all such pairs, in the order of the verdicts
-abbrev pub AreFirstDifferences : Net → Net → NamingModel → List Subject → List Verdict → List FirstDifference → Type 0
-AreFirstDifferences a b p pairs [] differences = differences ≡ []
-AreFirstDifferences a b p pairs (v ∷ vs) differences = (one : Option FirstDifference) × (rest : List FirstDifference) × IsFirstDifference a b p pairs v one × AreFirstDifferences a b p pairs vs rest
-    × (differences ≡ option_to_list one ++ rest)
+abbrev pub AreFirstDifferences : Net → Net → NamingModel → List (Subject × Verdict) → List FirstDifference → Type 0
+AreFirstDifferences a b p [] differences = differences ≡ []
+AreFirstDifferences a b p (x ∷ xs) differences = (one : Option FirstDifference) × (rest : List FirstDifference) × IsFirstDifference a b p x.0 x.1 one
+    × AreFirstDifferences a b p xs rest × (differences ≡ option_to_list one ++ rest)
 
 -- the first inner signal of a pair is a signal of the first netlist
 abbrev pub IsSignalKnown : Net → FirstDifference → Type 0
@@ -81,11 +80,15 @@ abbrev pub causes_of : List (List ℕ) → List FirstDifference → List Caused
 causes_of names differences = map (cause_of names differences) (first_signals [] differences)
 
 -- these are the causes of the pairs that differ
-abbrev pub AreCausesOf : Net → Net → NamingModel → List Subject → List Verdict → List Caused → Type 0
-AreCausesOf a b p pairs verdicts list = (differences : List FirstDifference) × AreFirstDifferences a b p pairs verdicts differences
+abbrev pub AreCausesOf : Net → Net → NamingModel → List (Subject × Verdict) → List Caused → Type 0
+AreCausesOf a b p judged list = (differences : List FirstDifference) × AreFirstDifferences a b p judged differences
     × (list ≡ causes_of a.names differences)
 
 -- ---- causes in a report
+
+-- the settings pick these pairs, in this order
+abbrev pub ArePickedPairs : Circuit → Circuit → NamingModel → Settings → List Subject → Type 0
+ArePickedPairs a b p s pairs = (unmatched_lines : List Verdict) × ArePicked a b p s.picked pairs unmatched_lines
 
 -- These are the causes of the findings: for the pairs of the netlists that the devices gave, at the assignments of the verdicts.
 pub record HaveCauses (input : DeviceTexts) (s : Settings) (tried : Option Attempt) (found : Found) (list : List Caused) : Type 0 where
@@ -99,8 +102,12 @@ pub record HaveCauses (input : DeviceTexts) (s : Settings) (tried : Option Attem
   pub named : HaveReportedNaming input s tried (circuit a) (circuit b) c p
   -- the bits of an assignment are those of the variables of this naming
   pub variables : found.variables ≡ p.names
+  -- the verdict at a place is that of the picked pair at this place; after them come those of outputs and registers
+  -- without a partner
+  pub pairs : List Subject
+  pub picked : ArePickedPairs (circuit a) (circuit b) p s pairs
   pub differences : List FirstDifference
-  pub are_first_differences : AreFirstDifferences a b p (subjects (circuit a) (circuit b) p) found.verdicts differences
+  pub are_first_differences : AreFirstDifferences a b p (zip pairs found.verdicts) differences
   pub causes : list ≡ causes_of a.names differences
 
 -- the causes that a report has, if they are asked for

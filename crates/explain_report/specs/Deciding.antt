@@ -13,11 +13,13 @@ use Rattle.report_text.specs.Causes.{Caused}
 use Rattle.report_text.specs.Json.{form_text}
 use Rattle.report_text.specs.Lines.{Found, counted}
 use Rattle.compare_built.specs.declared.strategy.Attempt.{Attempt}
+use Rattle.compare_built.specs.declared.strategy.AttemptOrder.{AttemptOrder}
 use Rattle.compare_built.specs.declared.strategy.AttemptOrder.TheVariants as tried_orders
 use Rattle.compare_built.specs.declared.strategy.Candidate.{Candidate}
 use Rattle.compare_built.specs.declared.strategy.Strategy.{Strategy}
 use Rattle.compare_built.specs.declared.strategy.Strategy.TheVariants.{One, Computed, Best, Auto, Cones, ConesByList, Merge}
-use Rattle.compare_built.specs.declared.pair_filter.PairFilter.{PairFilter}
+use Rattle.report_text.specs.declared.pair_filter.PairFilter.{PairFilter}
+use Rattle.report_text.specs.declared.cause.PairName.{PairName}
 use Rattle.report_text.specs.declared.difference.Difference.{Difference}
 use Rattle.report_text.specs.declared.difference.Difference.TheVariants.{Least, AnyOne}
 use Rattle.compare_built.specs.declared.settings.Settings.{Settings}
@@ -30,7 +32,8 @@ use Rattle.compare_built.specs.Cones.{AreConeVerdicts, FitByCones, IsUndecided, 
 use Rattle.compare_built.specs.Devices.{DeviceTexts}
 use Rattle.compare_built.specs.Facts.{IsUnshown}
 use Rattle.explain_report.specs.Explaining.{IsAppended}
-use Rattle.compare_built.specs.PairSelection.{ArePicked, HasUnknown, share_of}
+use Rattle.compare_built.specs.PairSelection.{ArePicked, HasUnknown}
+use Rattle.report_text.specs.Picking.{share_of}
 
 -- What a comparison by cones finds for what the devices gave, over the variables in declared order.
 pub record IsJudgedByCones (input : DeviceTexts) (s : Settings) (bound : WaveBound) (found : Found) : Type 0 where
@@ -66,14 +69,18 @@ is_open difference (Unmatched side role name) = false
 is_open Least (Differs role name at first second extras) = not extras.least
 is_open AnyOne (Differs role name at first second extras) = false
 
--- By auto a pair is left open only if the last attempt on the whole, in declared order and within the whole limit, was
--- given up as well, or if the whole has more variables than a pairing can have.
+-- an attempt at the whole within the whole limit was given up in the order of each candidate, and in declared order
+abbrev pub AreLastGivenUp : DeviceTexts → Settings → (bound : WaveBound) → Type 0
+AreLastGivenUp input s bound = (o : AttemptOrder) → IsAttemptGivenUp input s.matching s.limit bound o
+
+-- By auto a pair is left open only if the last attempts at the whole were given up as well, or if the whole has more
+-- variables than a pairing can have.
 abbrev pub HasLastAttempt : DeviceTexts → Settings → (bound : WaveBound) → Strategy → Found → Type 0
 HasLastAttempt input s bound (One o) found = ⊤
 HasLastAttempt input s bound (Computed c) found = ⊤
 HasLastAttempt input s bound Best found = ⊤
 HasLastAttempt input s bound Auto found = list_any (is_open s.difference) found.verdicts ≡ true →
-    IsAttemptGivenUp input s.matching s.limit bound tried_orders.Declared ⊎ HaveTooManyVariables input s.matching
+    AreLastGivenUp input s bound ⊎ HaveTooManyVariables input s.matching
 HasLastAttempt input s bound Cones found = ⊤
 HasLastAttempt input s bound Merge found = ⊤
 HasLastAttempt input s bound (ConesByList names) found = ⊤
@@ -105,5 +112,5 @@ pub record IsReportBy (input : DeviceTexts) (s : Settings) (bound : WaveBound) (
   pub text : bytes ≡ report_bytes s tried (is_some input.given) stopped causes found ++ explanations
 
 -- One of the names that are picked is no output and no register of the first netlist that the devices gave.
-abbrev pub IsUnknown : DeviceTexts → PairFilter → Type 0
+abbrev pub IsUnknown : DeviceTexts → PairFilter PairName → Type 0
 IsUnknown input picked = (a : Circuit) × Gives input.first a × HasUnknown a picked

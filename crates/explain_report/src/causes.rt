@@ -1,9 +1,12 @@
 //! The causes of differences: the first inner signals of the pairs that differ, each with all pairs of which it is the first.
-ghost use Rattle.std.specs.Prelude.{◌≡◌, ◌<◌, ◌≤◌, ◌++◌, ◌∷◌, [], length, map, filter, take, option_map, All, IfOk, OnOk};
+ghost use Rattle.std.specs.Prelude.{◌≡◌, ◌<◌, ◌≤◌, ◌++◌, ◌∷◌, [], length, map, filter, take, zip, option_map, All, IfOk, OnOk};
 ghost use Rattle.std.specs.List.{list_any};
+ghost use Rattle.net_bench.specs.Circuit.{circuit};
+ghost use Rattle.compare_built.specs.Comparing.{AreSignals};
 ghost use Rattle.compare_built.specs.Findings.{found_of};
 ghost use Rattle.order_search.specs.Tasks.{IsInTask};
-ghost use Rattle.explain_report.specs.Causing.{AreCauses, AreCausesOf, IsSignalKnown, cause_of, causes_in, causes_of, first_time, has_first_signal};
+ghost use Rattle.explain_report.specs.Causing.{AreCauses, AreCausesOf, ArePickedPairs, IsSignalKnown, cause_of, causes_in, causes_of};
+ghost use Rattle.explain_report.specs.Causing.{first_time, has_first_signal};
 ghost use Rattle.explain_report.specs.Explaining.{HaveSomeReportNaming, OfReport};
 
 use crate::first_differences::{FirstDifference, all_first_differences};
@@ -14,7 +17,8 @@ use compare_built::task::Task;
 use net_bench::netlist::{Netlist, Signal};
 use net_explain::InnerSignal;
 use net_order::naming::Naming;
-use report_text::{Cause, Name, PairName, Verdict};
+use pair_facts::{Selection, select_pairs};
+use report_text::{Cause, Name, PairFilter, PairName, Verdict};
 use std::alloc::{AllocError, Global};
 
 /// Whether this is the first inner signal of a pair.
@@ -146,7 +150,7 @@ fn causes_of(
     Ok(causes)
 }
 
-/// The causes of those pairs of these verdicts that differ.
+/// The causes of those of these pairs that differ; the verdict at a place is that of the pair at this place.
 fn all_causes<H>(
     task: &Task<'_, H>,
     naming: &Naming,
@@ -154,10 +158,27 @@ fn all_causes<H>(
     verdicts: &[Verdict],
 ) -> Result<Vec<Cause>, AllocError>
     requires { All (IsInTask task.now) pairs.now }
-    ensures { IfOk result (λ causes. AreCausesOf task.now.first.now task.now.second.now naming.now pairs.now verdicts.now causes.items) }
+    ensures { IfOk result (λ causes. AreCausesOf task.now.first.now task.now.second.now naming.now (zip pairs.now verdicts.now) causes.items) }
 {
     let differences = all_first_differences(task, naming, pairs, verdicts)?;
     causes_of(task.alloc, task.first, differences.as_slice())
+}
+
+/// The pairs that the settings pick, in the order of the report. A name pattern that picks nothing has ended the
+/// comparison before this is called; here it fails as if memory were refused.
+fn picked_pairs<H>(task: &Task<'_, H>, naming: &Naming) -> Result<Vec<Subject>, AllocError>
+    requires { AreSignals (circuit task.now.first.now) (circuit task.now.second.now) naming.now }
+    ensures picked { IfOk result (λ v. ArePickedPairs (circuit task.now.first.now) (circuit task.now.second.now) naming.now
+        task.now.settings.now v.items) }
+    ensures inside { IfOk result (λ v. All (IsInTask task.now) v.items) }
+{
+    if let PairFilter::All = &task.settings.picked {
+        return subjects_of(task.alloc, task.first, task.second, naming);
+    }
+    match select_pairs(task, naming) {
+        Ok(Selection { subjects, .. }) => Ok(subjects),
+        Err(_) => Err(AllocError),
+    }
 }
 
 /// These causes as a slice, if there are any.
@@ -170,7 +191,8 @@ pub fn listed(causes: &Option<Vec<Cause>>) -> Option<&[Cause]>
     }
 }
 
-/// The causes of the pairs of these verdicts, over their naming; None if the settings do not ask for them.
+/// The causes of the pairs of these verdicts, over their naming; None if the settings do not ask for them. The verdict at
+/// a place is taken to be that of the picked pair at this place.
 pub fn causes<H>(task: &Task<'_, H>, verdicts: &Verdicts) -> Result<Option<Vec<Cause>>, AllocError>
     requires { HaveSomeReportNaming task.now verdicts.now }
     ensures causes { OfReport task.now verdicts.now (λ input s tried.
@@ -182,7 +204,7 @@ pub fn causes<H>(task: &Task<'_, H>, verdicts: &Verdicts) -> Result<Option<Vec<C
     let _ = task.first.inputs(); // For the proof.
     let _ = task.second.inputs(); // For the proof.
     let naming = verdicts.naming();
-    let pairs = subjects_of(task.alloc, task.first, task.second, naming)?;
+    let pairs = picked_pairs(task, naming)?;
     let causes = all_causes(task, naming, pairs.as_slice(), verdicts.as_slice())?;
     Ok(Some(causes))
 }

@@ -164,7 +164,7 @@ fn explained_pair<H>(
 }
 
 /// The pair that is asked for; None if there is none.
-pub(crate) fn subject_of(net: &Netlist, target: &PairName, subjects: &[Subject]) -> Option<Subject>
+fn subject_of(net: &Netlist, target: &PairName, subjects: &[Subject]) -> Option<Subject>
     requires { All (λ subject. subject.named < length net.now.names) subjects.now }
     ensures { result ≡ find (is_subject_of (circuit net.now) target.now) subjects.now }
 {

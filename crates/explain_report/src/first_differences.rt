@@ -1,12 +1,9 @@
 //! The pairs that differ, each with the first of its inner signals that differ.
-ghost use Rattle.std.specs.Prelude.{◌≡◌, ◌<◌, ◌++◌, find, length, option_map, option_to_list, slice_get, All, Some, IfOk, IfSome, OnOk};
-ghost use Rattle.net_bench.specs.Circuit.{circuit};
+ghost use Rattle.std.specs.Prelude.{◌≡◌, ◌<◌, ◌++◌, length, option_map, option_to_list, slice_get, zip, All, IfOk, IfSome, OnOk};
 ghost use Rattle.net_explain.specs.Explaining.{ExplanationModel, IsExplanation};
 ghost use Rattle.order_search.specs.Tasks.{IsInTask};
 ghost use Rattle.explain_report.specs.Causing.{AreFirstDifferences, IsFirstDifference, IsPairFirstDifference, IsSignalKnown, first_difference};
-ghost use Rattle.explain_report.specs.Explaining.{is_subject_of};
 
-use crate::explanations::subject_of;
 use compare_built::subject::Subject;
 use compare_built::task::Task;
 use net_explain::{InnerSignal, explain};
@@ -64,30 +61,11 @@ fn subject_first_difference<H>(
     at: &[bool],
 ) -> Result<Option<FirstDifference>, AllocError>
     requires { IsInTask task.now subject }
-    ensures differences { IfOk result (IsPairFirstDifference task.now.first.now task.now.second.now naming.now pair at.now (Some subject)) }
+    ensures differences { IfOk result (IsPairFirstDifference task.now.first.now task.now.second.now naming.now pair at.now subject) }
     ensures known { IfOk result (λ difference. IfSome difference (IsSignalKnown task.now.first.now)) }
 {
     let first = first_inner(task, naming, subject, at)?;
     Ok(first_difference(pair, first))
-}
-
-/// The same for the pair of this name among these; None if there is no such pair.
-fn pair_first_difference<H>(
-    task: &Task<'_, H>,
-    naming: &Naming,
-    pairs: &[Subject],
-    pair: PairName,
-    at: &[bool],
-) -> Result<Option<FirstDifference>, AllocError>
-    requires { All (IsInTask task.now) pairs.now }
-    ensures differences { IfOk result (IsPairFirstDifference task.now.first.now task.now.second.now naming.now pair at.now
-        (find (is_subject_of (circuit task.now.first.now) pair) pairs.now)) }
-    ensures known { IfOk result (λ difference. IfSome difference (IsSignalKnown task.now.first.now)) }
-{
-    match subject_of(task.first, &pair, pairs) {
-        Some(subject) => subject_first_difference(task, naming, subject, pair, at),
-        None => Ok(None),
-    }
 }
 
 /// The pair with this role and this name.
@@ -98,21 +76,21 @@ fn pair_of(alloc: Global, role: PairKind, name: &Name) -> Result<PairName, Alloc
     Ok(PairName { role, name })
 }
 
-/// The pair of a verdict with the first of its inner signals that differ; None if the pair does not differ, or no inner signal does.
+/// A pair with the first of its inner signals that differ, by its verdict; None if the pair does not differ, or no inner signal does.
 fn first_difference_of<H>(
     task: &Task<'_, H>,
     naming: &Naming,
-    pairs: &[Subject],
+    subject: Subject,
     verdict: &Verdict,
 ) -> Result<Option<FirstDifference>, AllocError>
-    requires { All (IsInTask task.now) pairs.now }
-    ensures differences { IfOk result (IsFirstDifference task.now.first.now task.now.second.now naming.now pairs.now verdict.now) }
+    requires { IsInTask task.now subject }
+    ensures differences { IfOk result (IsFirstDifference task.now.first.now task.now.second.now naming.now subject verdict.now) }
     ensures known { IfOk result (λ difference. IfSome difference (IsSignalKnown task.now.first.now)) }
 {
     match verdict {
         Verdict::Differs { role, name, at, .. } => {
             let pair = pair_of(task.alloc, *role, name)?;
-            pair_first_difference(task, naming, pairs, pair, at.as_slice())
+            subject_first_difference(task, naming, subject, pair, at.as_slice())
         }
         Verdict::Equal { .. } | Verdict::Unmatched { .. } | Verdict::Undecided { .. } => Ok(None),
     }
@@ -131,7 +109,8 @@ fn add_first_difference(
     Ok(())
 }
 
-/// All pairs of these verdicts that differ and have inner signals that differ, each with the first of these.
+/// All of these pairs that differ and have inner signals that differ, each with the first of these. The verdict at a place
+/// is that of the pair at this place; there may be more verdicts than pairs.
 pub fn all_first_differences<H>(
     task: &Task<'_, H>,
     naming: &Naming,
@@ -139,12 +118,13 @@ pub fn all_first_differences<H>(
     verdicts: &[Verdict],
 ) -> Result<Vec<FirstDifference>, AllocError>
     requires { All (IsInTask task.now) pairs.now }
-    ensures differences { IfOk result (λ v. AreFirstDifferences task.now.first.now task.now.second.now naming.now pairs.now verdicts.now v.items) }
+    ensures differences { IfOk result (λ v. AreFirstDifferences task.now.first.now task.now.second.now naming.now
+        (zip pairs.now verdicts.now) v.items) }
     ensures known { IfOk result (λ v. All (IsSignalKnown task.now.first.now) v.items) }
 {
     let mut all = Vec::new(task.alloc);
-    for place in 0..verdicts.len() {
-        let one = first_difference_of(task, naming, pairs, &verdicts[place])?;
+    for place in 0..pairs.len().min(verdicts.len()) {
+        let one = first_difference_of(task, naming, pairs[place], &verdicts[place])?;
         add_first_difference(&mut all, one)?;
     }
     Ok(all)

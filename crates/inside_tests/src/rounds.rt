@@ -7,7 +7,6 @@ ghost use Rattle.net_order.specs.Order.{IsNaming};
 ghost use Rattle.compare_built.specs.Comparing.{IsInside};
 
 use compare_built::compared_pairs::subjects_of;
-use compare_built::pair_filter::PairFilter;
 use compare_built::settings::Settings;
 use compare_built::strategy::Strategy;
 use compare_built::subject::Subject;
@@ -19,7 +18,7 @@ use net_bench::netlist::Netlist;
 use net_bench::reader::parse_bench;
 use net_names::order::Match;
 use net_order::naming::{Naming, naming_of};
-use report_text::Difference;
+use report_text::{Difference, PairFilter};
 use std::alloc::{AllocError, Global};
 use std::sync::Wait;
 use std::sync::atomic::{AtomicUsize, Ordering};

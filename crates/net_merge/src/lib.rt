@@ -27,6 +27,7 @@ mod pair_job;
 mod probe;
 mod random;
 mod representatives;
+mod round_work;
 mod shown;
 mod signals;
 mod signatures;

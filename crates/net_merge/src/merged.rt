@@ -9,7 +9,8 @@ ghost use Rattle.net_merge.specs.SignalLiterals.{AreSignalLiterals, IsPairFindin
 use crate::batches::MergeCrew;
 use crate::learned::Learned;
 use crate::merged_graph::MergedGraph;
-use crate::merger::{MergeCounts, Merger, WorkLimits};
+use crate::merger::{MergeCounts, Merger};
+use crate::round_work::WorkLimits;
 use crate::shown::{ShownPair, is_shown};
 use crate::signals::{LevelledNetlist, add_netlist, literal_of};
 use expand_work::Monitor;
@@ -19,12 +20,6 @@ use std::alloc::{AllocError, Global};
 use std::marker::Model;
 use std::sync::Wait;
 use std::thread::Threads;
-
-/// How much work all windows of a round may do together for each gate of both texts, in nodes of diagrams.
-const WORK_PER_TEXT_GATE: u64 = 1000;
-
-/// How much of it may be done for gates. The rest is for the pairs of signals that are wanted equal.
-const WORK_FOR_GATES: u64 = 900;
 
 /// Two netlists that are to be merged, and the pairs of their signals that are wanted equal, the first netlist's signal first.
 #[derive(Clone, Copy, Drop)]
@@ -117,10 +112,7 @@ fn work_limits(task: &MergeTask<'_>) -> WorkLimits {
     let gates = task.first.net.gates().len() as u64;
     let more = task.second.net.gates().len() as u64;
     let texts = gates.saturating_add(more);
-    WorkLimits {
-        gates: texts.saturating_mul(WORK_FOR_GATES),
-        all: texts.saturating_mul(WORK_PER_TEXT_GATE),
-    }
+    WorkLimits::of(texts)
 }
 
 /// Whether two literals are the same.

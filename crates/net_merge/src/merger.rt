@@ -1,11 +1,12 @@
 //! The search for older nodes that are equal to new ones. Only what the judge finds counts.
-ghost use Rattle.std.specs.Prelude.{◌≡◌, All, IfOk, IsTrue, OnOk};
+ghost use Rattle.std.specs.Prelude.{◌≡◌, ◌≤◌, false, All, IfOk, IsTrue, OnOk};
 ghost use Rattle.net_merge.specs.Merging.{AreJudged, IsShown};
 
 use crate::batches::{MergeCrew, ProbeBatch, empty_batches, run_batches};
 use crate::learned::Learned;
 use crate::pair_job::{Effort, PairJob};
 use crate::probe::RankedGraph;
+use crate::round_work::{MOST_JOBS, WorkLimits, most_side_by_side};
 use crate::shown::{ShownPair, keep_shown};
 use crate::signatures::Signatures;
 use crate::words::gate_of;
@@ -19,9 +20,6 @@ use std::thread::Threads;
 
 /// The most candidates that are tried for one node. A candidate that differs is distinguished by what is learned, so another one comes.
 const MOST_CANDIDATES: u32 = 256;
-
-/// The most pairs that are judged side by side. What they show is known to the pairs after them only.
-const MOST_JOBS: usize = 64;
 
 /// A cut that has more nodes above it is not grown further.
 const MOST_ABOVE: usize = 1000;
@@ -59,20 +57,12 @@ pub(crate) struct Merger<'a, R, G: Monitor> {
     next: usize,
     /// Nodes before it that are open, by number.
     open: Vec<OpenNode>,
-    /// The most work: for the nodes of gates, and for the pairs that are wanted equal as well.
     limits: WorkLimits,
     /// The work of all pairs so far.
     work: u64,
+    /// How much work was done when a node was last merged, or a pair that is wanted equal last found so.
+    found_at: u64,
     counts: MergeCounts,
-}
-
-/// The most work of a round: nodes of diagrams, and what counts as such.
-#[derive(Clone, Copy, Drop)]
-pub(crate) struct WorkLimits {
-    /// For the nodes of gates.
-    pub(crate) gates: u64,
-    /// In all, with the pairs of signals that are wanted equal.
-    pub(crate) all: u64,
 }
 
 /// What a round has done.
@@ -84,6 +74,13 @@ pub struct MergeCounts {
     pub windows: usize,
     /// How many nodes had an older one that no assignment distinguished from them, but that no window showed equal.
     pub candidates: usize,
+}
+
+/// So much work, and that of so many words of values.
+fn with_values(work: u64, words: u64) -> u64
+    ensures { work ≤ result }
+{
+    work.saturating_add(words / VALUES_PER_WORK)
 }
 
 impl<'a, R: Threads + Wait + Sync, G: Monitor> Merger<'a, R, G> {
@@ -105,6 +102,7 @@ impl<'a, R: Threads + Wait + Sync, G: Monitor> Merger<'a, R, G> {
             open: Vec::new(alloc),
             limits,
             work: 0,
+            found_at: 0,
             counts: MergeCounts {
                 merged: 0,
                 windows: 0,
@@ -136,10 +134,21 @@ impl<'a, R: Threads + Wait + Sync, G: Monitor> Merger<'a, R, G> {
         self.batches.as_slice()
     }
 
-    /// Whether as much work is done as may be.
-    fn is_spent(&self, limit: u64) -> bool {
-        let evaluated = self.signatures.evaluated() / VALUES_PER_WORK;
-        self.work.saturating_add(evaluated) > limit
+    /// How much work is done.
+    fn work_done(&self) -> u64
+        ensures { self.now.work ≤ result }
+    {
+        with_values(self.work, self.signatures.evaluated())
+    }
+
+    /// Takes note of how much work is done, if something was found just now.
+    fn note_found(&mut self, found: bool)
+        ensures found { IsTrue found → self.old.work ≤ self.new.found_at }
+        ensures kept { found ≡ false → self.new.found_at ≡ self.old.found_at }
+    {
+        if found {
+            self.found_at = self.work_done();
+        }
     }
 
     /// Takes the nodes that the graph has got since.
@@ -262,7 +271,7 @@ impl<'a, R: Threads + Wait + Sync, G: Monitor> Merger<'a, R, G> {
         if candidate.node() >= open.node {
             return Ok(None);
         }
-        if self.is_spent(self.limits.gates) {
+        if self.work_done() > self.limits.for_gates(self.found_at) {
             self.counts.candidates = self.counts.candidates.saturating_add(1);
             return Ok(None);
         }
@@ -302,6 +311,7 @@ impl<'a, R: Threads + Wait + Sync, G: Monitor> Merger<'a, R, G> {
     /// Takes note of what pairs have shown: a node is merged, or is open for the next candidate, or becomes one itself.
     pub(crate) fn settle_jobs(&mut self) -> Result<(), AllocError> {
         self.count_jobs()?;
+        let merged = self.counts.merged;
         for place in 0..self.jobs {
             let number = place % self.batches.len().max(1);
             let index = place / self.batches.len().max(1);
@@ -322,6 +332,7 @@ impl<'a, R: Threads + Wait + Sync, G: Monitor> Merger<'a, R, G> {
                 }
             }
         }
+        self.note_found(self.counts.merged > merged);
         self.open.sort_by_key(|open| open.node)?;
         Ok(())
     }
@@ -335,15 +346,20 @@ impl<'a, R: Threads + Wait + Sync, G: Monitor> Merger<'a, R, G> {
         ensures { IfOk result (λ shown. All (IsShown graph.now) shown.items) }
     {
         let mut shown = Vec::new(self.crew.alloc);
+        let begun_at = self.work_done();
+        self.note_found(true);
         let mut from = 0;
         for _ in 0..wanted.len() {
             if from >= wanted.len() {
                 break;
             }
-            from = self.propose_wanted(graph, wanted, from)?;
+            let limit = self.limits.for_wanted(begun_at, self.found_at);
+            from = self.propose_wanted(graph, wanted, from, limit)?;
             self.run(graph)?;
+            let before = shown.len();
             self.keep_jobs(graph, &mut shown)?;
             self.count_jobs()?;
+            self.note_found(shown.len() > before);
         }
         Ok(shown)
     }
@@ -361,26 +377,30 @@ impl<'a, R: Threads + Wait + Sync, G: Monitor> Merger<'a, R, G> {
         Ok(())
     }
 
-    /// Proposes the next of the wanted pairs, from a place on, that differ in their literals and in no value. Answers the place after them.
+    /// Proposes the next of the wanted pairs, from a place on, that differ in their literals and in no value, up to so
+    /// much work in all. Answers the place after them.
     fn propose_wanted(
         &mut self,
         graph: &Graph,
         wanted: &[(Literal, Literal)],
         from: usize,
+        limit: u64,
     ) -> Result<usize, AllocError> {
         self.clear_jobs();
+        let rest = limit.saturating_sub(self.work_done());
+        let most = most_side_by_side(rest, self.crew.nodes);
         let effort = Effort {
             guesses: GUESSES_WANTED,
             nodes: self.crew.nodes,
             above: MOST_ABOVE_WANTED,
         };
         for place in from..wanted.len() {
-            if self.jobs >= MOST_JOBS {
+            if self.jobs >= most {
                 return Ok(place);
             }
             let (first, second) = wanted[place];
             if first != second
-                && !self.is_spent(self.limits.all)
+                && self.work_done() < limit
                 && !self.signatures.tell_apart(graph, first, second)?
             {
                 self.add_job(PairJob::of(self.crew.alloc, (first, second), effort, 0))?;

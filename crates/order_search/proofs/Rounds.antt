@@ -247,6 +247,7 @@ module _ {H : Type 0} (task : Task H) where
       AreCandidatesGivenUp task budget bound full trials
   all_passed budget bound full trials g of each = record {
     trials_of = record { own = g.own; of_candidates = of; each = each };
+    given_up = g;
     each = λ c. passed_by budget bound full trials (Computed c) g (each c);
     nodes = λ e c. full_by budget bound full trials c g e (each c);
     others = λ e. otherwise_by budget bound trials g.own of (g.others e);

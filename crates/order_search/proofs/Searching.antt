@@ -9,7 +9,6 @@ use Rattle.compare_built.specs.declared.fault.CheckFault.{CheckFault}
 use Rattle.compare_built.specs.declared.fault.CheckFault.TheVariants.{Wave, GivenUp, Only, Write}
 use Rattle.compare_built.specs.declared.strategy.Candidate.{Candidate}
 use Rattle.compare_built.specs.declared.strategy.Candidate.TheVariants.{MsbFirst}
-use Rattle.compare_built.specs.declared.strategy.AttemptOrder.{AttemptOrder}
 use Rattle.compare_built.specs.declared.strategy.AttemptOrder.TheVariants.{Computed, Declared}
 use Rattle.net_names.specs.declared.order.Order.TheVariants as orders
 use Rattle.compare_built.specs.declared.task.Task.{Task}
@@ -21,7 +20,7 @@ use Rattle.order_search.specs.declared.attempts.Round.TheVariants as rounds
 use Rattle.order_search.specs.declared.trials.Trial.{Trial}
 use Rattle.order_search.specs.Tasks.{OfTask}
 use Rattle.order_search.specs.Trials.{AreAllGivenUp, AreCandidatesGivenUp, AreEarlierGivenUp, Decides, EndsAtOnce, EndsSearch, IsCandidateFault, IsCandidateGivenUp}
-use Rattle.order_search.specs.Trials.{AreGivenUpTrials, AreOfCandidates, IsFirstAttempt, IsLastRound, IsTried}
+use Rattle.order_search.specs.Trials.{AreGivenUpTrials, AreOfCandidates, IsFirstAttempt, IsLastAttempt, WereGivenUp}
 use Rattle.order_search.specs.Trials.{IsDecided, IsFoundWithin, IsFull, IsGivingUp, IsSearchFault}
 use Rattle.order_search.proofs.Budgets.{first_is_one}
 use Rattle.order_search.proofs.Rounds.{given_up_fault, passed_at, passed_by, passed_first}
@@ -99,7 +98,7 @@ module _ {H : Type 0} (task : Task H) (declared : Option (Bor NamingModel)) (lim
     ends = search_ends fault ends;
   }
 
--- ---- the last attempts
+-- ---- the first attempt and the last
 
 module _ {H : Type 0} (task : Task H) (declared : Option (Bor NamingModel)) (budget : ℕ) (bound : WaveBound) where
   -- no trial was given up yet
@@ -118,14 +117,11 @@ module _ {H : Type 0} (task : Task H) (declared : Option (Bor NamingModel)) (bud
   pub none_otherwise : (trials : List Trial) → trials ≡ [] → AreOfCandidates trials
   none_otherwise trials e = λ k d lt. absurd (let no : k < 0 = subst (λ ts. k < length ts) e lt in omega (arith, no))
 
-  -- after the attempt in the order that came furthest, the one in declared order decides or is given up too
-  pub last_of : (furthest : AttemptOrder) (all : Bool) (old new : List Trial) (r : Result Round CheckFault) → AreGivenUpTrials task budget bound all old → IsTried task old furthest →
-      IfOk r (IsFirstAttempt task declared budget bound Declared old new) → IfOk r (IsLastRound task declared furthest budget bound)
-  last_of furthest all old new (Ok (rounds.Decided d)) given tried turn = turn.0
-  last_of furthest all old new (Ok (rounds.GivenUp full)) given tried turn =
-      let g = turn.0 all given in
-      (passed_by task budget bound (all && full) new furthest g (turn.2 furthest tried), passed_by task budget bound (all && full) new Declared g turn.1)
-  last_of furthest all old new (Err fault) given tried turn = tt
+  -- after the attempts of these trials were given up, the one in declared order decides or is given up too
+  pub last_of : (old new : List Trial) (r : Result Round CheckFault) → WereGivenUp task budget bound old → IfOk r (IsFirstAttempt task declared budget bound Declared old new) → IfOk r (IsLastAttempt task declared budget bound)
+  last_of old new (Ok (rounds.Decided d)) given turn = turn.0
+  last_of old new (Ok (rounds.GivenUp full)) given turn = passed_by task budget bound (given.0 && full) new Declared (turn.0 given.0 given.1) turn.1
+  last_of old new (Err fault) given turn = tt
 
 -- ---- the contract of a search, clause by clause
 

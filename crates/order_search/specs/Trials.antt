@@ -212,9 +212,14 @@ pub record AreGivenUpTrials {H : Type 0} (task : Task H) (budget : ℕ) (bound :
   pub nodes : full ≡ true → All (λ t. NeedsMore task budget t.pairing) trials
   pub others : full ≡ false → HasOtherTrial task budget bound trials
 
--- Each candidate was given up, and `full` says whether all were for their nodes.
+-- each of these trials was given up, whatever the causes
+abbrev pub WereGivenUp : {H : Type 0} → Task H → (budget : ℕ) → (bound : WaveBound) → List Trial → Type 0
+WereGivenUp task budget bound trials = (full : Bool) × AreGivenUpTrials task budget bound full trials
+
+-- Each candidate was given up, and so was each of these trials. `full` says whether all were for their nodes.
 pub record AreCandidatesGivenUp {H : Type 0} (task : Task H) (budget : ℕ) (bound : WaveBound) (full : Bool) (trials : List Trial) : Type 0 where
   pub trials_of : AreTrials task trials
+  pub given_up : AreGivenUpTrials task budget bound full trials
   pub each : (c : Candidate) → IsCandidateGivenUp task budget bound c
   pub nodes : full ≡ true → (c : Candidate) → IsFull task budget c
   pub others : full ≡ false → IsSomeGivenUpOtherwise task budget bound
@@ -281,12 +286,10 @@ pub record IsFoundWithin {H : Type 0} (task : Task H) (declared : Option (Bor Na
   pub budget : IsBudget limit d.budget
   pub earlier_given_up : AreEarlierGivenUp task limit bound (record { order = d.trial.order; budget = d.budget })
 
--- The result of the last attempts: one decides, or those in the order that came furthest and in declared order were
--- both given up.
-abbrev pub IsLastRound : {H : Type 0} → Task H → Option (Bor NamingModel) → (furthest : AttemptOrder) → (budget : ℕ) → (bound : WaveBound) → Round → Type 0
-IsLastRound task declared furthest budget bound (rounds.Decided d) = Decides task declared budget d
-IsLastRound task declared furthest budget bound (rounds.GivenUp full) =
-    IsOrderGivenUp task budget bound furthest × IsOrderGivenUp task budget bound Declared
+-- the result of the last attempt: it decides, or declared order was given up
+abbrev pub IsLastAttempt : {H : Type 0} → Task H → Option (Bor NamingModel) → (budget : ℕ) → (bound : WaveBound) → Round → Type 0
+IsLastAttempt task declared budget bound (rounds.Decided d) = Decides task declared budget d
+IsLastAttempt task declared budget bound (rounds.GivenUp full) = IsOrderGivenUp task budget bound Declared
 
 -- ---- faults
 

@@ -1,8 +1,10 @@
 //! Attempts: comparisons in one order within a budget of nodes; and rounds, which are the attempts within one budget.
+//! The last attempt of a run is the only one in declared order (`try_declared`).
 ghost use Rattle.std.specs.Prelude.{◌≡◌, ◌<◌, ◌^◌, [], All, IfOk, IfErr};
 ghost use Rattle.order_search.specs.Ahead.{IsRunOf};
 ghost use Rattle.order_search.specs.Trials.{AreTrials, EndsAtOnce, IsCandidateFault, IsDecided, IsEnded, IsFirstAttempt, IsFirstRound};
-ghost use Rattle.order_search.specs.Trials.{IsReportedIn, IsRound, IsRoundInSequence, IsRoundInSomeSequence, IsTrial, IsTrialFault};
+ghost use Rattle.order_search.specs.Trials.{IsLastAttempt, IsReportedIn, IsRound, IsRoundInSequence, IsRoundInSomeSequence, IsTrial, IsTrialFault};
+ghost use Rattle.order_search.specs.Trials.{WereGivenUp};
 
 use crate::ahead::{next_run, runs_ahead};
 use crate::attempt_end::{end_of, give_up_reason};
@@ -157,7 +159,7 @@ fn attempt_unless_made<H: Threads + Wait + Sync, G: Monitor>(
 /// Makes the first attempt in an order, and keeps its trial if it is given up. If a trial before has the same order, no
 /// attempt is made, as it would end in the same way. The result has `full` set then, since no other cause is added to
 /// that of the earlier trial.
-pub(crate) fn try_candidate<H: Threads + Wait + Sync, G: Monitor>(
+fn try_candidate<H: Threads + Wait + Sync, G: Monitor>(
     task: &Task<'_, H>,
     declared: Option<&Pairing>,
     order: AttemptOrder,
@@ -278,4 +280,26 @@ pub fn try_again<H: Threads + Wait + Sync, G: Monitor>(
 {
     put_furthest_first(trials);
     try_in_sequence(task, declared, trials, budget, monitor)
+}
+
+/// Compares in declared order within a budget of nodes, after the orders of some trials were tried within it. If one of
+/// them is the same as declared order, no attempt is made, as it would end in the same way. Fails if the order or memory
+/// is refused.
+pub fn try_declared<H: Threads + Wait + Sync, G: Monitor>(
+    task: &Task<'_, H>,
+    declared: Option<&Pairing>,
+    tried: Vec<Trial>,
+    budget: u64,
+    monitor: &G,
+) -> Result<Round, CheckFault>
+    requires small { budget < 2 ^ 32 }
+    requires verdict_order { IsReportedIn task.now declared }
+    requires given_up { WereGivenUp task.now budget (G.bound monitor.now) tried.items }
+    ensures last { IfOk result (IsLastAttempt task.now declared.entry budget (G.bound monitor.now)) }
+    ensures fault { IfErr result (IsCandidateFault task.now) }
+    ensures ends { IfErr result EndsAtOnce }
+{
+    let mut trials = tried;
+    let order = AttemptOrder::Declared;
+    try_candidate(task, declared, order, &mut trials, budget, monitor)
 }

@@ -6,8 +6,8 @@
 //! and with GivenUp only if each attempt was given up, one of them within the limit for another cause than its nodes
 //! (`fault`). Unless a run is stopped, which attempt decides depends on the texts, the matching and the limit, never on
 //! the workers. If `search` gives up, it leaves a trial of each order (`trials`), with which `attempts::try_again` goes
-//! on within a larger budget. `last_attempts::try_last` gives up only if the attempts in both of its orders were given
-//! up (`last`), and `listed_attempt::try_pairing` answers no verdicts only if the attempt in its order was given up
+//! on within a larger budget. `attempts::try_declared` gives up only if an attempt in declared order was given up
+//! (`last`), and `listed_attempt::try_pairing` answers no verdicts only if the attempt in its order was given up
 //! (`given_up`).
 //!
 //! **Only tests show** that nothing is refused if there is ample memory, and what a monitor is notified of about
@@ -23,6 +23,5 @@ mod attempt_end;
 pub mod attempts;
 mod bounded_monitor;
 pub mod budget_search;
-pub mod last_attempts;
 pub mod listed_attempt;
 pub mod trials;

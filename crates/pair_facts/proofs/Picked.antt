@@ -7,7 +7,7 @@ use Rattle.net_order.specs.Order.{NamingModel}
 use Rattle.report_text.specs.declared.cause.PairName.{PairName}
 use Rattle.report_text.specs.declared.outcome.PairKind.TheVariants.{Output}
 use Rattle.report_text.specs.declared.verdict.Verdict.{Verdict}
-use Rattle.compare_built.specs.declared.pair_filter.PairFilter.{PairFilter}
+use Rattle.report_text.specs.declared.pair_filter.PairFilter.{PairFilter}
 use Rattle.compare_built.specs.declared.subject.Subject.{Subject}
 use Rattle.compare_built.specs.PairSelection.{ArePicked, is_pair_of, of_share}
 use Rattle.compare_built.specs.PairSelection.ArePicked.{all, named, shared}
@@ -28,7 +28,7 @@ pair_inside P k (s ∷ ss) (n ∷ shares) h = by (pair_inside P k ss shares (All
     by rest false = rest
 
 -- what holds of all pairs holds of those that are picked
-pub picked_inside : (P : Subject → Type 0) (a b : Circuit) (p : NamingModel) {picked : PairFilter} {pairs : List Subject} {unmatched_lines : List Verdict} →
+pub picked_inside : (P : Subject → Type 0) (a b : Circuit) (p : NamingModel) {picked : PairFilter PairName} {pairs : List Subject} {unmatched_lines : List Verdict} →
     ArePicked a b p picked pairs unmatched_lines → All P (subjects a b p) → All P pairs
 picked_inside P a b p all h = h
 picked_inside P a b p (named {patterns = patterns} of) h = All-filter (is_pair_of a patterns.items) P (subjects a b p) h

@@ -2,7 +2,7 @@
 ghost use Rattle.std.specs.Prelude.{◌≡◌, ◌⊎◌, ◌<◌, [], true, false, if◌then◌else◌, ◌==◌, All, Contains, Err, IfErr, IfOk};
 ghost use Rattle.std.specs.Prelude.{filter, length, zip};
 ghost use Rattle.net_bench.specs.Circuit.{circuit};
-ghost use Rattle.compare_built.specs.declared.pair_filter.PairFilter.TheVariants.{All as AllPairs, Only as OnlyNamed, Share as InShare};
+ghost use Rattle.report_text.specs.declared.pair_filter.PairFilter.TheVariants.{All as AllPairs, Only as OnlyNamed, Share as InShare};
 ghost use Rattle.report_text.specs.declared.cause.PairName.{PairName as NameOfPair};
 ghost use Rattle.compare_built.specs.Comparing.{AreSignals};
 ghost use Rattle.compare_built.specs.PairSelection.{ArePicked, HasPicked, HasUnknown, is_picked, is_unmatched_of, is_one_of, is_pair_of, of_share};
@@ -12,13 +12,12 @@ use crate::shares::shares_of;
 use compare_built::compared_pairs::subjects_of;
 use compare_built::fault::CheckFault;
 use compare_built::named_signals::{has_picked, is_picked_by};
-use compare_built::pair_filter::PairFilter;
 use compare_built::subject::Subject;
 use compare_built::task::Task;
 use compare_built::unmatched::{add_first_unmatched, add_second_unmatched, add_unmatched};
 use net_bench::netlist::{Netlist, Signal};
 use net_order::naming::Naming;
-use report_text::{PairKind, PairName, Share, Side, Verdict};
+use report_text::{PairFilter, PairKind, PairName, Share, Side, Verdict};
 use std::alloc::{AllocError, Global};
 
 /// The pairs that are picked, and the verdicts of the outputs and registers without a partner that are picked, both in

@@ -10,7 +10,6 @@ ghost use Rattle.net_order.specs.Order.{IsNaming, condition};
 ghost use Rattle.compare_built.specs.Comparing.{AreSignals, IsInside};
 ghost use Rattle.pair_facts.specs.PairFacts.{IsFirstShown};
 
-use compare_built::pair_filter::PairFilter;
 use compare_built::settings::Settings;
 use compare_built::strategy::Strategy;
 use compare_built::task::Task;
@@ -21,7 +20,7 @@ use net_names::order::Match;
 use net_order::naming::{Naming, naming_of};
 use net_patterns::ShownPattern;
 use pair_facts::{PairFacts, facts_of, shown_verdict};
-use report_text::{Difference, Verdict};
+use report_text::{Difference, PairFilter, Verdict};
 use std::alloc::{AllocError, Global};
 use std::test::Fail;
 

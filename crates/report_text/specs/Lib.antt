@@ -4,3 +4,4 @@ pub mod Buses
 pub mod Causes
 pub mod Json
 pub mod SupportBits
+pub mod Picking

@@ -3,9 +3,7 @@ use Rattle.compare_built.specs.Picking.{TakesPicks}
 use Rattle.check_report.proofs.decision.decide.Goals as goal
 
 pub compare_by_cones-requires-clause-picks : goal.compare_by_cones-requires-clause-picks
-unfolding Rattle.compare_built.specs.Picking.takes_picks
 compare_by_cones-requires-clause-picks g c κs within = subst TakesPicks (sym c.in-Cones.is) refl
 
 pub compare_by_cones-requires-in-ConesByList-clause-picks : goal.compare_by_cones-requires-in-ConesByList-clause-picks
-unfolding Rattle.compare_built.specs.Picking.takes_picks
 compare_by_cones-requires-in-ConesByList-clause-picks g c κs within = subst TakesPicks (sym c.in-ConesByList.is) refl

@@ -3,7 +3,7 @@ use Rattle.std.specs.Prelude.{is_some}
 use Rattle.net_order.specs.Order.{condition}
 use Rattle.compare_built.specs.Findings.{found_of}
 use Rattle.compare_built.specs.Attempts.{reported_kind}
-use Rattle.compare_built.specs.PairSelection.{share_of}
+use Rattle.report_text.specs.Picking.{share_of}
 use Rattle.explain_report.specs.Causing.{causes_in}
 use Rattle.explain_report.proofs.Explaining.{condition_some, condition_in_input}
 use Rattle.explain_report.proofs.Trying.{form_as}

@@ -2,5 +2,4 @@ use Rattle.std.proofs.Common.{refl}
 use Rattle.decision_tests.proofs.picks.reported.Goals as goal
 
 pub invariant_of-settings-clause-picks_by_cones : goal.invariant_of-settings-clause-picks_by_cones
-unfolding Rattle.compare_built.specs.Picking.takes_picks
 invariant_of-settings-clause-picks_by_cones c picked may = refl
