@@ -465,7 +465,7 @@ def main() -> int:
         begun = time.time()
         jobs = settings.jobs or jobs_here(MEMORY_OF_A_JOB)
         lanes = settings.lanes or lanes_for(jobs)
-        say(f"proving and building the program by {jobs} jobs: half an hour from nothing on four processors, later only what changed")
+        say(f"proving and building the program by {jobs} jobs: an hour or more from nothing on four processors, later only what changed")
         if not build_all(jobs, lanes):
             return NOT_BUILT
         # So it is newer than each source that was read, also if nothing had to be built, and older than one that was changed meanwhile.

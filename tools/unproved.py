@@ -57,8 +57,8 @@ def say(text: str) -> None:
 
 def time_of_a_build() -> str:
     processors = len(os.sched_getaffinity(0))
-    much = "half an hour" if processors >= 4 else "an hour" if processors >= 2 else "two hours"
-    return f"about {much} on the {processors} processor{'s' * (processors > 1)} here"
+    much = "an hour or more" if processors >= 4 else "two hours or more" if processors >= 2 else "three hours or more"
+    return f"{much} on the {processors} processor{'s' * (processors > 1)} here"
 
 
 def way_to_build() -> str:
