@@ -35,7 +35,7 @@ ABC = "berkeley-abc"
 KINDS = ("EQUAL", "DIFFER", "ONLY", "UNDECIDED")
 ORDERS = ("msb-first", "weights", "force-groups", "interleave", "force", "index", "depth", "declared")
 EASY = 0.05
-LARGE = 1 << 18
+LARGE = 1 << 19
 UNBOUNDED = 2_000_000_000
 # With a bound on the clock, a run may use so many processors, and take so many seconds more for what is not stopped.
 MOST_WORKERS = 16

@@ -18,7 +18,7 @@ from reading import Fault, Netlist, below, read, read_names, split
 # more, it tries declared order last.
 CANDIDATES = ["msb-first", "weights", "force-groups"]
 # A wave of an attempt may have so many requests for each node of its budget.
-REQUESTS_PER_NODE = 3
+REQUESTS_PER_NODE = 2
 BY_CONES = ("auto", "cones", "merge")
 # The words of --order by which signals are merged, so that an equal pair may be decided however many nodes its diagrams need.
 MERGING = ("auto", "merge")

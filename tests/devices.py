@@ -153,28 +153,28 @@ class Devices:
         texts = []
         for name, multiply in (("array", circuits.array), ("wallace", circuits.wallace)):
             net = circuits.Netlist()
-            circuits.multiplier(net, 9, multiply)
+            circuits.multiplier(net, 10, multiply)
             texts.append(self.file(name, net.text().encode()))
         seen = self.run("--verbose", "--order", "best", *texts, seconds=240)
         reported = [line for line in seen.err.decode().splitlines() if line.startswith("bddcheck: order ")]
-        self.check("the attempt that came furthest goes first", reported[6:], ["bddcheck: order weights decided within 4194304 nodes"])
+        self.check("the attempt that came furthest goes first", reported[6:], ["bddcheck: order weights decided within 16777216 nodes"])
         orders = ("msb-first", "weights", "force-groups")
         needs = r"bddcheck: order ([\w-]+) needs (?:more than|too many requests in one wave for a budget of) (\d+) nodes"
         matches = [re.fullmatch(needs, line) for line in reported[:6]]
         ends = [match.groups() if match else None for match in matches]
         self.check("each attempt of the first budget is reported", ends[:3], [(order, "16384") for order in orders])
-        self.tally.check("each attempt of the second", set(ends[3:]) == {(order, "262144") for order in orders}, reported)
+        self.tally.check("each attempt of the second", set(ends[3:]) == {(order, "524288") for order in orders}, reported)
         first = self.run("--order", "msb-first", "--limit", 4194304, *texts, seconds=240)
         self.check("the first candidate would have ended there too", first, Run(seen.status, seen.out, b""))
         rounds = [self.run("--verbose", "--order", "cones", "--workers", workers, *texts, seconds=240) for workers in (1, 3)]
         by_one, by_three = ([line for line in one.err.decode().splitlines() if " rank " not in line] for one in rounds)
         self.check("a line for each round, whatever the workers are", by_three, by_one)
-        self.check("first what patterns show", by_one[:1], ["bddcheck: patterns show that 0 of 18 pairs differ"])
+        self.check("first what patterns show", by_one[:1], ["bddcheck: patterns show that 0 of 20 pairs differ"])
         self.tally.check(
             "some pairs are left by each round but the last",
             re.fullmatch(
-                r"(bddcheck: [1-9]\d* of 18 pairs are undecided by cones within (16384|262144) nodes\n){2}"
-                r"bddcheck: 0 of 18 pairs are undecided by cones within 3728270 nodes\nbddcheck: each pair was judged by its cones",
+                r"(bddcheck: [1-9]\d* of 20 pairs are undecided by cones within (16384|524288) nodes\n){2}"
+                r"bddcheck: 0 of 20 pairs are undecided by cones within 5263440 nodes\nbddcheck: each pair was judged by its cones",
                 "\n".join(by_one[1:]),
             ),
             by_one,

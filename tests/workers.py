@@ -8,10 +8,10 @@ Each pair is compared in the orders `auto`, `best`, `cones` and `merge` by 1, 2,
 bench/circuits.py writes, of which the multipliers of ten bits have waves that call workers in; if a FOLDER is given, they are instead
 those of its folders NAME/: a.bench with b.bench and, if it is there, with c.bench. A run of such a pair that takes N (120) seconds is
 stopped; if one worker takes as long, the pair is not tried in this order, and is counted. Without a FOLDER a multiplier of 12 by 11 bits
-is compared in the default order too, within 2304 MB: its cones leave pairs undecided, and only the last attempts of the whole decide
+is compared in the default order too, within 1632 MB: its cones leave pairs undecided, and only the last attempts of the whole decide
 them. Of the pairs of an array whose rows are written together those of one row are judged, and one that is wrong. And pairs whose attempts
-end at their limits are compared by four workers with an address space of 1 GB more than the memory that is named: multipliers within 256 MB
-and 1 GB, whose diagrams have more nodes, and within 4 GB a pair of which one wave has more requests. No growth may be refused.
+end at their limits are compared by four workers with an address space of 1 GB more than the memory that is named: multipliers within 192 MB
+and 512 MB, whose diagrams have more nodes, and within 4 GB a pair of which one wave has more requests. No growth may be refused.
 """
 from __future__ import annotations
 
@@ -124,7 +124,7 @@ def decided_at_last(program: str, place: str, tally: Tally) -> None:
         net.outputs("p", multiply(net, net.inputs("a", 12), net.inputs("b", 11))[:23])
 
     pair = [written(place, f"last{way.__name__}", made(product, way)) for way in (circuits.array, circuits.wallace)]
-    one = run([program, "--verbose", "--memory", "2304M", *pair], seconds=600)
+    one = run([program, "--verbose", "--memory", "1632M", *pair], seconds=600)
     tally.check("a pair that only the last attempts decide: each is equal", one.status == 0 and one.out.count(b"EQUAL ") == 23, one)
     notes = one.err.split(b"\n")
     left = [line for line in notes if b"undecided by cones" in line]
@@ -177,15 +177,15 @@ class Within:
 
 def rows_within() -> Iterator[Within]:
     """The least first."""
-    for size, word, bits, nodes in ((1 << 28, "256M", 10, 932067), (1 << 30, "1G", 11, 3728270)):
+    for size, word, bits, nodes in ((192 << 20, "192M", 10, 986895), (512 << 20, "512M", 11, 2631720)):
         yield Within(size, word, multipliers(bits), nodes, (0, 3), b" 0 different, 0 unmatched")
     # The sums of two have, in each order that is tried, some 80 to 110 million requests, and all diagrams below them less than a
-    # million nodes. So attempts end when three requests for each node of their budgets are expanded: 11 million, 13 million and, the
-    # last two, 45 million, for which the memory is meant. All attempts come to some 140 million, as many as sixteen runs of wave22 in
-    # bench/workers.py, of which one takes 0.9 seconds by four workers on four idle processors. A pattern shows the difference, which is
-    # not known to be the least.
+    # million nodes. So attempts end when two requests for each node of their budgets are expanded: three within 2^22 nodes at 8.4 million,
+    # three by cones at 10.5 million and the last four at 42 million, for which the memory is meant. All attempts come to some 240 million,
+    # as many as 28 runs of wave22 in bench/workers.py, of which one takes 0.9 seconds by four workers on four idle processors. A pattern
+    # shows the difference, which is not known to be the least.
     pair = [made(crossed, 36, 24, last) for last in ("AND", "OR")]
-    yield Within(1 << 32, "4G", pair, 14913080, (1,), b"0 equal, 1 different, 0 unmatched", 6 << 30)
+    yield Within(1 << 32, "4G", pair, 21053761, (1,), b"0 equal, 1 different, 0 unmatched", 6 << 30)
 
 
 def free_memory() -> int:

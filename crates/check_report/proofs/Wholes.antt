@@ -26,16 +26,16 @@ within_limit : (limit b : ℕ) → IsBudget limit b → b ≤ limit
 within_limit limit b (inl (k, power, less)) = omega (arith, less)
 within_limit limit b (inr same) = omega (arith, same)
 
-second_power : 16384 * 16 ^ 1 ≡ 262144
+second_power : 16384 * 32 ^ 1 ≡ 524288
 second_power = refl
 
 -- a budget up to the first limit is a budget up to the second
 pub first_in_whole : (limit b : ℕ) → IsBudget (first_whole_limit limit) b → IsBudget (whole_limit limit) b
 first_in_whole limit b (inl (k, power, less)) = inl (k, power, omega (arith, less))
-first_in_whole limit b (inr same) = by (cases_lt 262144 limit)
+first_in_whole limit b (inr same) = by (cases_lt 524288 limit)
   where
-    by : (262144 < limit) ⊎ (limit ≤ 262144) → IsBudget (whole_limit limit) b
-    by (inl lt) = inl (1, (let p = second_power in let e : b ≡ 16384 * 16 ^ 1 = omega (arith, same, lt, p) in e), (let e : b < whole_limit limit = omega (arith, same, lt) in e))
+    by : (524288 < limit) ⊎ (limit ≤ 524288) → IsBudget (whole_limit limit) b
+    by (inl lt) = inl (1, (let p = second_power in let e : b ≡ 16384 * 32 ^ 1 = omega (arith, same, lt, p) in e), (let e : b < whole_limit limit = omega (arith, same, lt) in e))
     by (inr le) = inr (omega (arith, same, le))
 
 -- a budget that is below one up to the first limit is a budget up to the first limit
@@ -43,18 +43,18 @@ pub whole_in_first : (limit top b : ℕ) → top ≤ first_whole_limit limit →
 whole_in_first limit top b most (inl (k, power, less)) lt = inl (k, power, omega (arith, most, lt))
 whole_in_first limit top b most (inr same) lt = absurd (omega (arith, most, same, lt))
 
-large_power : (k : ℕ) → 4194304 ≤ 16384 * 16 ^ suc (suc k)
+large_power : (k : ℕ) → 4194304 ≤ 16384 * 32 ^ suc (suc k)
 large_power k =
-    let one : 16 ^ 0 ≤ 16 ^ k = pow-le-pow_right {n = 16} (omega arith) {i = 0} {j = k} (omega arith) in
-    let first : 16 ^ 0 ≡ 1 = refl in
-    let more = pow-suc 16 k in
-    let most = pow-suc 16 (suc k) in
+    let one : 32 ^ 0 ≤ 32 ^ k = pow-le-pow_right {n = 32} (omega arith) {i = 0} {j = k} (omega arith) in
+    let first : 32 ^ 0 ≡ 1 = refl in
+    let more = pow-suc 32 k in
+    let most = pow-suc 32 (suc k) in
     omega (arith, one, first, more, most)
 
 -- the same of a budget below the second limit, if the limit of the run is larger than the first
-pub below_whole : (limit b : ℕ) → 262144 < limit → IsBudget (whole_limit limit) b → b < whole_limit limit → IsBudget (first_whole_limit limit) b
+pub below_whole : (limit b : ℕ) → 524288 < limit → IsBudget (whole_limit limit) b → b < whole_limit limit → IsBudget (first_whole_limit limit) b
 below_whole limit b more (inr same) lt = absurd (omega (arith, same, lt))
-below_whole limit b more (inl (zero, power, less)) lt = inl (0, power, (let one : 16384 * 16 ^ 0 ≡ 16384 = refl in omega (arith, power, one, more)))
+below_whole limit b more (inl (zero, power, less)) lt = inl (0, power, (let one : 16384 * 32 ^ 0 ≡ 16384 = refl in omega (arith, power, one, more)))
 below_whole limit b more (inl (suc zero, power, less)) lt = inr (let p = second_power in omega (arith, power, p, more))
 below_whole limit b more (inl (suc (suc k), power, less)) lt = absurd (let large = large_power k in omega (arith, power, less, large))
 
@@ -69,7 +69,7 @@ module _ {H : Type 0} (task : Task H) (bound : WaveBound) where
   all_first all b is c = all b (first_in_whole run_limit b is) c
 
   -- if the limit of the run is small, both limits are equal to it
-  pub small_all : task.settings.now.limit ≤ 262144 → AreAllGivenUp task (first_whole_limit task.settings.now.limit) bound → AreAllGivenUp task (whole_limit task.settings.now.limit) bound
+  pub small_all : task.settings.now.limit ≤ 524288 → AreAllGivenUp task (first_whole_limit task.settings.now.limit) bound → AreAllGivenUp task (whole_limit task.settings.now.limit) bound
   small_all few all = subst (λ n. AreAllGivenUp task n bound) (let e : first_whole_limit run_limit ≡ whole_limit run_limit = omega (arith, few) in e) all
 
   -- if the limit of the run is at most the second limit, the candidates were tried within it
@@ -77,7 +77,7 @@ module _ {H : Type 0} (task : Task H) (bound : WaveBound) where
   small_limit few all c = all run_limit (inr (let e : run_limit ≡ whole_limit run_limit = omega (arith, few) in e)) c
 
   -- the attempts within the second limit were given up as well
-  pub all_again : (full : Bool) (trials : List Trial) → 262144 < task.settings.now.limit → AreCandidatesGivenUp task (whole_limit task.settings.now.limit) bound full trials →
+  pub all_again : (full : Bool) (trials : List Trial) → 524288 < task.settings.now.limit → AreCandidatesGivenUp task (whole_limit task.settings.now.limit) bound full trials →
       AreAllGivenUp task (first_whole_limit task.settings.now.limit) bound → AreAllGivenUp task (whole_limit task.settings.now.limit) bound
   all_again full trials more last all b is c = by (cases_lt b (whole_limit run_limit))
     where
@@ -116,7 +116,7 @@ module _ {H : Type 0} (task : Task H) (declared : Option (Bor NamingModel)) (bou
   decided_whole d h = record { decided = h.decided; budget = inl h.budget; earlier_given_up = h.earlier_given_up }
 
   -- attempts within the second limit, after those up to the first were given up
-  pub decided_again : (d : DecidedValue) → 262144 < task.settings.now.limit → Decides task declared (whole_limit task.settings.now.limit) d → AreAllGivenUp task (first_whole_limit task.settings.now.limit) bound → IsDecidedWhole task declared bound d
+  pub decided_again : (d : DecidedValue) → 524288 < task.settings.now.limit → Decides task declared (whole_limit task.settings.now.limit) d → AreAllGivenUp task (first_whole_limit task.settings.now.limit) bound → IsDecidedWhole task declared bound d
   decided_again d more decides all =
       let same = decides.1 in
       record {

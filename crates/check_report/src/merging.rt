@@ -83,12 +83,13 @@ fn count_equal(equal: &[bool]) -> usize
 }
 
 /// Returns whether the first round of merging has decided enough to judge the pairs next, without
-/// more attempts at the whole netlists: each pair that no pattern shows to differ is equal inside,
-/// or at least half of all pairs are. What a round has decided to a half is seldom a whole that one
-/// order could keep small, and the attempts that are left out are the longest.
-pub(crate) fn is_enough(facts: &PairFacts, equal: &[bool]) -> bool {
+/// more attempts at the whole netlists: at least half of all pairs are equal inside. What a round
+/// has decided to a half is seldom a whole that one order could keep small, and the attempts that
+/// are left out are the longest. Of a pair that a pattern shows to differ the least difference is
+/// still to be found, so it counts as one that is left.
+pub(crate) fn is_enough(equal: &[bool]) -> bool {
     let count = count_equal(equal);
-    are_known(facts, equal) || equal.len() - count <= count
+    equal.len() - count <= count
 }
 
 /// Returns the pairs of the facts. The contract says that they are signals of the netlists.

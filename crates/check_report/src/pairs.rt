@@ -189,7 +189,7 @@ fn compare_after_search<H: Threads + Wait + Sync, G: Monitor>(
     let naming = naming_in(task, &declared);
     let facts = facts_in(task, naming, monitor)?;
     let merged = first_round(task, naming, &facts, monitor)?;
-    if is_enough(&facts, merged.equal.as_slice()) {
+    if is_enough(merged.equal.as_slice()) {
         let before = TriedBefore::First(trials);
         return compare_pairs(task, declared.into_naming(), facts, merged, before, monitor);
     }

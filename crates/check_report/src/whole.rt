@@ -25,9 +25,9 @@ use std::thread::Threads;
 
 /// The most nodes of an attempt at the whole netlists before equal signals are merged. This is the
 /// second of the budgets (`FIRST_BUDGET` and `GROWTH` in `order_search::budget_search`), and
-/// `WHOLE_LIMIT` is the third: a later attempt takes up the sequence where the earlier ones have
-/// ended. docs/decisions/orders-and-attempts.md says why merging comes between them.
-pub(crate) const FIRST_WHOLE_LIMIT: u64 = 262_144;
+/// `WHOLE_LIMIT` is less than the third, so no budget is between the two.
+/// docs/decisions/orders-and-attempts.md says why merging comes between them.
+pub(crate) const FIRST_WHOLE_LIMIT: u64 = 524_288;
 
 /// The most nodes of an attempt at the whole netlists before the pairs are judged by their cones.
 pub(crate) const WHOLE_LIMIT: u64 = 4_194_304;

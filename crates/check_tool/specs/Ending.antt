@@ -153,7 +153,7 @@ given_up_words n wide variables nodes larger =
     ++ (before_wide wide ++ (number_text wide ++ (after_wide wide
     ++ (codes " has more than " ++ (decimal variables
     ++ (codes " variables, and each was given up in three orders within "
-    ++ (decimal nodes ++ (codes " nodes or three requests for each of them; a larger "
+    ++ (decimal nodes ++ (codes " nodes or two requests for each of them; a larger "
     ++ (larger ++ codes ", a list by --order-file, or a condition by --given may help\n"))))))))))
 
 abbrev pub given_up_line : Options → (undecided : ℕ) → (wide : Option ℕ) → (variables : ℕ) → List ℕ

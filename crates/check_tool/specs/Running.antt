@@ -190,9 +190,9 @@ IsOrderOf bytes_at (ConesByList path) choice = (names : List (List ℕ)) × (cho
     × IfSome (bytes_at path.now) (λ text. IsOrderText text names)
 
 -- the bytes of memory that are planned for each node of an attempt: 36 that a store takes for it, and 84 for each of
--- the three requests that a wave may have for it
+-- the two requests that a wave may have for it
 abbrev pub node_bytes : ℕ
-node_bytes = 288
+node_bytes = 204
 
 -- the most nodes in this order: with auto, cones and merge no more than the memory suffices for
 abbrev pub limit_in : OrderChoice → (limit memory : ℕ) → ℕ

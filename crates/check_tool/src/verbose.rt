@@ -122,7 +122,7 @@ fn say_given_up<E: Sink>(
         most.format(variables),
         " variables, and each was given up in three orders within ",
         nodes.format(cone_limit(limit_of(options))),
-        " nodes or three requests for each of them; a larger ",
+        " nodes or two requests for each of them; a larger ",
         larger_option(options),
         ", a list by --order-file, or a condition by --given may help\n",
     ];

@@ -89,14 +89,14 @@ AllBefore tried_orders.Declared P = P MsbFirst × P Weights × P ForceGroups
 abbrev pub first_budget : (limit : ℕ) → ℕ
 first_budget limit = min 16384 limit
 
--- the budgets within which candidates are tried: 2^14, 2^18, 2^22 .. nodes as long as these are below the limit, and
+-- the budgets within which candidates are tried: 2^14, 2^19, 2^24 .. nodes as long as these are below the limit, and
 -- last the limit
 abbrev pub IsBudget : (limit budget : ℕ) → Type 0
-IsBudget limit budget = ((k : ℕ) × (budget ≡ 16384 * 16 ^ k) × (budget < limit)) ⊎ (budget ≡ limit)
+IsBudget limit budget = ((k : ℕ) × (budget ≡ 16384 * 32 ^ k) × (budget < limit)) ⊎ (budget ≡ limit)
 
--- Before equal signals are merged, the whole netlists are tried within 2^18 nodes at most.
+-- Before equal signals are merged, the whole netlists are tried within 2^19 nodes at most.
 abbrev pub first_whole_limit : (limit : ℕ) → ℕ
-first_whole_limit limit = min 262144 limit
+first_whole_limit limit = min 524288 limit
 
 -- Then they are tried within 2^22 nodes at most and, after the pairs were judged by their cones, within the limit.
 abbrev pub whole_limit : (limit : ℕ) → ℕ
@@ -104,7 +104,7 @@ whole_limit limit = min 4194304 limit
 
 -- how many requests one wave of an attempt may have for each node of its budget
 abbrev pub requests_per_node : ℕ
-requests_per_node = 3
+requests_per_node = 2
 
 -- how many requests one wave of an attempt within a budget may have: this many for each node, or the monitor's bound if
 -- that is less

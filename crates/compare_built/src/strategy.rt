@@ -9,7 +9,7 @@ use report_text::OrderKind;
 
 /// The most requests of one wave of an attempt, for each node of its budget. It bounds the memory of a wave by the
 /// budget, and is reckoned into the limit that follows from `--memory` (docs/decisions/orders-and-attempts.md).
-pub const REQUESTS_PER_NODE: u64 = 3;
+pub const REQUESTS_PER_NODE: u64 = 2;
 
 /// One of the orders that are tried in turn; within the first budget they are tried in the sequence of the variants.
 /// Each is computed from the netlists by `group_order`.

@@ -56,21 +56,21 @@ module _ {H : Type 0} (whole : ConeContext H) (limit : ℕ) (bound : WaveBound) 
   wider budget le s None new h = wider_one budget le s new h
 
   -- before the first round
-  pub none_yet : (known : List (Option Verdict)) → AllZip (IsKnown (IsDecidedIn whole limit) (λ s. ⊤)) ss known → AllZip (IsKnown (IsDecidedIn whole limit) (λ s. (j : ℕ) → j < 0 → IsUndecidedIn whole (16384 * 16 ^ j) bound s)) ss known
-  none_yet known h = known_weaker (IsDecidedIn whole limit) (λ s. ⊤) (λ s. (j : ℕ) → j < 0 → IsUndecidedIn whole (16384 * 16 ^ j) bound s) (λ s _ j lt. absurd (omega (arith, lt))) ss known h
+  pub none_yet : (known : List (Option Verdict)) → AllZip (IsKnown (IsDecidedIn whole limit) (λ s. ⊤)) ss known → AllZip (IsKnown (IsDecidedIn whole limit) (λ s. (j : ℕ) → j < 0 → IsUndecidedIn whole (16384 * 32 ^ j) bound s)) ss known
+  none_yet known h = known_weaker (IsDecidedIn whole limit) (λ s. ⊤) (λ s. (j : ℕ) → j < 0 → IsUndecidedIn whole (16384 * 32 ^ j) bound s) (λ s _ j lt. absurd (omega (arith, lt))) ss known h
 
   -- after one more round
-  pub round_more : (k budget : ℕ) (known new : List (Option Verdict)) → budget ≡ 16384 * 16 ^ k → budget ≤ limit → AllZip (IsKnown (IsDecidedIn whole limit) (λ s. (j : ℕ) → j < k → IsUndecidedIn whole (16384 * 16 ^ j) bound s)) ss known →
-      IsRoundOf whole budget bound ss known new → AllZip (IsKnown (IsDecidedIn whole limit) (λ s. (j : ℕ) → j < suc k → IsUndecidedIn whole (16384 * 16 ^ j) bound s)) ss new
+  pub round_more : (k budget : ℕ) (known new : List (Option Verdict)) → budget ≡ 16384 * 32 ^ k → budget ≤ limit → AllZip (IsKnown (IsDecidedIn whole limit) (λ s. (j : ℕ) → j < k → IsUndecidedIn whole (16384 * 32 ^ j) bound s)) ss known →
+      IsRoundOf whole budget bound ss known new → AllZip (IsKnown (IsDecidedIn whole limit) (λ s. (j : ℕ) → j < suc k → IsUndecidedIn whole (16384 * 32 ^ j) bound s)) ss new
   round_more k budget known new is le before r =
-      kept_known (IsDecidedIn whole limit) (λ s. (j : ℕ) → j < k → IsUndecidedIn whole (16384 * 16 ^ j) bound s) (IsUndecidedIn whole budget bound) (λ s. (j : ℕ) → j < suc k → IsUndecidedIn whole (16384 * 16 ^ j) bound s)
+      kept_known (IsDecidedIn whole limit) (λ s. (j : ℕ) → j < k → IsUndecidedIn whole (16384 * 32 ^ j) bound s) (IsUndecidedIn whole budget bound) (λ s. (j : ℕ) → j < suc k → IsUndecidedIn whole (16384 * 32 ^ j) bound s)
       (λ s tried now. tried_next (λ n. IsUndecidedIn whole n bound s) k budget is tried now) ss known new before r.each
       (λ i s lt. wider budget le (get_or ss i s) (get_or known i None) (get_or new i None) (r.places i s lt))
 
   -- after the last round
-  pub round_last : (k : ℕ) (known new : List (Option Verdict)) → limit ≤ 16384 * 16 ^ k → AllZip (IsKnown (IsDecidedIn whole limit) (λ s. (j : ℕ) → j < k → IsUndecidedIn whole (16384 * 16 ^ j) bound s)) ss known →
+  pub round_last : (k : ℕ) (known new : List (Option Verdict)) → limit ≤ 16384 * 32 ^ k → AllZip (IsKnown (IsDecidedIn whole limit) (λ s. (j : ℕ) → j < k → IsUndecidedIn whole (16384 * 32 ^ j) bound s)) ss known →
       IsRoundOf whole limit bound ss known new → AllZip (IsKnown (IsDecidedIn whole limit) (λ s. (budget : ℕ) → IsBudget limit budget → IsUndecidedIn whole budget bound s)) ss new
   round_last k known new most before r =
-      kept_known (IsDecidedIn whole limit) (λ s. (j : ℕ) → j < k → IsUndecidedIn whole (16384 * 16 ^ j) bound s) (IsUndecidedIn whole limit bound) (λ s. (budget : ℕ) → IsBudget limit budget → IsUndecidedIn whole budget bound s)
+      kept_known (IsDecidedIn whole limit) (λ s. (j : ℕ) → j < k → IsUndecidedIn whole (16384 * 32 ^ j) bound s) (IsUndecidedIn whole limit bound) (λ s. (budget : ℕ) → IsBudget limit budget → IsUndecidedIn whole budget bound s)
       (λ s tried now budget is. each_budget (λ n. IsUndecidedIn whole n bound s) limit k tried most now budget is) ss known new before r.each
       (λ i s lt. wider limit (omega arith) (get_or ss i s) (get_or known i None) (get_or new i None) (r.places i s lt))

@@ -253,7 +253,7 @@ fn far_apart(alloc: Global) -> Result<String, AllocError> {
     Ok(text)
 }
 
-// In the first order that is tried the nodes are within the limit, but the last wave has more than three requests for
+// In the first order that is tried the nodes are within the limit, but the last wave has more than two requests for
 // each node of the limit. So this attempt is given up, and one in another order decides.
 #[test]
 fn requests_for_each_node(rt: HostRuntime) -> Result<(), Fail> {
@@ -266,7 +266,7 @@ fn requests_for_each_node(rt: HostRuntime) -> Result<(), Fail> {
         LIMIT,
         CALLER_ONLY,
     )?;
-    assert!(rt; single.requests > 3 * LIMIT as usize);
+    assert!(rt; single.requests > 2 * LIMIT as usize);
     let best = counts_of(&rt, rt.alloc(), &text, Strategy::Best, LIMIT, CALLER_ONLY)?;
     assert!(rt; best.decided == 1 && best.wide == 1);
     Ok(())

@@ -327,8 +327,8 @@ module _ {H : Type 0} (task : Task H) where
       h.each
 
   -- an attempt within a later budget
-  pub passed_at : (limit : ℕ) (bound : WaveBound) (k budget : ℕ) (t : Attempt) → budget ≤ 16384 * 16 ^ k → budget ≤ limit → 16384 < budget →
-      ((j : ℕ) → j < k → (c : Candidate) → IsCandidateGivenUp task (16384 * 16 ^ j) bound c) → t.budget ≡ budget → AreEarlierGivenUp task limit bound t
+  pub passed_at : (limit : ℕ) (bound : WaveBound) (k budget : ℕ) (t : Attempt) → budget ≤ 16384 * 32 ^ k → budget ≤ limit → 16384 < budget →
+      ((j : ℕ) → j < k → (c : Candidate) → IsCandidateGivenUp task (16384 * 32 ^ j) bound c) → t.budget ≡ budget → AreEarlierGivenUp task limit bound t
   passed_at limit bound k budget t most within more tried e = record {
     smaller = each_smaller (λ n. (c : Candidate) → IsCandidateGivenUp task n bound c) limit k t.budget tried (omega (arith, e, most)) (omega (arith, e, within));
     first = λ same. absurd (omega (arith, same, e, more));

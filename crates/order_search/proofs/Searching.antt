@@ -67,8 +67,8 @@ module _ {H : Type 0} (task : Task H) (declared : Option (Bor NamingModel)) (lim
       }
 
   -- an attempt within a later budget decides
-  pub found_later : (k budget : ℕ) (d : DecidedValue) → budget ≤ 16384 * 16 ^ k → budget ≤ limit → 16384 < budget → IsBudget limit budget →
-      ((j : ℕ) → j < k → (c : Candidate) → IsCandidateGivenUp task (16384 * 16 ^ j) bound c) → Decides task declared budget d → IsFoundWithin task declared limit bound d
+  pub found_later : (k budget : ℕ) (d : DecidedValue) → budget ≤ 16384 * 32 ^ k → budget ≤ limit → 16384 < budget → IsBudget limit budget →
+      ((j : ℕ) → j < k → (c : Candidate) → IsCandidateGivenUp task (16384 * 32 ^ j) bound c) → Decides task declared budget d → IsFoundWithin task declared limit bound d
   found_later k budget d most within more is tried decides = record {
     decided = subst (λ n. IsDecided task declared n d.trial d.verdicts.items) (sym decides.1) decides.0;
     budget = subst (IsBudget limit) (sym decides.1) is;

@@ -21,7 +21,7 @@ use thread_map::fork_each;
 
 /// The greatest budget, in nodes, within which attempts are made side by side. Within a larger one waves are large, and
 /// all workers share each of them.
-const MOST_NODES: u64 = 1 << 18;
+const MOST_NODES: u64 = 1 << 19;
 
 /// Returns the result of an attempt that ends with this fault. It is none if the attempt was stopped or memory was
 /// refused: then the attempt is made again by itself, if its turn comes.

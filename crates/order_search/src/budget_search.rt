@@ -17,7 +17,7 @@ use std::thread::Threads;
 pub const FIRST_BUDGET: u64 = 16_384;
 
 /// The ratio of each budget to the one before it.
-pub const GROWTH: u64 = 16;
+pub const GROWTH: u64 = 32;
 
 /// Goes on with the search within the budgets after the first one, up to the limit.
 fn find_later<H: Threads + Wait + Sync, G: Monitor>(
@@ -51,7 +51,7 @@ fn find_later<H: Threads + Wait + Sync, G: Monitor>(
 }
 
 /// Searches for the order in which two netlists can be compared: it tries all candidates within one budget before it
-/// goes on with the next, which is 16 times as large, until one decides or all were given up within the limit. The
+/// goes on with the next, which is 32 times as large, until one decides or all were given up within the limit. The
 /// verdicts are reported over the variables of the order that decides, or over those of `declared` if it is given.
 ///
 /// The list of trials is empty at first. If each attempt was given up, it has a trial of each order, with which a

@@ -11,7 +11,7 @@ use Rattle.check_tool.proofs.verbose.say_given_up.Goals as goal
 abbrev line : (pairs before wide after variables nodes larger : List ℕ) → List ℕ
 line pairs before wide after variables nodes larger =
     codes "bddcheck: the number of undecided pairs is " ++ (pairs ++ (before ++ (wide ++ (after ++ (codes " has more than " ++ (variables
-    ++ (codes " variables, and each was given up in three orders within " ++ (nodes ++ (codes " nodes or three requests for each of them; a larger "
+    ++ (codes " variables, and each was given up in three orders within " ++ (nodes ++ (codes " nodes or two requests for each of them; a larger "
     ++ (larger ++ (codes ", a list by --order-file, or a condition by --given may help\n" ++ [])))))))))))
 
 pub returns : goal.returns

@@ -27,12 +27,12 @@ loop-budget-init g c = record {
 pub judge_round-requires-clause-one_for_each : goal.judge_round-requires-clause-one_for_each
 judge_round-requires-clause-one_for_each g c κs within =
     let p = c.loop-budget.invariant.power in
-    length_known (IsDecidedIn c.args.context.now c.cone_limit-limit.result) (λ s. (j : ℕ) → j < p.0 → IsUndecidedIn c.args.context.now (16384 * 16 ^ j) (g.G.Monitor.bound c.args.monitor.now) s) c.args.subjects.now c.loop-budget.known.items p.2
+    length_known (IsDecidedIn c.args.context.now c.cone_limit-limit.result) (λ s. (j : ℕ) → j < p.0 → IsUndecidedIn c.args.context.now (16384 * 32 ^ j) (g.G.Monitor.bound c.args.monitor.now) s) c.args.subjects.now c.loop-budget.known.items p.2
 
 pub judge_round-requires-2-clause-one_for_each : goal.judge_round-requires-2-clause-one_for_each
 judge_round-requires-2-clause-one_for_each g c κs within =
     let p = c.loop-budget.invariant.power in
-    length_known (IsDecidedIn c.args.context.now c.cone_limit-limit.result) (λ s. (j : ℕ) → j < p.0 → IsUndecidedIn c.args.context.now (16384 * 16 ^ j) (g.G.Monitor.bound c.args.monitor.now) s) c.args.subjects.now c.loop-budget.known.items p.2
+    length_known (IsDecidedIn c.args.context.now c.cone_limit-limit.result) (λ s. (j : ℕ) → j < p.0 → IsUndecidedIn c.args.context.now (16384 * 32 ^ j) (g.G.Monitor.bound c.args.monitor.now) s) c.args.subjects.now c.loop-budget.known.items p.2
 
 pub judge_round-requires-clause-order : goal.judge_round-requires-clause-order
 judge_round-requires-clause-order g c κs within =
@@ -55,7 +55,7 @@ loop-budget-preserved g c =
       some = omega (arith, some);
       kept = kept_both c.args.known.items c.loop-budget.known.items c.in_ok-known.known.items c.loop-budget.invariant.kept
           (kept_by_round c.args.context.now c.loop-budget.budget (g.G.Monitor.bound c.args.monitor.now) c.args.subjects.now c.loop-budget.known.items c.in_ok-known.known.items
-          (length_known (IsDecidedIn c.args.context.now c.cone_limit-limit.result) (λ s. (j : ℕ) → j < p.0 → IsUndecidedIn c.args.context.now (16384 * 16 ^ j) (g.G.Monitor.bound c.args.monitor.now) s) c.args.subjects.now c.loop-budget.known.items p.2)
+          (length_known (IsDecidedIn c.args.context.now c.cone_limit-limit.result) (λ s. (j : ℕ) → j < p.0 → IsUndecidedIn c.args.context.now (16384 * 32 ^ j) (g.G.Monitor.bound c.args.monitor.now) s) c.args.subjects.now c.loop-budget.known.items p.2)
           c.in_ok-known.ensures.round);
     }
 
@@ -65,7 +65,7 @@ returns-clause-known g c =
     let bound = g.G.Monitor.bound c.args.monitor.now in
     let p = c.loop-budget.invariant.power in
     let limit = c.cone_limit-limit.result in
-    let most : limit ≤ 16384 * 16 ^ p.0 = (let e = p.1 in let past = c.loop-budget-test.false in omega arith) in
+    let most : limit ≤ 16384 * 32 ^ p.0 = (let e = p.1 in let past = c.loop-budget-test.false in omega arith) in
     subst (λ n. IfOk c.judge_round-2.result (λ v. AllZip (IsKnown (IsDecidedIn w n) (λ s. (budget : ℕ) → IsBudget n budget → IsUndecidedIn w budget bound s)) c.args.subjects.now v.items)) c.cone_limit-limit.ensures
     (IfOk-then c.judge_round-2.result _ _ c.judge_round-2.ensures.round (λ v r. round_last w limit bound c.args.subjects.now p.0 c.loop-budget.known.items v.items most p.2 r))
 
@@ -78,4 +78,4 @@ returns-clause-kept g c =
     let known = c.loop-budget.known.items in
     IfOk-then c.judge_round-2.result _ (λ v. AreKept c.args.known.items v.items) c.judge_round-2.ensures.round
     (λ v r. kept_both c.args.known.items known v.items c.loop-budget.invariant.kept
-    (kept_by_round w limit bound c.args.subjects.now known v.items (length_known (IsDecidedIn w limit) (λ s. (j : ℕ) → j < p.0 → IsUndecidedIn w (16384 * 16 ^ j) bound s) c.args.subjects.now known p.2) r))
+    (kept_by_round w limit bound c.args.subjects.now known v.items (length_known (IsDecidedIn w limit) (λ s. (j : ℕ) → j < p.0 → IsUndecidedIn w (16384 * 32 ^ j) bound s) c.args.subjects.now known p.2) r))

@@ -9,7 +9,7 @@ use Rattle.order_search.proofs.budget_search.find_later.Goals as goal
 pub loop-budget-init : goal.loop-budget-init
 loop-budget-init g c = record {
   trials = c.requires.trials;
-  power = (1, refl, λ j lt k. let none : 0 ≡ j = omega (arith, lt) in subst (λ i. IsCandidateGivenUp c.args.task.now (16384 * 16 ^ i) (g.G.Monitor.bound c.args.monitor.now) k) none (c.requires.first k));
+  power = (1, refl, λ j lt k. let none : 0 ≡ j = omega (arith, lt) in subst (λ i. IsCandidateGivenUp c.args.task.now (16384 * 32 ^ i) (g.G.Monitor.bound c.args.monitor.now) k) none (c.requires.first k));
   more = lit< tt;
 }
 
@@ -82,7 +82,7 @@ returns-in-GivenUp-2-clause-fault g c =
     let trials = c.try_again-2.new.trials.items in
     let last : AreCandidatesGivenUp c.args.task.now limit bound full trials =
     subst (IsRound c.args.task.now c.args.declared limit bound trials) c.in-GivenUp-2.is c.in_ok-decided-2.ensures.round in
-    let most : limit ≤ 16384 * 16 ^ p.0 = (let e = p.1 in omega arith) in
+    let most : limit ≤ 16384 * 32 ^ p.0 = (let e = p.1 in omega arith) in
     all_given_up c.args.task.now c.args.declared limit bound full trials c.fault_of.result last
     (each_budget (λ n. (k : Candidate) → IsCandidateGivenUp c.args.task.now n bound k) limit p.0 p.2 most last.each) c.fault_of.ensures.which c.fault_of.ensures.full c.fault_of.ensures.others c.fault_of.ensures.stopped
 

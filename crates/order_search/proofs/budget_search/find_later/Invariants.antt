@@ -6,7 +6,7 @@ use Rattle.order_search.proofs.budget_search.find_later.Given as goal
 abbrev pub invariant-loop-budget : goal.invariant-loop-budget
 invariant-loop-budget g l = record {
   trials : AreTrials l.task l.trials.items;
-  power : (k : ℕ) × (l.budget ≡ 16384 * 16 ^ k) × ((j : ℕ) → j < k → (c : Candidate) → IsCandidateGivenUp l.task (16384 * 16 ^ j) (g.G.Monitor.bound l.monitor) c);
+  power : (k : ℕ) × (l.budget ≡ 16384 * 32 ^ k) × ((j : ℕ) → j < k → (c : Candidate) → IsCandidateGivenUp l.task (16384 * 32 ^ j) (g.G.Monitor.bound l.monitor) c);
   more : 16384 < l.budget;
 }
 
